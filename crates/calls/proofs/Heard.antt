@@ -1,5 +1,5 @@
 -- What a table keeps goes on with an entry.
-use Rattle.std.proofs.Common.{◌≡◌, ◌≢◌, ℕ, ◌+◌, ◌-◌, ◌^◌, ◌<◌, ◌≤◌, Bool, not, ◌&&◌, cond, List, [], ◌∷◌, Option, None, Some, length, map, ◌++◌, slice_get, slice_set, refl, sym, ap, ◌∙◌, subst, arith, add-one, inl, inr, ne_eqb, length-set}
+use Rattle.std.proofs.Common.{◌≡◌, ◌≢◌, ℕ, zero, suc, ◌+◌, ◌-◌, ◌^◌, ◌<◌, ◌≤◌, not, ◌&&◌, cond, List, [], ◌∷◌, Option, None, Some, length, map, ◌++◌, slice_get, slice_set, refl, sym, ap, ◌∙◌, subst, arith, add-one, inl, inr, ne_eqb, length-set}
 use Rattle.std.proofs.lemmas.Bool.{cases_eq, cases_lt}
 use Rattle.std.proofs.lemmas.Option.{slice_get-get_or, slice_get_past, slice_get_within}
 use Rattle.std.proofs.lemmas.List.{get_or-set_same, get_or-set_other}
@@ -9,14 +9,16 @@ use Rattle.plain_store.specs.declared.Setup.{Setup}
 use Rattle.record.specs.declared.access.Access.{Access}
 use Rattle.record.specs.declared.marks.Mark.{Mark}
 use Rattle.record.specs.Entries.{Entry, Past}
-use Rattle.read_law.specs.Watching.{WatchState}
-use Rattle.read_law.specs.Watching.{HasHeard as HasWatched}
 use Rattle.calls.specs.declared.called.Called.{Called}
+use Rattle.calls.specs.declared.called.EntryKnown.{EntryKnown}
 use Rattle.calls.specs.declared.standing.CallStanding.{CallStanding}
-use Rattle.calls.specs.Columns.{ends_overlapped_read, is_read, is_write, makes_itself}
+use Rattle.world.specs.Walks.{ends_overlapped_read}
+use Rattle.calls.specs.Columns.{is_read, is_write, makes_itself}
 use Rattle.calls.specs.Hearing.{ComesInTurn, GoesOn, HasHeard, TableState, ended_call}
+use Rattle.calls.specs.Passing.{HasNotFailed, HaveRoom, Passes, passed}
 use Rattle.calls.specs.Stepping.{AreFew, at_rest, heard, standing}
 use Rattle.calls.proofs.InCall.{calls-few, count-few}
+use Rattle.calls.proofs.Passing.{HasPassed, passes}
 use Rattle.calls.proofs.Steps.{standing-heard, standing-other}
 
 -- a look into a list that was set
@@ -54,26 +56,26 @@ has_room s p past k is few =
     )
 
 -- the state with an entry
-abbrev pub table_with : TableState → ℕ → WatchState → CallStanding → TableState
-table_with t p w k = record { setup = t.setup; watch = w; standings = slice_set t.standings p k; entries = t.entries + 1 }
+abbrev pub table_with : TableState → ℕ → CallStanding → TableState
+table_with t p k = record { setup = t.setup; standings = slice_set t.standings p k; entries = t.entries + 1 }
 
-pub hears_on : (t : TableState) (past : Past) (e : Entry) (w : WatchState) (before then : CallStanding) (b : Bool) → e.process < t.setup.processes → slice_get t.standings e.process ≡ Some before →
-    b ≡ ends_overlapped_read past e → t.entries < 2 ^ 64 - 1 →
-    (before.last.call < 2 ^ 64 - 1 → AreFew before.last.accesses → then ≡ heard t.setup t.entries b e.access e.marks before) → HasWatched w (e ∷ past) → HasHeard t past →
-    HasHeard (table_with t e.process w then) (e ∷ past) × (before ≡ standing t.setup e.process past) × (then ≡ standing t.setup e.process (e ∷ past))
-hears_on t past e w before then b below there is few on watched h = (record { watch = watched; standings = each; entries = ap (λ n. n + 1) h.entries ∙ add-one (length past) }, was, now)
+pub hears_on : (t : TableState) (past : Past) (e : Entry) (before then : CallStanding) (known : EntryKnown) → slice_get t.standings e.process ≡ Some before →
+    ComesInTurn t.setup past e known → t.entries < 2 ^ 64 - 1 →
+    (before.last.call < 2 ^ 64 - 1 → AreFew before.last.accesses → then ≡ heard t.setup t.entries known e.access e.marks before) → HasHeard t past →
+    HasHeard (table_with t e.process then) (e ∷ past) × (before ≡ standing t.setup e.process past) × (then ≡ standing t.setup e.process (e ∷ past))
+hears_on t past e before then known there turn few on h = (record { standings = each; entries = ap (λ n. n + 1) h.entries ∙ add-one (length past) }, was, now)
   where
     s : Setup
     s = t.setup
 
     was : before ≡ standing s e.process past
-    was = let both : Some before ≡ Some (standing s e.process past) = sym there ∙ h.standings e.process below in cc
+    was = let both : Some before ≡ Some (standing s e.process past) = sym there ∙ h.standings e.process turn.process in cc
 
     room : (before.last.call < 2 ^ 64 - 1) × AreFew before.last.accesses
     room = has_room s e.process past before was (subst (λ n. n < 2 ^ 64 - 1) h.entries few)
 
     now : then ≡ standing s e.process (e ∷ past)
-    now = on room.0 room.1 ∙ (λ i. heard s (h.entries i) b e.access e.marks (was i)) ∙ sym (standing-heard s e.process e past refl b is)
+    now = on room.0 room.1 ∙ (λ i. heard s (h.entries i) known e.access e.marks (was i)) ∙ sym (standing-heard s e past known turn.tells)
 
     each : (q : ℕ) → q < s.processes → slice_get (slice_set t.standings e.process then) q ≡ Some (standing s q (e ∷ past))
     each q inside = elim (cases_eq q e.process) [
@@ -89,25 +91,54 @@ pub ended_is : (s : Setup) (past : Past) (e : Entry) (before then : CallStanding
 ended_is s past e before then was now = λ i. cond ((was i).calling && not (now i).calling) (Some (now i).last) None
 
 -- What a table makes of an entry, whatever it has heard before.
-abbrev pub Hears : TableState → TableState → ℕ → Option Access → List Mark → Option Called → Type 0
-Hears old new q access marks ended =
-    (past : Past) (e : Entry) → e.process ≡ q → e.access ≡ access → e.marks ≡ marks → HasHeard old past → ComesInTurn old.setup past e → HasHeard new (e ∷ past) × (ended ≡ ended_call old.setup past e)
+abbrev pub Hears : TableState → TableState → ℕ → EntryKnown → Option Access → List Mark → Option Called → Type 0
+Hears old new q known access marks ended =
+    (past : Past) (e : Entry) → e.process ≡ q → e.access ≡ access → e.marks ≡ marks → HasHeard old past → ComesInTurn old.setup past e known → HasHeard new (e ∷ past) × (ended ≡ ended_call old.setup past e)
 
-pub hears_entry : (old new : TableState) (q : ℕ) (access : Option Access) (marks : List Mark) (w : WatchState) (b : Bool) (ended : Option Called) → old.watch.setup ≡ old.setup →
-    ((past : Past) (e : Entry) → e.access ≡ access → HasWatched old.watch past → ComesInTurn old.watch.setup past e → b ≡ ends_overlapped_read past e) →
-    ((past : Past) (e : Entry) → e.access ≡ access → HasWatched old.watch past → HasWatched w (e ∷ past)) →
-    new.setup ≡ old.setup → new.watch ≡ w → new.entries ≡ old.entries + 1 → old.entries < 2 ^ 64 - 1 →
-    ((before : CallStanding) → slice_get old.standings q ≡ Some before → GoesOn (record old { watch = w }) q b access marks before ended new.standings) → Hears old new q access marks ended
-hears_entry old new q access marks w b ended watched overlapped heard setup watch count few goes past e p a m h turn =
+pub hears_entry : (old new : TableState) (q : ℕ) (known : EntryKnown) (access : Option Access) (marks : List Mark) (ended : Option Called) →
+    new.setup ≡ old.setup → new.entries ≡ old.entries + 1 → old.entries < 2 ^ 64 - 1 →
+    ((before : CallStanding) → slice_get old.standings q ≡ Some before → GoesOn old q known access marks before ended new.standings) → Hears old new q known access marks ended
+hears_entry old new q known access marks ended setup count few goes past e p a m h turn =
     let s : Setup = old.setup in
     let e0 : Entry = record { process = q; access = access; marks = marks } in
     let whole : e ≡ e0 = λ i. record { process = p i; access = a i; marks = m i } in
     let before : CallStanding = standing s q past in
-    let below : q < s.processes = subst (λ n. n < s.processes) p turn.process in
-    let there : slice_get old.standings q ≡ Some before = h.standings q below in
-    let g : GoesOn (record old { watch = w }) q b access marks before ended new.standings = goes before there in
-    let is : b ≡ ends_overlapped_read past e0 = overlapped past e a h.watch (subst (λ s. ComesInTurn s past e) (sym watched) turn) ∙ ap (ends_overlapped_read past) whole in
-    let all = hears_on old past e0 w before g.then b below there is few g.heard (heard past e0 refl h.watch) h in
-    let same : new ≡ table_with old q w g.then = λ i. record { setup = setup i; watch = watch i; standings = g.set i; entries = count i } in
+    let here : ComesInTurn s past e0 known = subst (λ (e : Entry). ComesInTurn s past e known) whole turn in
+    let there : slice_get old.standings q ≡ Some before = h.standings q here.process in
+    let g : GoesOn old q known access marks before ended new.standings = goes before there in
+    let all = hears_on old past e0 before g.then known there here few g.heard h in
+    let same : new ≡ table_with old q g.then = λ i. record { setup = setup i; standings = g.set i; entries = count i } in
     let made : HasHeard new (e0 ∷ past) × (ended ≡ ended_call s past e0) = (subst (λ (t : TableState). HasHeard t (e0 ∷ past)) (sym same) all.0, g.is ∙ ended_is s past e0 before g.then refl all.2) in
     subst (λ (e : Entry). HasHeard new (e ∷ past) × (ended ≡ ended_call s past e)) (sym whole) made
+
+-- And of entries that pass by, many at once.
+
+has_room_for : (s : Setup) (p : ℕ) (past : Past) (n : ℕ) → length past + n < 2 ^ 64 → HaveRoom (standing s p past).last.accesses n
+has_room_for s p past n few = record {
+  reads = omega (arith, count-few p (makes_itself p is_read) past, few);
+  writes = omega (arith, count-few p (makes_itself p is_write) past, few);
+  overlapped = omega (arith, count-few p ends_overlapped_read past, few);
+}
+
+pub hears_passing : (t : TableState) (p n : ℕ) (newest : Access) (overlapped : ℕ) (past after : Past) (then : CallStanding) → 0 < n → p < t.setup.processes → t.entries + n < 2 ^ 64 → Passes t.setup p n newest overlapped past after → HasNotFailed p past → HasHeard t past →
+    (HaveRoom (standing t.setup p past).last.accesses n → overlapped ≤ n → then ≡ passed t.entries n newest.how overlapped (standing t.setup p past)) →
+    HasHeard (record t { standings = slice_set t.standings p then; entries = t.entries + n }) after
+hears_passing t p zero newest overlapped past after then some below room by none h on = absurd (omega (arith, some))
+hears_passing t p (suc m) newest overlapped past after then some below room by none h on = record { standings = each; entries = ap (λ n. n + suc m) h.entries ∙ sym all.long }
+  where
+    s : Setup
+    s = t.setup
+
+    all : HasPassed s p (suc m) newest overlapped past after
+    all = passes m s p newest overlapped past after none by
+
+    now : then ≡ standing s p after
+    now = on (has_room_for s p past (suc m) (subst (λ n. n + suc m < 2 ^ 64) h.entries room)) all.few ∙ ap (λ n. passed n (suc m) newest.how overlapped (standing s p past)) h.entries ∙ sym all.standing_is
+
+    each : (q : ℕ) → q < s.processes → slice_get (slice_set t.standings p then) q ≡ Some (standing s q after)
+    each q inside = elim (cases_eq q p) [
+      | inl same ↦ ap (slice_get (slice_set t.standings p then)) same ∙ slice_get-set_same t.standings p then (slice_get_within t.standings p (standing s p past) (h.standings p below))
+          ∙ ap Some (now ∙ ap (λ n. standing s n after) (sym same))
+      | inr apart ↦ slice_get-set_other t.standings p q then apart ∙ h.standings q inside
+          ∙ ap Some (sym (all.others q (ne_eqb p q (λ h. apart (sym h)))))
+    ]

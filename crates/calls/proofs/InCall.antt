@@ -1,5 +1,5 @@
 -- How the look-backs over a call go on with an entry.
-use Rattle.std.proofs.Common.{◌≡◌, ℕ, suc, ◌≤◌, ◌==◌, Bool, true, false, cond, [], ◌∷◌, Option, None, Some, length, refl, ap, ◌∙◌, eq-eqb, arith}
+use Rattle.std.proofs.Common.{◌≡◌, ℕ, suc, ◌≤◌, ◌==◌, Bool, true, false, cond, [], ◌∷◌, Option, None, Some, length, refl, eq-eqb, arith}
 use Rattle.record.specs.Doorways.{first_of, number_in_call}
 use Rattle.record.specs.Entries.{Entry, Past, has, is_called, own}
 use Rattle.record.specs.Calls.{calls_in}

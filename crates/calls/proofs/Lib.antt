@@ -3,5 +3,5 @@ pub mod Loops
 pub mod Folds
 pub mod InCall
 pub mod Steps
-pub mod Overlaps
+pub mod Passing
 pub mod Heard

@@ -9,12 +9,17 @@ use Rattle.record.specs.Calls.{called_in, calls_in, last_command}
 use Rattle.record.specs.Doorways.{number_in_call}
 use Rattle.record.specs.Entries.{Entry, Past, has, is_called, is_entered, is_failed, is_waiting, own}
 use Rattle.record.specs.Moves.{moves_of}
-use Rattle.read_law.specs.Looks.{ends_overlapped}
+use Rattle.record.specs.Registers.{width}
+use Rattle.world.specs.laws.Doings.{doing}
+use Rattle.world.specs.process.Looks.{number_read}
+use Rattle.world.specs.Walks.{ends_overlapped, ends_overlapped_read}
 use Rattle.calls.specs.declared.called.Accesses.{Accesses}
+use Rattle.calls.specs.declared.called.EntryKnown.{EntryKnown}
 use Rattle.calls.specs.declared.called.Marked.{Marked}
 use Rattle.calls.specs.declared.standing.CallStanding.{CallStanding}
-use Rattle.calls.specs.Columns.{accesses, answer_after, called, called_at, count_in_call, ends_overlapped_read, ends_waiting, has_access, is_answered, is_calling, is_left, is_read, is_taken, is_withdrawal, is_write, makes_itself, marked, more_if, number_after, number_read, over_call, place_after, tells_waiting, ticket_after, ticket_in_call, waited_for}
-use Rattle.calls.specs.Stepping.{accessed_by, begun, first_if, heard, marked_all, no_accesses, no_marks, standing, with_access, with_mark}
+use Rattle.calls.specs.Columns.{accesses, answer_after, called, called_at, count_in_call, ends_number, ends_waiting, has_access, holds_up, is_answered, is_calling, is_left, is_read, is_taken, is_unmarked, is_withdrawal, is_write, makes_itself, marked, more_if, number_after, over_call, place_after, tells_waiting, ticket_after, ticket_in_call, waited_for}
+use Rattle.calls.specs.Hearing.{IsKnown, TellsRead}
+use Rattle.calls.specs.Stepping.{accessed_by, begun, first_if, heard, marked_all, no_accesses, no_marks, standing, waits_by, with_access, with_mark}
 use Rattle.calls.proofs.Folds.{answer-on, answered-on, called_has, door_end-on, entered-on, failed-on, fold-field, fold-first, left-on, marked_all-is, place-on, taken-on, ticket-on, wait_end-on, with_marks, withdrew-on}
 use Rattle.calls.proofs.InCall.{first_none, number-called, number-mine, number-other, over-called, over-mine, over-other}
 
@@ -111,18 +116,52 @@ marked-other p e past h =
 abbrev counting : (Past → Entry → Bool) → Past → Entry → ℕ → ℕ
 counting test before e n = more_if (test before e) n
 
-abbrev reading : Past → Entry → ℕ → ℕ
-reading before e n = elim e.access as (λ _. ℕ) [ None ↦ n | Some a ↦ number_after a.bit a.how n ]
-
 abbrev waiting : Setup → ℕ → Past → Entry → Option ℕ → Option ℕ
 waiting s p before e newest = elim e.access as (λ _. Option ℕ) [
   | None ↦ newest
-  | Some a ↦ cond (tells_waiting s p (ticket_in_call p before) (number_in_call p (has ends_waiting) before) a (number_after a.bit a.how (number_read p before))) (Some a.owner) newest
+  | Some a ↦ cond (is_unmarked e.marks && tells_waiting s p (ticket_in_call p before) (number_in_call p (has ends_waiting) before) a (number_after a.bit a.how (number_read (doing s p before)))) (Some a.owner) newest
 ]
 
-accesses-with : (s : Setup) (p : ℕ) (e : Entry) (past : Past) → e.process ≡ p → has is_called e ≡ false → (o : Option Access) → e.access ≡ o → (b : Bool) → b ≡ ends_overlapped_read past e →
-    accesses s p (e ∷ past) ≡ elim o as (λ _. Accesses) [ None ↦ accesses s p past | Some a ↦ with_access s p (length past) b (marked p past) a (accesses s p past) ]
-accesses-with s p e past h called None none b is =
+-- whether it tells that it waits depends on a number only where that was read whole
+waits-same : (s : Setup) (p : ℕ) (ticket wait_end : Option ℕ) (a : Access) (n m : ℕ) → (ends_number (width s a.field) a.bit a.how ≡ true → n ≡ m) →
+    tells_waiting s p ticket wait_end a (number_after a.bit a.how n) ≡ tells_waiting s p ticket wait_end a (number_after a.bit a.how m)
+waits-same s p None wait_end a n m same = refl
+waits-same s p (Some t) wait_end a n m same = by (ends_number (width s a.field) a.bit a.how) refl same
+  where
+    test : ℕ → Bool → Bool
+    test k b = is_none wait_end && (b && holds_up p t a.owner a.field (number_after a.bit a.how k))
+
+    by : (b : Bool) → ends_number (width s a.field) a.bit a.how ≡ b → (ends_number (width s a.field) a.bit a.how ≡ true → n ≡ m) → test n (ends_number (width s a.field) a.bit a.how) ≡ test m (ends_number (width s a.field) a.bit a.how)
+    by true is same = ap (λ k. test k (ends_number (width s a.field) a.bit a.how)) (same is)
+    by false is same = ap (test n) is ∙ sym (ap (test m) is)
+
+-- where no number ends, nobody is waited for
+waits-none : (s : Setup) (p : ℕ) (ticket wait_end : Option ℕ) (a : Access) (n : ℕ) → ends_number (width s a.field) a.bit a.how ≡ false → tells_waiting s p ticket wait_end a n ≡ false
+waits-none s p None wait_end a n is = refl
+waits-none s p (Some t) wait_end a n is = ap (λ b. is_none wait_end && (b && holds_up p t a.owner a.field n)) is ∙ never (is_none wait_end)
+  where
+    never : (b : Bool) → (b && false) ≡ false
+    never true = refl
+    never false = refl
+
+-- what is told of the number is enough
+waits-told : (s : Setup) (p : ℕ) (ticket wait_end : Option ℕ) (past : Past) (e : Entry) (a : Access) (read : Option ℕ) → e.process ≡ p → TellsRead s past e a read →
+    waits_by s p ticket wait_end a read ≡ (is_unmarked e.marks && tells_waiting s p ticket wait_end a (number_after a.bit a.how (number_read (doing s p past))))
+waits-told s p ticket wait_end past e a None h tells = by (is_unmarked e.marks) tells
+  where
+    number : ℕ
+    number = number_after a.bit a.how (number_read (doing s p past))
+
+    by : (b : Bool) → (b && ends_number (width s a.field) a.bit a.how) ≡ false → false ≡ (b && tells_waiting s p ticket wait_end a number)
+    by true ends = sym (waits-none s p ticket wait_end a number ends)
+    by false ends = refl
+waits-told s p ticket wait_end past e a (Some n) h (none, same) =
+    waits-same s p ticket wait_end a n (number_read (doing s p past)) (λ ends. same ends ∙ ap (λ q. number_read (doing s q past)) h)
+    ∙ sym (ap (λ b. b && tells_waiting s p ticket wait_end a (number_after a.bit a.how (number_read (doing s p past)))) none)
+
+accesses-with : (s : Setup) (p : ℕ) (e : Entry) (past : Past) → e.process ≡ p → has is_called e ≡ false → (o : Option Access) → e.access ≡ o → (known : EntryKnown) → IsKnown s past e known →
+    accesses s p (e ∷ past) ≡ elim o as (λ _. Accesses) [ None ↦ accesses s p past | Some a ↦ with_access s p (length past) known (marked p past) a (accesses s p past) ]
+accesses-with s p e past h called None none known turn =
     let doorway = number-mine p has_access e past h called false (ap is_some none) ∙ first_none (number_in_call p has_access past) in
     let reads = over-mine {A = ℕ} p 0 (counting (makes_itself p is_read)) e past h called
     ∙ ap (λ (o : Option Access). more_if (elim o as (λ _. Bool) [ None ↦ false | Some a ↦ is_read a.how && is_none (number_in_call p (has is_failed) past) ]) (count_in_call p (makes_itself p is_read) past)) none in
@@ -130,48 +169,43 @@ accesses-with s p e past h called None none b is =
     ∙ ap (λ (o : Option Access). more_if (elim o as (λ _. Bool) [ None ↦ false | Some a ↦ is_write a.how && is_none (number_in_call p (has is_failed) past) ]) (count_in_call p (makes_itself p is_write) past)) none in
     let overlapped = over-mine {A = ℕ} p 0 (counting ends_overlapped_read) e past h called
     ∙ ap (λ (o : Option Access). more_if (elim o as (λ _. Bool) [ None ↦ false | Some a ↦ ends_overlapped (moves_of a past) a.how ]) (count_in_call p ends_overlapped_read past)) none in
-    let number = over-mine {A = ℕ} p 0 reading e past h called
-    ∙ ap (λ (o : Option Access). elim o as (λ _. ℕ) [ None ↦ number_read p past | Some a ↦ number_after a.bit a.how (number_read p past) ]) none in
     let waited = over-mine {A = Option ℕ} p None (waiting s p) e past h called
     ∙ ap (λ (o : Option Access). elim o as (λ _. Option ℕ) [
       | None ↦ waited_for s p past
-      | Some a ↦ cond (tells_waiting s p (ticket_in_call p past) (number_in_call p (has ends_waiting) past) a (number_after a.bit a.how (number_read p past))) (Some a.owner) (waited_for s p past)
+      | Some a ↦ cond (is_unmarked e.marks && tells_waiting s p (ticket_in_call p past) (number_in_call p (has ends_waiting) past) a (number_after a.bit a.how (number_read (doing s p past)))) (Some a.owner) (waited_for s p past)
     ]) none in
-    λ i. record { doorway = doorway i; reads = reads i; writes = writes i; overlapped = overlapped i; number = number i; waited_for = waited i }
-accesses-with s p e past h called (Some a) some b is =
+    λ i. record { doorway = doorway i; reads = reads i; writes = writes i; overlapped = overlapped i; waited_for = waited i }
+accesses-with s p e past h called (Some a) some known turn =
     let doorway = number-mine p has_access e past h called true (ap is_some some) in
     let reads = over-mine {A = ℕ} p 0 (counting (makes_itself p is_read)) e past h called
     ∙ ap (λ (o : Option Access). more_if (elim o as (λ _. Bool) [ None ↦ false | Some a ↦ is_read a.how && is_none (number_in_call p (has is_failed) past) ]) (count_in_call p (makes_itself p is_read) past)) some in
     let writes = over-mine {A = ℕ} p 0 (counting (makes_itself p is_write)) e past h called
     ∙ ap (λ (o : Option Access). more_if (elim o as (λ _. Bool) [ None ↦ false | Some a ↦ is_write a.how && is_none (number_in_call p (has is_failed) past) ]) (count_in_call p (makes_itself p is_write) past)) some in
     let overlapped = over-mine {A = ℕ} p 0 (counting ends_overlapped_read) e past h called
-    ∙ ap (λ t. more_if t (count_in_call p ends_overlapped_read past)) (sym is) in
-    let number = over-mine {A = ℕ} p 0 reading e past h called
-    ∙ ap (λ (o : Option Access). elim o as (λ _. ℕ) [ None ↦ number_read p past | Some a ↦ number_after a.bit a.how (number_read p past) ]) some in
+    ∙ ap (λ t. more_if t (count_in_call p ends_overlapped_read past)) (sym turn.overlapped) in
     let waited = over-mine {A = Option ℕ} p None (waiting s p) e past h called
     ∙ ap (λ (o : Option Access). elim o as (λ _. Option ℕ) [
       | None ↦ waited_for s p past
-      | Some a ↦ cond (tells_waiting s p (ticket_in_call p past) (number_in_call p (has ends_waiting) past) a (number_after a.bit a.how (number_read p past))) (Some a.owner) (waited_for s p past)
-    ]) some in
-    λ i. record { doorway = doorway i; reads = reads i; writes = writes i; overlapped = overlapped i; number = number i; waited_for = waited i }
+      | Some a ↦ cond (is_unmarked e.marks && tells_waiting s p (ticket_in_call p past) (number_in_call p (has ends_waiting) past) a (number_after a.bit a.how (number_read (doing s p past)))) (Some a.owner) (waited_for s p past)
+    ]) some
+    ∙ ap (λ b. cond b (Some a.owner) (waited_for s p past)) (sym (waits-told s p (ticket_in_call p past) (number_in_call p (has ends_waiting) past) past e a known.read h (turn.read a some))) in
+    λ i. record { doorway = doorway i; reads = reads i; writes = writes i; overlapped = overlapped i; waited_for = waited i }
 
 accesses-called : (s : Setup) (p : ℕ) (e : Entry) (past : Past) → e.process ≡ p → has is_called e ≡ true → accesses s p (e ∷ past) ≡ no_accesses
 accesses-called s p e past h some =
     let reads = over-called {A = ℕ} p 0 (counting (makes_itself p is_read)) e past h some in
     let writes = over-called {A = ℕ} p 0 (counting (makes_itself p is_write)) e past h some in
     let overlapped = over-called {A = ℕ} p 0 (counting ends_overlapped_read) e past h some in
-    let number = over-called {A = ℕ} p 0 reading e past h some in
     let waited = over-called {A = Option ℕ} p None (waiting s p) e past h some in
-    λ i. record { doorway = number-called p has_access e past h some i; reads = reads i; writes = writes i; overlapped = overlapped i; number = number i; waited_for = waited i }
+    λ i. record { doorway = number-called p has_access e past h some i; reads = reads i; writes = writes i; overlapped = overlapped i; waited_for = waited i }
 
 accesses-other : (s : Setup) (p : ℕ) (e : Entry) (past : Past) → (e.process == p) ≡ false → accesses s p (e ∷ past) ≡ accesses s p past
 accesses-other s p e past h =
     let reads = over-other {A = ℕ} p 0 (counting (makes_itself p is_read)) e past h in
     let writes = over-other {A = ℕ} p 0 (counting (makes_itself p is_write)) e past h in
     let overlapped = over-other {A = ℕ} p 0 (counting ends_overlapped_read) e past h in
-    let number = over-other {A = ℕ} p 0 reading e past h in
     let waited = over-other {A = Option ℕ} p None (waiting s p) e past h in
-    λ i. record { doorway = number-other p has_access e past h i; reads = reads i; writes = writes i; overlapped = overlapped i; number = number i; waited_for = waited i }
+    λ i. record { doorway = number-other p has_access e past h i; reads = reads i; writes = writes i; overlapped = overlapped i; waited_for = waited i }
 
 -- All that is kept.
 
@@ -208,9 +242,9 @@ standing-called s p e past c h is =
     (accesses-called s p e past h some)
     (marked-called p e past h some)
 
-pub standing-mine : (s : Setup) (p : ℕ) (e : Entry) (past : Past) → e.process ≡ p → called_in e.marks ≡ None → (b : Bool) → b ≡ ends_overlapped_read past e →
-    standing s p (e ∷ past) ≡ marked_all (length past) (accessed_by s (length past) b e.access (standing s p past)) e.marks
-standing-mine s p e past h is b overlapped =
+pub standing-mine : (s : Setup) (p : ℕ) (e : Entry) (past : Past) → e.process ≡ p → called_in e.marks ≡ None → (known : EntryKnown) → IsKnown s past e known →
+    standing s p (e ∷ past) ≡ marked_all (length past) (accessed_by s (length past) known e.access (standing s p past)) e.marks
+standing-mine s p e past h is known turn =
     let none : has is_called e ≡ false = called_has e.marks ∙ ap is_some is in
     let here : (e.process == p) ≡ true = eq-eqb e.process p h in
     let mine = own-mine p e past h in
@@ -220,7 +254,7 @@ standing-mine s p e past h is b overlapped =
     e.access refl
   where
     go : has is_called e ≡ false → (e.process == p) ≡ true → own p (e ∷ past) ≡ e ∷ own p past → calls_in (own p (e ∷ past)) ≡ calls_in (own p past) → last_command (own p (e ∷ past)) ≡ last_command (own p past) →
-        (o : Option Access) → e.access ≡ o → standing s p (e ∷ past) ≡ marked_all (length past) (accessed_by s (length past) b o (standing s p past)) e.marks
+        (o : Option Access) → e.access ≡ o → standing s p (e ∷ past) ≡ marked_all (length past) (accessed_by s (length past) known o (standing s p past)) e.marks
     go none here mine calls command None access =
         standing_by (standing s p (e ∷ past)) (with_marks (length past) (standing s p past) e.marks)
         (rw (here, none, is_calling) refl)
@@ -228,28 +262,39 @@ standing-mine s p e past h is b overlapped =
         calls
         command
         (rw (here, none, called_at) refl)
-        (accesses-with s p e past h none None access b overlapped)
+        (accesses-with s p e past h none None access known turn)
         (marked-mine p e past h none)
         ∙ sym (marked_all-is (length past) (standing s p past) e.marks)
     go none here mine calls command (Some a) access =
-        standing_by (standing s p (e ∷ past)) (with_marks (length past) (accessed_by s (length past) b (Some a) (standing s p past)) e.marks)
+        standing_by (standing s p (e ∷ past)) (with_marks (length past) (accessed_by s (length past) known (Some a) (standing s p past)) e.marks)
         (rw (here, none, is_calling) refl)
         refl
         calls
         command
         (rw (here, none, called_at) refl)
-        (accesses-with s p e past h none (Some a) access b overlapped)
+        (accesses-with s p e past h none (Some a) access known turn)
         (marked-mine p e past h none)
-        ∙ sym (marked_all-is (length past) (accessed_by s (length past) b (Some a) (standing s p past)) e.marks)
+        ∙ sym (marked_all-is (length past) (accessed_by s (length past) known (Some a) (standing s p past)) e.marks)
 
 -- with whatever entry of its own
-pub standing-heard : (s : Setup) (p : ℕ) (e : Entry) (past : Past) → e.process ≡ p → (b : Bool) → b ≡ ends_overlapped_read past e →
-    standing s p (e ∷ past) ≡ heard s (length past) b e.access e.marks (standing s p past)
-standing-heard s p e past h b overlapped = go (called_in e.marks) refl
+pub standing-heard : (s : Setup) (e : Entry) (past : Past) (known : EntryKnown) → IsKnown s past e known →
+    standing s e.process (e ∷ past) ≡ heard s (length past) known e.access e.marks (standing s e.process past)
+standing-heard s e past known turn = go (called_in e.marks) refl
   where
+    p : ℕ
+    p = e.process
+
     go : (o : Option Command) → called_in e.marks ≡ o → standing s p (e ∷ past) ≡ elim o as (λ _. CallStanding) [
       | Some c ↦ begun (length past) c (standing s p past)
-      | None ↦ marked_all (length past) (accessed_by s (length past) b e.access (standing s p past)) e.marks
+      | None ↦ marked_all (length past) (accessed_by s (length past) known e.access (standing s p past)) e.marks
     ]
-    go None is = standing-mine s p e past h is b overlapped
-    go (Some c) is = standing-called s p e past c h is
+    go None is = standing-mine s p e past refl is known turn
+    go (Some c) is = standing-called s p e past c refl is
+
+-- of each entry this can be known
+pub known_of : (s : Setup) (past : Past) (e : Entry) → (known : EntryKnown) × IsKnown s past e known
+known_of s past e = by (is_unmarked e.marks) refl
+  where
+    by : (b : Bool) → is_unmarked e.marks ≡ b → (known : EntryKnown) × IsKnown s past e known
+    by true none = (record { overlapped = ends_overlapped_read past e; read = Some (number_read (doing s e.process past)) }, record { overlapped = refl; read = λ a some. (none, λ ends. refl) })
+    by false some_marks = (record { overlapped = ends_overlapped_read past e; read = None }, record { overlapped = refl; read = λ a some. ap (λ b. b && ends_number (width s a.field) a.bit a.how) some_marks })

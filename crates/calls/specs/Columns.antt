@@ -1,7 +1,7 @@
 -- What became of a call: each number is found by looking back over a past.
-use Rattle.std.specs.Prelude.{ℕ, ◌+◌, ◌==◌, nat_lt, Bool, true, false, ◌&&◌, [], ◌∷◌, length, fold, cond, Option, None, Some, is_none, is_some, bit_or, ◌^◌}
+use Rattle.std.specs.Prelude.{ℕ, ◌+◌, ◌==◌, nat_lt, Bool, true, false, ◌&&◌, List, [], ◌∷◌, length, fold, cond, Option, None, Some, is_none, is_some, bit_or, ◌^◌}
 use Rattle.record.specs.safe_bit.declared.Move.{Move}
-use Rattle.record.specs.safe_bit.declared.Move.TheVariants.{BeginWrite, EndWrite, BeginRead, EndRead}
+use Rattle.record.specs.safe_bit.declared.Move.TheVariants.{BeginWrite, BeginRead, EndRead}
 use Rattle.plain_store.specs.declared.Answer.{Answer}
 use Rattle.plain_store.specs.declared.Setup.{Setup}
 use Rattle.record.specs.declared.access.Access.{Access}
@@ -12,10 +12,11 @@ use Rattle.record.specs.declared.marks.Mark.TheVariants.{Waiting, Entered, Taken
 use Rattle.record.specs.Calls.{calls_in, last_command}
 use Rattle.record.specs.Doorways.{doorway_end, first_of, number_in_call}
 use Rattle.record.specs.Entries.{Entry, Past, has, is_called, is_entered, is_failed, own}
-use Rattle.record.specs.Moves.{moves_of}
 use Rattle.record.specs.Program.{is_below}
 use Rattle.record.specs.Registers.{width}
-use Rattle.read_law.specs.Looks.{ends_overlapped}
+use Rattle.world.specs.laws.Doings.{doing}
+use Rattle.world.specs.process.Looks.{number_read}
+use Rattle.world.specs.Walks.{ends_overlapped_read}
 use Rattle.calls.specs.declared.called.Accesses.{Accesses}
 use Rattle.calls.specs.declared.called.Called.{Called as Told}
 use Rattle.calls.specs.declared.called.Marked.{Marked}
@@ -162,11 +163,7 @@ is_read_end _ = false
 abbrev pub makes_itself : ℕ → (Move → Bool) → Past → Entry → Bool
 makes_itself p test before e = elim e.access [ None ↦ false | Some a ↦ test a.how && is_none (number_in_call p (has is_failed) before) ]
 
--- with an entry a read ends that a write overlapped
-abbrev pub ends_overlapped_read : Past → Entry → Bool
-ends_overlapped_read before e = elim e.access [ None ↦ false | Some a ↦ ends_overlapped (moves_of a before) a.how ]
-
--- the first 64 bits of the number that is read, those read so far; its bit 0 begins it anew
+-- the first 64 bits of the number that is read, with this bit; its bit 0 begins it anew
 abbrev pub with_bit : ℕ → Bool → ℕ → ℕ
 with_bit k v n = cond (k == 0) (cond v 1 0) (cond (v && nat_lt k 64) (bit_or n (2 ^ k)) n)
 
@@ -174,10 +171,6 @@ with_bit k v n = cond (k == 0) (cond v 1 0) (cond (v && nat_lt k 64) (bit_or n (
 abbrev pub number_after : ℕ → Move → ℕ → ℕ
 number_after k (EndRead v) n = with_bit k v n
 number_after k _ n = n
-
--- that of p's last call
-abbrev pub number_read : ℕ → Past → ℕ
-number_read p past = over_call p 0 (λ before e n. elim e.access [ None ↦ n | Some a ↦ number_after a.bit a.how n ]) past
 
 -- a move on this bit ends the read of a number of so many bits
 abbrev pub ends_number : ℕ → ℕ → Move → Bool
@@ -195,11 +188,16 @@ abbrev pub tells_waiting : Setup → ℕ → Option ℕ → Option ℕ → Acces
 tells_waiting s p None wait_end a n = false
 tells_waiting s p (Some ticket) wait_end a n = is_none wait_end && (ends_number (width s a.field) a.bit a.how && holds_up p ticket a.owner a.field n)
 
--- the newest of those for whom p waited in its last call, by the numbers that it read
+-- no marks
+abbrev pub is_unmarked : List Mark → Bool
+is_unmarked [] = true
+is_unmarked (m ∷ marks) = false
+
+-- the newest of those for whom p waited in its last call, by the numbers that it read. An entry with marks leads on: with it p does not wait for the owner
 abbrev pub waited_for : Setup → ℕ → Past → Option ℕ
 waited_for s p past = over_call p None (λ before e newest. elim e.access [
   | None ↦ newest
-  | Some a ↦ cond (tells_waiting s p (ticket_in_call p before) (number_in_call p (has ends_waiting) before) a (number_after a.bit a.how (number_read p before))) (Some a.owner) newest
+  | Some a ↦ cond (is_unmarked e.marks && tells_waiting s p (ticket_in_call p before) (number_in_call p (has ends_waiting) before) a (number_after a.bit a.how (number_read (doing s p before)))) (Some a.owner) newest
 ]) past
 
 -- what the accesses of p's last call tell
@@ -209,7 +207,6 @@ accesses s p past = record {
   reads = count_in_call p (makes_itself p is_read) past;
   writes = count_in_call p (makes_itself p is_write) past;
   overlapped = count_in_call p ends_overlapped_read past;
-  number = number_read p past;
   waited_for = waited_for s p past;
 }
 

@@ -1,18 +1,19 @@
 -- What a table of calls keeps of the entries that it has heard.
-use Rattle.std.specs.Prelude.{◌≡◌, ℕ, ◌<◌, Bool, true, not, ◌&&◌, List, ◌∷◌, length, cond, slice_get, slice_set, ◌-◌, ◌^◌, Option, None, Some, Ok}
+use Rattle.std.specs.Prelude.{◌≡◌, ℕ, ◌<◌, ◌≤◌, true, false, not, ◌&&◌, List, ◌∷◌, length, cond, slice_get, slice_set, ◌-◌, ◌^◌, Option, None, Some, Ok}
 use Rattle.plain_store.specs.declared.Setup.{Setup}
 use Rattle.plain_store.specs.Setups.{checked}
 use Rattle.record.specs.declared.access.Access.{Access}
 use Rattle.record.specs.declared.marks.Mark.{Mark}
-use Rattle.record.specs.safe_bit.declared.Move.TheVariants.{EndRead}
 use Rattle.record.specs.Entries.{Entry, Past}
-use Rattle.record.specs.Moves.{begins_read, moves_of}
-use Rattle.read_law.specs.laws.Held.{IsThere}
-use Rattle.read_law.specs.Watching.{WatchState}
-use Rattle.read_law.specs.Watching.{HasHeard as HasWatched}
+use Rattle.record.specs.Registers.{width}
 use Rattle.calls.specs.declared.called.Called.{Called}
+use Rattle.calls.specs.declared.called.EntryKnown.{EntryKnown}
 use Rattle.calls.specs.declared.standing.CallStanding.{CallStanding}
-use Rattle.calls.specs.Columns.{called, is_calling}
+use Rattle.world.specs.laws.Doings.{doing}
+use Rattle.world.specs.process.Looks.{number_read}
+use Rattle.world.specs.Walks.{ends_overlapped_read}
+use Rattle.calls.specs.Columns.{called, ends_number, is_calling, is_unmarked}
+use Rattle.calls.specs.Passing.{HaveRoom, passed}
 use Rattle.calls.specs.Stepping.{AreFew, heard, standing}
 
 -- p's call, if it has not ended
@@ -23,34 +24,46 @@ open_call s p past = cond (is_calling p past) (Some (called s p past)) None
 abbrev pub ended_call : Setup → Past → Entry → Option Called
 ended_call s past e = cond (is_calling e.process past && not (is_calling e.process (e ∷ past))) (Some (called s e.process (e ∷ past))) None
 
--- an entry may come next in a run: its process is there, its access is of a bit that is there, and where it ends a read one of that bit has begun
-pub record ComesInTurn (s : Setup) (past : Past) (e : Entry) : Type 0 where
-  pub process : e.process < s.processes
-  pub there : (a : Access) → e.access ≡ Some a → IsThere s a
-  pub begun : (a : Access) (v : Bool) → e.access ≡ Some a → a.how ≡ EndRead v → begins_read (moves_of a past) ≡ true
+-- so much of a number was read before an entry with this access and without marks, where that ends the read of one; nothing is told only of an entry with marks, or one that ends none
+abbrev pub TellsRead : Setup → Past → Entry → Access → Option ℕ → Type 0
+TellsRead s past e a None = (is_unmarked e.marks && ends_number (width s a.field) a.bit a.how) ≡ false
+TellsRead s past e a (Some n) = (is_unmarked e.marks ≡ true) × (ends_number (width s a.field) a.bit a.how ≡ true → n ≡ number_read (doing s e.process past))
 
--- a watch, what is kept of each process, and how many entries there were
+-- this is known of an entry: it ends a read that a write overlapped or does not, and so much of a number was read before it
+pub record IsKnown (s : Setup) (past : Past) (e : Entry) (known : EntryKnown) : Type 0 where
+  pub overlapped : known.overlapped ≡ ends_overlapped_read past e
+  pub read : (a : Access) → e.access ≡ Some a → TellsRead s past e a known.read
+
+-- an entry of which this is known may come next in a run: its process is there
+pub record ComesInTurn (s : Setup) (past : Past) (e : Entry) (known : EntryKnown) : Type 0 where
+  pub process : e.process < s.processes
+  pub tells : IsKnown s past e known
+
+-- what is kept of each process, and how many entries there were
 pub record TableState : Type 0 where
   pub setup : Setup
-  pub watch : WatchState
   pub standings : List CallStanding
   pub entries : ℕ
 
 -- there is something kept for each process of a good setup
 pub record IsTable (t : TableState) : Type 0 where
   pub good : checked t.setup ≡ Ok tt
-  pub watched : t.watch.setup ≡ t.setup
   pub processes : length t.standings ≡ t.setup.processes
 
 -- it has heard these entries
 pub record HasHeard (t : TableState) (past : Past) : Type 0 where
-  pub watch : HasWatched t.watch past
   pub standings : (p : ℕ) → p < t.setup.processes → slice_get t.standings p ≡ Some (standing t.setup p past)
   pub entries : t.entries ≡ length past
 
 -- what is kept of p goes on with an entry, where it was this before, and this call ends with it
-pub record GoesOn (t : TableState) (p : ℕ) (overlapped : Bool) (access : Option Access) (marks : List Mark) (before : CallStanding) (ended : Option Called) (standings : List CallStanding) : Type 0 where
+pub record GoesOn (t : TableState) (p : ℕ) (known : EntryKnown) (access : Option Access) (marks : List Mark) (before : CallStanding) (ended : Option Called) (standings : List CallStanding) : Type 0 where
   pub then : CallStanding
   pub set : standings ≡ slice_set t.standings p then
-  pub heard : before.last.call < 2 ^ 64 - 1 → AreFew before.last.accesses → then ≡ heard t.setup t.entries overlapped access marks before
+  pub heard : before.last.call < 2 ^ 64 - 1 → AreFew before.last.accesses → then ≡ heard t.setup t.entries known access marks before
   pub is : ended ≡ cond (before.calling && not then.calling) (Some then.last) None
+
+-- it goes on with so many entries within a number access, where it was this before
+pub record GoesBy (t : TableState) (p steps : ℕ) (newest : Access) (overlapped : ℕ) (before : CallStanding) (standings : List CallStanding) : Type 0 where
+  pub then : CallStanding
+  pub set : standings ≡ slice_set t.standings p then
+  pub passes : HaveRoom before.last.accesses steps → overlapped ≤ steps → then ≡ passed t.entries steps newest.how overlapped before

@@ -10,6 +10,7 @@ use Rattle.record.specs.Calls.{called_in}
 use Rattle.record.specs.Doorways.{first_of}
 use Rattle.record.specs.Entries.{Past}
 use Rattle.calls.specs.declared.called.Accesses.{Accesses}
+use Rattle.calls.specs.declared.called.EntryKnown.{EntryKnown}
 use Rattle.calls.specs.declared.called.Marked.{Marked}
 use Rattle.calls.specs.declared.standing.CallStanding.{CallStanding}
 use Rattle.calls.specs.Columns.{answer_after, called, goes_on_after, is_calling, is_read, is_write, more_if, number_after, tells_waiting}
@@ -24,7 +25,7 @@ no_marks = record { door_end = None; entered = None; wait_end = None; taken = No
 
 -- no accesses
 abbrev pub no_accesses : Accesses
-no_accesses = record { doorway = None; reads = 0; writes = 0; overlapped = 0; number = 0; waited_for = None }
+no_accesses = record { doorway = None; reads = 0; writes = 0; overlapped = 0; waited_for = None }
 
 -- without an entry
 abbrev pub at_rest : ℕ → CallStanding
@@ -37,15 +38,19 @@ begun number c k = record {
   last = record { process = k.last.process; call = k.last.call + 1; command = c; called = number; accesses = no_accesses; marks = no_marks };
 }
 
--- with an access of the entry with this number; `overlapped`: it ends a read that a write overlapped
-abbrev pub with_access : Setup → ℕ → ℕ → Bool → Marked → Access → Accesses → Accesses
-with_access s p number overlapped m a k = record {
+-- an access tells that p waits for the register's owner, by how much of a number was read before it, if that is told
+abbrev pub waits_by : Setup → ℕ → Option ℕ → Option ℕ → Access → Option ℕ → Bool
+waits_by s p ticket wait_end a None = false
+waits_by s p ticket wait_end a (Some n) = tells_waiting s p ticket wait_end a (number_after a.bit a.how n)
+
+-- with an access of the entry with this number, of which this is known
+abbrev pub with_access : Setup → ℕ → ℕ → EntryKnown → Marked → Access → Accesses → Accesses
+with_access s p number known m a k = record {
   doorway = first_of k.doorway (Some number);
   reads = more_if (is_read a.how && is_none m.failed) k.reads;
   writes = more_if (is_write a.how && is_none m.failed) k.writes;
-  overlapped = more_if overlapped k.overlapped;
-  number = number_after a.bit a.how k.number;
-  waited_for = cond (tells_waiting s p m.ticket m.wait_end a (number_after a.bit a.how k.number)) (Some a.owner) k.waited_for;
+  overlapped = more_if known.overlapped k.overlapped;
+  waited_for = cond (waits_by s p m.ticket m.wait_end a known.read) (Some a.owner) k.waited_for;
 }
 
 -- the first number of an entry that has such a mark
@@ -75,19 +80,19 @@ abbrev pub marked_all : ℕ → CallStanding → List Mark → CallStanding
 marked_all number = fold (marked_on number)
 
 -- with an access
-abbrev pub accessed : Setup → ℕ → Bool → Access → CallStanding → CallStanding
-accessed s number overlapped a k = record k { last = record k.last { accesses = with_access s k.last.process number overlapped k.last.marks a k.last.accesses } }
+abbrev pub accessed : Setup → ℕ → EntryKnown → Access → CallStanding → CallStanding
+accessed s number known a k = record k { last = record k.last { accesses = with_access s k.last.process number known k.last.marks a k.last.accesses } }
 
 -- the same, if there is one
-abbrev pub accessed_by : Setup → ℕ → Bool → Option Access → CallStanding → CallStanding
-accessed_by s number overlapped None k = k
-accessed_by s number overlapped (Some a) k = accessed s number overlapped a k
+abbrev pub accessed_by : Setup → ℕ → EntryKnown → Option Access → CallStanding → CallStanding
+accessed_by s number known None k = k
+accessed_by s number known (Some a) k = accessed s number known a k
 
 -- with an entry of this number: its call, or else its access and its marks
-abbrev pub heard : Setup → ℕ → Bool → Option Access → List Mark → CallStanding → CallStanding
-heard s number overlapped access marks k = elim (called_in marks) [
+abbrev pub heard : Setup → ℕ → EntryKnown → Option Access → List Mark → CallStanding → CallStanding
+heard s number known access marks k = elim (called_in marks) [
   | Some c ↦ begun number c k
-  | None ↦ marked_all number (accessed_by s number overlapped access k) marks
+  | None ↦ marked_all number (accessed_by s number known access k) marks
 ]
 
 -- each count has room for one more

@@ -1,9 +1,11 @@
 //! What an access tells of the call that makes it: what it begins or ends, and the number that is read.
-ghost use Rattle.std.specs.Prelude.{◌≡◌, ◌+◌, ◌-◌, ◌^◌, ◌<◌, ◌&&◌, Some, Ok};
+ghost use Rattle.std.specs.Prelude.{◌≡◌, ◌+◌, ◌-◌, ◌^◌, ◌<◌, ◌&&◌, cond, Some, Ok};
 ghost use Rattle.plain_store.specs.Setups.{checked};
 ghost use Rattle.record.specs.Program.{is_below as below};
 ghost use Rattle.record.specs.Registers.{width};
 ghost use Rattle.calls.specs.Columns.{ends_number, holds_up as holds, is_read as begins_read, is_write as begins_write, more_if as one_more_if, number_after as after, tells_waiting, with_bit as bit_with};
+ghost use Rattle.calls.specs.Passing.{begun_among, of_read, of_write};
+ghost use Rattle.calls.specs.Stepping.{waits_by};
 
 use crate::called::Marked;
 use plain_store::Setup;
@@ -34,6 +36,30 @@ pub(crate) fn is_write(how: Move) -> bool
     matches!(how, Move::BeginWrite(_))
 }
 
+/// Of so many accesses that begin and end in turns, and of which the newest makes this move, so many begin a read.
+#[inline(always)]
+pub(crate) fn reads_among(steps: u32, newest: Move) -> u64
+    ensures { result ≡ cond (of_read newest) (begun_among steps (begins_read newest)) 0 }
+{
+    match newest {
+        Move::BeginRead => (u64::from(steps) + 1) / 2,
+        Move::EndRead(_) => u64::from(steps) / 2,
+        Move::BeginWrite(_) | Move::EndWrite | Move::Settle(_) => 0,
+    }
+}
+
+/// So many begin a write.
+#[inline(always)]
+pub(crate) fn writes_among(steps: u32, newest: Move) -> u64
+    ensures { result ≡ cond (of_write newest) (begun_among steps (begins_write newest)) 0 }
+{
+    match newest {
+        Move::BeginWrite(_) => (u64::from(steps) + 1) / 2,
+        Move::EndWrite => u64::from(steps) / 2,
+        Move::BeginRead | Move::EndRead(_) | Move::Settle(_) => 0,
+    }
+}
+
 /// The number that is read, once an access is made.
 #[inline]
 pub fn number_after(access: &Access, number: u64) -> u64
@@ -59,16 +85,32 @@ fn with_bit(bit: u16, value: bool, number: u64) -> u64
     }
 }
 
-/// Whether a process waits, and an access, with which it has read this number, tells that it waits for the register's
-/// owner.
-#[inline]
-pub(crate) fn tells_waiting(
+/// Whether an access tells that its process waits for the register's owner, by how much of a number was read before it, if that
+/// is told.
+#[inline(always)]
+pub(crate) fn waits_by(
     setup: &Setup,
     process: u8,
     marks: &Marked,
     access: &Access,
-    number: u64,
+    read: Option<u32>,
 ) -> bool
+    requires { checked setup.now ≡ Ok tt }
+    ensures { result ≡ waits_by setup.now process marks.now.ticket marks.now.wait_end access.now read }
+{
+    match read {
+        None => false,
+        Some(read) => {
+            let number = number_after(access, u64::from(read));
+            tells_waiting(setup, process, marks, access, number)
+        }
+    }
+}
+
+/// Whether a process waits, and an access, with which it has read this number, tells that it waits for the register's
+/// owner.
+#[inline]
+fn tells_waiting(setup: &Setup, process: u8, marks: &Marked, access: &Access, number: u64) -> bool
     requires { checked setup.now ≡ Ok tt }
     ensures { result ≡ tells_waiting setup.now process marks.now.ticket marks.now.wait_end access.now number }
 {

@@ -12,10 +12,18 @@ pub struct Accesses {
     pub writes: u64,
     /// How many of its reads that have ended were overlapped by a write.
     pub overlapped: u64,
-    /// Of the number that it reads, the bits so far.
-    pub number: u64,
     /// For whom it waited last.
     pub waited_for: Option<u8>,
+}
+
+/// What is known of an entry beside its access and its marks.
+#[derive(Clone, Copy, Debug)]
+pub struct EntryKnown {
+    /// Whether it ends a read that a write overlapped.
+    pub overlapped: bool,
+    /// How much of a number was read before it. It need not be told of an entry with marks, or of one that ends the read of
+    /// no number.
+    pub read: Option<u32>,
 }
 
 /// What the marks of a call tell, those of a memory unit too. Events are told by their numbers, from 0.

@@ -1,14 +1,14 @@
 //! What is kept of a process, entry by entry.
-ghost use Rattle.std.specs.Prelude.{◌≡◌, ◌-◌, ◌^◌, ◌<◌, ◌&&◌, not, cond, None, Some, Ok};
+ghost use Rattle.std.specs.Prelude.{◌≡◌, ◌-◌, ◌^◌, ◌<◌, ◌≤◌, ◌&&◌, not, cond, None, Some, Ok};
 ghost use Rattle.plain_store.specs.Setups.{checked};
 ghost use Rattle.record.specs.Calls.{called_in as command_in};
 ghost use Rattle.record.specs.Doorways.{first_of as first};
 ghost use Rattle.record.specs.Registers.{width};
-ghost use Rattle.calls.specs.Columns.{tells_waiting};
+ghost use Rattle.calls.specs.Passing.{HaveRoom, passed, with_passed};
 ghost use Rattle.calls.specs.Stepping.{AreFew, accessed, heard, at_rest, begun, marked_all, marked_on, no_accesses, no_marks, with_access, with_mark};
 
-use crate::accesses::{is_read, is_write, more_if, number_after, tells_waiting};
-use crate::called::{Accesses, Called, Marked};
+use crate::accesses::{is_read, is_write, more_if, reads_among, waits_by, writes_among};
+use crate::called::{Accesses, Called, EntryKnown, Marked};
 use plain_store::{Command, NestedTypes, Setup};
 use read_law::width;
 use record::{Access, Field, Mark, Move};
@@ -38,23 +38,22 @@ impl CallStanding {
         }
     }
 
-    /// One more entry, with this number; `overlapped`: it ends a read that a write overlapped. The call that ends with it, if
-    /// one does.
+    /// One more entry, with this number, of which this is known. The call that ends with it, if one does.
     #[inline(always)]
     pub fn hear(
         &mut self,
         setup: &Setup,
         number: u64,
-        overlapped: bool,
+        known: &EntryKnown,
         access: &Option<Access>,
         marks: &[Mark],
     ) -> Option<Called>
         requires { checked setup.now ≡ Ok tt }
-        ensures heard { self.old.last.call < 2 ^ 64 - 1 → AreFew self.old.last.accesses → self.new ≡ heard setup.now number overlapped access.now marks.now self.old }
+        ensures heard { self.old.last.call < 2 ^ 64 - 1 → AreFew self.old.last.accesses → self.new ≡ heard setup.now number known.now access.now marks.now self.old }
         ensures ended { result ≡ cond (self.old.calling && not self.new.calling) (Some self.new.last) None }
     {
         let was_calling = self.calling;
-        self.go_on(setup, number, overlapped, access, marks);
+        self.go_on(setup, number, known, access, marks);
         if was_calling && !self.calling {
             Some(self.last)
         } else {
@@ -68,12 +67,12 @@ impl CallStanding {
         &mut self,
         setup: &Setup,
         number: u64,
-        overlapped: bool,
+        known: &EntryKnown,
         access: &Option<Access>,
         marks: &[Mark],
     )
         requires { checked setup.now ≡ Ok tt }
-        ensures { self.old.last.call < 2 ^ 64 - 1 → AreFew self.old.last.accesses → self.new ≡ heard setup.now number overlapped access.now marks.now self.old }
+        ensures { self.old.last.call < 2 ^ 64 - 1 → AreFew self.old.last.accesses → self.new ≡ heard setup.now number known.now access.now marks.now self.old }
     {
         let _nested: NestedTypes = None;
         if let Some(command) = called_in(marks) {
@@ -81,7 +80,7 @@ impl CallStanding {
             return;
         }
         if let Some(access) = access {
-            self.access(setup, number, overlapped, access);
+            self.access(setup, number, known, access);
         }
         self.mark_all(number, marks);
     }
@@ -101,17 +100,26 @@ impl CallStanding {
         };
     }
 
-    /// An access of the entry with this number; `overlapped`: it ends a read that a write overlapped.
+    /// An access of the entry with this number, of which this is known.
     #[inline]
-    fn access(&mut self, setup: &Setup, number: u64, overlapped: bool, access: &Access)
+    fn access(&mut self, setup: &Setup, number: u64, known: &EntryKnown, access: &Access)
         requires { checked setup.now ≡ Ok tt }
-        ensures { AreFew self.old.last.accesses → self.new ≡ accessed setup.now number overlapped access.now self.old }
+        ensures { AreFew self.old.last.accesses → self.new ≡ accessed setup.now number known.now access.now self.old }
     {
         let process = self.last.process;
         let marks = &self.last.marks;
         self.last
             .accesses
-            .note(setup, process, number, overlapped, marks, access);
+            .note(setup, process, number, known, marks, access);
+    }
+
+    /// So many accesses within a number access, of a process that has not failed in its call, the first of them of the entry
+    /// with this number; the newest makes this move, and so many end a read that a write overlapped.
+    #[inline(always)]
+    pub fn pass(&mut self, number: u64, steps: u32, newest: Move, overlapped: u32)
+        ensures { HaveRoom self.old.last.accesses steps → overlapped ≤ steps → self.new ≡ passed number steps newest overlapped self.old }
+    {
+        self.last.accesses.pass(number, steps, newest, overlapped);
     }
 
     /// The marks of the entry with this number.
@@ -147,7 +155,6 @@ impl Accesses {
             reads: 0,
             writes: 0,
             overlapped: 0,
-            number: 0,
             waited_for: None,
         }
     }
@@ -159,22 +166,45 @@ impl Accesses {
         setup: &Setup,
         process: u8,
         number: u64,
-        overlapped: bool,
+        known: &EntryKnown,
         marks: &Marked,
         access: &Access,
     )
         requires { checked setup.now ≡ Ok tt }
-        ensures { AreFew self.old → self.new ≡ with_access setup.now process number overlapped marks.now access.now self.old }
+        ensures { AreFew self.old → self.new ≡ with_access setup.now process number known.now marks.now access.now self.old }
     {
         self.doorway = first_of(self.doorway, number);
         let itself = marks.failed.is_none();
         self.reads = more_if(self.reads, is_read(access.how) && itself);
         self.writes = more_if(self.writes, is_write(access.how) && itself);
-        self.overlapped = more_if(self.overlapped, overlapped);
-        self.number = number_after(access, self.number);
-        if tells_waiting(setup, process, marks, access, self.number) {
+        self.overlapped = more_if(self.overlapped, known.overlapped);
+        if waits_by(setup, process, marks, access, known.read) {
             self.waited_for = Some(access.owner);
         }
+    }
+}
+
+impl Accesses {
+    /// So many more within a number access, of a process that has not failed; the first of them is of the entry with this
+    /// number.
+    #[inline(always)]
+    fn pass(&mut self, number: u64, steps: u32, newest: Move, overlapped: u32)
+        ensures { HaveRoom self.old steps → overlapped ≤ steps → self.new ≡ with_passed number steps newest overlapped self.old }
+    {
+        if self.doorway.is_none() {
+            self.open(number);
+        }
+        self.reads = self.reads.wrapping_add(reads_among(steps, newest));
+        self.writes = self.writes.wrapping_add(writes_among(steps, newest));
+        self.overlapped = self.overlapped.wrapping_add(u64::from(overlapped));
+    }
+
+    /// The doorway begins, with the entry of this number. It is no part of its caller, which has no call begin but seldom.
+    #[inline(never)]
+    fn open(&mut self, number: u64)
+        ensures { self.new ≡ record self.old { doorway = Some number } }
+    {
+        self.doorway = Some(number);
     }
 }
 

@@ -1,5 +1,5 @@
 -- A part of a run comes along a line, and along the lines of a scenario.
-use Rattle.std.proofs.Common.{◌≡◌, ◌⊎◌, inl, inr, ℕ, zero, suc, ◌+◌, ◌-◌, ◌<◌, ◌≤◌, nat_lt, Bool, true, false, cond, List, [], ◌∷◌, ◌++◌, drop, filter, length, slice_index, Option, None, Some, Ok, refl, ap, sym, subst, ◌∙◌, arith, append_assoc}
+use Rattle.std.proofs.Common.{◌≡◌, inl, inr, ℕ, zero, suc, ◌+◌, ◌-◌, ◌<◌, ◌≤◌, nat_lt, Bool, true, false, cond, List, [], ◌∷◌, ◌++◌, drop, filter, length, slice_index, Option, None, Some, Ok, refl, ap, sym, subst, ◌∙◌, arith, append_assoc}
 use Rattle.std.specs.Prelude.{is_none, slice_index_or}
 use Rattle.std.specs.List.{range_with_len}
 use Rattle.std.proofs.Math.Seq.{drop-append_seam}
@@ -10,14 +10,12 @@ use Rattle.std.proofs.lemmas.List.FromFn.{get_or-range_with_len, length-range_wi
 use Rattle.std.proofs.lemmas.Nat.{mod_below}
 use Rattle.plain_store.specs.declared.setups.Setup.{Setup}
 use Rattle.plain_store.specs.Setups.{checked}
-use Rattle.record.specs.declared.events.Event.{Event}
-use Rattle.record.specs.declared.events.Event.TheVariants.{Step}
 use Rattle.record.specs.declared.refusals.Refusal.{Refusal}
 use Rattle.record.specs.declared.refusals.Refusal.TheVariants.{CallsFull, NoProcess}
 use Rattle.record.specs.declared.stages.Stage.{Stage}
 use Rattle.record.specs.declared.stages.Stage.TheVariants as stages
 use Rattle.record.specs.Entries.{Entry, Past}
-use Rattle.record.specs.Records.{calls_full, entry_of, past_of, refused, refused_at}
+use Rattle.record.specs.Records.{calls_full, entry_of, refused, refused_at}
 use Rattle.record.specs.Registers.{processes}
 use Rattle.record.specs.Stages.{stage}
 use Rattle.record.proofs.Accepted.{accepted_adds}
@@ -30,7 +28,7 @@ use Rattle.course.specs.Happenings.{Happening, Tries, Lacks, Tires, Looks, past_
 use Rattle.course.specs.Runs.{Run, after_pick_in, goes, has_step, is_there, may_step, movers, next_step, past_in, pick_among, picked, run_after, run_at_start, runs, stepped, steps, wanders, with_happening}
 use Rattle.course.proofs.Grows.{Grows, line_grows, rest_grows}
 use Rattle.course.proofs.Refusals.{past_kept}
-use Rattle.inspect.specs.States.{ComesAlong, GoesAlong, IsAt, MadePart, MakesPart, Part, clipped, first_of, long_go}
+use Rattle.inspect.specs.States.{ComesAlong, IsAt, MadePart, MakesPart, Part, clipped, first_of, long_go}
 use Rattle.inspect.specs.declared.part_of_run.PartOfRun.{PartOfRun}
 
 -- An option by whether it is none.

@@ -1,5 +1,5 @@
 -- A `go` that is made Step by Step, up to an event.
-use Rattle.std.proofs.Common.{◌≡◌, inl, inr, ℕ, zero, suc, ◌+◌, ◌<◌, ◌≤◌, nat_lt, Bool, true, false, cond, [], ◌++◌, length, Option, None, Some, refl, ap, sym, subst, ◌∙◌, arith}
+use Rattle.std.proofs.Common.{◌≡◌, inl, inr, ℕ, zero, suc, ◌+◌, ◌<◌, ◌≤◌, nat_lt, Bool, true, false, cond, [], length, Option, None, Some, refl, ap, sym, subst, ◌∙◌, arith}
 use Rattle.plain_store.specs.declared.setups.Setup.{Setup}
 use Rattle.record.specs.declared.stages.Stage.{Stage}
 use Rattle.record.specs.Stages.{stage}
@@ -8,7 +8,7 @@ use Rattle.scenario.specs.declared.lines.Target.{Target}
 use Rattle.course.specs.world.Events.{stage_in}
 use Rattle.course.specs.Courses.{Follows}
 use Rattle.course.specs.Happenings.{Lacks, Tires}
-use Rattle.course.specs.Runs.{Run, goes, is_there, may_step, past_in, run_after, stepped, steps, with_happening}
+use Rattle.course.specs.Runs.{Run, goes, is_there, may_step, past_in, run_after, stepped, with_happening}
 use Rattle.course.specs.Turns.{go_rest}
 use Rattle.course.proofs.Grows.{Grows, rest_grows}
 use Rattle.inspect.specs.States.{IsAt, MadePart, MakesLine, Part}

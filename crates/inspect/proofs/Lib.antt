@@ -3,5 +3,7 @@ pub mod Fronts
 pub mod Going
 pub mod Ranges
 pub mod Seeing
+pub mod Unfailed
+pub mod Passing
 pub mod Standing
 pub mod Tabling

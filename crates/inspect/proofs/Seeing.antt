@@ -1,5 +1,5 @@
 -- What is told of a run is heard.
-use Rattle.std.proofs.Common.{◌≡◌, ◌++◌, ◌+◌, ◌<◌, Bool, true, false, List, [], ◌∷◌, ℕ, zero, suc, Option, None, Some, Ok, refl, ap, arith, eqb-true, sym, subst, ◌∙◌}
+use Rattle.std.proofs.Common.{◌≡◌, ◌+◌, ◌<◌, Bool, true, false, List, [], ◌∷◌, ℕ, zero, suc, Option, None, Some, Ok, refl, ap, eqb-true, sym, subst, ◌∙◌}
 use Rattle.plain_store.specs.declared.setups.Setup.{Setup}
 use Rattle.plain_store.specs.Setups.{checked}
 use Rattle.record.specs.safe_bit.declared.Move.{Move}
@@ -10,13 +10,14 @@ use Rattle.record.specs.declared.events.Event.TheVariants.{Step}
 use Rattle.record.specs.Records.{entry_of, past_of}
 use Rattle.record.specs.Registers.{width}
 use Rattle.record.proofs.Width.{is_good}
-use Rattle.course.proofs.laws.FrameEvents.{accepted}
+use Rattle.course.proofs.InTurn.{process_there}
 use Rattle.course.proofs.laws.Steps.{step_is}
 use Rattle.course.specs.world.laws.Doings.{doing}
 use Rattle.course.specs.world.process.Looks.{number_read}
 use Rattle.course.specs.world.process.Places.{left_at, process_after}
 use Rattle.snapshot.specs.calls.Columns.{ends_number}
 use Rattle.snapshot.specs.Keeping.{Passes, TellsNumber}
+use Rattle.snapshot.proofs.FirstAccesses.{has-first}
 use Rattle.snapshot.proofs.world.WorldShows.{past-after}
 use Rattle.snapshot.proofs.world.WorldWithin.{inside-number}
 use Rattle.record.specs.declared.history.Taken.{Taken}
@@ -31,14 +32,14 @@ use Rattle.inspect.specs.States.{HasSeen, HearsTold, newest}
 use Rattle.inspect.specs.declared.heard.HeardRun.{HeardRun}
 use Rattle.inspect.proofs.Tabling.{in_turn, past_told}
 
-seen_with : (s : Setup) → checked s ≡ Ok tt → (before : List Happening) (this : Happening) (answer : Told) (old new : HeardRun) → TellsOf s (past_after s before) this answer → IsMarked answer → HearsTold answer old new →
-    HasSeen s (past_after s before) old → HasSeen s (past_after s (this ∷ before)) new
-seen_with s good before this answer old new tells marked hears seen =
-    subst (λ past. HasSeen s past new) (sym (past_told s before this answer tells)) (hears s (past_after s before) (in_turn s good before this answer tells) marked seen)
+seen_with : (s : Setup) (all : Bool) → checked s ≡ Ok tt → (before : List Happening) (this : Happening) (answer : Told) (old new : HeardRun) → TellsOf s (past_after s before) this answer → IsMarked answer → HearsTold answer old new →
+    HasSeen s all (past_after s before) old → HasSeen s all (past_after s (this ∷ before)) new
+seen_with s all good before this answer old new tells marked heard seen =
+    subst (λ past. HasSeen s all past new) (sym (past_told s before this answer tells)) (heard s (past_after s before) (in_turn s before this answer tells marked) marked all seen)
 
 -- what a turn tells
-pub told_seen : (s : Setup) (before : List Happening) (this : Happening) (answer : Told) (taken : List Taken) (old new : HeardRun) → Happens s before this answer taken → HearsTold answer old new → HasSeen s (past_after s before) old → HasSeen s (past_after s (this ∷ before)) new
-told_seen s before this answer taken old new h hears seen = seen_with s h.good before this answer old new h.tells h.marked hears seen
+pub told_seen : (s : Setup) (all : Bool) (before : List Happening) (this : Happening) (answer : Told) (taken : List Taken) (old new : HeardRun) → Happens s before this answer taken → HearsTold answer old new → HasSeen s all (past_after s before) old → HasSeen s all (past_after s (this ∷ before)) new
+told_seen s all before this answer taken old new h heard seen = seen_with s all h.good before this answer old new h.tells h.marked heard seen
 
 -- A Step without a mark.
 
@@ -50,12 +51,12 @@ ends_read n k EndWrite is = absurd (cc)
 ends_read n k BeginRead is = absurd (cc)
 ends_read n k (Settle v) is = absurd (cc)
 
-not_so : (b : Bool) → (b ≡ true → ⊥) → b ≡ false
+pub not_so : (b : Bool) → (b ≡ true → ⊥) → b ≡ false
 not_so true never = absurd (never refl)
 not_so false never = refl
 
 -- it is not made within a number access
-inside_never : (s : Setup) → checked s ≡ Ok tt → (events : List Event) (p : ℕ) (flick : Bool) (a : Access) → entry_of s (past_of s events) (Step p flick) ≡ Some (record { process = p; access = Some a; marks = [] }) →
+pub inside_never : (s : Setup) → checked s ≡ Ok tt → (events : List Event) (p : ℕ) (flick : Bool) (a : Access) → entry_of s (past_of s events) (Step p flick) ≡ Some (record { process = p; access = Some a; marks = [] }) →
     0 < left_at (process_after s (past_of s events) p) → ends_number (width s a.field) a.bit a.how ≡ true → ⊥
 inside_never s good events p flick a adds some ends =
     let r = ends_read (width s a.field) a.bit a.how ends in
@@ -71,10 +72,10 @@ tells_number s before made n same on = λ ends. by made.number refl ends
 
 -- its process is there
 pub steps_below : (s : Setup) (before : List Happening) (made : Stepped) → StepsOn s before made → made.process < s.processes
-steps_below s before made on = (in_turn s on.good before (Tries (Step made.process made.flick)) (told_unmarked made) (refl, on.adds)).process
+steps_below s before made on = process_there s (tried before) (Step made.process made.flick) (record { process = made.process; access = Some made.access; marks = [] }) refl on.adds
 
 pub step_past : (s : Setup) (before : List Happening) (made : Stepped) → StepsOn s before made → past_after s (Tries (Step made.process made.flick) ∷ before) ≡ record { process = made.process; access = Some made.access; marks = [] } ∷ past_after s before
-step_past s before made on = past_told s before (Tries (Step made.process made.flick)) (told_unmarked made) (refl, on.adds)
+step_past s before made on = past_told s before (Tries (Step made.process made.flick)) (told_unmarked made) (refl, on.adds, on.overlapped)
 
 -- Steps within a number access.
 
@@ -86,16 +87,13 @@ pass_one s p n flick before after w more = by w.quiet.0 w.quiet.1
     by (Some a) adds = (
       a,
       not_so (ends_number (width s a.field) a.bit a.how) (inside_never s w.good (tried before) p flick a adds w.within),
+      has-first s (is_good s w.good) (tried before) p w.within,
       subst (λ q. Passes s p n q (past_after s after)) (past-after s (tried before) (Step p flick) (record { process = p; access = Some a; marks = [] }) adds) more,
     )
 
 pub passes_of : (s : Setup) (p n : ℕ) (before after : List Happening) → PassWithin s p n before after → Passes s p n (past_after s before) (past_after s after)
 passes_of s p zero before after same = ap (past_after s) same
 passes_of s p (suc n) before after (flick, w, more) = pass_one s p n flick before after w (passes_of s p n (Tries (Step p flick) ∷ before) after more)
-
-pub pass_below : (s : Setup) (p n : ℕ) (before after : List Happening) → PassWithin s p n before after → 0 < n → p < s.processes
-pass_below s p zero before after same some = absurd (omega (arith, some))
-pass_below s p (suc n) before after (flick, w, more) some = (accepted s (is_good s w.good) (tried before) (Step p flick) _ w.quiet.1).below
 
 -- the newest entry, and its line
 pub newest_none : (past : Past) → newest past ≡ None → newest_line past ≡ []

@@ -1,50 +1,55 @@
 -- The lines of the calls that end, turn by turn and line by line.
-use Rattle.std.proofs.Common.{◌≡◌, ◌+◌, ◌^◌, ◌<◌, ◌≤◌, ◌==◌, ◌&&◌, ℕ, Bool, true, false, not, cond, List, [], ◌∷◌, ◌++◌, length, Option, None, Some, Result, Ok, Err, IfErr, OnErr, refl, ap, sym, subst, ◌∙◌, append-nil, append_assoc, eq-eqb}
+use Rattle.std.proofs.Common.{◌≡◌, ◌+◌, ◌&&◌, ℕ, Bool, true, false, not, cond, List, [], ◌∷◌, ◌++◌, Option, None, Some, Result, Ok, Err, IfErr, OnErr, refl, ap, sym, subst, ◌∙◌, append-nil, append_assoc, eq-eqb}
 use Rattle.std.specs.Io.KnownBytes.{Appends}
 use Rattle.scenario.specs.files.Streams.{WritesFront}
 use Rattle.plain_store.specs.declared.setups.Setup.{Setup}
-use Rattle.plain_store.specs.Setups.{checked}
+use Rattle.record.specs.Registers.{width}
 use Rattle.record.specs.declared.access.Access.{Access}
 use Rattle.record.specs.declared.events.Event.{Event}
-use Rattle.record.specs.declared.events.Event.TheVariants.{Step}
 use Rattle.record.specs.declared.history.Taken.{Taken}
 use Rattle.record.specs.declared.marks.Mark.{Mark}
 use Rattle.record.specs.Entries.{Entry, Past}
 use Rattle.record.specs.Records.{entry_of, past_of, process_of}
 use Rattle.scenario.specs.declared.lines.Line.{Line}
-use Rattle.snapshot.specs.calls.Columns.{called, is_calling}
+use Rattle.snapshot.specs.calls.Columns.{called, ends_number, is_calling, is_unmarked}
 use Rattle.snapshot.specs.calls.Hearing.{ComesInTurn, HasHeard, TableState, ended_call}
-use Rattle.snapshot.specs.calls.Lines.{ended_lines, header, line_of, open_lines, table_text}
-use Rattle.course.specs.Courses.{CourseState, Follows}
+use Rattle.snapshot.specs.calls.Lines.{ended_lines, header, open_lines, table_text}
+use Rattle.course.specs.Courses.{CourseState}
 use Rattle.course.specs.Happenings.{Happening, Tries, Lacks, Tires, Looks, past_after, tried}
-use Rattle.course.specs.Listening.{Happens, StepsOn}
+use Rattle.course.specs.Listening.{Happens}
 use Rattle.course.specs.Runs.{Run, run_after, run_at_start, runs}
-use Rattle.course.specs.Telling.{TellsOf, entry_made}
+use Rattle.course.specs.world.Walks.{ends_overlapped_read}
+use Rattle.course.specs.Telling.{IsMarked, TellsOf, entry_made}
 use Rattle.course.specs.Writing.{IsWriteFault, Writes, WritesPart, failed_write}
-use Rattle.course.specs.declared.told.Stepped.{Stepped}
+use Rattle.course.specs.declared.told.Accepted.{Accepted}
 use Rattle.course.specs.declared.told.Told.{Told}
 use Rattle.course.specs.declared.told.Told.TheVariants as told
 use Rattle.scenario.specs.files.declared.faults.Fault.{Fault}
 use Rattle.course.proofs.Endings.{err_both}
 use Rattle.course.proofs.Grows.{lines_grow}
-use Rattle.course.proofs.InTurn.{access_in_turn, process_there}
+use Rattle.course.proofs.InTurn.{process_there}
 use Rattle.course.proofs.Played.{Between}
 use Rattle.course.proofs.Refusals.{past_kept}
 use Rattle.course.proofs.Written.{appends_both, front_after, front_longer}
-use Rattle.inspect.specs.Tables.{CutsTable, CutsTold, HasTabled, IsInTurn, Tables, TablesLine, Tells, lines_after, lines_longer, past_with, tabled, told_line}
+use Rattle.inspect.specs.Tables.{CutsTable, CutsTold, HasTabled, IsInTurn, Tables, TablesLine, Tells, known_told, lines_after, lines_longer, past_with, tabled, told_line}
 
--- an entry of a run comes in its turn
-entry_in_turn : (s : Setup) → checked s ≡ Ok tt → (events : List Event) (event : Event) (e : Entry) → e.process ≡ process_of event → entry_of s (past_of s events) event ≡ Some e → ComesInTurn s (past_of s events) e
-entry_in_turn s good events event e mine is = record {
-  process = process_there s events event e mine is;
-  there = λ a made. (access_in_turn s good events event e is a made).0;
-  begun = λ a v made ends. (access_in_turn s good events event e is a made).1 v ends;
+-- marks that there are
+some_marks : (marks : List Mark) → (marks ≡ [] → ⊥) → is_unmarked marks ≡ false
+some_marks [] some = absurd (some refl)
+some_marks (m ∷ marks) some = refl
+
+-- an entry with marks that is told comes in its turn
+entry_in_turn : (s : Setup) (events : List Event) (event : Event) (made : Accepted) → made.event ≡ event → entry_of s (past_of s events) event ≡ Some (entry_made made) → made.overlapped ≡ ends_overlapped_read (past_of s events) (entry_made made) →
+    IsMarked (told.Accepted made) → ComesInTurn s (past_of s events) (entry_made made) (known_told made)
+entry_in_turn s events event made same is overlapped marked = record {
+  process = process_there s events event (entry_made made) (ap process_of same) is;
+  tells = record { overlapped = overlapped; read = λ a some. ap (λ b. b && ends_number (width s a.field) a.bit a.how) (some_marks (entry_made made).marks marked) };
 }
 
 -- What is told.
 
 -- the past with an entry that is added
-event_added : (s : Setup) (before : List Happening) (event : Event) (e : Entry) → entry_of s (past_after s before) event ≡ Some e → past_after s (Tries event ∷ before) ≡ e ∷ past_after s before
+pub event_added : (s : Setup) (before : List Happening) (event : Event) (e : Entry) → entry_of s (past_after s before) event ≡ Some e → past_after s (Tries event ∷ before) ≡ e ∷ past_after s before
 event_added s before event e adds = ap (λ (o : Option Entry). elim o as (λ _. Past) [ None ↦ past_after s before | Some e ↦ e ∷ past_after s before ]) adds
 
 -- the past with what is told is the past after what happens
@@ -67,23 +72,23 @@ past_told s before Looks (told.Refused q r) tells = absurd tells
 past_told s before Looks (told.Tired q) tells = absurd tells
 
 -- and an entry that is told comes in its turn
-pub in_turn : (s : Setup) → checked s ≡ Ok tt → (before : List Happening) (this : Happening) (answer : Told) → TellsOf s (past_after s before) this answer → IsInTurn s (past_after s before) answer
-in_turn s good before (Tries event) (told.Accepted made) tells = entry_in_turn s good (tried before) event (entry_made made) (ap process_of tells.0) tells.1
-in_turn s good before (Tries event) (told.Refused p r) tells = tt
-in_turn s good before (Tries event) (told.Tired p) tells = tt
-in_turn s good before (Tries event) (told.Shown store) tells = tt
-in_turn s good before (Lacks p) (told.Accepted made) tells = absurd tells
-in_turn s good before (Lacks p) (told.Refused q r) tells = tt
-in_turn s good before (Lacks p) (told.Tired q) tells = tt
-in_turn s good before (Lacks p) (told.Shown store) tells = tt
-in_turn s good before (Tires p) (told.Accepted made) tells = absurd tells
-in_turn s good before (Tires p) (told.Refused q r) tells = tt
-in_turn s good before (Tires p) (told.Tired q) tells = tt
-in_turn s good before (Tires p) (told.Shown store) tells = tt
-in_turn s good before Looks (told.Accepted made) tells = absurd tells
-in_turn s good before Looks (told.Refused q r) tells = tt
-in_turn s good before Looks (told.Tired q) tells = tt
-in_turn s good before Looks (told.Shown store) tells = tt
+pub in_turn : (s : Setup) (before : List Happening) (this : Happening) (answer : Told) → TellsOf s (past_after s before) this answer → IsMarked answer → IsInTurn s (past_after s before) answer
+in_turn s before (Tries event) (told.Accepted made) tells marked = entry_in_turn s (tried before) event made tells.0 tells.1 tells.2 marked
+in_turn s before (Tries event) (told.Refused p r) tells marked = tt
+in_turn s before (Tries event) (told.Tired p) tells marked = tt
+in_turn s before (Tries event) (told.Shown store) tells marked = tt
+in_turn s before (Lacks p) (told.Accepted made) tells marked = absurd tells
+in_turn s before (Lacks p) (told.Refused q r) tells marked = tt
+in_turn s before (Lacks p) (told.Tired q) tells marked = tt
+in_turn s before (Lacks p) (told.Shown store) tells marked = tt
+in_turn s before (Tires p) (told.Accepted made) tells marked = absurd tells
+in_turn s before (Tires p) (told.Refused q r) tells marked = tt
+in_turn s before (Tires p) (told.Tired q) tells marked = tt
+in_turn s before (Tires p) (told.Shown store) tells marked = tt
+in_turn s before Looks (told.Accepted made) tells marked = absurd tells
+in_turn s before Looks (told.Refused q r) tells marked = tt
+in_turn s before Looks (told.Tired q) tells marked = tt
+in_turn s before Looks (told.Shown store) tells marked = tt
 
 -- the lines of the calls that have ended, with what is told
 lines_told : (s : Setup) (past : Past) (answer : Told) → ended_lines s (past_with past answer) ≡ ended_lines s past ++ told_line s past answer
@@ -98,7 +103,7 @@ told_heard : (s : Setup) (before : List Happening) (this : Happening) (answer : 
 told_heard s before this answer taken old new a b h tells t =
     let past : Past = past_after s before in
     subst (λ (s : Setup). HasHeard new (past_with past answer) × Appends a b (told_line s past answer)) t.setup
-    (tells past t.heard (subst (λ (s : Setup). IsInTurn s past answer) (sym t.setup) (in_turn s h.good before this answer h.tells)))
+    (tells past t.heard (subst (λ (s : Setup). IsInTurn s past answer) (sym t.setup) (in_turn s before this answer h.tells h.marked)))
 
 pub told_tabled : (s : Setup) (before : List Happening) (this : Happening) (answer : Told) (taken : List Taken) (old new : TableState) (a b : Option (List ℕ)) → Happens s before this answer taken → Tells answer old new a b → new.setup ≡ old.setup →
     HasTabled s before old → HasTabled s (this ∷ before) new
@@ -122,7 +127,7 @@ told_cut s before this answer taken old a b h cuts t =
     record {
       text = told_line s past answer;
       is = ap (ended_lines s) (past_told s before this answer h.tells) ∙ lines_told s past answer;
-      front = subst (λ (s : Setup). WritesFront a b (told_line s past answer)) t.setup (cuts past t.heard (subst (λ (s : Setup). IsInTurn s past answer) (sym t.setup) (in_turn s h.good before this answer h.tells)));
+      front = subst (λ (s : Setup). WritesFront a b (told_line s past answer)) t.setup (cuts past t.heard (subst (λ (s : Setup). IsInTurn s past answer) (sym t.setup) (in_turn s before this answer h.tells h.marked)));
     }
 
 -- No call ends with an entry without a mark.
@@ -130,31 +135,11 @@ not_ended : {A : Type 0} (b : Bool) (c : A) → cond (b && not b) (Some c) None 
 not_ended true c = refl
 not_ended false c = refl
 
-unmarked_ends : (s : Setup) (past : Past) (p : ℕ) (access : Option Access) → ended_call s past (record { process = p; access = access; marks = [] }) ≡ None
+pub unmarked_ends : (s : Setup) (past : Past) (p : ℕ) (access : Option Access) → ended_call s past (record { process = p; access = access; marks = [] }) ≡ None
 unmarked_ends s past p access =
     let e : Entry = record { process = p; access = access; marks = [] } in
     let same : is_calling p (e ∷ past) ≡ is_calling p past = ap (λ t. elim t as (λ _. Bool) [ false ↦ is_calling p past | true ↦ is_calling p past ]) (eq-eqb p p refl) in
     ap (λ b. cond (is_calling p past && not b) (Some (called s p (e ∷ past))) None) same ∙ not_ended (is_calling p past) (called s p (e ∷ past))
-
--- a Step without a mark
-pub step_tabled : (s : Setup) (before : List Happening) (made : Stepped) (old new : TableState) → StepsOn s before made →
-    ((past : Past) (e : Entry) → e.process ≡ made.process → e.access ≡ Some made.access → e.marks ≡ [] → HasHeard old past → ComesInTurn old.setup past e → HasHeard new (e ∷ past)) →
-    new.setup ≡ old.setup → HasTabled s before old → HasTabled s (Tries (Step made.process made.flick) ∷ before) new
-step_tabled s before made old new on hears kept t =
-    let e : Entry = record { process = made.process; access = Some made.access; marks = [] } in
-    let past : Past = past_after s before in
-    let turn : ComesInTurn s past e = entry_in_turn s on.good (tried before) (Step made.process made.flick) e refl on.adds in
-    record {
-      setup = kept ∙ t.setup;
-      heard = subst (HasHeard new) (sym (event_added s before (Step made.process made.flick) e on.adds)) (hears past e refl refl refl t.heard (subst (λ (s : Setup). ComesInTurn s past e) (sym t.setup) turn));
-    }
-
-pub step_lines : (s : Setup) (before : List Happening) (made : Stepped) → StepsOn s before made → lines_after s (Tries (Step made.process made.flick) ∷ before) ≡ lines_after s before
-step_lines s before made on =
-    let e : Entry = record { process = made.process; access = Some made.access; marks = [] } in
-    let past : Past = past_after s before in
-    ap (ended_lines s) (event_added s before (Step made.process made.flick) e on.adds)
-    ∙ ap (λ c. ended_lines s past ++ line_of (length past) c) (unmarked_ends s past made.process (Some made.access)) ∙ append-nil (ended_lines s past)
 
 -- a fault, what it left, and how many calls failed
 pub err_all : {A P : Type 0} (r : Result A Fault) (R : Fault → Type 0) (m n : ℕ) → ((f : Fault) → P → IsWriteFault f → n ≡ m + failed_write {A = Unit {0}} (Err f) → R f) → OnErr r P → IfErr r IsWriteFault → n ≡ m + failed_write r → IfErr r R

@@ -1,5 +1,5 @@
 -- The state after the first events of a scenario's run, and the part of the run that has those.
-use Rattle.std.specs.Prelude.{◌≡◌, ◌⊎◌, ◌+◌, ◌-◌, ◌≤◌, ◌^◌, ℕ, nat_lt, false, cond, if◌then◌else◌, List, [], ◌∷◌, ◌++◌, codes, drop, length, Option, None, Some, Result, Ok, Err, option_map}
+use Rattle.std.specs.Prelude.{◌≡◌, ◌⊎◌, ◌+◌, ◌-◌, ◌≤◌, ◌^◌, ℕ, nat_lt, Bool, false, true, cond, if◌then◌else◌, List, [], ◌∷◌, ◌++◌, codes, drop, length, Option, None, Some, Result, Ok, Err, option_map}
 use Rattle.std.specs.Fmt.{decimal}
 use Rattle.std.specs.Str.{bytes_eq}
 use Rattle.plain_store.specs.declared.setups.Setup.{Setup}
@@ -74,23 +74,24 @@ abbrev pub newest_heard : Option Unmarked → Option Accepted → Option Entry
 newest_heard None marked = option_map entry_made marked
 newest_heard (Some step) marked = Some (unmarked_entry step)
 
--- these entries were heard
-pub record HasSeen (s : Setup) (past : Past) (kept : HeardRun) : Type 0 where
+-- these entries were heard; the newest is known unless it has passed by, as none does where all Steps are heard
+pub record HasSeen (s : Setup) (all : Bool) (past : Past) (kept : HeardRun) : Type 0 where
   pub setup : kept.snapshot.setup ≡ s
   pub heard : HasHeard kept.snapshot past
-  pub newest_is : newest past ≡ newest_heard kept.unmarked kept.marked
+  pub knows : all ≡ true → kept.passed ≡ false
+  pub newest_is : kept.passed ≡ false → newest past ≡ newest_heard kept.unmarked kept.marked
 
 -- all that has happened between two moments was heard
-abbrev pub Hears : HeardRun → Setup → List Happening → List Happening → HeardRun → Type 0
-Hears old s before after new = HasSeen s (past_after s before) old → HasSeen s (past_after s after) new
+abbrev pub Hears : Bool → HeardRun → Setup → List Happening → List Happening → HeardRun → Type 0
+Hears all old s before after new = HasSeen s all (past_after s before) old → HasSeen s all (past_after s after) new
 
 -- what is told is heard, whatever has happened before
 abbrev pub HearsTold : Told → HeardRun → HeardRun → Type 0
-HearsTold answer old new = (s : Setup) (past : Past) → IsInTurn s past answer → IsMarked answer → HasSeen s past old → HasSeen s (past_with past answer) new
+HearsTold answer old new = (s : Setup) (past : Past) → IsInTurn s past answer → IsMarked answer → (all : Bool) → HasSeen s all past old → HasSeen s all (past_with past answer) new
 
 -- these lines of what was heard are added to a text
 abbrev pub WritesSeen : (Past → List ℕ) → HeardRun → List ℕ → List ℕ → Type 0
-WritesSeen lines kept old new = (s : Setup) (past : Past) → HasSeen s past kept → new ≡ old ++ lines past
+WritesSeen lines kept old new = (s : Setup) (all : Bool) (past : Past) → HasSeen s all past kept → new ≡ old ++ lines past
 
 -- The part of a run.
 
@@ -109,7 +110,7 @@ long_go most _ = None
 pub record IsAt (s : Setup) (part : PartOfRun) (run : Run) : Type 0 where
   pub follows : Follows part.course run
   pub setup : part.course.world.setup ≡ s
-  pub seen : HasSeen s (past_in s run) part.heard
+  pub seen : HasSeen s part.all (past_in s run) part.heard
 
 -- it has at most so many events more
 abbrev pub GrowsBy : ℕ → PartOfRun → PartOfRun → Type 0
@@ -151,3 +152,9 @@ pub record ComesAlong (s : Setup) (whole : Run) (part : PartOfRun) : Type 0 wher
 -- so it does with a line more
 abbrev pub GoesAlong : Line → PartOfRun → PartOfRun → Type 0
 GoesAlong line old new = (s : Setup) (whole : Run) → ComesAlong s whole old → ComesAlong s (run_after s line whole) new
+
+-- it has the first n events of a scenario's run
+pub record IsPartOf (n : ℕ) (said : Script) (part : PartOfRun) : Type 0 where
+  pub run : Run
+  pub at : IsAt said.setup part run
+  pub past_is : past_in said.setup run ≡ first_of n (past_after said.setup (happenings said))

@@ -15,9 +15,12 @@ use Rattle.course.specs.Happenings.{Happening, Tries, Lacks, Tires, Looks, past_
 use Rattle.course.specs.Runs.{Run, happenings, run_after}
 use Rattle.course.specs.Telling.{entry_made}
 use Rattle.course.specs.Writing.{Writes, WritesPart}
+use Rattle.course.specs.declared.told.Accepted.{Accepted}
+use Rattle.course.specs.declared.told.Stepped.{Stepped}
 use Rattle.course.specs.declared.told.Told.{Told}
 use Rattle.course.specs.declared.told.Told.TheVariants as told
 use Rattle.snapshot.specs.calls.Hearing.{ComesInTurn, HasHeard, TableState, ended_call}
+use Rattle.snapshot.specs.calls.declared.called.EntryKnown.{EntryKnown}
 use Rattle.snapshot.specs.calls.Lines.{ended_lines, line_of, table_text}
 
 -- the table of the calls of a scenario's run
@@ -42,9 +45,17 @@ told_line s past (told.Refused p refusal) = []
 told_line s past (told.Tired p) = []
 told_line s past (told.Shown store) = []
 
+-- what is known of an entry that is told: since it has marks, nothing is told of a number
+abbrev pub known_told : Accepted → EntryKnown
+known_told made = record { overlapped = made.overlapped; read = None }
+
+-- what is known of a Step without a mark
+abbrev pub known_step : Stepped → EntryKnown
+known_step made = record { overlapped = made.overlapped; read = made.number }
+
 -- the entry that is told, if one is, may come next
 abbrev pub IsInTurn : Setup → Past → Told → Type 0
-IsInTurn s past (told.Accepted made) = ComesInTurn s past (entry_made made)
+IsInTurn s past (told.Accepted made) = ComesInTurn s past (entry_made made) (known_told made)
 IsInTurn s past (told.Refused p refusal) = Unit {0}
 IsInTurn s past (told.Tired p) = Unit {0}
 IsInTurn s past (told.Shown store) = Unit {0}

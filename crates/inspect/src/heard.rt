@@ -1,7 +1,9 @@
-//! A listener that keeps the state of a run.
-ghost use Rattle.std.specs.Prelude.{◌≡◌, ◌+◌, ◌-◌, ◌^◌, ◌<◌, ◌≤◌, [], IfOk, Ok, OnOk, refl, false};
+//! Listeners that keep the state of a run.
+ghost use Rattle.std.specs.Prelude.{◌≡◌, ◌+◌, ◌-◌, ◌^◌, ◌<◌, ◌≤◌, ℕ, [], Bool, IfOk, Ok, OnOk, not, refl, false, true};
+ghost use Rattle.std.proofs.Common.{◌∙◌};
 ghost use Rattle.plain_store.specs.Setups.{checked};
 ghost use Rattle.scenario.specs.files.declared.faults.Fault.TheVariants.{Memory};
+ghost use Rattle.record.specs.declared.access.Access.{Access as AccessSeen};
 ghost use Rattle.course.specs.Listening.{HearsPassing, HearsUnmarked};
 ghost use Rattle.course.specs.declared.told.Told.TheVariants.{Accepted as IsAccepted};
 ghost use Rattle.snapshot.specs.Processes.{newest_line};
@@ -39,12 +41,15 @@ impl Unmarked {
     }
 }
 
-/// What was heard of a run: its state, and the newest event. One with marks is large, and so it is written only where it comes.
+/// What was heard of a run: its state, and the newest event, unless that has passed by. One with marks is large, and so it is
+/// written only where it comes.
 #[derive(Drop)]
 pub(crate) struct HeardRun {
     alloc: Global,
     pub snapshot: Snapshot,
-    /// The newest event, if it has no mark.
+    /// Whether the newest event has passed by.
+    passed: bool,
+    /// The newest event that was heard, if it has no mark.
     unmarked: Option<Unmarked>,
     /// The newest one with marks.
     marked: Option<Accepted>,
@@ -54,13 +59,14 @@ impl HeardRun {
     /// Nothing.
     pub fn new(alloc: Global, setup: &Setup) -> Result<HeardRun, AllocError>
         requires { checked setup.now ≡ Ok tt }
-        ensures seen { IfOk result (HasSeen setup.now []) }
+        ensures seen { IfOk result (λ heard. (all : Bool) → HasSeen setup.now all [] heard) }
         ensures entries { IfOk result (λ heard. heard.snapshot.entries ≡ 0) }
     {
         let snapshot = Snapshot::new(alloc, setup)?;
         Ok(HeardRun {
             alloc,
             snapshot,
+            passed: false,
             unmarked: None,
             marked: None,
         })
@@ -95,41 +101,50 @@ impl HeardRun {
             made.access.is_some(),
             marks.as_slice(),
         );
+        self.passed = false;
         self.unmarked = None;
         self.marked = Some(made);
     }
 
     /// Hears a Step without a mark. One of which no number is told ends none.
+    #[inline(never)]
     fn hear_step(&mut self, made: Stepped)
         requires { self.old.snapshot.entries < 2 ^ 64 - 1 }
         ensures entries { self.new.snapshot.entries ≡ self.old.snapshot.entries + 1 }
-        ensures heard { HearsUnmarked Hears made self.old self.new }
+        ensures heard { (all : Bool) → HearsUnmarked (Hears all) made self.old self.new }
     {
         let _nested: NestedTypes = None;
         let number = made.number.unwrap_or(0);
         self.snapshot.step(made.process, &made.access, number);
+        self.passed = false;
         self.unmarked = Some(Unmarked {
             process: made.process,
             access: made.access,
         });
     }
 
-    /// Steps of a process pass by, the newest of which made this access.
-    #[inline]
-    fn pass_steps(&mut self, process: u8, steps: u32, newest: &Access)
-        requires some { 0 < steps }
-        requires entries { self.old.snapshot.entries + steps < 2 ^ 64 }
+    /// Steps of a process pass by.
+    #[inline(always)]
+    fn pass_steps(&mut self, steps: u32)
+        requires { self.old.snapshot.entries + steps < 2 ^ 64 }
         ensures entries { self.new.snapshot.entries ≡ self.old.snapshot.entries + steps }
-        ensures heard { HearsPassing Hears process steps newest.now self.old self.new }
+        ensures heard { (p : ℕ) (newest : AccessSeen) (overlapped : ℕ)
+            → HearsPassing (Hears false) p steps newest overlapped self.old self.new }
     {
-        let _nested: NestedTypes = None;
-        self.snapshot.pass(process, steps);
-        let access = *newest;
-        self.unmarked = Some(Unmarked { process, access });
+        self.snapshot.pass(steps);
+        self.passed = true;
+    }
+
+    /// Whether the newest event was heard, or there is none.
+    pub fn knows_newest(&self) -> bool
+        ensures { result ≡ not self.now.passed }
+    {
+        !self.passed
     }
 
     /// Writes how many events there were, and the entry of the newest one.
     pub fn print_head(&self, text: &mut Vec<u8>) -> Result<(), AllocError>
+        requires { self.now.passed ≡ false }
         ensures { OnOk result (WritesSeen head_lines self.now text.old.items text.new.items) }
     {
         let events = self.snapshot.entries();
@@ -140,6 +155,7 @@ impl HeardRun {
 
     /// Writes the entry of the newest event, if there is one.
     fn print_entry(&self, text: &mut Vec<u8>) -> Result<(), AllocError>
+        requires { self.now.passed ≡ false }
         ensures { OnOk result (WritesSeen newest_line self.now text.old.items text.new.items) }
     {
         let _nested: NestedTypes = None;
@@ -164,6 +180,7 @@ impl HeardRun {
     }
 }
 
+/// Steps within a number access pass by.
 impl Listener for HeardRun {
     ghost hears_steps = { λ _. false };
 
@@ -174,7 +191,7 @@ impl Listener for HeardRun {
 
     ghost HasRoom = { λ heard more. heard.snapshot.entries + more < 2 ^ 64 };
 
-    ghost Hears = { λ a s x y b. Hears a s x y b };
+    ghost Hears = { λ a s x y b. Hears false a s x y b };
 
     ghost Stops = { λ a s x y fault b. fault ≡ Memory };
 
@@ -189,8 +206,8 @@ impl Listener for HeardRun {
     }
 
     #[inline(always)]
-    fn pass(&mut self, process: u8, steps: u32, newest: &Access) {
-        self.pass_steps(process, steps, newest);
+    fn pass(&mut self, _process: u8, steps: u32, _newest: &Access, _overlapped: u32) {
+        self.pass_steps(steps);
     }
 
     ghost room_less = { λ a n k few room. fewer a.snapshot.entries n k few room };
@@ -204,4 +221,48 @@ impl Listener for HeardRun {
     ghost stops_before = { λ a b s x y more fault p. p };
 
     ghost stops_on = { λ a b c s x y z fault p q. q };
+}
+
+/// The same of a run in which each Step is heard.
+#[derive(Drop)]
+pub(crate) struct EachStep<'a> {
+    pub heard: &'a mut HeardRun,
+}
+
+impl<'a> Listener for EachStep<'a> {
+    ghost hears_steps = { λ _. true };
+
+    fn hears_steps(&self) -> bool {
+        true
+    }
+
+    ghost HasRoom = { λ each more. each.heard.now.snapshot.entries + more < 2 ^ 64 };
+
+    ghost Hears = { λ a s x y b. (b.heard.ghost_name ≡ a.heard.ghost_name) × Hears true a.heard.now s x y b.heard.now };
+
+    ghost Stops = { λ a s x y fault b. b.heard.ghost_name ≡ a.heard.ghost_name };
+
+    fn hear(&mut self, told: &Told, _taken: &[Taken]) -> Result<(), Fault> {
+        self.heard.hear_told(told);
+        Ok(())
+    }
+
+    fn step(&mut self, made: Stepped) -> Result<(), Fault> {
+        self.heard.hear_step(made);
+        Ok(())
+    }
+
+    fn pass(&mut self, _process: u8, _steps: u32, _newest: &Access, _overlapped: u32) {}
+
+    ghost room_less = { λ a n k few room. fewer a.heard.now.snapshot.entries n k few room };
+
+    ghost hears_nothing = { λ a s x. (refl, λ seen. seen) };
+
+    ghost hears_on = { λ a b c s x y z p q. (q.0 ∙ p.0, λ seen. q.1 (p.1 seen)) };
+
+    ghost stops_unheard = { λ a s x. refl };
+
+    ghost stops_before = { λ a b s x y more fault p. p };
+
+    ghost stops_on = { λ a b c s x y z fault p q. q ∙ p.0 };
 }

@@ -1,5 +1,5 @@
 //! A listener that tables the calls of a run: the line of each call that ends is written before the next event.
-ghost use Rattle.std.specs.Prelude.{◌≡◌, ◌+◌, ◌-◌, ◌^◌, ◌<◌, ◌∷◌, IfErr, OnErr, OnOk, length, true, refl, false};
+ghost use Rattle.std.specs.Prelude.{◌≡◌, ◌+◌, ◌-◌, ◌^◌, ◌<◌, ◌∷◌, [], IfErr, OnErr, OnOk, Some, length, refl, false};
 ghost use Rattle.std.proofs.Common.{◌∙◌};
 ghost use Rattle.std.specs.Io.KnownBytes.{Appends};
 ghost use Rattle.record.specs.Entries.{Entry as Noted, Past};
@@ -8,12 +8,12 @@ ghost use Rattle.course.specs.Takings.{Took, TookPart, part_before, part_on, par
 ghost use Rattle.course.specs.Writing.{IsWriteFault, failed_write};
 ghost use Rattle.snapshot.specs.calls.Hearing.{ComesInTurn, HasHeard, ended_call};
 ghost use Rattle.snapshot.specs.calls.Lines.{call_line, line_of};
-ghost use Rattle.inspect.specs.Tables.{CutsTold, HasTabled, Tells, fewer, lines_after, lines_longer};
+ghost use Rattle.inspect.specs.Tables.{CutsTold, HasTabled, Tells, fewer, known_step, lines_after, lines_longer};
 
 use course::{Listener, Stepped, Taken, Told};
 use record::{Access, Mark};
 use scenario::{Fault, Sink, write_all};
-use snapshot::calls::{CallTable, Called, print_call};
+use snapshot::calls::{CallTable, Called, EntryKnown, print_call};
 use std::alloc::Global;
 
 /// Tables the calls of a run as it hears them.
@@ -25,11 +25,11 @@ pub(crate) struct Tabler<'a, W: Sink> {
 }
 
 impl<'a, W: Sink> Listener for Tabler<'a, W> {
-    ghost hears_steps = { λ _. true };
+    ghost hears_steps = { λ _. false };
 
     #[inline(always)]
     fn hears_steps(&self) -> bool {
-        true
+        false
     }
 
     ghost HasRoom = { λ tabler more. (tabler.table.now.entries + more < 2 ^ 64) × (W.failures tabler.output.now < 2 ^ 64 - 1) };
@@ -44,11 +44,14 @@ impl<'a, W: Sink> Listener for Tabler<'a, W> {
 
     #[inline(always)]
     fn step(&mut self, made: Stepped) -> Result<(), Fault> {
-        let _none = self.table.hear(made.process, &Some(made.access), &[]);
+        hear_step(&made, self.table);
         Ok(())
     }
 
-    fn pass(&mut self, _process: u8, _steps: u32, _newest: &Access) {}
+    #[inline(always)]
+    fn pass(&mut self, process: u8, steps: u32, newest: &Access, overlapped: u32) {
+        self.table.pass(process, steps, newest, overlapped);
+    }
 
     ghost room_less = { λ a n k few room. (fewer a.table.now.entries n k few room.0, room.1) };
 
@@ -61,6 +64,21 @@ impl<'a, W: Sink> Listener for Tabler<'a, W> {
     ghost stops_before = { λ a b s x y more fault p. (p.0, part_before (lines_longer s y more) p.1) };
 
     ghost stops_on = { λ a b c s x y z fault p q. (q.0 ∙ p.0, part_on {P = HasTabled s x a.table.now} {Q = HasTabled s y b.table.now} p.2 p.3 q.1) };
+}
+
+/// Hears a Step without a mark.
+#[inline(never)]
+fn hear_step(made: &Stepped, table: &mut CallTable)
+    requires { table.old.entries < 2 ^ 64 - 1 }
+    ensures heard { (past : Past) (e : Noted) → e.process ≡ made.now.process → e.access ≡ Some made.now.access → e.marks ≡ [] → HasHeard table.old past → ComesInTurn table.old.setup past e (known_step made.now) → HasHeard table.new (e ∷ past) }
+    ensures setup { table.new.setup ≡ table.old.setup }
+    ensures entries { table.new.entries ≡ table.old.entries + 1 }
+{
+    let known = EntryKnown {
+        overlapped: made.overlapped,
+        read: made.number,
+    };
+    let _none = table.hear(made.process, &known, &Some(made.access), &[]);
 }
 
 /// Hears what a turn tells.
@@ -82,10 +100,15 @@ fn hear_told<W: Sink>(
     match told {
         Told::Accepted(made) => {
             let process = made.event.process();
+            let known = EntryKnown {
+                overlapped: made.overlapped,
+                read: None,
+            };
             let marks = made.marks(alloc);
             hear(
                 alloc,
                 process,
+                &known,
                 &made.access,
                 marks.as_slice(),
                 table,
@@ -98,10 +121,11 @@ fn hear_told<W: Sink>(
     }
 }
 
-/// Hears an event: who made it, its access and its marks.
+/// Hears an event: who made it, what is known of it, its access and its marks.
 fn hear<W: Sink>(
     alloc: Global,
     process: u8,
+    known: &EntryKnown,
     access: &Option<Access>,
     marks: &[Mark],
     table: &mut CallTable,
@@ -109,16 +133,16 @@ fn hear<W: Sink>(
 ) -> Result<(), Fault>
     requires writes { W.failures output.old < 2 ^ 64 - 1 }
     requires entries { table.old.entries < 2 ^ 64 - 1 }
-    ensures heard { (past : Past) (e : Noted) → e.process ≡ process → e.access ≡ access.now → e.marks ≡ marks.now → HasHeard table.old past → ComesInTurn table.old.setup past e → HasHeard table.new (e ∷ past) }
-    ensures ok { OnOk result ((past : Past) (e : Noted) → e.process ≡ process → e.access ≡ access.now → e.marks ≡ marks.now → HasHeard table.old past → ComesInTurn table.old.setup past e → Appends (W.taken output.old) (W.taken output.new) (line_of (length past) (ended_call table.old.setup past e))) }
-    ensures front { (past : Past) (e : Noted) → e.process ≡ process → e.access ≡ access.now → e.marks ≡ marks.now → HasHeard table.old past → ComesInTurn table.old.setup past e → WritesFront (W.taken output.old) (W.taken output.new) (line_of (length past) (ended_call table.old.setup past e)) }
+    ensures heard { (past : Past) (e : Noted) → e.process ≡ process → e.access ≡ access.now → e.marks ≡ marks.now → HasHeard table.old past → ComesInTurn table.old.setup past e known.now → HasHeard table.new (e ∷ past) }
+    ensures ok { OnOk result ((past : Past) (e : Noted) → e.process ≡ process → e.access ≡ access.now → e.marks ≡ marks.now → HasHeard table.old past → ComesInTurn table.old.setup past e known.now → Appends (W.taken output.old) (W.taken output.new) (line_of (length past) (ended_call table.old.setup past e))) }
+    ensures front { (past : Past) (e : Noted) → e.process ≡ process → e.access ≡ access.now → e.marks ≡ marks.now → HasHeard table.old past → ComesInTurn table.old.setup past e known.now → WritesFront (W.taken output.old) (W.taken output.new) (line_of (length past) (ended_call table.old.setup past e)) }
     ensures setup { table.new.setup ≡ table.old.setup }
     ensures entries { table.new.entries ≡ table.old.entries + 1 }
     ensures fault { IfErr result IsWriteFault }
     ensures failures { W.failures output.new ≡ W.failures output.old + failed_write result }
 {
     let newest = table.entries();
-    let ended = table.hear(process, access, marks);
+    let ended = table.hear(process, known, access, marks);
     write_if(alloc, &ended, newest, output)
 }
 

@@ -1,9 +1,10 @@
 //! The engine `state`: the state after the first events of a scenario's run.
-ghost use Rattle.std.specs.Prelude.{◌≡◌, ◌-◌, ◌^◌, ◌<◌, ◌++◌, ℕ, IfOk, List, OnOk};
+ghost use Rattle.std.specs.Prelude.{◌≡◌, ◌-◌, ◌^◌, ◌<◌, ◌++◌, ℕ, IfOk, List, OnOk, false};
 ghost use Rattle.scenario.specs.files.Engines.{Ran, streams};
 ghost use Rattle.scenario.specs.files.Streams.{ReadsFront};
+ghost use Rattle.scenario.specs.Reading.{Script};
 ghost use Rattle.scenario.specs.Reads.{script};
-ghost use Rattle.inspect.specs.States.{events_said as said_by, state_text, stated};
+ghost use Rattle.inspect.specs.States.{IsPartOf, events_said as said_by, state_text, stated};
 
 use crate::part_of_run::PartOfRun;
 use fault_place::progress::{LinePlace, Onlooker};
@@ -57,7 +58,9 @@ pub fn run_state<R: Source, W: Sink, L: Onlooker>(
     write_all(output, text.as_slice())
 }
 
-/// The state after so many events of the run of a file's scenario.
+/// The state after so many events of the run of a file's scenario. A line's last Step is heard, and so the newest event is
+/// known; but nothing proves that a refused turn never comes behind Steps that have passed by. Where one did, the run would be
+/// made once more, and each Step heard.
 fn state_text<L: Onlooker>(
     alloc: Global,
     events: u64,
@@ -68,7 +71,36 @@ fn state_text<L: Onlooker>(
     ensures { IfOk result (λ text. (made : List ℕ)
         × (text.items ≡ stated events made (script scenario.now))) }
 {
-    let mut part = PartOfRun::new(alloc, &scenario.setup, events)?;
+    let first = run_part(alloc, events, false, file, scenario, onlooker)?;
+    if first.part.heard.knows_newest() {
+        return first.text(alloc, file);
+    }
+    let second = run_part(alloc, events, true, file, scenario, onlooker)?;
+    second.text(alloc, file)
+}
+
+/// A run up to an event, and the line that made the newest one.
+#[derive(Drop)]
+struct StatedRun {
+    part: PartOfRun,
+    newest: Option<MakingLine>,
+}
+
+/// Makes so many events of the run of a file's scenario; `all`: each Step is heard.
+fn run_part<L: Onlooker>(
+    alloc: Global,
+    events: u64,
+    all: bool,
+    file: &[u8],
+    scenario: &Scenario,
+    onlooker: &mut L,
+) -> Result<StatedRun, AllocError>
+    ensures made { IfOk result (λ made. IsPartOf events (script scenario.now) made.part) }
+    ensures all { IfOk result (λ made. made.part.all ≡ all) }
+    ensures setup { IfOk result (λ made.
+        made.part.course.world.setup ≡ made.part.heard.snapshot.setup) }
+{
+    let mut part = PartOfRun::new(alloc, &scenario.setup, events, all)?;
     let mut newest = None;
     let mut place = LinePlace::before(file, scenario.lines.len());
     let mut behind = scenario.lines.len();
@@ -85,11 +117,23 @@ fn state_text<L: Onlooker>(
             });
         }
     }
-    let mut text = Vec::new(alloc);
-    part.heard.print_head(&mut text)?;
-    push_made(alloc, file, &newest, part.events(), &mut text)?;
-    part.print(alloc, &mut text)?;
-    Ok(text)
+    Ok(StatedRun { part, newest })
+}
+
+impl StatedRun {
+    /// The state there. Its newest event was heard, or there is none.
+    fn text(&self, alloc: Global, file: &[u8]) -> Result<Vec<u8>, AllocError>
+        requires heard { self.now.part.heard.passed ≡ false }
+        requires setup { self.now.part.course.world.setup ≡ self.now.part.heard.snapshot.setup }
+        ensures { IfOk result (λ text. (n : ℕ) (said : Script) → IsPartOf n said self.now.part
+            → (made : List ℕ) × (text.items ≡ stated n made said)) }
+    {
+        let mut text = Vec::new(alloc);
+        self.part.heard.print_head(&mut text)?;
+        push_made(alloc, file, &self.newest, self.part.events(), &mut text)?;
+        self.part.print(alloc, &mut text)?;
+        Ok(text)
+    }
 }
 
 /// Writes the line that made the newest of so many events, if there is one.

@@ -4,7 +4,7 @@ use Rattle.std.proofs.lemmas.Bool.{cases_eq}
 use Rattle.std.proofs.lemmas.List.FromFn.{get_or-map-range_with_len, length-map-range_with_len, map-range_with_len_more}
 use Rattle.std.proofs.lemmas.Option.{get_or_from_slice_get, slice_get-get_or, slice_get_within}
 use Rattle.std.specs.List.{list_any, range_with_len}
-use Rattle.std.specs.Prelude.{fold, is_some, slice_index_or}
+use Rattle.std.specs.Prelude.{is_some, slice_index_or}
 use Rattle.plain_store.specs.declared.Command.{Command}
 use Rattle.plain_store.specs.declared.setups.Setup.{Setup}
 use Rattle.record.specs.declared.access.Access.{Access}
@@ -14,17 +14,18 @@ use Rattle.record.specs.Doorways.{first_of}
 use Rattle.record.specs.Entries.{Entry, Past, has, is_failed, own}
 use Rattle.record.specs.Registers.{width}
 use Rattle.snapshot.specs.declared.kept.FinishedRead.{FinishedRead}
+use Rattle.calls.specs.declared.called.EntryKnown.{EntryKnown}
 use Rattle.calls.specs.declared.standing.CallStanding.{CallStanding}
-use Rattle.calls.specs.Columns.{ends_number, ends_overlapped_read, number_after}
-use Rattle.calls.specs.Stepping.{accessed_by, begun, heard, marked_all, standing}
+use Rattle.calls.specs.Columns.{ends_number, number_after}
+use Rattle.calls.specs.Stepping.{accessed_by, begun, marked_all, standing, heard}
 use Rattle.calls.specs.read_law.laws.Doings.{doing}
-use Rattle.calls.proofs.Folds.{marked_all-is, with_marks}
+use Rattle.calls.proofs.Folds.{marked_all-is}
 use Rattle.calls.proofs.Heard.{slice_get-set_other, slice_get-set_same}
 use Rattle.calls.proofs.InCall.{calls-few}
-use Rattle.calls.proofs.Steps.{standing-heard, standing-other}
+use Rattle.calls.proofs.Steps.{known_of, standing-heard, standing-other}
 use Rattle.world.specs.process.Looks.{number_read}
 use Rattle.snapshot.specs.declared.kept.ProcessKept.{ProcessKept}
-use Rattle.snapshot.specs.Keeping.{Passes, TellsNumber, failed_at, kept, kept_marked, kept_passed, kept_stepped, nothing_kept, opened, opened_if, read_after, read_last, read_with, without_accesses}
+use Rattle.snapshot.specs.Keeping.{Passes, TellsNumber, failed_at, has_accessed, kept, kept_marked, kept_stepped, nothing_kept, opened_if, read_after, read_last, read_with, without_accesses}
 use Rattle.snapshot.specs.States.{HasHeard, SnapshotState}
 
 -- Before the first entry.
@@ -51,19 +52,19 @@ kept_other s p e past h =
     (ap (λ b. cond b (read_after s (number_read (doing s p past)) e (read_last s p past)) (read_last s p past)) h)
 
 -- what an access leaves of a call
-opened_by : (s : Setup) (number : ℕ) (b : Bool) (o : Option Access) (k : CallStanding) → without_accesses (accessed_by s number b o k) ≡ opened_if (is_some o) number (without_accesses k)
-opened_by s number b None k = refl
-opened_by s number b (Some a) k = refl
+opened_by : (s : Setup) (number : ℕ) (known : EntryKnown) (o : Option Access) (k : CallStanding) → without_accesses (accessed_by s number known o k) ≡ opened_if (is_some o) number (without_accesses k)
+opened_by s number known None k = refl
+opened_by s number known (Some a) k = refl
 
 -- and marks
 marked_by : (number : ℕ) (k : CallStanding) (marks : List Mark) → without_accesses (marked_all number k marks) ≡ marked_all number (without_accesses k) marks
 marked_by number k marks = ap without_accesses (marked_all-is number k marks) ∙ sym (marked_all-is number (without_accesses k) marks)
 
-heard_by : (s : Setup) (number : ℕ) (b : Bool) (o : Option Access) (marks : List Mark) (k : CallStanding) (c : Option Command) →
-    without_accesses (elim c as (λ _. CallStanding) [ Some c ↦ begun number c k | None ↦ marked_all number (accessed_by s number b o k) marks ])
+heard_by : (s : Setup) (number : ℕ) (known : EntryKnown) (o : Option Access) (marks : List Mark) (k : CallStanding) (c : Option Command) →
+    without_accesses (elim c as (λ _. CallStanding) [ Some c ↦ begun number c k | None ↦ marked_all number (accessed_by s number known o k) marks ])
     ≡ elim c as (λ _. CallStanding) [ Some c ↦ begun number c (without_accesses k) | None ↦ marked_all number (opened_if (is_some o) number (without_accesses k)) marks ]
-heard_by s number b o marks k None = marked_by number (accessed_by s number b o k) marks ∙ ap (λ k. marked_all number k marks) (opened_by s number b o k)
-heard_by s number b o marks k (Some c) = refl
+heard_by s number known o marks k None = marked_by number (accessed_by s number known o k) marks ∙ ap (λ k. marked_all number k marks) (opened_by s number known o k)
+heard_by s number known o marks k (Some c) = refl
 
 standing_on : (s : Setup) (p : ℕ) (e : Entry) (past : Past) → e.process ≡ p →
     without_accesses (standing s p (e ∷ past)) ≡ elim (called_in e.marks) as (λ _. CallStanding) [
@@ -71,8 +72,9 @@ standing_on : (s : Setup) (p : ℕ) (e : Entry) (past : Past) → e.process ≡ 
       | None ↦ marked_all (length past) (opened_if (is_some e.access) (length past) (without_accesses (standing s p past))) e.marks
     ]
 standing_on s p e past h =
-    ap without_accesses (standing-heard s p e past h (ends_overlapped_read past e) refl)
-    ∙ heard_by s (length past) (ends_overlapped_read past e) e.access e.marks (standing s p past) (called_in e.marks)
+    let (known, is) = known_of s past e in
+    ap (λ q. without_accesses (standing s q (e ∷ past))) (sym h) ∙ ap without_accesses (standing-heard s e past known is) ∙ ap (λ q. without_accesses (heard s (length past) known e.access e.marks (standing s q past))) h
+    ∙ heard_by s (length past) known e.access e.marks (standing s p past) (called_in e.marks)
 
 failed_on : (s : Setup) (p : ℕ) (e : Entry) (past : Past) → e.process ≡ p → failed_at p (e ∷ past) ≡ cond (list_any is_failed e.marks) (length past) (failed_at p past)
 failed_on s p e past h = ap (λ b. cond b (cond (has is_failed e) (length past) (failed_at p past)) (failed_at p past)) (eq-eqb e.process p h)
@@ -110,42 +112,37 @@ kept_on s p a past n tells =
     (standing_on s p (quiet_entry p a) past refl) (failed_on s p (quiet_entry p a) past refl)
     (read_on s p (quiet_entry p a) past refl ∙ sym (read_told s a n (number_read (doing s p past)) (read_last s p past) tells))
 
--- within a number access
-passed_on : (s : Setup) (p : ℕ) (a : Access) (past : Past) → ends_number (width s a.field) a.bit a.how ≡ false → kept s p (quiet_entry p a ∷ past) ≡ kept_passed (length past) (kept s p past)
-passed_on s p a past none =
-    kept_on s p a past (number_read (doing s p past)) (λ ends. refl)
-    ∙ ap (λ b. let k : ProcessKept = record {
-      standing = opened (length past) (kept s p past).standing;
-      failed = (kept s p past).failed;
-      read = cond b (Some (record { owner = a.owner; field = a.field; number = number_after a.bit a.how (number_read (doing s p past)) })) (kept s p past).read;
-    } in k) none
+-- Entries within a number access.
 
-opened_once : (k m : ℕ) (o : Option ℕ) → first_of (first_of o (Some k)) (Some m) ≡ first_of o (Some k)
-opened_once k m None = refl
-opened_once k m (Some n) = refl
+-- where the first access is known, another one changes nothing
+opened_same : (number : ℕ) (first : Option ℕ) → is_some first ≡ true → first_of first (Some number) ≡ first
+opened_same number None known = absurd (cc)
+opened_same number (Some k) known = refl
 
-passed_once : (n m : ℕ) (k : ProcessKept) → kept_passed m (kept_passed n k) ≡ kept_passed n k
-passed_once n m k = ap (λ (o : Option ℕ). let after_it : ProcessKept = record k { standing = record k.standing { last = record k.standing.last { accesses = record k.standing.last.accesses { doorway = o } } } } in after_it) (opened_once n m k.standing.last.accesses.doorway)
+passed_on : (s : Setup) (p : ℕ) (a : Access) (past : Past) → ends_number (width s a.field) a.bit a.how ≡ false → has_accessed s p past ≡ true → kept s p (quiet_entry p a ∷ past) ≡ kept s p past
+passed_on s p a past none known =
+    let k : ProcessKept = kept s p past in
+    let n : ℕ = number_read (doing s p past) in
+    let first : first_of k.standing.last.accesses.doorway (Some (length past)) ≡ k.standing.last.accesses.doorway = opened_same (length past) k.standing.last.accesses.doorway known in
+    kept_on s p a past n (λ ends. refl)
+    ∙ kept_by (kept_stepped s (length past) a n k) k
+    (ap (λ (o : Option ℕ). let then : CallStanding = record k.standing { last = record k.standing.last { accesses = record k.standing.last.accesses { doorway = o } } } in then) first)
+    refl (ap (λ b. cond b (Some (let r : FinishedRead = record { owner = a.owner; field = a.field; number = number_after a.bit a.how n } in r)) k.read) none)
 
--- so many of them, of p and of another
-pub passed_all : (s : Setup) (p n : ℕ) (past after : Past) → Passes s p n past after →
-    (length after ≡ length past + n) × ((q : ℕ) → (p == q) ≡ false → kept s q after ≡ kept s q past) × (0 < n → kept s p after ≡ kept_passed (length past) (kept s p past))
-passed_all s p zero past after same = (
-  ap length same ∙ (let none : length past ≡ length past + 0 = omega arith in none),
-  (λ q apart. ap (kept s q) same),
-  (λ some. absurd (omega (arith, some))),
-)
-passed_all s p (suc n) past after (a, none, more) =
-    let next : Past = quiet_entry p a ∷ past in
-    let all = passed_all s p n next after more in
-    let one : kept s p next ≡ kept_passed (length past) (kept s p past) = passed_on s p a past none in
+-- of any process
+passed_any : (s : Setup) (p : ℕ) (a : Access) (past : Past) → ends_number (width s a.field) a.bit a.how ≡ false → has_accessed s p past ≡ true → (q : ℕ) → kept s q (quiet_entry p a ∷ past) ≡ kept s q past
+passed_any s p a past none known q = elim (cases_eq p q) [
+  | inl same ↦ subst (λ q. kept s q (quiet_entry p a ∷ past) ≡ kept s q past) same (passed_on s p a past none known)
+  | inr apart ↦ kept_other s q (quiet_entry p a) past (ne_eqb p q apart)
+]
+
+-- so many of them
+pub passed_all : (s : Setup) (p n : ℕ) (past after : Past) → Passes s p n past after → (length after ≡ length past + n) × ((q : ℕ) → kept s q after ≡ kept s q past)
+passed_all s p zero past after same = (ap length same ∙ (let none : length past ≡ length past + 0 = omega arith in none), (λ q. ap (kept s q) same))
+passed_all s p (suc n) past after (a, none, known, more) =
+    let all = passed_all s p n (quiet_entry p a ∷ past) after more in
     let long : length after ≡ length past + suc n = let l = all.0 in omega (arith, l) in
-    (long, (λ q apart. all.1 q apart ∙ kept_other s q (quiet_entry p a) past apart), (λ some. by n more one all.2))
-  where
-    by : (n : ℕ) → Passes s p n (quiet_entry p a ∷ past) after → kept s p (quiet_entry p a ∷ past) ≡ kept_passed (length past) (kept s p past) →
-        (0 < n → kept s p after ≡ kept_passed (suc (length past)) (kept s p (quiet_entry p a ∷ past))) → kept s p after ≡ kept_passed (length past) (kept s p past)
-    by zero same one rest = ap (kept s p) same ∙ one
-    by (suc n) more one rest = rest (omega arith) ∙ ap (kept_passed (suc (length past))) one ∙ passed_once (length past) (suc (length past)) (kept s p past)
+    (long, (λ q. all.1 q ∙ passed_any s p a past none known q))
 
 -- All that is kept.
 
@@ -202,17 +199,10 @@ step_heard t p a read before now found goes past e mine o m tells below h =
     (goes ∙ (λ i. kept_stepped t.setup (h.entries i) a read (was i)) ∙ sym (kept_on t.setup p a past read tells) ∙ sym (ap (λ (e : Entry). kept t.setup p (e ∷ past)) is))
 
 -- within a number access
-pub pass_heard : (t : SnapshotState) (p n : ℕ) (before now : ProcessKept) → before ≡ slice_index_or t.kept p before → now ≡ kept_passed t.entries before → 0 < n →
-    (past after : Past) → Passes t.setup p n past after → p < t.setup.processes → HasHeard t past → HasHeard (state_with t p now (t.entries + n)) after
-pass_heard t p n before now found goes some past after passes below h =
-    let was : before ≡ kept t.setup p past = kept_found t past p before h below found in
+pub pass_heard : (t : SnapshotState) (p n : ℕ) (past after : Past) → Passes t.setup p n past after → HasHeard t past → HasHeard (record t { entries = t.entries + n }) after
+pass_heard t p n past after passes h =
     let all = passed_all t.setup p n past after passes in
     record {
-      kept = all_heard t.setup t.kept now past after p below h.kept (goes ∙ (λ i. kept_passed (h.entries i) (was i)) ∙ sym (all.2 some)) all.1;
+      kept = λ q below. h.kept q below ∙ ap Some (sym (all.1 q));
       entries = ap (λ k. k + n) h.entries ∙ sym all.0;
     }
-
-pub none_passed : (t : SnapshotState) (p n : ℕ) → n ≡ 0 → (past after : Past) → Passes t.setup p n past after → HasHeard t past → HasHeard (record t { entries = t.entries + n }) after
-none_passed t p n none past after passes h =
-    let same : after ≡ past = subst (λ n. Passes t.setup p n past after) none passes in
-    subst (HasHeard (record t { entries = t.entries + n })) (sym same) (record { kept = h.kept; entries = (let all : t.entries + n ≡ t.entries = omega (arith, none) in all) ∙ h.entries })

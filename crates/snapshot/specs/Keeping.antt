@@ -1,5 +1,5 @@
 -- What is kept of a process: found by looking back over its entries, and how it goes on with an entry.
-use Rattle.std.specs.Prelude.{◌≡◌, ℕ, zero, suc, ◌==◌, Bool, true, false, List, [], ◌∷◌, length, cond, Option, None, Some}
+use Rattle.std.specs.Prelude.{◌≡◌, ℕ, zero, suc, ◌==◌, Bool, true, false, List, [], ◌∷◌, length, cond, Option, None, Some, is_some}
 use Rattle.std.specs.List.{list_any}
 use Rattle.plain_store.specs.declared.setups.Setup.{Setup}
 use Rattle.record.specs.declared.access.Access.{Access}
@@ -8,7 +8,6 @@ use Rattle.record.specs.Calls.{called_in}
 use Rattle.record.specs.Doorways.{first_of}
 use Rattle.record.specs.Entries.{Entry, Past, has, is_failed}
 use Rattle.record.specs.Registers.{width}
-use Rattle.calls.specs.declared.called.Accesses.{Accesses}
 use Rattle.calls.specs.declared.called.Called.{Called}
 use Rattle.snapshot.specs.declared.kept.FinishedRead.{FinishedRead}
 use Rattle.calls.specs.declared.standing.CallStanding.{CallStanding}
@@ -67,10 +66,6 @@ kept_marked number stepped marks k = record {
 abbrev pub kept_stepped : Setup → ℕ → Access → ℕ → ProcessKept → ProcessKept
 kept_stepped s number a n k = record { standing = opened number k.standing; failed = k.failed; read = read_with s a n k.read }
 
--- with an access within a number access
-abbrev pub kept_passed : ℕ → ProcessKept → ProcessKept
-kept_passed number k = record k { standing = opened number k.standing }
-
 -- the call that goes on, if one does
 abbrev pub call_kept : ProcessKept → Option Called
 call_kept k = cond k.standing.calling (Some k.standing.last) None
@@ -79,7 +74,12 @@ call_kept k = cond k.standing.calling (Some k.standing.last) None
 abbrev pub TellsNumber : Setup → Past → ℕ → Access → ℕ → Type 0
 TellsNumber s past p a n = ends_number (width s a.field) a.bit a.how ≡ true → n ≡ number_read (doing s p past)
 
--- from one past to another so many entries of p were made within a number access
+-- p has made an access of its last call
+abbrev pub has_accessed : Setup → ℕ → Past → Bool
+has_accessed s p past = is_some (standing s p past).last.accesses.doorway
+
+-- from one past to another so many entries of p were made within a number access, none of them with the first access of its call
 abbrev pub Passes : Setup → ℕ → ℕ → Past → Past → Type 0
 Passes s p zero past after = after ≡ past
-Passes s p (suc n) past after = (a : Access) × (ends_number (width s a.field) a.bit a.how ≡ false) × Passes s p n (record { process = p; access = Some a; marks = [] } ∷ past) after
+Passes s p (suc n) past after = (a : Access) × (ends_number (width s a.field) a.bit a.how ≡ false) × (has_accessed s p past ≡ true)
+    × Passes s p n (record { process = p; access = Some a; marks = [] } ∷ past) after

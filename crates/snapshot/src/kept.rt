@@ -87,9 +87,9 @@ impl ProcessKept {
         }
     }
 
-    /// One more entry, with this number and an access within a number access.
+    /// An access of its call, of the entry with this number.
     #[inline]
-    pub fn open(&mut self, number: u64)
+    fn open(&mut self, number: u64)
         ensures { self.new ≡ record self.old { standing = opened number self.old.standing } }
     {
         let accesses = &mut self.standing.last.accesses;

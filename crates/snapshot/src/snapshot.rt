@@ -1,5 +1,5 @@
 //! The state of a run.
-ghost use Rattle.std.specs.Prelude.{◌≡◌, ◌+◌, ◌-◌, ◌^◌, ◌<◌, ◌≤◌, ◌++◌, ◌∷◌, [], IfOk, List, Ok, OnOk, Some, false, flat_map, is_some, true};
+ghost use Rattle.std.specs.Prelude.{◌≡◌, ◌+◌, ◌-◌, ◌^◌, ◌<◌, ◌++◌, ◌∷◌, [], IfOk, List, Ok, OnOk, Some, false, flat_map, is_some, true, ℕ};
 ghost use Rattle.plain_store.specs.Setups.{checked};
 ghost use Rattle.record.specs.Entries.{Entry as Noted, Past};
 ghost use Rattle.record.specs.Records.{entry_of};
@@ -104,22 +104,16 @@ impl Snapshot {
         self.kept[place].step(&self.setup, number, access, read);
     }
 
-    /// So many more entries of a process within a number access, without a mark.
-    pub fn pass(&mut self, process: u8, steps: u32)
+    /// So many more entries of one process within a number access: they change nothing that is kept.
+    #[inline(always)]
+    pub fn pass(&mut self, steps: u32)
         requires { self.old.entries + steps < 2 ^ 64 }
         ensures setup { self.new.setup ≡ self.old.setup }
         ensures count { self.new.entries ≡ self.old.entries + steps }
-        ensures heard { (past after : Past) → Passes self.old.setup process steps past after → (0 < steps → process < self.old.setup.processes)
+        ensures heard { (p : ℕ) (past after : Past) → Passes self.old.setup p steps past after
             → HasHeard self.old past → HasHeard self.new after }
     {
-        let _nested: NestedTypes = None;
-        let number = self.entries;
         self.entries += u64::from(steps);
-        let place = usize::from(process);
-        if steps == 0 || place >= self.kept.len() {
-            return;
-        }
-        self.kept[place].open(number);
     }
 
     /// How many entries there were.

@@ -1,4 +1,4 @@
-use Rattle.std.proofs.Common.{◌≡◌, ◌+◌, ◌-◌, ◌^◌, ◌≤◌, ◌∙◌, ap, arith, subst, sym}
+use Rattle.std.proofs.Common.{◌-◌, ◌^◌, ◌∙◌, ap, arith, subst, sym}
 use Rattle.snapshot.specs.calls.Hearing.{TableState}
 use Rattle.course.proofs.Endings.{failures_by, if_err, ok_with, on_err_if}
 use Rattle.course.proofs.Written.{ok_then}

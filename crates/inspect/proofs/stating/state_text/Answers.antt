@@ -1,58 +1,24 @@
-use Rattle.std.proofs.Common.{◌≡◌, ◌+◌, ◌<◌, ◌≤◌, ℕ, List, [], ◌∷◌, ◌++◌, drop, length, inr, refl, arith, ap, sym, subst, ◌∙◌, append_assoc}
-use Rattle.std.proofs.lemmas.List.{drop_all}
-use Rattle.plain_store.specs.declared.setups.Setup.{Setup}
-use Rattle.scenario.specs.declared.lines.Line.{Line}
-use Rattle.scenario.proofs.Places.{drop_in}
-use Rattle.course.specs.Happenings.{past_after}
-use Rattle.course.specs.Runs.{Run, past_in, run_after, run_at_start, runs}
-use Rattle.snapshot.specs.States.{state_lines}
-use Rattle.inspect.specs.States.{ComesAlong, first_of, head_lines, state_after}
-use Rattle.inspect.proofs.Along.{along_all}
+use Rattle.std.proofs.Common.{◌≡◌, ◌∙◌, Bool, false, not, true, refl, Result, Ok, Err, IfOk, sym}
+use Rattle.scenario.specs.Reads.{script}
 use Rattle.inspect.proofs.stating.state_text.Goals as goal
 
-pub loop-line-init : goal.loop-line-init
-loop-line-init g c = record {
-  most = c.in_ok-part.ensures.most;
-  entries = omega (arith, c.in_ok-part.ensures.entries);
-  along = (run_at_start, refl, record { now = run_at_start; at = c.in_ok-part.ensures.at; more = []; is = refl; few = omega arith; ends = inr refl });
-}
+-- what follows for what is there
+if_then : {A E : Type 0} (r : Result A E) {P Q : A → Type 0} → ((a : A) → P a → Q a) → IfOk r P → IfOk r Q
+if_then (Ok a) then p = then a p
+if_then (Err e) then p = tt
 
-pub make_line-requires : goal.make_line-requires
-make_line-requires g c =
-    let within : c.loop-line.line-index < length c.args.scenario.now.lines.items = omega arith in
-    omega (arith, within, c.args.scenario.now.few, c.loop-line.invariant.entries)
+not_so : (b : Bool) → true ≡ not b → b ≡ false
+not_so true is = absurd (cc)
+not_so false is = refl
 
-pub loop-line-preserved : goal.loop-line-preserved
-loop-line-preserved g c =
-    let s : Setup = c.args.scenario.now.setup in
-    let lines : List Line = c.args.scenario.now.lines.items in
-    let k : ℕ = c.loop-line.line-index in
-    let here : Line = c.line-item.result in
-    let next : drop k lines ≡ here ∷ drop (k + 1) lines = drop_in lines k here (omega arith) (rw c.deref-line-items.ensures.value at c.line-item.is) in
-    let was = c.loop-line.invariant.along in
-    record {
-      most = c.make_line.ensures.most ∙ c.loop-line.invariant.most;
-      entries = omega (arith, c.in_ok-make_line.ensures.entries, c.loop-line.invariant.entries);
-      along = (run_after s here was.0, subst (λ (rest : List Line). runs s rest was.0 ≡ runs s lines run_at_start) next was.1, c.in_ok-make_line.ensures.along s was.0 was.2);
-    }
+pub text-requires-clause-heard : goal.text-requires-clause-heard
+text-requires-clause-heard g c = not_so _ (sym c.if-knows_newest.true ∙ c.knows_newest.ensures)
+
+pub returns-then-knows_newest : goal.returns-then-knows_newest
+returns-then-knows_newest g c = if_then c.text.result (λ text writes. writes c.args.events (script c.args.scenario.now) c.in_ok-first.ensures.made) c.text.ensures
+
+pub text-requires-2-clause-heard : goal.text-requires-2-clause-heard
+text-requires-2-clause-heard g c = c.in_ok-second.ensures.made.at.seen.knows c.in_ok-second.ensures.all
 
 pub returns : goal.returns
-returns g c =
-    let s : Setup = c.args.scenario.now.setup in
-    let lines : List Line = c.args.scenario.now.lines.items in
-    let was = c.loop-line.invariant.along in
-    let u : ComesAlong s was.0 c.loop-line.part = was.2 in
-    let ended : runs s [] was.0 ≡ runs s lines run_at_start = subst (λ (rest : List Line). runs s rest was.0 ≡ runs s lines run_at_start) (drop_all c.loop-line.line-index lines (omega arith)) was.1 in
-    let past : past_in s u.now ≡ first_of c.args.events (past_after s (runs s lines run_at_start).happened) = along_all s lines was.0 c.loop-line.part ended u ∙ ap (λ n. first_of n (past_after s (runs s lines run_at_start).happened)) c.loop-line.invariant.most in
-    let head = c.in_ok-print_head.ensures s (past_in s u.now) u.at.seen in
-    let made = c.in_ok-push_made.ensures in
-    let print = c.in_ok-print.ensures s u.now u.at in (
-      made.0,
-      print ∙ ap (λ l. l ++ state_lines s (past_in s u.now)) (made.1 ∙ ap (λ l. l ++ made.0) (head ∙ ap (λ l. l ++ head_lines (past_in s u.now)) c.new-text.ensures.items))
-          ∙ append_assoc (head_lines (past_in s u.now)) made.0 (state_lines s (past_in s u.now)) ∙ ap (state_after made.0 s) past,
-    )
-
-pub print-requires : goal.print-requires
-print-requires g c =
-    let u = c.loop-line.invariant.along.2 in
-    u.at.setup ∙ sym u.at.seen.setup
+returns g c = if_then c.text-2.result (λ text writes. writes c.args.events (script c.args.scenario.now) c.in_ok-second.ensures.made) c.text-2.ensures

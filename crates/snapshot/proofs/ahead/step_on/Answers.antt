@@ -1,5 +1,4 @@
 use Rattle.std.proofs.Common.{◌≡◌, ℕ, false, List, ◌∷◌, Option, None, Some, length, IfErr, IfOk, OnErr, OnOk, Result, Ok, Err, sym, ap, subst, ◌∙◌}
-use Rattle.record.specs.declared.access.Access.{Access}
 use Rattle.record.specs.declared.events.Event.{Event}
 use Rattle.record.specs.declared.events.Event.TheVariants.{Step}
 use Rattle.record.specs.declared.history.Taken.{Taken}
@@ -17,11 +16,11 @@ use Rattle.world.specs.Shows.{Shows}
 use Rattle.snapshot.specs.Knowing.{CoreShows}
 use Rattle.snapshot.proofs.ahead.step_on.Goals as goal
 
-setup_by : (old new : CoreState) (r : Result Access Refusal) → OnOk r (new.setup ≡ old.setup) → OnErr r (new ≡ old) → new.setup ≡ old.setup
+setup_by : {A : Type 0} (old new : CoreState) (r : Result A Refusal) → OnOk r (new.setup ≡ old.setup) → OnErr r (new ≡ old) → new.setup ≡ old.setup
 setup_by old new (Ok access) made away = made
 setup_by old new (Err refusal) made away = ap (λ (c : CoreState). c.setup) away
 
-goes_by : (old new : CoreState) (p : ℕ) (told : StepTold) (r : Result Access Refusal) → OnOk r (CoreSteps old p false told new) → OnOk r (new.setup ≡ old.setup) → IfErr r (CoreRefusesStep old p false) → OnErr r (new ≡ old) →
+goes_by : {A : Type 0} (old new : CoreState) (p : ℕ) (told : StepTold) (r : Result A Refusal) → OnOk r (CoreSteps old p false told new) → OnOk r (new.setup ≡ old.setup) → IfErr r (CoreRefusesStep old p false) → OnErr r (new ≡ old) →
     (past : Past) → CoreShows old past → CoreShows new (with_event old.setup (Step p false) past)
 goes_by old new p told (Ok access) made same refused away past u = record {
   taken = with_taken u.taken p (call_in new.seats p).0 (call_in new.seats p).1 (reply_taken (marks_of (Steps told)));

@@ -8,7 +8,6 @@ use Rattle.calls.proofs.table.CallTable.new.Goals as goal
 
 pub returns-clause-heard : goal.returns-clause-heard
 returns-clause-heard c = record {
-  watch = c.in_ok-watch.ensures.heard;
   standings = λ p below. ap (λ (l : List CallStanding). slice_get l p) c.loop-process.invariant ∙ at_rest-there c.loop-process.process p (omega (arith, below, c.loop-process-test.false));
   entries = refl;
 }
@@ -18,6 +17,5 @@ invariant_of-result c =
     let all : c.loop-process.process ≡ c.args.setup.now.processes = omega (arith, c.loop-process-test.false, c.loop-process.auto.process-end) in
     record {
       good = c.requires;
-      watched = c.in_ok-watch.ensures.setup;
       processes = ap (λ (l : List CallStanding). length l) c.loop-process.invariant ∙ length-map-range_with_len at_rest 0 c.loop-process.process ∙ all;
     }

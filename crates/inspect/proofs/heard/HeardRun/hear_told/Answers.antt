@@ -7,10 +7,10 @@ pub returns-in-Accepted-clause-heard : goal.returns-in-Accepted-clause-heard
 returns-in-Accepted-clause-heard c = subst (λ (t : Told). HearsTold t c.args.self.now c.hear_event.new.self) (sym c.in-Accepted.is) c.hear_event.ensures.heard
 
 pub returns-in-Refused-clause-heard : goal.returns-in-Refused-clause-heard
-returns-in-Refused-clause-heard c = subst (λ (t : Told). HearsTold t c.args.self.now c.args.self.now) (sym c.in-Refused.is) (λ s past turn marked seen. seen)
+returns-in-Refused-clause-heard c = subst (λ (t : Told). HearsTold t c.args.self.now c.args.self.now) (sym c.in-Refused.is) (λ s past turn marked all seen. seen)
 
 pub returns-in-Tired-clause-heard : goal.returns-in-Tired-clause-heard
-returns-in-Tired-clause-heard c = subst (λ (t : Told). HearsTold t c.args.self.now c.args.self.now) (sym c.in-Tired.is) (λ s past turn marked seen. seen)
+returns-in-Tired-clause-heard c = subst (λ (t : Told). HearsTold t c.args.self.now c.args.self.now) (sym c.in-Tired.is) (λ s past turn marked all seen. seen)
 
 pub returns-in-Shown-clause-heard : goal.returns-in-Shown-clause-heard
-returns-in-Shown-clause-heard c = subst (λ (t : Told). HearsTold t c.args.self.now c.args.self.now) (sym c.in-Shown.is) (λ s past turn marked seen. seen)
+returns-in-Shown-clause-heard c = subst (λ (t : Told). HearsTold t c.args.self.now c.args.self.now) (sym c.in-Shown.is) (λ s past turn marked all seen. seen)

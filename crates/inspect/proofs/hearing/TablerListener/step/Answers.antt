@@ -3,7 +3,7 @@ use Rattle.record.specs.declared.events.Event.TheVariants.{Step}
 use Rattle.course.specs.Happenings.{Tries}
 use Rattle.course.proofs.Endings.{took_same}
 use Rattle.inspect.specs.Tables.{HasTabled, lines_after}
-use Rattle.inspect.proofs.Tabling.{step_lines, step_tabled}
+use Rattle.inspect.proofs.Passing.{step_lines, step_tabled}
 use Rattle.inspect.proofs.hearing.TablerListener.step.Goals as goal
 
 pub returns-clause-ok : goal.returns-clause-ok
@@ -13,6 +13,6 @@ returns-clause-ok g c = λ s before on.
     let after = Tries (Step made.process made.flick) ∷ before in (
       refl,
       refl,
-      (λ tabled. step_tabled s before made old.table.now c.hear-none.new.self on c.hear-none.ensures.heard c.hear-none.ensures.setup tabled),
+      (λ tabled. step_tabled s before made old.table.now c.hear_step.new.table on c.hear_step.ensures.heard c.hear_step.ensures.setup tabled),
       took_same (HasTabled s before old.table.now) (lines_after s before) (lines_after s after) (g.W.Sink.taken old.output.now) (g.W.Sink.failures old.output.now) (step_lines s before made on),
     )

@@ -1,0 +1,172 @@
+-- What is kept of a process goes on with many entries at once.
+use Rattle.std.proofs.Common.{◌≡◌, ℕ, zero, suc, ◌+◌, ◌≤◌, ◌==◌, Bool, true, false, ◌&&◌, cond, ◌∷◌, Option, None, Some, is_none, length, refl, sym, ap, subst, ◌∙◌, arith}
+use Rattle.plain_store.specs.declared.Setup.{Setup}
+use Rattle.record.specs.safe_bit.declared.Move.{Move}
+use Rattle.record.specs.safe_bit.declared.Move.TheVariants.{BeginWrite, EndWrite, BeginRead, EndRead, Settle}
+use Rattle.record.specs.declared.access.Access.{Access}
+use Rattle.record.specs.Doorways.{first_of}
+use Rattle.record.specs.Entries.{Past}
+use Rattle.record.specs.Registers.{width}
+use Rattle.calls.specs.declared.called.Accesses.{Accesses}
+use Rattle.calls.specs.declared.called.EntryKnown.{EntryKnown}
+use Rattle.calls.specs.declared.standing.CallStanding.{CallStanding}
+use Rattle.world.specs.Walks.{ends_overlapped_read}
+use Rattle.calls.specs.Columns.{ends_number, is_read, is_write, more_if}
+use Rattle.calls.specs.Hearing.{IsKnown}
+use Rattle.calls.specs.Passing.{HasNotFailed, Passes, begun_among, follows, of_read, of_write, passed, quiet_entry, with_passed}
+use Rattle.calls.specs.Stepping.{standing, with_access}
+use Rattle.calls.proofs.Steps.{standing-heard, standing-other}
+
+-- The first access.
+
+first-again : (o : Option ℕ) (a b : ℕ) → first_of (first_of o (Some a)) (Some b) ≡ first_of o (Some a)
+first-again (Some x) a b = refl
+first-again None a b = refl
+
+-- So many begin.
+
+-- with one more, after another
+reads-more : (n : ℕ) (before how : Move) (k : ℕ) → follows before how ≡ true → more_if (is_read how && true) (k + cond (of_read before) (begun_among (suc n) (is_read before)) 0) ≡ k + cond (of_read how) (begun_among (suc (suc n)) (is_read how)) 0
+reads-more n BeginRead (EndRead v) k is = omega arith
+reads-more n (EndRead u) BeginRead k is = omega arith
+reads-more n (BeginWrite u) EndWrite k is = omega arith
+reads-more n EndWrite (BeginWrite v) k is = omega arith
+reads-more n BeginRead BeginRead k is = absurd (cc)
+reads-more n BeginRead (BeginWrite v) k is = absurd (cc)
+reads-more n BeginRead EndWrite k is = absurd (cc)
+reads-more n BeginRead (Settle v) k is = absurd (cc)
+reads-more n (EndRead u) (EndRead v) k is = absurd (cc)
+reads-more n (EndRead u) (BeginWrite v) k is = absurd (cc)
+reads-more n (EndRead u) EndWrite k is = absurd (cc)
+reads-more n (EndRead u) (Settle v) k is = absurd (cc)
+reads-more n (BeginWrite u) BeginRead k is = absurd (cc)
+reads-more n (BeginWrite u) (EndRead v) k is = absurd (cc)
+reads-more n (BeginWrite u) (BeginWrite v) k is = absurd (cc)
+reads-more n (BeginWrite u) (Settle v) k is = absurd (cc)
+reads-more n EndWrite BeginRead k is = absurd (cc)
+reads-more n EndWrite (EndRead v) k is = absurd (cc)
+reads-more n EndWrite EndWrite k is = absurd (cc)
+reads-more n EndWrite (Settle v) k is = absurd (cc)
+reads-more n (Settle u) how k is = absurd (cc)
+
+writes-more : (n : ℕ) (before how : Move) (k : ℕ) → follows before how ≡ true → more_if (is_write how && true) (k + cond (of_write before) (begun_among (suc n) (is_write before)) 0) ≡ k + cond (of_write how) (begun_among (suc (suc n)) (is_write how)) 0
+writes-more n BeginRead (EndRead v) k is = omega arith
+writes-more n (EndRead u) BeginRead k is = omega arith
+writes-more n (BeginWrite u) EndWrite k is = omega arith
+writes-more n EndWrite (BeginWrite v) k is = omega arith
+writes-more n BeginRead BeginRead k is = absurd (cc)
+writes-more n BeginRead (BeginWrite v) k is = absurd (cc)
+writes-more n BeginRead EndWrite k is = absurd (cc)
+writes-more n BeginRead (Settle v) k is = absurd (cc)
+writes-more n (EndRead u) (EndRead v) k is = absurd (cc)
+writes-more n (EndRead u) (BeginWrite v) k is = absurd (cc)
+writes-more n (EndRead u) EndWrite k is = absurd (cc)
+writes-more n (EndRead u) (Settle v) k is = absurd (cc)
+writes-more n (BeginWrite u) BeginRead k is = absurd (cc)
+writes-more n (BeginWrite u) (EndRead v) k is = absurd (cc)
+writes-more n (BeginWrite u) (BeginWrite v) k is = absurd (cc)
+writes-more n (BeginWrite u) (Settle v) k is = absurd (cc)
+writes-more n EndWrite BeginRead k is = absurd (cc)
+writes-more n EndWrite (EndRead v) k is = absurd (cc)
+writes-more n EndWrite EndWrite k is = absurd (cc)
+writes-more n EndWrite (Settle v) k is = absurd (cc)
+writes-more n (Settle u) how k is = absurd (cc)
+
+-- the first of them
+reads-one : (how : Move) (k : ℕ) → more_if (is_read how && true) k ≡ k + cond (of_read how) (begun_among 1 (is_read how)) 0
+reads-one BeginRead k = omega arith
+reads-one (EndRead v) k = omega arith
+reads-one (BeginWrite v) k = omega arith
+reads-one EndWrite k = omega arith
+reads-one (Settle v) k = omega arith
+
+writes-one : (how : Move) (k : ℕ) → more_if (is_write how && true) k ≡ k + cond (of_write how) (begun_among 1 (is_write how)) 0
+writes-one BeginRead k = omega arith
+writes-one (EndRead v) k = omega arith
+writes-one (BeginWrite v) k = omega arith
+writes-one EndWrite k = omega arith
+writes-one (Settle v) k = omega arith
+
+-- Reads that a write overlapped.
+
+more-again : (b : Bool) (k n : ℕ) → more_if b (k + n) ≡ k + more_if b n
+more-again true k n = omega arith
+more-again false k n = refl
+
+more-one : (b : Bool) (k n : ℕ) → n ≡ 0 → more_if b k ≡ k + more_if b n
+more-one true k n none = omega (arith, none)
+more-one false k n none = omega (arith, none)
+
+more-few : (b : Bool) (n m : ℕ) → n ≤ m → more_if b n ≤ suc m
+more-few true n m few = omega (arith, few)
+more-few false n m few = omega (arith, few)
+
+-- One entry.
+
+accesses_by : (x y : Accesses) → x.doorway ≡ y.doorway → x.reads ≡ y.reads → x.writes ≡ y.writes → x.overlapped ≡ y.overlapped → x.waited_for ≡ y.waited_for → x ≡ y
+accesses_by x y a b c d e = λ i. record { doorway = a i; reads = b i; writes = c i; overlapped = d i; waited_for = e i }
+
+-- what is kept, with these accesses
+abbrev with_accesses : CallStanding → Accesses → CallStanding
+with_accesses k x = record k { last = record k.last { accesses = x } }
+
+module _ (s : Setup) (p : ℕ) (a : Access) (past : Past) where
+  abbrev known : EntryKnown
+  known = record { overlapped = ends_overlapped_read past (quiet_entry p a); read = None }
+
+  turn : ends_number (width s a.field) a.bit a.how ≡ false → IsKnown s past (quiet_entry p a) known
+  turn ends = record { overlapped = refl; read = λ b some. subst (λ (b : Access). ends_number (width s b.field) b.bit b.how ≡ false) (let same : a ≡ b = cc in same) ends }
+
+  abbrev after_one : CallStanding → CallStanding
+  after_one k = with_accesses k (with_access s p (length past) known k.last.marks a k.last.accesses)
+
+  -- of a process that has not failed they are its own
+  itself : (test : Move → Bool) (k : CallStanding) → k.last.marks.failed ≡ None → (n : ℕ) → more_if (test a.how && is_none k.last.marks.failed) n ≡ more_if (test a.how && true) n
+  itself test k none n = ap (λ (o : Option ℕ). more_if (test a.how && is_none o) n) none
+
+  quiet-heard : ends_number (width s a.field) a.bit a.how ≡ false → standing s p (quiet_entry p a ∷ past) ≡ after_one (standing s p past)
+  quiet-heard ends = standing-heard s (quiet_entry p a) past known (turn ends)
+
+  once : (overlapped : ℕ) → HasNotFailed p past → ends_number (width s a.field) a.bit a.how ≡ false → overlapped ≡ more_if known.overlapped 0 → standing s p (quiet_entry p a ∷ past) ≡ passed (length past) 1 a.how overlapped (standing s p past)
+  once overlapped none ends is =
+      let k : CallStanding = standing s p past in
+      let was : Accesses = k.last.accesses in
+      quiet-heard ends ∙ ap (with_accesses k) (accesses_by (with_access s p (length past) known k.last.marks a was) (with_passed (length past) 1 a.how overlapped was)
+      refl (itself is_read k none was.reads ∙ reads-one a.how was.reads) (itself is_write k none was.writes ∙ writes-one a.how was.writes) (more-one known.overlapped was.overlapped 0 refl ∙ ap (λ n. was.overlapped + n) (sym is)) refl)
+
+  again : (n number : ℕ) (before : Move) (count overlapped : ℕ) (first : CallStanding) → first.last.marks.failed ≡ None → standing s p past ≡ passed number (suc n) before count first → follows before a.how ≡ true → ends_number (width s a.field) a.bit a.how ≡ false →
+      overlapped ≡ more_if known.overlapped count → standing s p (quiet_entry p a ∷ past) ≡ passed number (suc (suc n)) a.how overlapped first
+  again n number before count overlapped first none at follow ends is =
+      let was : Accesses = first.last.accesses in
+      let mid : Accesses = with_passed number (suc n) before count was in
+      quiet-heard ends ∙ ap after_one at
+      ∙ ap (with_accesses first) (accesses_by (with_access s p (length past) known first.last.marks a mid) (with_passed number (suc (suc n)) a.how overlapped was)
+      (first-again was.doorway number (length past)) (itself is_read first none mid.reads ∙ reads-more n before a.how was.reads follow) (itself is_write first none mid.writes ∙ writes-more n before a.how was.writes follow)
+      (more-again known.overlapped was.overlapped count ∙ ap (λ n. was.overlapped + n) (sym is)) refl)
+
+-- So many.
+
+-- what is kept of p after them, how many entries there are then, and that no more reads ended than there were accesses
+pub record HasPassed (s : Setup) (p n : ℕ) (newest : Access) (overlapped : ℕ) (past after : Past) : Type 0 where
+  pub standing_is : standing s p after ≡ passed (length past) n newest.how overlapped (standing s p past)
+  pub long : length after ≡ length past + n
+  pub few : overlapped ≤ n
+  pub others : (q : ℕ) → (p == q) ≡ false → standing s q after ≡ standing s q past
+
+pub passes : (n : ℕ) (s : Setup) (p : ℕ) (newest : Access) (overlapped : ℕ) (past after : Past) → HasNotFailed p past → Passes s p (suc n) newest overlapped past after → HasPassed s p (suc n) newest overlapped past after
+passes zero s p newest overlapped past after failed (mid, before, count, (same, none), follow, ends, is, counts) =
+    let all : overlapped ≡ more_if (ends_overlapped_read past (quiet_entry p newest)) 0 = counts ∙ (λ i. more_if (ends_overlapped_read (same i) (quiet_entry p newest)) (none i)) in
+    subst (λ (after : Past). HasPassed s p 1 newest overlapped past after) (sym (is ∙ ap (λ (mid : Past). quiet_entry p newest ∷ mid) same)) (record {
+      standing_is = once s p newest past overlapped failed ends all;
+      long = omega arith;
+      few = let few = more-few (ends_overlapped_read past (quiet_entry p newest)) 0 0 (omega arith) in omega (arith, all, few);
+      others = λ q apart. standing-other s q (quiet_entry p newest) past apart;
+    })
+passes (suc n) s p newest overlapped past after failed (mid, before, count, more, follow, ends, is, counts) =
+    let h : HasPassed s p (suc n) before count past mid = passes n s p before count past mid failed more in
+    subst (λ (after : Past). HasPassed s p (suc (suc n)) newest overlapped past after) (sym is) (record {
+      standing_is = again s p newest mid n (length past) before.how count overlapped (standing s p past) failed h.standing_is (follow (omega arith)) ends counts;
+      long = let long = h.long in omega (arith, long);
+      few = let few = more-few (ends_overlapped_read mid (quiet_entry p newest)) count (suc n) h.few in omega (arith, counts, few);
+      others = λ q apart. standing-other s q (quiet_entry p newest) mid apart ∙ h.others q apart;
+    })

@@ -1,0 +1,73 @@
+-- Entries within a number access, many at once: their accesses begin and end in turns, and are of one kind.
+use Rattle.std.specs.Prelude.{◌≡◌, ℕ, zero, suc, ◌+◌, ◌/◌, ◌<◌, ◌^◌, Bool, true, false, ◌||◌, if◌then◌else◌, [], ◌∷◌, cond, Some, None}
+use Rattle.plain_store.specs.declared.Setup.{Setup}
+use Rattle.record.specs.safe_bit.declared.Move.{Move}
+use Rattle.record.specs.safe_bit.declared.Move.TheVariants.{BeginWrite, EndWrite, BeginRead, EndRead, Settle}
+use Rattle.record.specs.declared.access.Access.{Access}
+use Rattle.record.specs.Doorways.{first_of, number_in_call}
+use Rattle.record.specs.Entries.{Entry, Past, has, is_failed}
+use Rattle.record.specs.Registers.{width}
+use Rattle.calls.specs.declared.called.Accesses.{Accesses}
+use Rattle.calls.specs.declared.standing.CallStanding.{CallStanding}
+use Rattle.world.specs.Walks.{ends_overlapped_read}
+use Rattle.calls.specs.Columns.{ends_number, is_read, is_read_end, is_write, more_if}
+
+-- a write ends
+abbrev pub is_write_end : Move → Bool
+is_write_end EndWrite = true
+is_write_end _ = false
+
+-- within a number access the second move comes after the first
+abbrev pub follows : Move → Move → Bool
+follows BeginRead how = is_read_end how
+follows (EndRead v) how = is_read how
+follows (BeginWrite v) how = is_write_end how
+follows EndWrite how = is_write how
+follows (Settle v) how = false
+
+-- an entry of p with this access, and without a mark
+abbrev pub quiet_entry : ℕ → Access → Entry
+quiet_entry p a = record { process = p; access = Some a; marks = [] }
+
+-- from one past to another so many entries of p were made within a number access, the newest with this access; so many end a read that a write overlapped
+abbrev pub Passes : Setup → ℕ → ℕ → Access → ℕ → Past → Past → Type 0
+Passes s p zero newest overlapped past after = (after ≡ past) × (overlapped ≡ 0)
+Passes s p (suc n) newest overlapped past after =
+    (mid : Past) × (before : Access) × (count : ℕ) × Passes s p n before count past mid × (0 < n → follows before.how newest.how ≡ true)
+    × (ends_number (width s newest.field) newest.bit newest.how ≡ false) × (after ≡ quiet_entry p newest ∷ mid)
+    × (overlapped ≡ more_if (ends_overlapped_read mid (quiet_entry p newest)) count)
+
+-- of so many accesses that begin and end in turns, of which the newest begins or not, so many begin
+abbrev pub begun_among : ℕ → Bool → ℕ
+begun_among steps begins = (steps + (if begins then 1 else 0)) / 2
+
+-- a move of a read, and one of a write
+abbrev pub of_read : Move → Bool
+of_read how = is_read how || is_read_end how
+
+abbrev pub of_write : Move → Bool
+of_write how = is_write how || is_write_end how
+
+-- with so many accesses of a process that has not failed, the first of which is of the entry with this number
+abbrev pub with_passed : ℕ → ℕ → Move → ℕ → Accesses → Accesses
+with_passed number steps how overlapped k = record {
+  doorway = first_of k.doorway (Some number);
+  reads = k.reads + cond (of_read how) (begun_among steps (is_read how)) 0;
+  writes = k.writes + cond (of_write how) (begun_among steps (is_write how)) 0;
+  overlapped = k.overlapped + overlapped;
+  waited_for = k.waited_for;
+}
+
+-- the same of what is kept
+abbrev pub passed : ℕ → ℕ → Move → ℕ → CallStanding → CallStanding
+passed number steps how overlapped k = record k { last = record k.last { accesses = with_passed number steps how overlapped k.last.accesses } }
+
+-- p has not failed in its last call
+abbrev pub HasNotFailed : ℕ → Past → Type 0
+HasNotFailed p past = number_in_call p (has is_failed) past ≡ None
+
+-- each count has room for so many more
+pub record HaveRoom (k : Accesses) (steps : ℕ) : Type 0 where
+  pub reads : k.reads + steps < 2 ^ 64
+  pub writes : k.writes + steps < 2 ^ 64
+  pub overlapped : k.overlapped + steps < 2 ^ 64
