@@ -115,7 +115,7 @@ impl Auditor {
             return self.hear_elsewhere(process, access);
         }
         let made = self.core.make_step_within(process, flick_of(access));
-        different(made, access)
+        different(made.access, access)
     }
 
     /// The same where its process is not within a number access.
@@ -167,7 +167,7 @@ impl Auditor {
         let Ok(made) = self.core.step(process, flick_in(access), &mut told) else {
             return Some(Law::Program);
         };
-        if !is_alike(self.alloc, access, marks, &made, &told) {
+        if !is_alike(self.alloc, access, marks, &made.access, &told) {
             return Some(wrong(marks, settles));
         }
         if !are_at(marks, self.taken) {

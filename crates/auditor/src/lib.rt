@@ -2,9 +2,11 @@
 //! entries one by one, in memory of a fixed size. Every record of a list of events is good, which is a law here.
 //!
 //! ```rust
-//! let mut auditor = Auditor::new(rt.alloc(), &setup)?;
-//! let start = Instant::now(rt)?;
-//! hear_all(&mut auditor, &record)?;
+//! for entry in &record.entries {
+//!     if auditor.hear(entry).is_some() {
+//!         bail!("an entry breaks a law");
+//!     }
+//! }
 //! ```
 #![tactic(auto)]
 

@@ -8,7 +8,7 @@ mod hearings;
 
 use crate::counters::{adds, counting};
 use anyhow::{Result, bail};
-use auditor::Auditor;
+use auditor::{Auditor, Record};
 use driver::Driver;
 use hearings::{hear_all, recorded};
 use plain_store::Setup;
@@ -114,17 +114,39 @@ fn audits<T: Print + Eprint + Clock + AllocGlobal>(
     times: u32,
 ) -> Result<()> {
     let setup = counting(processes, 32, 8)?;
-    let record = recorded(rt.alloc(), &setup, callers, &adds()?)?;
-    let mut passed = 0u128;
-    for _ in 0..times {
-        let mut auditor = Auditor::new(rt.alloc(), &setup)?;
-        let start = Instant::now(rt)?;
-        hear_all(&mut auditor, &record)?;
-        passed = passed.wrapping_add(start.elapsed(rt)?.as_nanos());
-    }
-    let entries = record.entries.len();
+    let (entries, nanos) = {
+        let record = recorded(rt.alloc(), &setup, callers, &adds()?)?;
+        (
+            record.entries.len(),
+            timed_audits(rt, &setup, &record, times)?,
+        )
+    };
     println!(rt; "audit of {processes}, {callers} calling: {entries} entries")?;
     let heard = (entries as u64).wrapping_mul(u64::from(times));
-    eprintln!(rt; "audit {processes} {callers} {heard} {passed}")?;
+    eprintln!(rt; "audit {processes} {callers} {heard} {nanos}")?;
     Ok(())
+}
+
+/// How many nanoseconds it takes to hear a record so many times, by a new auditor each time.
+fn timed_audits<T: Clock + AllocGlobal>(
+    rt: &T,
+    setup: &Setup,
+    record: &Record,
+    times: u32,
+) -> Result<u128>
+    requires { checked setup.now ≡ Ok tt }
+{
+    let mut passed = 0u128;
+    for _ in 0..times {
+        let mut auditor = Auditor::new(rt.alloc(), setup)?;
+        passed = passed.wrapping_add(timed_audit(rt, &mut auditor, record)?);
+    }
+    Ok(passed)
+}
+
+/// How many nanoseconds an auditor takes to hear a record.
+fn timed_audit<T: Clock>(rt: &T, auditor: &mut Auditor, record: &Record) -> Result<u128> {
+    let start = Instant::now(rt)?;
+    hear_all(auditor, record)?;
+    Ok(start.elapsed(rt)?.as_nanos())
 }

@@ -26,14 +26,14 @@ pub returns-then-not-is_alike-clause-heard : goal.returns-then-not-is_alike-clau
 returns-then-not-is_alike-clause-heard c =
     let e : Entry = record { process = c.args.process; access = c.args.access.now; marks = c.args.marks.now } in
     let a : AuditorState = record { core = c.self.inside.core; taken = c.self.inside.taken } in
-    let adds : (taken : List Taken) → Adds (with_history a.core taken) (Step e.process (flick_in e.access)) e.process (act_of (length taken) (record { access = Some c.in-Ok.made; effect = Steps c.step.new.told })) =
-    λ taken. subst (λ f. Adds (with_history a.core taken) (Step e.process f) e.process (act_of (length taken) (record { access = Some c.in-Ok.made; effect = Steps c.step.new.told }))) c.flick_in.ensures (c.in-Ok.ensures.accepted taken) in
+    let adds : (taken : List Taken) → Adds (with_history a.core taken) (Step e.process (flick_in e.access)) e.process (act_of (length taken) (record { access = Some c.in-Ok.made.access; effect = Steps c.step.new.told })) =
+    λ taken. subst (λ f. Adds (with_history a.core taken) (Step e.process f) e.process (act_of (length taken) (record { access = Some c.in-Ok.made.access; effect = Steps c.step.new.told }))) c.flick_in.ensures (c.in-Ok.ensures.accepted taken) in
     λ past h.
     let heard : HasHeard a past = subst (λ (x : AuditorState). HasHeard x past) (sym c.self.view_is) h in
-    let made : StepMade a past e c.in-Ok.made c.step.new.told = record { heard = heard; none = c.requires; adds = adds } in
+    let made : StepMade a past e c.in-Ok.made.access c.step.new.told = record { heard = heard; none = c.requires; adds = adds } in
     subst (λ (x : AuditorState). BreaksNext c.wrong.result x.core.setup past e) c.self.view_is
     (subst (λ l. BreaksNext l a.core.setup past e) (sym c.wrong.ensures)
-    (heard_wrong a past e c.in-Ok.made c.step.new.told c.settles-settles.result made
+    (heard_wrong a past e c.in-Ok.made.access c.step.new.told c.settles-settles.result made
     (λ alike. true≢false (sym ((c.is_alike.ensures e.process).1 alike) ∙ c.if-not-is_alike.true))
     (c.settles-settles.ensures (history a.core.setup past) heard.events heard.shows)))
 
@@ -41,28 +41,28 @@ pub returns-then-not-are_at-clause-heard : goal.returns-then-not-are_at-clause-h
 returns-then-not-are_at-clause-heard c =
     let e : Entry = record { process = c.args.process; access = c.args.access.now; marks = c.args.marks.now } in
     let a : AuditorState = record { core = c.self.inside.core; taken = c.self.inside.taken } in
-    let adds : (taken : List Taken) → Adds (with_history a.core taken) (Step e.process (flick_in e.access)) e.process (act_of (length taken) (record { access = Some c.in-Ok.made; effect = Steps c.step.new.told })) =
-    λ taken. subst (λ f. Adds (with_history a.core taken) (Step e.process f) e.process (act_of (length taken) (record { access = Some c.in-Ok.made; effect = Steps c.step.new.told }))) c.flick_in.ensures (c.in-Ok.ensures.accepted taken) in
+    let adds : (taken : List Taken) → Adds (with_history a.core taken) (Step e.process (flick_in e.access)) e.process (act_of (length taken) (record { access = Some c.in-Ok.made.access; effect = Steps c.step.new.told })) =
+    λ taken. subst (λ f. Adds (with_history a.core taken) (Step e.process f) e.process (act_of (length taken) (record { access = Some c.in-Ok.made.access; effect = Steps c.step.new.told }))) c.flick_in.ensures (c.in-Ok.ensures.accepted taken) in
     λ past h.
     let heard : HasHeard a past = subst (λ (x : AuditorState). HasHeard x past) (sym c.self.view_is) h in
-    let made : StepMade a past e c.in-Ok.made c.step.new.told = record { heard = heard; none = c.requires; adds = adds } in
+    let made : StepMade a past e c.in-Ok.made.access c.step.new.told = record { heard = heard; none = c.requires; adds = adds } in
     subst (λ (x : AuditorState). BreaksNext c.misplaced.result x.core.setup past e) c.self.view_is
     (subst (λ l. BreaksNext l a.core.setup past e) (sym c.misplaced.ensures)
-    (heard_misplaced a past e c.in-Ok.made c.step.new.told made ((c.is_alike.ensures e.process).0 c.if-not-is_alike.false)
+    (heard_misplaced a past e c.in-Ok.made.access c.step.new.told made ((c.is_alike.ensures e.process).0 c.if-not-is_alike.false)
     (λ at. true≢false (sym ((c.are_at.ensures (length (history a.core.setup past)) heard.counted).1 at) ∙ c.if-not-are_at.true))))
 
 pub returns-clause-heard : goal.returns-clause-heard
 returns-clause-heard c =
     let e : Entry = record { process = c.args.process; access = c.args.access.now; marks = c.args.marks.now } in
     let a : AuditorState = record { core = c.self.inside.core; taken = c.self.inside.taken } in
-    let adds : (taken : List Taken) → Adds (with_history a.core taken) (Step e.process (flick_in e.access)) e.process (act_of (length taken) (record { access = Some c.in-Ok.made; effect = Steps c.step.new.told })) =
-    λ taken. subst (λ f. Adds (with_history a.core taken) (Step e.process f) e.process (act_of (length taken) (record { access = Some c.in-Ok.made; effect = Steps c.step.new.told }))) c.flick_in.ensures (c.in-Ok.ensures.accepted taken) in
+    let adds : (taken : List Taken) → Adds (with_history a.core taken) (Step e.process (flick_in e.access)) e.process (act_of (length taken) (record { access = Some c.in-Ok.made.access; effect = Steps c.step.new.told })) =
+    λ taken. subst (λ f. Adds (with_history a.core taken) (Step e.process f) e.process (act_of (length taken) (record { access = Some c.in-Ok.made.access; effect = Steps c.step.new.told }))) c.flick_in.ensures (c.in-Ok.ensures.accepted taken) in
     let steps : CoreSteps a.core e.process (flick_in e.access) c.step.new.told c.step.new.self =
     subst (λ f. CoreSteps a.core e.process f c.step.new.told c.step.new.self) c.flick_in.ensures c.in-Ok.ensures.shows in
     λ past h.
     let heard : HasHeard a past = subst (λ (x : AuditorState). HasHeard x past) (sym c.self.view_is) h in
-    let made : StepMade a past e c.in-Ok.made c.step.new.told = record { heard = heard; none = c.requires; adds = adds } in
+    let made : StepMade a past e c.in-Ok.made.access c.step.new.told = record { heard = heard; none = c.requires; adds = adds } in
     subst (λ (x : AuditorState). IsHeard x.core.setup past e (record { core = c.step.new.self; taken = c.more-self-inside.result }) None) c.self.view_is
-    (heard_step a past e c.in-Ok.made c.step.new.told c.step.new.self c.more-self-inside.result made ((c.is_alike.ensures e.process).0 c.if-not-is_alike.false)
+    (heard_step a past e c.in-Ok.made.access c.step.new.told c.step.new.self c.more-self-inside.result made ((c.is_alike.ensures e.process).0 c.if-not-is_alike.false)
     ((c.are_at.ensures (length (history a.core.setup past)) heard.counted).0 c.if-not-are_at.false)
     c.in-Ok.ensures.setup steps c.more-self-inside.ensures)
