@@ -1,5 +1,5 @@
 //! The engine: the verdict on the record that a file says, which is read line by line.
-ghost use Rattle.std.specs.Prelude.{◌≡◌, ◌-◌, ◌^◌, ◌<◌};
+ghost use Rattle.std.specs.Prelude.{◌-◌, ◌^◌, ◌<◌};
 ghost use Rattle.any_judge.specs.Explanations.{JudgeEnds};
 ghost use Rattle.any_judge.specs.trial.files.Engines.{streams};
 

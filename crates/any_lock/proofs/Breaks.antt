@@ -14,7 +14,6 @@ use Rattle.read_law.specs.Safe.{KeepsSafe, MatchBool}
 use Rattle.read_law.specs.Watching.{IsOfThere}
 use Rattle.any_lock.specs.declared.refusals.AccessRefusal.{AccessRefusal}
 use Rattle.any_lock.specs.declared.refusals.AccessRefusal.TheVariants as access
-use Rattle.any_lock.specs.declared.refusals.MarkRefusal.{MarkRefusal}
 use Rattle.any_lock.specs.declared.verdicts.AnyLockLaw.TheVariants as law
 use Rattle.any_lock.specs.Laws.{breaks_access, breaks_history, breaks_marks, breaks_overtaken, breaks_safe, breaks_together, broken_inside, broken_later, ends_wrongly, first_broken}
 use Rattle.any_lock.specs.Refusals.{access_refusal, first_that, is_there, refusal_of_access, refusal_of_marks, same_truth}
@@ -125,9 +124,6 @@ told_by s past e false breaks = go (breaks_safe s past e) refl
 
 pub at_access : (s : Setup) (past : Past) (e : Entry) (r : AccessRefusal) → refusal_of_access s past e ≡ Some r → broken_later s past e ≡ Some law.Access
 at_access s past e r h = let b : breaks_access s past e ≡ true = ap is_some h in rw b refl
-
-pub at_marks : (s : Setup) (past : Past) (e : Entry) (r : MarkRefusal) → refusal_of_access s past e ≡ None → refusal_of_marks s past e ≡ Some r → broken_later s past e ≡ Some law.Marks
-at_marks s past e r h k = let a : breaks_access s past e ≡ false = ap is_some h in let b : breaks_marks s past e ≡ true = ap is_some k in rw (a, b) refl
 
 pub at_inside : (s : Setup) (past : Past) (e : Entry) → refusal_of_access s past e ≡ None → refusal_of_marks s past e ≡ None → broken_later s past e ≡ broken_inside s past e
 at_inside s past e h k = let a : breaks_access s past e ≡ false = ap is_some h in let b : breaks_marks s past e ≡ false = ap is_some k in rw (a, b) refl

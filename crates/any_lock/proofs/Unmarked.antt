@@ -1,19 +1,13 @@
 -- An entry with an access and no mark.
-use Rattle.std.proofs.Common.{◌≡◌, ℕ, ◌<◌, false, List, [], ◌∷◌, None, Some, length, get_or, slice_get, refl, sym, ap, ◌∙◌, arith}
+use Rattle.std.proofs.Common.{◌≡◌, ℕ, ◌<◌, false, List, [], ◌∷◌, Some, length, get_or, slice_get, refl, sym, ap, ◌∙◌, arith}
 use Rattle.std.proofs.lemmas.Option.{slice_get-get_or, slice_get_within}
 use Rattle.std.specs.List.{list_any}
-use Rattle.plain_store.specs.declared.Setup.{Setup}
 use Rattle.record.specs.declared.access.Access.{Access}
 use Rattle.record.specs.declared.marks.Mark.{Mark}
 use Rattle.record.specs.Entries.{Entry, Past}
-use Rattle.any_lock.specs.declared.refusals.MarkRefusal.TheVariants as refusal
 use Rattle.any_lock.specs.declared.standings.Standing.{Standing}
-use Rattle.any_lock.specs.declared.verdicts.AnyLockLaw.TheVariants as law
 use Rattle.any_lock.specs.Keeping.{KeptState, Knows, accessed, is_taken}
-use Rattle.any_lock.specs.Laws.{breaks_history, breaks_overtaken, breaks_together, broken_later}
-use Rattle.any_lock.specs.Refusals.{refusal_of_access, refusal_of_marks}
 use Rattle.any_lock.specs.Standings.{standing}
-use Rattle.any_lock.proofs.Breaks.{at_inside, at_marks, inside_is}
 use Rattle.any_lock.proofs.Going.{kept_with, knows_on}
 use Rattle.any_lock.proofs.Steps.{bare, standing-access}
 

@@ -1,7 +1,6 @@
 //! Whether an entry is the one that is expected.
-ghost use Rattle.std.specs.Prelude.{◌≡◌, ◌↔◌, ℕ, ◌+◌, Bool, true, false, IsTrue, Option, Some, None, map, length};
+ghost use Rattle.std.specs.Prelude.{◌≡◌, ◌↔◌, ℕ, true, false, IsTrue, Option, Some, None, map};
 ghost use Rattle.std.specs.List.{list_any};
-ghost use Rattle.record.specs.Entries.{has};
 ghost use Rattle.record.specs.Records.{placed};
 ghost use Rattle.world.specs.process.Telling.{marks_told};
 ghost use Rattle.auditor.specs.Hearing.{CountsOn, IsCount, TellsAlike, event_in, flick_in};

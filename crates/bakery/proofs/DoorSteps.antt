@@ -22,9 +22,6 @@ going-by Lies queued = absurd (cc)
 going-by (Runs command number at) queued = refl
 going-by (Closes command number at) queued = refl
 
-pub door-goes : (d : ProcessState) → is_going d ≡ true → may_step d.doing ≡ true
-door-goes d queued = going-by d.doing queued
-
 -- what is told of its step
 pub record IsTold (d : ProcessState) (flick v : Bool) : Type 0 where
   pub going : is_going (stepped d flick v) ≡ goes_on (progress_on d (stepped d flick v))

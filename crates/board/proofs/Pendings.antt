@@ -12,7 +12,7 @@ use Rattle.record.specs.declared.stages.Stage.TheVariants as stage
 use Rattle.record.specs.declared.refusals.Refusal.TheVariants.{AlreadyFailed}
 use Rattle.record.specs.Records.{refused_at}
 use Rattle.laws.specs.Steps.{next_of}
-use Rattle.process.specs.Places.{ProcessState, is_full, may_fail, next_number, process_after}
+use Rattle.process.specs.Places.{ProcessState, may_fail, next_number, process_after}
 use Rattle.process.specs.Places as places
 use Rattle.board.specs.declared.pending.Pending.{Pending}
 use Rattle.board.specs.Pending.{events_of, nothing}

@@ -16,7 +16,7 @@ use Rattle.record.specs.Closings.{Closing, Withdraws, Settles, Frees, Lowers, Qu
 use Rattle.record.specs.Cuts.{Change, pending_at, torn_at, torn_closing}
 use Rattle.record.specs.Failures.{begun_at, begun_closing, cut}
 use Rattle.record.specs.Histories.{reply_taken}
-use Rattle.record.specs.Parts.{Part, first_marks, is_over, last_marks}
+use Rattle.record.specs.Parts.{Part, first_marks, last_marks}
 use Rattle.record.specs.Parts as part
 use Rattle.record.specs.Places.{bits_with, is_fresh, is_last}
 use Rattle.record.specs.Program.{newest_stamp}

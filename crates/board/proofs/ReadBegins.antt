@@ -2,22 +2,16 @@
 use Rattle.std.proofs.Common.{◌≡◌, ℕ, Bool, true, false, map, Some, None, arith}
 use Rattle.record.specs.safe_bit.declared.Move.TheVariants.{BeginRead, EndRead}
 use Rattle.record.specs.declared.access.Access.{Access}
-use Rattle.plain_store.specs.declared.Command.{Command}
 use Rattle.plain_store.specs.declared.Setup.{Setup}
-use Rattle.record.specs.Closings.{Closing}
 use Rattle.record.specs.Histories.{reply_taken}
 use Rattle.record.specs.Records.{placed}
-use Rattle.laws.specs.Doings.{Doing, Closes, is_inside}
+use Rattle.laws.specs.Doings.{Doing, is_inside}
 use Rattle.laws.specs.Steps.{does_then, marks_with, next_of}
 use Rattle.board.specs.Ports.{IsUnended}
 
 -- the same access as the end of its read
 abbrev pub ending : Access → Access
 ending a = record a { how = EndRead false }
-
--- no access of a closing begins a read
-pub closing_no_read : (s : Setup) (p : ℕ) (command : Command) (number : ℕ) (at : Closing) (flick : Bool) (n : Access) → next_of s p (Closes command number at) flick ≡ Some n → n.how ≡ BeginRead → ⊥
-closing_no_read s p command number at flick n h k = grind arith
 
 -- its end comes next
 pub reads_on : (s : Setup) (p : ℕ) (d : Doing) (flick v : Bool) (n : Access) → IsUnended d → next_of s p d flick ≡ Some n → n.how ≡ BeginRead → next_of s p (does_then s p d flick v) flick ≡ Some (ending n)

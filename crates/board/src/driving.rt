@@ -1,5 +1,4 @@
 //! Driving a port.
-ghost use Rattle.std.specs.Prelude.{◌≡◌};
 ghost use Rattle.board.specs.Boards.{IsOf};
 ghost use Rattle.board.specs.Ports.{SamePort};
 

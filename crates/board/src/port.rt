@@ -1,5 +1,5 @@
 //! Ports, each of which runs one process.
-ghost use Rattle.std.specs.Prelude.{◌≡◌, ◌↔◌, Bool, IsTrue, ℕ, OnErr, OnOk, true, []};
+ghost use Rattle.std.specs.Prelude.{◌≡◌, ◌↔◌, IsTrue, ℕ, OnErr, OnOk, true, []};
 ghost use Rattle.plain_store.specs.Store.{are_pairs};
 ghost use Rattle.process.specs.Places.{process_after};
 ghost use Rattle.record.specs.declared.Event.TheVariants.{Fail, Restart, Withdraw};

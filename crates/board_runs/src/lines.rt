@@ -1,5 +1,4 @@
 //! What a port does at a line of a scenario.
-ghost use Rattle.std.specs.Prelude.{◌≡◌};
 ghost use Rattle.board.specs.Boards.{IsOf};
 ghost use Rattle.board.specs.Ports.{SamePort};
 

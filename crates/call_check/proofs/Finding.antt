@@ -3,7 +3,7 @@ use Rattle.std.proofs.Common.{◌≡◌, ℕ, ◌+◌, ◌<◌, ◌≤◌, ◌==
 use Rattle.std.proofs.lemmas.Bool.{cases_lt}
 use Rattle.std.proofs.lemmas.Bool.Decides.{nat_tests}
 use Rattle.std.proofs.lemmas.List.{length-map}
-use Rattle.std.proofs.lemmas.Option.{get_or_from_slice_get, slice_get-map, slice_get_read, slice_get_within}
+use Rattle.std.proofs.lemmas.Option.{slice_get-map, slice_get_read, slice_get_within}
 use Rattle.std.specs.Global.{Vec}
 use Rattle.std.specs.List.{slice_get}
 use Rattle.std.specs.Option.{option_map}

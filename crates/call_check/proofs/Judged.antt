@@ -1,19 +1,16 @@
 -- Whether a call is bad.
-use Rattle.std.proofs.Common.{◌≡◌, ℕ, ◌+◌, ◌<◌, ◌≤◌, Bool, true, false, not, List, [], ◌∷◌, ◌++◌, length, take, get_or, Option, None, Some, IsTrue, refl, sym, ap, subst, ◌∙◌, arith, ⊎_elim, true≢false}
+use Rattle.std.proofs.Common.{◌≡◌, ℕ, ◌+◌, ◌<◌, ◌≤◌, Bool, true, false, List, [], ◌∷◌, ◌++◌, length, take, get_or, Some, IsTrue, refl, sym, ap, subst, ◌∙◌, arith, ⊎_elim, true≢false}
 use Rattle.std.proofs.lemmas.Bool.{cases_lt}
 use Rattle.std.proofs.lemmas.List.{take_more}
 use Rattle.std.proofs.lemmas.Option.{slice_get_read, slice_get_within}
 use Rattle.std.specs.List.{slice_get}
-use Rattle.plain_store.specs.declared.Answer.{Answer}
-use Rattle.plain_store.specs.declared.Answer.TheVariants as answer
-use Rattle.plain_store.specs.declared.Reply.{Reply}
 use Rattle.plain_store.specs.declared.Setup.{Setup}
-use Rattle.plain_store.specs.Store.{Contents, reply_to}
+use Rattle.plain_store.specs.Store.{Contents}
 use Rattle.call_check.specs.declared.calls.Call.{Call}
 use Rattle.record.specs.declared.calls.Placed.{Placed}
 use Rattle.call_check.specs.declared.notes.Note.{Note}
 use Rattle.call_check.specs.Following.{ArePart, IsFollowed, IsJudged, IsLeast, IsNote}
-use Rattle.call_check.specs.Weighing.{HasWrongReply, IsBad, IsBadIn, above, several, falling, wrong_reply, without_place, with_place, caller_of, falls, is_above, is_one_of_several, is_other_with_place, is_reply_without_place}
+use Rattle.call_check.specs.Weighing.{HasWrongReply, IsBad, IsBadIn, above, several, falling, wrong_reply, without_place, with_place, falls, is_above, is_one_of_several, is_other_with_place, is_reply_without_place}
 use Rattle.call_check.proofs.Followed.{from_some}
 
 -- where nothing else is bad, a call is bad that has another answer and a place

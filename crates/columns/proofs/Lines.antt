@@ -1,7 +1,7 @@
 -- The line of processes, and some of them as a group.
-use Rattle.std.proofs.Common.{◌≡◌, ℕ, zero, suc, ◌+◌, ◌<◌, min, Bool, true, false, ◌==◌, cond, nat_le, List, [], ◌∷◌, ◌++◌, length, get_or, insert, set, take, drop, refl, ap, sym, ◌∙◌, arith, append_assoc, append-nil}
-use Rattle.std.proofs.lemmas.List.{drop_more, length-append, set_past, take_more}
-use Rattle.columns.specs.States.{before_in, group_of, line_of_first, lined_up, places_from, ticket_in}
+use Rattle.std.proofs.Common.{◌≡◌, ℕ, zero, suc, ◌+◌, ◌<◌, min, Bool, true, false, ◌==◌, cond, List, [], ◌∷◌, ◌++◌, length, get_or, set, take, refl, ap, sym, ◌∙◌, arith}
+use Rattle.std.proofs.lemmas.List.{length-append, set_past}
+use Rattle.columns.specs.States.{group_of, line_of_first, lined_up, places_from, ticket_in}
 use Rattle.columns.specs.declared.state.Group.{Group}
 use Rattle.columns.specs.declared.state.State.{State}
 

@@ -1,5 +1,5 @@
 //! A line of a run's text, as a value.
-ghost use Rattle.std.specs.Prelude.{◌≡◌, ◌++◌, codes, IfOk, option_copied};
+ghost use Rattle.std.specs.Prelude.{◌≡◌, ◌++◌, IfOk, option_copied};
 ghost use Rattle.std.specs.String.{string_bytes};
 ghost use Rattle.columns.specs.Told.{change_told, ended_text, event_told, mark_told, marked_text, place_told, process_told, refused_text, tells_refusal, text_of, tired_text};
 

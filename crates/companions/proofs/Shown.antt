@@ -1,5 +1,5 @@
 -- The words of a store that is empty, or not.
-use Rattle.std.proofs.Common.{◌≡◌, ℕ, ◌+◌, List, [], ◌∷◌, length, refl, arith}
+use Rattle.std.proofs.Common.{◌≡◌, ℕ, List, [], ◌∷◌, length, refl, arith}
 use Rattle.plain_store.specs.Pairs.{Pair}
 use Rattle.plain_store.specs.StoreLine.{store_words}
 use Rattle.companions.specs.StoreChanges.{words_by}

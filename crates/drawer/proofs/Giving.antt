@@ -1,5 +1,5 @@
 -- The lines that the marks of an event give, one by one, and the reads that stand before them.
-use Rattle.std.proofs.Common.{◌≡◌, ◌<◌, ◌≤◌, ℕ, zero, suc, ◌+◌, List, [], ◌∷◌, ◌++◌, codes, length, get_or, map, take, Contains, Option, refl, ap, sym, subst, ◌∙◌, add-zero, append_assoc, arith}
+use Rattle.std.proofs.Common.{◌≡◌, ◌<◌, ◌≤◌, ℕ, zero, suc, ◌+◌, List, [], ◌∷◌, ◌++◌, length, get_or, map, take, Contains, refl, ap, sym, subst, ◌∙◌, add-zero, append_assoc, arith}
 use Rattle.std.proofs.lemmas.List.{length-append, length-map, map-append, take_more}
 use Rattle.plain_store.specs.declared.Reply.{Reply}
 use Rattle.plain_store.specs.declared.setups.Setup.{Setup}
@@ -8,13 +8,9 @@ use Rattle.record.specs.Spans.{takings}
 use Rattle.record.specs.declared.history.Taken.{Taken}
 use Rattle.record.specs.declared.marks.Mark.{Mark}
 use Rattle.record.specs.declared.marks.Mark.TheVariants as mark
-use Rattle.course.specs.Texts.{mark_line}
-use Rattle.companions.specs.picture.columns.Told.{saying_text}
 use Rattle.companions.specs.picture.columns.declared.reads.OverlappedRead.{OverlappedRead}
 use Rattle.companions.specs.picture.declared.reads.Reads.{Reads as Mode}
 use Rattle.companions.specs.picture.declared.reads.Reads.TheVariants.{Hidden, Shown}
-use Rattle.companions.specs.picture.columns.declared.told.TakenChange.{TakenChange}
-use Rattle.companions.specs.picture.columns.declared.told.Saying.TheVariants.{Marked}
 use Rattle.drawer.specs.Changes.{IsNext, takes}
 use Rattle.drawer.specs.Drawings.{AreNext, all_take}
 use Rattle.drawer.specs.Items.{Gives, GivesLine, GivesRead, Says, first_line, lines_given, waiting}

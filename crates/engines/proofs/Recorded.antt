@@ -1,5 +1,5 @@
 -- The record of a list of events, one event after the other.
-use Rattle.std.proofs.Common.{◌≡◌, ℕ, true, ◌+◌, ◌<◌, List, [], ◌∷◌, ◌++◌, length, reverse, take, get_or, Option, None, Some, ap, sym, subst, ◌∙◌, inl, inr}
+use Rattle.std.proofs.Common.{◌≡◌, ℕ, true, ◌+◌, ◌<◌, List, [], ◌∷◌, length, reverse, take, get_or, ap, sym, subst, ◌∙◌, inl, inr}
 use Rattle.std.proofs.lemmas.List.{reverse-append, take_more}
 use Rattle.std.specs.Global.{Vec}
 use Rattle.course.specs.«record».declared.events.Event.{Event}
@@ -9,10 +9,9 @@ use Rattle.course.specs.«record».Acts.{Act}
 use Rattle.course.specs.«record».Entries.{Entry, Past}
 use Rattle.course.specs.«record».Given.{is_event}
 use Rattle.course.specs.«record».Records.{past_of, process_of}
-use Rattle.course.specs.world.Events.{Adds, GoesOn, IsTurnedAway, entry_with}
+use Rattle.course.specs.world.Events.{IsTurnedAway}
 use Rattle.course.specs.world.Shows.{Shows, WorldState}
 use Rattle.engines.specs.Listings.{RecordsEvent}
-use Rattle.engines.proofs.Listed.{reverse-front}
 use Rattle.course.proofs.Refusals.{past_kept, shows_refused}
 
 -- an event that is refused

@@ -1,5 +1,5 @@
 -- What is written of what is told.
-use Rattle.std.proofs.Common.{◌≡◌, ℕ, List, ◌∷◌, Option}
+use Rattle.std.proofs.Common.{ℕ, List, ◌∷◌, Option}
 use Rattle.std.specs.Io.KnownBytes.{Appends}
 use Rattle.plain_store.specs.declared.setups.Setup.{Setup}
 use Rattle.course.specs.«record».declared.history.Taken.{Taken}

@@ -1,7 +1,6 @@
 -- The accepted events of a run, and what an event adds to a record.
 use Rattle.std.specs.Prelude.{◌≡◌, List, [], ◌∷◌, reverse}
 use Rattle.std.specs.Global.{Vec}
-use Rattle.plain_store.specs.declared.setups.Setup.{Setup}
 use Rattle.course.specs.«record».declared.events.Event.{Event}
 use Rattle.course.specs.«record».Entries.{Entry}
 use Rattle.course.specs.«record».Records.{past_of}

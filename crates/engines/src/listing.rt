@@ -1,5 +1,5 @@
 //! The events of a run, and the record of events.
-ghost use Rattle.std.specs.Prelude.{◌≡◌, ◌++◌, [], ◌∷◌, ⊤, true, Ok, IfOk, OnOk, reverse, false};
+ghost use Rattle.std.specs.Prelude.{◌≡◌, ◌++◌, [], ◌∷◌, ⊤, true, Ok, IfOk, OnOk, reverse};
 ghost use Rattle.plain_store.specs.Setups.{checked};
 ghost use Rattle.course.specs.«record».declared.Refusal.TheVariants.{Memory};
 ghost use Rattle.course.specs.«record».Given.{AreGiven, is_event};

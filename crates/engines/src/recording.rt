@@ -1,6 +1,6 @@
 //! The engine `record`: the record of a scenario's run as text, each entry written before the next event is made. No
 //! record is held.
-ghost use Rattle.std.specs.Prelude.{◌≡◌, ◌+◌, ◌-◌, ◌^◌, ◌<◌, IfErr, IsOk, OnErr, OnOk, ⊤, true, refl, false};
+ghost use Rattle.std.specs.Prelude.{◌≡◌, ◌+◌, ◌-◌, ◌^◌, ◌<◌, IfErr, IsOk, OnErr, OnOk, ⊤, true, refl};
 ghost use Rattle.std.proofs.Common.{◌∙◌};
 ghost use Rattle.scenario.specs.files.Engines.{Ran, streams};
 ghost use Rattle.engines.specs.Sinks.{Wrote, WroteBytes, WroteBytesFront, WroteFront};

@@ -1,5 +1,5 @@
 //! What may stand at a place for a key word's operand.
-ghost use Rattle.std.specs.Prelude.{◌≡◌, IfSome, Some};
+ghost use Rattle.std.specs.Prelude.{◌≡◌, Some};
 ghost use Rattle.fault_place.specs.Operands.{fault_at};
 
 use files::FaultKind;

@@ -11,7 +11,7 @@ use Rattle.record.specs.declared.events.Event.{Event}
 use Rattle.record.specs.Closings.{Closing, Withdraws, Settles, Frees, Lowers, Quit, Ended, is_last_written, is_last_settled, no_ticket, freeing, closing_after}
 use Rattle.record.specs.Entries.{Entry, Past}
 use Rattle.record.specs.Headline.{before_image_read}
-use Rattle.record.specs.Parts.{Part, Raises, Asks, TakesTicket, Refuses, Waits, AsksCommit, AsksStamp, AsksImage, WritesImage, WritesStamp, WritesCommit, Clears, Over, is_over, part_after, to_b, to_c, to_d, to_e}
+use Rattle.record.specs.Parts.{Part, Raises, Asks, TakesTicket, Refuses, Waits, AsksCommit, AsksStamp, AsksImage, WritesImage, WritesStamp, WritesCommit, Clears, Over, is_over, part_after, to_b, to_d, to_e}
 use Rattle.record.specs.Parts as part
 use Rattle.record.specs.Places.{Place, enter, new_run, is_last, bits_with, run_after, place_after, value_of, write_moved}
 use Rattle.record.specs.Program.{Version, Wait, first_full, greatest, image_field, lets_by, max_of, waits_of}

@@ -31,7 +31,7 @@ use Rattle.laws.proofs.Frame.{own-own}
 use Rattle.laws.proofs.FrameEvents.{accepted}
 use Rattle.laws.proofs.FrameWires.{answer-untouched}
 use Rattle.laws.proofs.FullAnswers as full
-use Rattle.laws.proofs.FullAnswers.{IsReadingOf, knows, read_in_call}
+use Rattle.laws.proofs.FullAnswers.{knows, read_in_call}
 use Rattle.laws.proofs.Invariant.{Stands, touches, wires}
 use Rattle.laws.proofs.Notes.{notes}
 use Rattle.laws.proofs.ReadSteps.{entry_reads}

@@ -16,7 +16,7 @@ use Rattle.record.specs.Entries.{Entry, Past}
 use Rattle.record.specs.Headline.{is_version, is_image, ends_read, before_image_read}
 use Rattle.record.specs.Histories.{history, reply_taken, store_after}
 use Rattle.record.specs.Moves.{valued}
-use Rattle.record.specs.Parts.{Part, Raises, Asks, TakesTicket, Refuses, Waits, AsksCommit, AsksStamp, AsksImage, WritesImage, WritesStamp, WritesCommit, Clears, Over, first_marks, last_marks}
+use Rattle.record.specs.Parts.{Part, Refuses, Waits, AsksCommit, AsksStamp, AsksImage, WritesImage, WritesStamp, WritesCommit, Clears, first_marks, last_marks}
 use Rattle.record.specs.Parts as part
 use Rattle.record.specs.Places.{Run, Writing, Reading, is_fresh, is_last, bits_with, access_at, marks_of, value_of}
 use Rattle.record.specs.Program.{Wait, entered_if_none, lets_by, waits_of}

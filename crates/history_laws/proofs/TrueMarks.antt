@@ -19,7 +19,7 @@ use Rattle.record.specs.Closings.{Closing, Withdraws, Settles, Frees, Lowers, Qu
 use Rattle.record.specs.Entries.{Entry, Past, own}
 use Rattle.record.specs.Headline.{call_of}
 use Rattle.record.specs.Histories.{history, store_after}
-use Rattle.record.specs.Parts.{Part, Raises, Asks, TakesTicket, Refuses, Waits, AsksCommit, AsksStamp, AsksImage, WritesImage, WritesStamp, WritesCommit, Clears, Over, first_marks, last_marks, read_at}
+use Rattle.record.specs.Parts.{Part, Refuses, Waits, AsksImage, WritesCommit, Clears, first_marks, last_marks, read_at}
 use Rattle.record.specs.Parts as part
 use Rattle.record.specs.Places.{Place, Run, Writing, Reading, access_at, bits_with, is_fresh, is_last, marks_of, value_of}
 use Rattle.record.specs.Program.{Wait, entered_if_none, lets_by, reply, store_read, waits_of}

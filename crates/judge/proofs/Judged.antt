@@ -1,8 +1,7 @@
 -- The verdict with one more entry.
-use Rattle.std.proofs.Common.{◌≡◌, ℕ, ◌+◌, ◌++◌, Bool, true, false, List, [], ◌∷◌, length, reverse, Option, Some, None, Ok, refl, ap, sym, subst, ◌∙◌, arith}
+use Rattle.std.proofs.Common.{◌≡◌, ℕ, ◌+◌, ◌++◌, Bool, true, false, List, [], ◌∷◌, length, reverse, Option, Some, None, refl, ap, sym, subst, ◌∙◌, arith}
 use Rattle.std.proofs.lemmas.List.{length-append, length-reverse, reverse-append}
 use Rattle.plain_store.specs.declared.setups.Setup.{Setup}
-use Rattle.plain_store.specs.Setups.{checked}
 use Rattle.record.specs.Entries.{Entry, Past}
 use Rattle.auditor.specs.read_law.Safe.{KeepsSafe, MatchBool}
 use Rattle.auditor.specs.read_law.Watching.{AllAreOfThere, WatchState}

@@ -1,5 +1,5 @@
 //! The engine `judge`: the verdict on the record that a file says, which is read line by line.
-ghost use Rattle.std.specs.Prelude.{◌≡◌, ◌-◌, ◌^◌, ◌<◌};
+ghost use Rattle.std.specs.Prelude.{◌-◌, ◌^◌, ◌<◌};
 ghost use Rattle.judge.specs.Judgements.{JudgeEnds};
 ghost use Rattle.judge.specs.trial.files.Engines.{streams};
 

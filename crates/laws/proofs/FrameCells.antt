@@ -83,9 +83,6 @@ on-copy x o f k r h =
     let four = all_four (k == x.bit) (r == x.reader) (o == x.owner) (field_number f == field_number x.field) h in
     record { owner = eqb-true o x.owner four.2; field = field-same f x.field four.3; bit = eqb-true k x.bit four.0; reader = eqb-true r x.reader four.1 }
 
-pub off-owner : (x : Access) (o : ℕ) (f : Field) (k r : ℕ) → o ≢ x.owner → same_bit (copy o f r k) x ≡ false
-off-owner x o f k r h = not_true (same_bit (copy o f r k) x) (λ i. h (on-copy x o f k r i).owner)
-
 pub off-field : (x : Access) (o : ℕ) (f : Field) (k r : ℕ) → f ≢ x.field → same_bit (copy o f r k) x ≡ false
 off-field x o f k r h = not_true (same_bit (copy o f r k) x) (λ i. h (on-copy x o f k r i).field)
 
@@ -101,21 +98,6 @@ itself x = λ i. one x.bit i && one x.reader i && one x.owner i && one (field_nu
   where
     one : (k : ℕ) → (k == k) ≡ true
     one k = eq-eqb k k refl
-
--- What holds of the new cell on the copy of the access, and of the old ones on all other copies, holds of all cells after the entry.
-pub cells-put : (s : Setup) (past : Past) (e : Entry) (x : Access) (o : ℕ) (P : Field → ℕ → ℕ → Cell → Type 0) → e.access ≡ Some x →
-    (o ≡ x.owner → P x.field x.bit x.reader (bit.cell_after (cells s past o x.field x.bit x.reader) x.how)) →
-    ((f : Field) (k r : ℕ) → same_bit (copy o f r k) x ≡ false → P f k r (cells s past o f k r)) →
-    (f : Field) (k r : ℕ) → P f k r (cells s (e ∷ past) o f k r)
-cells-put s past e x o P h here there f k r = subst (P f k r) (sym (cells-entry s past e x o f k r h)) (go (same_bit (copy o f r k) x) refl)
-  where
-    go : (b : Bool) → same_bit (copy o f r k) x ≡ b → P f k r (cond b (bit.cell_after (cells s past o f k r) x.how) (cells s past o f k r))
-    go false i = there f k r i
-    go true i =
-        let on : OnCopy x o f k r = on-copy x o f k r i in
-        subst (λ r. P f k r (bit.cell_after (cells s past o f k r) x.how)) (sym on.reader)
-        (subst (λ k. P f k x.reader (bit.cell_after (cells s past o f k x.reader) x.how)) (sym on.bit)
-        (subst (λ f. P f x.bit x.reader (bit.cell_after (cells s past o f x.bit x.reader) x.how)) (sym on.field) (here on.owner)))
 
 -- an access of p writes bits of p, and reads its own copies
 pub record ByProcess (p : ℕ) (x : Access) : Type 0 where

@@ -27,15 +27,14 @@ use Rattle.record.specs.Program.{version_of, image_field, stamp_field}
 use Rattle.record.specs.Records.{entry_of, last_start, past_of}
 use Rattle.record.specs.Registers.{opening_bit}
 use Rattle.record.specs.Scripts.{Call, Next}
-use Rattle.record.specs.Stages.{stage}
 use Rattle.record.proofs.OpenSteps.{place_at, leaving_at, failing_at}
 use Rattle.record.proofs.PlaceTurns.{access_in}
 use Rattle.record.proofs.Turns.{and_false, and_true}
 use Rattle.record.proofs.Width.{IsGood}
 use Rattle.laws.specs.Doings.{Doing, Rests, Lies, Runs, Closes, call, doing}
-use Rattle.laws.proofs.Frame.{Does, at_rest, lying, running, leaving, settling, Happens, a_call, a_withdrawal, a_failure, a_restart, a_step, a_closing}
+use Rattle.laws.proofs.Frame.{Happens, a_call, a_withdrawal, a_failure, a_restart, a_step, a_closing}
 use Rattle.laws.proofs.FrameCuts.{left, WriteOn, LeftRun, LeftClosing, LeftIn}
-use Rattle.laws.proofs.FrameEvents.{accepted, does_all}
+use Rattle.laws.proofs.FrameEvents.{accepted}
 use Rattle.laws.proofs.FrameMarks.{is_raising}
 use Rattle.laws.proofs.FrameSteps.{left-is}
 

@@ -12,7 +12,7 @@ use Rattle.record.specs.declared.stages.Stage.TheVariants as stages
 use Rattle.record.specs.Calls.{last_command, call_number}
 use Rattle.record.specs.Closings.{Closing, Withdraws, Settles, Frees, Lowers, Quit, Ended, closing_stage}
 use Rattle.record.specs.Entries.{Entry, Past, own}
-use Rattle.record.specs.Parts.{Part, Waits, is_over}
+use Rattle.record.specs.Parts.{Part, Waits}
 use Rattle.record.specs.Parts as part
 use Rattle.record.specs.Places.{Place, is_running}
 use Rattle.record.specs.Program.{Wait}

@@ -15,7 +15,7 @@ use Rattle.record.specs.declared.marks.Mark.TheVariants.{Called, Waiting, Entere
 use Rattle.record.specs.Closings.{Closing, Withdraws, Settles, Frees, Lowers, Quit, Ended, no_ticket, is_unwritten, is_last_written, is_last_settled, closing_next, settled_marks}
 use Rattle.record.specs.Entries.{Entry, Past, has, is_called, is_waiting, is_entered}
 use Rattle.record.specs.Histories.{history}
-use Rattle.record.specs.Parts.{Part, Raises, Asks, TakesTicket, Refuses, Waits, AsksCommit, AsksStamp, AsksImage, WritesImage, WritesStamp, WritesCommit, Clears, Over, is_read, is_over, written_at, first_marks, last_marks, part_after, to_d, to_e}
+use Rattle.record.specs.Parts.{Part, Raises, Asks, TakesTicket, Refuses, Waits, AsksCommit, AsksStamp, AsksImage, WritesImage, WritesStamp, WritesCommit, Clears, Over, first_marks, last_marks, part_after, to_d, to_e}
 use Rattle.record.specs.Parts as part
 use Rattle.record.specs.Places.{Place, enter, is_fresh, is_last, bits_with, run_after, place_after, marks_of, value_of}
 use Rattle.record.specs.Program.{Wait, entered_if_none, lets_by, reply, store_read, waits_of}

@@ -1,5 +1,5 @@
 -- What an entry does to the registers and to the marks of overlap.
-use Rattle.std.proofs.Common.{◌≡◌, ◌≢◌, ℕ, Bool, true, false, cond, List, ◌∷◌, Some, None, refl, sym, ap, subst, ◌∙◌}
+use Rattle.std.proofs.Common.{◌≡◌, ◌≢◌, ℕ, Bool, true, false, cond, List, ◌∷◌, Some, None, refl, ap, ◌∙◌}
 use Rattle.record.specs.safe_bit.Cell.{Cell}
 use Rattle.record.specs.safe_bit.Cell as bit
 use Rattle.record.specs.safe_bit.declared.Move.{Move}
@@ -15,7 +15,7 @@ use Rattle.record.specs.Places.{value_of}
 use Rattle.record.specs.Records.{past_of}
 use Rattle.record.proofs.Singles.{is_write}
 use Rattle.record.proofs.Width.{IsGood}
-use Rattle.laws.proofs.FrameCells.{cells, cells-entry, cells-kept, cells-put, cells-others, cells-apart, KeptBits, EntryBy, off-owner, off-field, off-bit, off-reader, itself, answer-read}
+use Rattle.laws.proofs.FrameCells.{cells, cells-entry, cells-kept, cells-others, cells-apart, KeptBits, EntryBy, off-field, off-reader, itself, answer-read}
 use Rattle.laws.proofs.Invariant.{Wire, wire, wires, touches}
 
 -- a copy's wire after a move on it

@@ -12,7 +12,7 @@ use Rattle.record.specs.Closings.{Closing, Withdraws, Settles, Frees, Quit, Ende
 use Rattle.record.specs.Closings as closing
 use Rattle.record.specs.Doorways.{doorway_begin, doorway_end, is_before, is_waiting_stage, is_ahead}
 use Rattle.record.specs.Entries.{Entry, Past, has, is_entered}
-use Rattle.record.specs.Parts.{Part, Raises, Asks, TakesTicket, Lowers, Refuses, Waits, AsksCommit, AsksStamp, AsksImage, WritesImage, WritesStamp, WritesCommit, Clears, Over, is_over, last_marks, part_after, to_d, to_e}
+use Rattle.record.specs.Parts.{Part, Lowers, Refuses, Waits, AsksImage, WritesCommit, Clears, last_marks, part_after, to_d, to_e}
 use Rattle.record.specs.Parts as part
 use Rattle.record.specs.Places.{Place, is_fresh, is_last, bits_with, enter, place_after, value_of, run_after}
 use Rattle.record.specs.Program.{Version, Wait, entered_if_none, lets_by, reply, store_read, waits_of}

@@ -22,7 +22,7 @@ use Rattle.record.specs.declared.stages.Stage.TheVariants as stages
 use Rattle.record.specs.Accesses.{access_of}
 use Rattle.record.specs.Calls.{last_call}
 use Rattle.record.specs.Closings.{Closing, Withdraws, Settles, Frees, Lowers, Quit, Ended, closing_after, closing_stage, failing}
-use Rattle.record.specs.Entries.{Entry, Past, before, has, is_failed, own, since, starts}
+use Rattle.record.specs.Entries.{Entry, Past, before, is_failed, own, since, starts}
 use Rattle.record.specs.Places.{is_running}
 use Rattle.record.specs.Records.{added, entry_of, last_start, past_of, refused, refused_at}
 use Rattle.record.specs.Registers.{write_of}

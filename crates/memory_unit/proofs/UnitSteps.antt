@@ -1,11 +1,9 @@
 -- What a unit does is what the closing machine does, at whatever closing it shows.
-use Rattle.std.proofs.Common.{◌≡◌, ℕ, ◌==◌, Bool, true, false, cond, List, [], ◌∷◌, Option, None, Some, option_map, refl, sym, ap, ◌∙◌}
+use Rattle.std.proofs.Common.{◌≡◌, ℕ, Bool, true, false, cond, List, [], ◌∷◌, Option, None, Some, option_map, refl, sym, ap, ◌∙◌}
 use Rattle.reader_copies.specs.Runs.{settled_at, settle_after}
-use Rattle.record.specs.declared.access.Access.{Access}
 use Rattle.record.specs.declared.access.TornBit.{TornBit}
 use Rattle.record.specs.safe_number.Runs.{new_write}
 use Rattle.plain_store.specs.declared.Command.TheVariants.{Ask}
-use Rattle.plain_store.specs.declared.Setup.{Setup}
 use Rattle.record.specs.declared.access.Field.{Field}
 use Rattle.record.specs.declared.Mark.{Mark}
 use Rattle.record.specs.declared.Mark.TheVariants as mark
@@ -16,10 +14,9 @@ use Rattle.record.specs.Places.{write_moved}
 use Rattle.record.specs.Scripts.{Call, Next}
 use Rattle.record.specs.Unit.{is_commit}
 use Rattle.process.specs.laws.Doings.{Doing, Closes, call, closes}
-use Rattle.process.specs.Alone.{settling_with, unit_with}
-use Rattle.process.specs.Places.{ProcessState, may_step, process_after, stepped}
+use Rattle.process.specs.Alone.{unit_with}
+use Rattle.process.specs.Places.{ProcessState, may_step, stepped}
 use Rattle.process.specs.Serving.{next_at}
-use Rattle.memory_unit.specs.declared.progress.UnitProgress.{UnitProgress}
 use Rattle.memory_unit.specs.Units.{marks_told, remains, unit_at, work_at}
 
 -- what is said of a unit at a closing
@@ -75,18 +72,8 @@ unit-by c (Lowers w) flick going =
 unit-is : (c : Call) (at : Closing) (u : ProcessState) (flick : Bool) → u ≡ unit_at c at → may_step u.doing ≡ true → IsUnit c at flick
 unit-is c at u flick is going = unit-by c at flick (sym (ap (λ (x : ProcessState). may_step x.doing) is) ∙ going)
 
-pub unit-access : (c : Call) (at : Closing) (u : ProcessState) (flick : Bool) (a : Access) → u ≡ unit_at c at → may_step u.doing ≡ true → a ≡ next_at u flick → option_map (λ (n : Next). n.access) (closing_next c at flick) ≡ Some a
-unit-access c at u flick a is going next = (unit-is c at u flick is going).access ∙ sym (ap Some (next ∙ ap (λ x. next_at x flick) is))
-
 pub unit-after : (c : Call) (at : Closing) (u then : ProcessState) (flick : Bool) → u ≡ unit_at c at → may_step u.doing ≡ true → then ≡ stepped u flick false → then ≡ unit_at c (closing_after c at flick)
 unit-after c at u then flick is going goes = goes ∙ ap (λ x. stepped x flick false) is ∙ (unit-is c at u flick is going).after
-
-pub unit-marks : (c : Call) (at : Closing) (u then : ProcessState) (flick : Bool) (left : UnitProgress) → u ≡ unit_at c at → may_step u.doing ≡ true → then ≡ stepped u flick false → left ≡ remains then.doing →
-    option_map (λ (n : Next). n.marks) (closing_next c at flick) ≡ Some (marks_told at flick (remains u.doing) left)
-unit-marks c at u then flick left is going goes told =
-    let after = told ∙ ap (λ (x : ProcessState). remains x.doing) (goes ∙ ap (λ x. stepped x flick false) is) in
-    let before = ap (λ (x : ProcessState). remains x.doing) is in
-    (unit-is c at u flick is going).marks ∙ sym (λ i. Some (marks_told at flick (before i) (after i)))
 
 -- WHERE IT BEGINS
 
@@ -101,17 +88,6 @@ untaken field = by (is_commit field)
 abbrev numbered : Call → Option TornBit → ℕ → ProcessState
 numbered c torn n = record { setup = c.setup; process = c.process; doing = Closes Ask n (unit_with (call c.setup c.process Ask n) torn); command = Ask; number = n }
 
-unnumbered : (b : Bool) → (let n : ℕ = cond b 0 0 in n ≡ 0)
-unnumbered true = refl
-unnumbered false = refl
-
 begins : (c : Call) (torn : Option TornBit) (begun : Bool) (pending : Option Change) (inside : Bool) → numbered c torn 0 ≡ unit_at c (cut c torn begun pending inside)
 begins c None begun pending inside = refl
 begins c (Some t) begun pending inside = ap (λ taken. does c (Closes Ask 0 (Settles t.field t.bit false taken false t.torn))) (untaken t.field) ∙ refl
-
-pub unit-begins : (c : Call) (torn : Option TornBit) (begun : Bool) (pending : Option Change) (inside : Bool) → settling_with (process_after c.setup [] c.process) torn ≡ unit_at c (cut c torn begun pending inside)
-unit-begins c torn begun pending inside = ap (numbered c torn) (unnumbered (c.setup.version == 2)) ∙ begins c torn begun pending inside
-
-pub begun-going : (s : Setup) (p : ℕ) (torn : Option TornBit) → may_step (settling_with (process_after s [] p) torn).doing ≡ true
-begun-going s p None = refl
-begun-going s p (Some t) = refl

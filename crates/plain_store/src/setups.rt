@@ -40,7 +40,7 @@ pub enum BadSetup {
 }
 
 impl Setup {
-    ghost use Rattle.plain_store.specs.Setups.{checked, callers_of, opening_store, version_one};
+    ghost use Rattle.plain_store.specs.Setups.{checked, callers_of, version_one};
 
     /// A setup of version 1, whose store opens empty. It may be out of range: `check` tells.
     pub fn one(processes: u8, ticket_bits: u8, stamp_bits: u8, slots: u8) -> Setup

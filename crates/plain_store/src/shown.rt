@@ -1,5 +1,5 @@
 //! How names, values, commands and answers are printed: in files, in replays and by every engine alike.
-ghost use Rattle.std.specs.Prelude.{◌≡◌, Some};
+ghost use Rattle.std.specs.Prelude.{Some};
 ghost use Rattle.plain_store.specs.Shown.{value_text, command_text, reply_text, answer_text};
 
 use crate::commands::{Answer, Command, Reply, Value};

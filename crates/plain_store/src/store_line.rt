@@ -1,7 +1,6 @@
 //! A store in words, and on one line.
-ghost use Rattle.std.specs.Prelude.{◌≡◌, ◌++◌, codes, flat_map, drop, IfOk};
+ghost use Rattle.std.specs.Prelude.{◌≡◌, IfOk};
 ghost use Rattle.std.specs.String.{string_bytes};
-ghost use Rattle.plain_store.specs.Store.{Contents};
 ghost use Rattle.plain_store.specs.StoreLine.{pair_text, show_text, store_words as words_of};
 
 use crate::{Name, Store, Value};

@@ -1,5 +1,5 @@
 -- What comes after a part, by what is kept of it.
-use Rattle.std.proofs.Common.{◌≡◌, ◌≢◌, ℕ, suc, ◌+◌, ◌-◌, ◌^◌, ◌<◌, ◌≤◌, ◌==◌, ◌||◌, Bool, true, false, cond, not, List, [], ◌∷◌, filter, flat_map, length, take, None, Some, refl, sym, ap, ◌∙◌, arith}
+use Rattle.std.proofs.Common.{◌≡◌, ◌≢◌, ℕ, suc, ◌+◌, ◌-◌, ◌^◌, ◌<◌, ◌≤◌, ◌==◌, ◌||◌, Bool, true, false, cond, List, [], ◌∷◌, flat_map, length, take, None, Some, sym, ap, ◌∙◌, arith}
 use Rattle.std.proofs.Math.Pow.{pow_mono}
 use Rattle.std.proofs.lemmas.Bool.{eq-eqb, ne_eqb}
 use Rattle.std.specs.List.{range_with_len}
@@ -7,16 +7,16 @@ use Rattle.record.specs.safe_number.Bytes.{number_of_bits}
 use Rattle.record.specs.declared.access.Field.TheVariants.{Choosing, Ticket}
 use Rattle.plain_store.specs.declared.Answer.TheVariants as answer
 use Rattle.plain_store.specs.Store.{Contents, changes}
-use Rattle.record.specs.Parts.{Part, Asks, TakesTicket, Refuses, AsksImage, WritesImage, Clears, part_after, to_b, to_c, to_d, to_e, to_g}
-use Rattle.record.specs.Program.{Version, Wait, first_full, greatest, is_below, is_one, max_of, newest_stamp, place_of, reply, waits_of}
-use Rattle.record.specs.Registers.{others, processes}
+use Rattle.record.specs.Parts.{Part, Asks, TakesTicket, Refuses, WritesImage, Clears, part_after, to_b, to_c, to_d, to_e, to_g}
+use Rattle.record.specs.Program.{Version, Wait, first_full, greatest, is_below, max_of, newest_stamp, place_of, reply}
+use Rattle.record.specs.Registers.{processes}
 use Rattle.record.specs.Scripts.{Call}
 use Rattle.process.specs.Others.{first_other, other_numbered}
 use Rattle.process.specs.Seen.{IsCall, all_from, others_of, part_at, tickets_seen, versions_seen, waits_from}
 use Rattle.process.specs.declared.part.ProcessPart.TheVariants as at
 use Rattle.process.specs.declared.seen.Seen.{Seen}
 use Rattle.process.proofs.Greatest.{greatest-there}
-use Rattle.process.proofs.OthersFrom.{below-first, below-some, listed, other-at, others-from}
+use Rattle.process.proofs.OthersFrom.{below-some, listed, other-at, others-from}
 
 -- no register is so narrow that its greatest number is 0
 pub most-some : (w : ℕ) → 1 ≤ w → 0 < max_of w
@@ -51,17 +51,8 @@ asks-none c ts first within is = sym (ap (λ js. to_b c js ts) (others-from c.se
 whole : (n : ℕ) → n - 0 ≡ n
 whole n = omega arith
 
-pub others-all : (c : Call) → others_of c 0 ≡ others c.setup c.process
-others-all c = ap (λ n. filter (λ j. not (j == c.process)) (range_with_len 0 n)) (whole c.setup.processes)
-
 pub all-all : (c : Call) → all_from c 0 ≡ processes c.setup
 all-all c = ap (range_with_len 0) (whole c.setup.processes)
-
-pub tickets-none : (p : ℕ) (seen : Seen) → tickets_seen p 0 seen ≡ []
-tickets-none p seen = ap (λ k. take k seen.numbers) (below-first p)
-
-pub waits-all : (c : Call) → waits_from c 0 ≡ waits_of c
-waits-all c = ap (flat_map (λ j. (let w : Wait = (j, Choosing) in w) ∷ (j, Ticket) ∷ [])) (others-all c)
 
 -- E: the version of this process, or of none
 pub version-some : (c : Call) (seen : Seen) (first : ℕ) → first < c.setup.processes → part_at c seen (at.AsksCommit first) ≡ to_e (all_from c first) (versions_seen first seen)
@@ -69,47 +60,14 @@ version-some c seen first inside =
     let more : c.setup.processes - first ≡ suc (c.setup.processes - (first + 1)) = omega arith in
     sym (ap (λ n. to_e (range_with_len first n) (versions_seen first seen)) more)
 
-pub version-none : (c : Call) (seen : Seen) (first : ℕ) → first ≡ c.setup.processes → part_at c seen at.AsksImage ≡ to_e (all_from c first) (versions_seen first seen)
-version-none c seen first last =
-    let none : c.setup.processes - first ≡ 0 = omega arith in
-    ap (λ k. AsksImage (versions_seen k seen)) (sym last) ∙ sym (ap (λ n. to_e (range_with_len first n) (versions_seen first seen)) none)
-
 -- D: the wait for the first of the others, or for none
 pub awaits-some : (c : Call) (seen : Seen) (t first j : ℕ) → first ≤ c.setup.processes → first_other c.setup.processes c.process first ≡ Some j → part_at c seen (at.AwaitsChoosing t j) ≡ to_d c t (waits_from c first)
 awaits-some c seen t first j within is =
     sym (ap (λ js. to_d c t (flat_map (λ k. (let w : Wait = (k, Choosing) in w) ∷ (k, Ticket) ∷ []) js)) (others-from c.setup.processes c.process first within ∙ ap (listed c.setup.processes c.process) is))
 
-pub awaits-none : (c : Call) (t first : ℕ) → first ≤ c.setup.processes → first_other c.setup.processes c.process first ≡ None → to_e (all_from c 0) [] ≡ to_d c t (waits_from c first)
-awaits-none c t first within is =
-    ap (λ ks. to_e ks []) (all-all c)
-    ∙ sym (ap (λ js. to_d c t (flat_map (λ k. (let w : Wait = (k, Choosing) in w) ∷ (k, Ticket) ∷ []) js)) (others-from c.setup.processes c.process first within ∙ ap (listed c.setup.processes c.process) is))
-
 -- a ticket that is waited for
 pub waited-by : (c : Call) (seen : Seen) (t j : ℕ) (bits : List Bool) → ((number_of_bits bits == 0) || is_below t c.process (number_of_bits bits) j) ≡ true → to_d c t (waits_from c (j + 1)) ≡ part_after c (part_at c seen (at.AwaitsTicket t j)) bits
 waited-by c seen t j bits by = sym (ap (λ b. to_d c t (cond b (waits_from c (j + 1)) ((j, Ticket) ∷ waits_from c (j + 1)))) by)
-
-pub waited-on : (c : Call) (seen : Seen) (t j : ℕ) (bits : List Bool) → ((number_of_bits bits == 0) || is_below t c.process (number_of_bits bits) j) ≡ false → part_at c seen (at.AwaitsTicket t j) ≡ part_after c (part_at c seen (at.AwaitsTicket t j)) bits
-waited-on c seen t j bits on = sym (ap (λ b. to_d c t (cond b (waits_from c (j + 1)) ((j, Ticket) ∷ waits_from c (j + 1)))) on)
-
--- a bit that was read
-pub bit-zero : (bits : List Bool) → length bits ≡ 1 → (number_of_bits bits == 0) ≡ not (is_one bits)
-bit-zero [] one = absurd (omega arith)
-bit-zero (true ∷ []) one = refl
-bit-zero (false ∷ []) one = refl
-bit-zero (a ∷ b ∷ bits) one = absurd (omega arith)
-
-pub bit-one : (bits : List Bool) → length bits ≡ 1 → (number_of_bits bits == 1) ≡ is_one bits
-bit-one [] one = absurd (omega arith)
-bit-one (true ∷ []) one = refl
-bit-one (false ∷ []) one = refl
-bit-one (a ∷ b ∷ bits) one = absurd (omega arith)
-
--- F: what comes after the image
-pub g-same : (c : Call) (vs : List Version) (st : Contents) → changes st c.command ≡ false → Clears (answer.Reply (reply c st)) ≡ to_g c vs st
-g-same c vs st none = sym (ap (λ b. elim b as (λ _. Part) [
-  | false ↦ Clears (answer.Reply (reply c st))
-  | true ↦ elim (newest_stamp vs == max_of c.setup.stamp_bits) as (λ _. Part) [ true ↦ Clears answer.StampsFull | false ↦ WritesImage vs st ]
-]) none)
 
 pub g-full : (c : Call) (vs : List Version) (st : Contents) → changes st c.command ≡ true → newest_stamp vs ≡ max_of c.setup.stamp_bits → Clears answer.StampsFull ≡ to_g c vs st
 g-full c vs st some full =

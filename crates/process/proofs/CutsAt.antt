@@ -8,7 +8,7 @@ use Rattle.registers.specs.reader_copies.Runs as copies
 use Rattle.record.specs.declared.access.Field.{Field}
 use Rattle.record.specs.declared.access.Field.TheVariants.{Commit, Ticket}
 use Rattle.record.specs.Closings as closing
-use Rattle.record.specs.Closings.{Closing, freeing, no_ticket}
+use Rattle.record.specs.Closings.{Closing, no_ticket}
 use Rattle.record.specs.Cuts.{Change, named, pending_at, torn_in, torn_run}
 use Rattle.record.specs.Failures.{begun_run, cut, taken_with}
 use Rattle.record.specs.Parts.{is_read, read_at, written_at}
@@ -26,9 +26,8 @@ use Rattle.registers.specs.declared.fields.RegisterName.{RegisterName}
 use Rattle.process.specs.declared.work.ProcessWork.{ProcessWork}
 use Rattle.process.specs.declared.work.ProcessWork.TheVariants as work
 use Rattle.process.specs.CallParts.{PartState}
-use Rattle.process.specs.Places.{ProcessState, failed, may_fail}
+use Rattle.process.specs.Places.{ProcessState, failed}
 use Rattle.process.specs.Working.{IsOfCommit, KeepsPlace, SettlesAt, doing_at, is_torn_at, reply_taken, settling_at, state_at, taken_at, with_doing}
-use Rattle.process.proofs.ClosingsOn.{clearing}
 
 -- the process has failed, and this is done
 abbrev then_closes : PartState → Closing → ProcessState
@@ -151,21 +150,3 @@ none-at k cur keeps torn = by (is_read k.part) keeps.working.at
     by : (b : Bool) → elim b as (λ _. Type 0) [ true ↦ ReadsAt k.call.setup k.call.process (read_at k.call k.part) cur | false ↦ WritesAt k.call.setup k.call.process (written_at k.call k.part) cur ] → torn_run k.call k.part (run_at cur) ≡ None
     by true at = ap (λ r. torn_run k.call k.part (run_by r cur)) at.run
     by false at = ap (λ r. torn_run k.call k.part (run_by r cur)) at.run ∙ torn-write (written_at k.call k.part).0 cur false at.run torn
-
-pub cut-whole : (k : PartState) (w : ProcessWork) (cur then : CursorState) (inside : Bool) → KeepsPlace k w cur → may_fail (doing_at k w cur) ≡ true → is_torn_at w cur ≡ false → inside ≡ is_inside (doing_at k w cur) → then ≡ clearing k Ticket →
-    state_at k (work.Frees inside) then ≡ failed (state_at k w cur)
-cut-whole k work.Rests cur then inside keeps may torn is begins = ap (state_at k (work.Frees inside)) begins ∙ ap (λ i. then_closes k (freeing k.call i)) is
-cut-whole k work.Lies cur then inside keeps may torn is begins = absurd (cc)
-cut-whole k work.Runs cur then inside keeps may torn is begins =
-    ap (state_at k (work.Frees inside)) begins
-    ∙ ap (λ i. then_closes k (freeing k.call i)) is
-    ∙ sym (ap (λ t. then_closes k (cut k.call t (begun_run k.call k.part (run_at cur)) (pending_at k.call k.part) (is_inside (doing_at k work.Runs cur)))) (none-at k cur keeps torn))
-cut-whole k work.Withdraws cur then inside keeps may torn is begins =
-    ap (state_at k (work.Frees inside)) begins
-    ∙ ap (λ i. then_closes k (freeing k.call i)) is
-    ∙ sym (ap (λ t. then_closes k (cut k.call t (get_or (no_ticket k.call) cur.bit false) None false)) (torn-write Ticket cur false keeps.working.run torn))
-cut-whole k (work.Settles i t) cur then inside keeps may torn is begins =
-    let not_so : may_fail (doing_at k (work.Settles i t) cur) ≡ false = ap (λ r. may_fail (Closes k.call.command k.call.number (settling_at r i (reply_taken t) cur))) keeps.working.run in
-    absurd (let e : false ≡ true = sym not_so ∙ may in cc)
-cut-whole k (work.Frees i) cur then inside keeps may torn is begins = absurd (cc)
-cut-whole k work.Lowers cur then inside keeps may torn is begins = absurd (cc)

@@ -91,21 +91,11 @@ below-none n p k e inside within = elim (cases_eq k p) [
       omega (arith, past, below-past p k (omega (arith, past)))
 ]
 
--- there are fewer than all below one of them, and one more behind it
-pub below-fewer : (n p j : ℕ) → j < n → p < n → j ≢ p → others_below p j + 1 < n
-below-fewer n p j inside own other = elim (cases_lt p j) [
-  | inl past ↦ omega (arith, below-past p j past)
-  | inr at ↦ (let above : j < p = omega (arith, other) in omega (arith, below-at p j at))
-]
-
 pub below-more : (p j : ℕ) → j ≢ p → others_below p (j + 1) ≡ others_below p j + 1
 below-more p j other = elim (cases_lt p j) [
   | inl past ↦ omega (arith, below-past p j past, below-past p (j + 1) (omega arith))
   | inr at ↦ (let above : j < p = omega (arith, other) in omega (arith, below-at p j at, below-at p (j + 1) (omega arith)))
 ]
-
-pub below-first : (p : ℕ) → others_below p 0 ≡ 0
-below-first p = below-at p 0 (omega arith)
 
 -- behind p they stand at their own place
 past-own : (p k m i : ℕ) → p < k → i < m → get_or (others_in p k m) i 0 ≡ k + i

@@ -3,23 +3,21 @@ use Rattle.std.proofs.Common.{◌≡◌, ◌<◌, ◌&&◌, Bool, true, false, c
 use Rattle.std.proofs.lemmas.List.{append-nil}
 use Rattle.record.specs.declared.marks.Mark.{Mark}
 use Rattle.record.specs.declared.marks.Mark.TheVariants as mark
-use Rattle.record.proofs.Width.{is_good}
 use Rattle.record.specs.Parts.{Part, first_marks, is_over, last_marks, part_after}
 use Rattle.record.specs.Places.{enter}
 use Rattle.laws.specs.Doings.{Rests, Runs, runs}
 use Rattle.registers.specs.Accesses.{after_by, move_by}
-use Rattle.registers.specs.AtParts.{IsAtPart, IsDone, entered, marks_moved, moved, place_at, place_moved}
+use Rattle.registers.specs.AtParts.{IsAtPart, entered, marks_moved, moved, place_at, place_moved}
 use Rattle.registers.specs.Cursors.{CursorState}
 use Rattle.registers.specs.Cursors as cursors
 use Rattle.registers.specs.declared.cursor.NumberRun.{NumberRun}
 use Rattle.registers.specs.declared.cursor.NumberRun.TheVariants.{Reads, Writes, Settles}
 use Rattle.registers.specs.declared.fields.RegisterName.{RegisterName}
 use Rattle.registers.proofs.CursorRuns.{moves}
-use Rattle.registers.proofs.PlaceMoves.{entered-at, entered-place, marks-move, place-moves}
+use Rattle.registers.proofs.PlaceMoves.{entered-place, marks-move, place-moves}
 use Rattle.process.specs.declared.work.ProcessWork.TheVariants as work
 use Rattle.process.specs.CallParts.{PartState}
 use Rattle.process.specs.Places.{marks_on, stepped}
-use Rattle.process.specs.Seen.{IsCall}
 use Rattle.process.specs.Working.{HasMoved, KeepsPlace, state_at, with_doing}
 
 -- the place after its next access
@@ -118,14 +116,3 @@ still-runs k flick value before cur fresh h more =
         there = subst (λ (r : RegisterName). r.owner < k.call.setup.processes) (sym same) runs.there;
       };
     }
-
-pub has-done : (k : PartState) (flick value : Bool) (before cur : CursorState) (fresh : Bool) → HasMoved k work.Runs flick value before cur fresh → cursors.is_over cur ≡ true → IsDone k.call k.part cur
-has-done k flick value before cur fresh h over =
-    let m = moves k.call k.part before value h.keeps.working.at in
-    subst (IsDone k.call k.part) (sym h.moves) (m.done (ap cursors.is_over (sym h.moves) ∙ over))
-
-pub begins-to-run : (k : PartState) (cur : CursorState) → IsCall k.call → is_over k.part ≡ false → cur ≡ entered k.call k.part → cur.register.owner < k.call.setup.processes → KeepsPlace k work.Runs cur
-begins-to-run k cur is going enters there = record {
-  call = is;
-  working = record { going = going; at = subst (IsAtPart k.call k.part) (sym enters) (entered-at k.call k.part (is_good k.call.setup is.good) is.process); there = there };
-}

@@ -24,9 +24,6 @@ tickets-more seen p j k v room other is inside =
     ∙ take_more_set seen.numbers k v (omega (arith, room.numbers))
     ∙ ap (λ n. take n seen.numbers ++ v ∷ []) is
 
-pub ticket-room : (seen : Seen) (k v : ℕ) → HasRoom seen → HasRoom (with_ticket seen k v)
-ticket-room seen k v room = record { numbers = length-set seen.numbers k v ∙ room.numbers; commits = room.commits }
-
 pub ticket-fits : (seen : Seen) (p j k v bits : ℕ) → HasRoom seen → j ≢ p → k ≡ others_below p j → k < 16 → Fit (others_below p j) bits seen → v ≤ max_of bits → Fit (others_below p (j + 1)) bits (with_ticket seen k v)
 ticket-fits seen p j k v bits room other is inside old new =
     subst (λ ts. greatest ts ≤ max_of bits) (sym (tickets-more seen p j k v room other is inside)) (more-fits (tickets_seen p j seen) v (max_of bits) old new)

@@ -1,5 +1,5 @@
 -- The versions that a process has read, by their commit bits and their stamps.
-use Rattle.std.proofs.Common.{◌≡◌, ℕ, suc, ◌+◌, ◌<◌, ◌≤◌, Bool, false, List, [], ◌∷◌, ◌++◌, get_or, length, map, take, refl, sym, ap, ◌∙◌, arith}
+use Rattle.std.proofs.Common.{◌≡◌, ℕ, ◌+◌, ◌<◌, ◌≤◌, Bool, false, List, [], ◌∷◌, ◌++◌, get_or, length, map, take, refl, sym, ap, ◌∙◌, arith}
 use Rattle.std.proofs.lemmas.List.{get_or-take, length-take-le, take_more_set}
 use Rattle.record.specs.Parts.{AsksImage, read_at}
 use Rattle.record.specs.Program.{Version, greatest, image_field, newest_process, newest_stamp, place_of, version_of}

@@ -1,7 +1,7 @@
 //! What comes after a number access.
 ghost use Rattle.std.specs.Prelude.{◌≡◌, ◌<◌, ◌≤◌, ◌+◌, ◌-◌, ◌==◌, ◌||◌, ◌++◌, ◌∷◌, [], Bool, List, false, length};
 ghost use Rattle.plain_store.specs.Setups.{callers_of};
-ghost use Rattle.record.specs.Parts.{is_over, part_after, to_b, to_c, to_d, to_e, to_g};
+ghost use Rattle.record.specs.Parts.{part_after, to_b, to_c, to_d, to_e, to_g};
 ghost use Rattle.record.specs.Program.{greatest, is_below, max_of};
 ghost use Rattle.record.specs.safe_number.Bytes.{number_of_bits};
 ghost use Rattle.process.specs.CallParts.{IsOutcome, reads_image};

@@ -2,7 +2,7 @@
 ghost use Rattle.std.specs.Prelude.{◌≡◌, ◌*◌, ◌<◌, ◌≤◌, ℕ, Bool, List, Ok, false, length, slice_index_or};
 ghost use Rattle.plain_store.specs.Setups.{callers_of, checked};
 ghost use Rattle.record.specs.Registers.{bytes_of_bits, image_bytes};
-ghost use Rattle.record.specs.safe_number.Bytes.{IsBytesOf, bit_in};
+ghost use Rattle.record.specs.safe_number.Bytes.{bit_in};
 ghost use Rattle.store_image.specs.Reading.{store_in};
 
 use plain_store::Setup;

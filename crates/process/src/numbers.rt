@@ -1,5 +1,5 @@
 //! The greatest of some numbers, and where it stands.
-ghost use Rattle.std.specs.Prelude.{◌≡◌, ◌≤◌, length};
+ghost use Rattle.std.specs.Prelude.{◌≡◌, ◌≤◌};
 ghost use Rattle.record.specs.Program.{greatest, max_of, place_of};
 
 /// The greatest of some numbers, 0 of none.

@@ -14,7 +14,7 @@ use Rattle.record.specs.declared.stages.Stage.TheVariants as stage
 use Rattle.record.specs.Parts.{Part, first_marks, is_over, last_marks, stage_of}
 use Rattle.record.specs.Program.{Wait, entered_if_none, lets_by, reply, store_read, waits_of}
 use Rattle.record.specs.Parts as part
-use Rattle.record.specs.Places.{Place, bits_with, is_fresh, is_last, place_after}
+use Rattle.record.specs.Places.{bits_with, is_fresh, is_last, place_after}
 use Rattle.record.specs.Scripts.{Call}
 use Rattle.record.specs.Stages.{stage_after}
 use Rattle.board.specs.laws.Doings.{Doing, Rests, Lies, Runs, Closes, call}

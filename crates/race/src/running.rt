@@ -1,5 +1,5 @@
 //! The engine itself.
-ghost use Rattle.std.specs.Prelude.{◌≡◌, ◌-◌, ◌^◌, ◌<◌, IfErr, IfOk};
+ghost use Rattle.std.specs.Prelude.{◌-◌, ◌^◌, ◌<◌, IfErr, IfOk};
 ghost use Rattle.scenario.specs.files.Engines.{streams};
 ghost use Rattle.scenario.specs.files.Streams.{ReadsFront};
 ghost use Rattle.scenario.specs.Reads.{script};

@@ -1,5 +1,5 @@
 -- What a process that withdrew, or its memory unit, does next.
-use Rattle.std.specs.Prelude.{◌≡◌, refl, ℕ, ◌<◌, Bool, true, false, cond, List, [], ◌∷◌, length, map, slice_get, Option, None, Some, option_map, unwrap_or}
+use Rattle.std.specs.Prelude.{◌≡◌, refl, ℕ, ◌<◌, Bool, true, false, cond, List, [], ◌∷◌, length, map, Option, None, Some, option_map, unwrap_or}
 use Rattle.std.proofs.Common.{sym, ◌∙◌, ap}
 use Rattle.std.specs.List.{list_any}
 use Rattle.std.proofs.lemmas.List.{length-map}
@@ -23,7 +23,7 @@ use Rattle.record.specs.Records.{entry_made, last_start, start_in, past_of, plac
 use Rattle.record.specs.Registers.{opening_bit}
 use Rattle.record.specs.Scripts.{Call, Next, Script, marks_at, nth, singles}
 use Rattle.record.specs.Stages.{stage as stage_in}
-use Rattle.record.specs.Unit.{first_flick, value_written, settles_at, unit_program, unfinished, last_write}
+use Rattle.record.specs.Unit.{first_flick, value_written, unit_program, unfinished, last_write}
 use Rattle.record.proofs.Accepted.{rooms, no_failed}
 use Rattle.record.proofs.ClosingScripts.{goes_on, over-next, first-more, withdrawal-tells, unit-tells}
 use Rattle.record.proofs.Local.{get_some}

@@ -1,5 +1,5 @@
 -- Where each process stands, in every run: at rest, down, at a place of its program, withdrawing, or in its unit's hands.
-use Rattle.std.specs.Prelude.{◌≡◌, ◌⊎◌, refl, ℕ, zero, suc, ◌+◌, ◌*◌, ◌<◌, ◌≤◌, ◌==◌, nat_lt, Bool, true, false, cond, not, ◌||◌, List, [], ◌∷◌, ◌++◌, length, map, fold, slice_get, Option, None, Some}
+use Rattle.std.specs.Prelude.{◌≡◌, refl, ℕ, zero, suc, ◌+◌, ◌<◌, ◌==◌, Bool, true, false, cond, List, [], ◌∷◌, ◌++◌, length, map, fold, slice_get, Option, None, Some}
 use Rattle.std.proofs.Common.{sym, ◌∙◌, ap, subst, arith, ne_eqb}
 use Rattle.std.specs.List.{list_any}
 use Rattle.record.specs.declared.access.Access.{Access}
@@ -11,7 +11,7 @@ use Rattle.record.specs.declared.marks.Mark.TheVariants.{Called, Failed, Down, W
 use Rattle.record.specs.declared.stages.Stage.{Stage}
 use Rattle.record.specs.declared.stages.Stage.TheVariants.{Idle, Leaving, Settling, Down}
 use Rattle.record.proofs.Singles
-use Rattle.record.proofs.Singles.{get-append, get-left, length-single, length-reads_from, Half, begins, ends, read-at, is_write, AllWrites-write_of, AllWrites-get}
+use Rattle.record.proofs.Singles.{get-append, get-left, length-single, Half, begins, ends, read-at, is_write, AllWrites-write_of, AllWrites-get}
 use Rattle.record.proofs.Place.{portion, rest, rest-read}
 use Rattle.record.proofs.Follow.{Spot, more_bits, moved_on, Stands, next_access, not_over, write-adds_nothing, step}
 use Rattle.record.specs.Places.{Place, scripted, accesses_of, place_of, access_at}
@@ -22,13 +22,13 @@ use Rattle.record.proofs.Staging.{stage-marks, stage-placed, no_start-marks, no_
 use Rattle.record.specs.Calls.{ReadSoFar, calls_in, last_call, last_command, read_so_far, with_access, with_move}
 use Rattle.record.specs.Entries.{Entry, Past, has, is_called, own, since, starts}
 use Rattle.record.specs.Histories.{history}
-use Rattle.record.specs.Moves.{ended, ended_with, valued}
+use Rattle.record.specs.Moves.{ended, ended_with}
 use Rattle.record.specs.Program.{local_program}
 use Rattle.record.specs.Records.{entry_made, last_start, placed, program, program_from, stepped}
 use Rattle.record.specs.Registers.{read_of, width, write_of}
-use Rattle.record.specs.Scripts.{Next, Numbers, Portion, Script, marks_at, nth, single, singles}
+use Rattle.record.specs.Scripts.{Next, Portion, Script, marks_at, nth, single, singles}
 use Rattle.record.specs.Stages.{stage_after}
-use Rattle.record.specs.Parts.{Part, Raises, is_read, is_over, read_at, written_at, doing, first_marks, last_marks, part_after, stage_of}
+use Rattle.record.specs.Parts.{Part, is_read, is_over, read_at, written_at, doing, part_after, stage_of}
 
 pub record Running (s : Setup) (p : ℕ) (mine : Past) (st : Stage) : Type 0 where
   pub command : Command

@@ -25,7 +25,7 @@ use Rattle.record.specs.Entries.{Entry, Past, own, has, since, before, starts, i
 use Rattle.record.specs.Histories.{history}
 use Rattle.record.specs.Moves.{same_bit, moves_of, ended, ended_with}
 use Rattle.record.specs.Parts.{Part, Raises, Asks, TakesTicket, Lowers as LowersChoosing, Refuses, Waits, AsksCommit, AsksStamp, AsksImage, WritesImage, WritesStamp, WritesCommit, Clears, Over, is_over, stage_of, part_after}
-use Rattle.record.specs.Places.{Place, accesses_of, place_of, place_after, access_at, value_of, entry_at, marks_of, is_running, is_last, enter, bits_with, run_after, write_moved, next_written}
+use Rattle.record.specs.Places.{Place, accesses_of, place_of, place_after, access_at, value_of, entry_at, marks_of, is_running, is_last, enter, bits_with, run_after, write_moved}
 use Rattle.record.specs.Records.{last_start, past_of, stepped}
 use Rattle.record.specs.Registers.{opening_bit}
 use Rattle.record.specs.Scripts.{Call, Next, Numbers}

@@ -1,8 +1,8 @@
 -- The place machine and the index into the accesses of a part go together.
-use Rattle.std.proofs.Common.{◌≡◌, ◌≢◌, ℕ, zero, suc, ◌+◌, ◌-◌, ◌*◌, ◌<◌, ◌≤◌, ◌==◌, ◌&&◌, Bool, true, false, cond, List, [], ◌∷◌, ◌++◌, Option, Some, None, drop, length, map, replicate, refl, sym, ap, subst, ◌∙◌, arith, inl, inr}
+use Rattle.std.proofs.Common.{◌≡◌, ◌≢◌, ℕ, zero, suc, ◌+◌, ◌-◌, ◌*◌, ◌<◌, ◌==◌, Bool, true, false, cond, List, [], ◌∷◌, ◌++◌, Some, drop, length, map, replicate, refl, sym, ap, subst, ◌∙◌, arith}
 use Rattle.std.proofs.lemmas.Bool.{eqb-true, eqb-false, ne_eqb, eq-eqb}
 use Rattle.std.proofs.lemmas.List.{length-map, length_push}
-use Rattle.std.specs.Prelude.{slice_get, slice_index_or, is_none, ◌⊎◌}
+use Rattle.std.specs.Prelude.{slice_get}
 use Rattle.reader_copies.specs.declared.Made.{Made}
 use Rattle.record.specs.declared.access.Access.{Access}
 use Rattle.safe_number.specs.Accesses.{number_writes, number_reads}

@@ -1,6 +1,6 @@
 -- An accepted event adds an entry: a program that is run has a next access.
 use Rattle.std.specs.Prelude.{◌≡◌, refl, ℕ, ◌+◌, ◌-◌, ◌<◌, ◌==◌, Bool, true, false, cond, List, [], ◌∷◌, ◌++◌, length, fold, slice_get, Option, None, Some}
-use Rattle.std.proofs.Common.{sym, ◌∙◌, ap, subst, true≢false, arith, inl, inr, append-nil, length-append, eqb-true, eq-eqb}
+use Rattle.std.proofs.Common.{sym, ◌∙◌, ap, subst, arith, append-nil, length-append, eq-eqb}
 use Rattle.record.specs.declared.access.Field.TheVariants.{Choosing, Ticket}
 use Rattle.plain_store.specs.declared.Answer.TheVariants.{Withdrawn}
 use Rattle.record.specs.declared.marks.Mark.{Mark}

@@ -23,7 +23,7 @@ use Rattle.record.specs.Entries.{Entry, Past, before, has, is_called, is_failed,
 use Rattle.record.specs.Histories.{history}
 use Rattle.record.specs.Program.{reply, store_read, withdrawn}
 use Rattle.record.specs.Records.{added, calls_full, entry_made, entry_of, last_start, past_of, placed, process_of, program, program_from, refused_at}
-use Rattle.record.specs.Scripts.{Next, Portion, Script, marks_at, nth, single, singles, writing}
+use Rattle.record.specs.Scripts.{Next, Script, marks_at, nth, single, singles, writing}
 use Rattle.record.specs.Stages.{inside, stage, stage_after}
 use Rattle.record.specs.Unit.{is_commit, last_read, last_write, settle, settles_at, unfinished, unit_program, value_begun}
 use Rattle.record.specs.Parts.{Raises}

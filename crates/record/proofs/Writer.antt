@@ -10,7 +10,7 @@ use Rattle.plain_store.specs.declared.Setup.{Setup}
 use Rattle.record.specs.declared.events.Event.{Event}
 use Rattle.record.specs.declared.events.Event.TheVariants.{Call, Step, Fail, Withdraw, Restart}
 use Rattle.record.specs.declared.marks.Mark.{Mark}
-use Rattle.record.specs.declared.marks.Mark.TheVariants.{Answered, Left, Down, Failed, Withdrew}
+use Rattle.record.specs.declared.marks.Mark.TheVariants.{Left, Down, Failed, Withdrew}
 use Rattle.record.specs.declared.stages.Stage.TheVariants.{Idle, Down}
 use Rattle.record.proofs.Singles.{is_write, reads_from, map-joined}
 use Rattle.record.proofs.Whole.{NoWrites, open-reads}
@@ -24,7 +24,7 @@ use Rattle.record.specs.Moves.{ended, ended_with, field_number, move_on, moves_o
 use Rattle.record.specs.Program.{withdrawn}
 use Rattle.record.specs.Records.{added, entry_made, entry_of, past_of, process_of, program, program_from, refused_at, stepped}
 use Rattle.record.specs.Registers.{read_of, width, write_of}
-use Rattle.record.specs.Scripts.{Next, Portion, Script, nth, single, singles, writing}
+use Rattle.record.specs.Scripts.{Next, Script, nth, single, singles, writing}
 use Rattle.record.specs.Stages.{inside, stage}
 use Rattle.record.specs.Unit.{made_with, is_finished, last_write, settle, settles_at, unfinished, unit_program}
 use Rattle.safe_bit.specs.SafeRule.{is_write_open}

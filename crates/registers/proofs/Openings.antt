@@ -1,13 +1,8 @@
 -- In the memory of a setup there is what a number access begins on.
-use Rattle.std.proofs.Common.{◌≡◌, ℕ, zero, suc, ◌+◌, ◌-◌, ◌*◌, ◌/◌, ◌%◌, ◌<◌, Bool, false, cond, List, [], length, map, replicate, set, sym, ◌∙◌, arith, ap, refl, inl, inr, subst}
+use Rattle.std.proofs.Common.{◌≡◌, ℕ, ◌+◌, ◌-◌, ◌*◌, ◌/◌, ◌%◌, ◌<◌, List, length, sym, ◌∙◌, arith, ap, refl, subst}
 use Rattle.std.proofs.Math.Nat.{mul-le-mul_right}
-use Rattle.std.proofs.lemmas.Bool.{cases_eq, cases_lt, eq-eqb, ne_eqb}
 use Rattle.std.proofs.lemmas.Nat.{div-mul-add}
-use Rattle.std.proofs.lemmas.List.{length-map, length-replicate, length-set, set_past}
-use Rattle.std.proofs.lemmas.List.FromFn.{length-map-range_with_len, get_or-map-range_with_len}
-use Rattle.safe_bit.specs.Cell.{Cell, cell_after, new_cell}
-use Rattle.safe_bit.specs.declared.moves.Move.{Move}
-use Rattle.flicks.specs.Flicks.{FlickState, flick_of}
+use Rattle.safe_bit.specs.Cell.{Cell}
 use Rattle.plain_store.specs.declared.Setup.{Setup}
 use Rattle.record.specs.declared.access.Access.{Access}
 use Rattle.record.specs.declared.access.Field.{Field}
@@ -15,13 +10,11 @@ use Rattle.record.specs.declared.access.Field.TheVariants.{Choosing, Ticket, Com
 use Rattle.registers.specs.declared.fields.RegisterName.{RegisterName}
 use Rattle.record.specs.Moves.{field_number}
 use Rattle.record.specs.Registers.{width}
-use Rattle.registers.specs.Accesses.{answered, lane_of_access, next_access, run_of}
-use Rattle.registers.specs.Begins.{reading, writing}
+use Rattle.registers.specs.Accesses.{lane_of_access}
 use Rattle.registers.specs.Cursors.{CursorState, Fits, IsAtCopy, lane_number}
-use Rattle.registers.specs.Memory.{HasLanes, cell_at, lane_of, moved}
-use Rattle.registers.specs.Openings.{AreOf, AreOfOneSetup, field_numbered, opening_lane, opening_memory}
+use Rattle.registers.specs.Memory.{HasLanes, lane_of}
+use Rattle.registers.specs.Openings.{AreOf, AreOfOneSetup, field_numbered}
 use Rattle.registers.specs.Rows.{register_number}
-use Rattle.registers.proofs.Steps.{length-lane}
 
 numbered : (f : Field) → field_numbered (field_number f) ≡ f
 numbered Choosing = refl
@@ -93,55 +86,6 @@ setup-fits s memory cur of owner copies wide inside at =
       copy = inside;
       at = at;
     }
-
--- it may begin
-pub read-fits : (s : Setup) (memory : List (List Cell)) (r : RegisterName) (reader : ℕ) → AreOf s memory → r.owner < s.processes → reader < s.processes → Fits memory (reading s r reader)
-read-fits s memory r reader of owner inside = record { lanes = register-there s memory r of owner; copy = omega arith; at = refl }
-
-pub write-fits : (s : Setup) (memory : List (List Cell)) (r : RegisterName) (bits : List Bool) → AreOf s memory → r.owner < s.processes → Fits memory (writing s r bits)
-write-fits s memory r bits of owner = record { lanes = register-there s memory r of owner; copy = omega arith; at = refl }
-
-lane-wide : (s : Setup) (image : List Bool) (lane : ℕ) → length image ≡ width s Image0 → length (opening_lane s image lane) ≡ width s (field_numbered (lane / s.processes % 7))
-lane-wide s image lane whole =
-    let other : List Cell = replicate (width s (field_numbered (lane / s.processes % 7))) (new_cell false) in
-    elim (cases_eq (lane / s.processes) 5) [
-      | inl e ↦
-          ap (λ b. length (cond b (map new_cell image) other)) (eq-eqb (lane / s.processes) 5 e)
-          ∙ length-map image new_cell ∙ whole
-          ∙ sym (ap (λ k. width s (field_numbered (k % 7))) e)
-      | inr e ↦ ap (λ b. length (cond b (map new_cell image) other)) (ne_eqb (lane / s.processes) 5 e) ∙ length-replicate (width s (field_numbered (lane / s.processes % 7))) (new_cell false)
-    ]
-
--- the memory as it opens is one
-pub opening-are : (s : Setup) (image : List Bool) → length image ≡ width s Image0 → AreOf s (opening_memory s image)
-opening-are s image whole =
-    let n : ℕ = 7 * s.processes * s.processes in
-    record {
-      lanes = length-map-range_with_len (opening_lane s image) 0 n;
-      widths = λ lane below. ap length (get_or-map-range_with_len (opening_lane s image) 0 n lane lane [] (omega (arith, length-map-range_with_len (opening_lane s image) 0 n)) (omega arith)) ∙ lane-wide s image lane whole;
-    }
-
--- and stays one
-pub moved-are : (s : Setup) (memory : List (List Cell)) (at bit : ℕ) (how : Move) → AreOf s memory → AreOf s (moved memory at bit how)
-moved-are s memory at bit how of =
-    let c : Cell = cell_after (cell_at memory at bit) how in
-    let new : List Cell = set (lane_of memory at) bit c in
-    elim (cases_lt at (length memory)) [
-      | inl there ↦ record {
-        lanes = length-set memory at new ∙ of.lanes;
-        widths = λ lane below. length-lane memory at lane new (length-set (lane_of memory at) bit c) there ∙ of.widths lane (omega (arith, length-set memory at new));
-      }
-      | inr past ↦ let P : List (List Cell) → Type 0 = λ m. AreOf s m in subst P (sym (set_past memory at new past)) of
-    ]
-
-pub run-are : (k : ℕ) (s : Setup) (now : CursorState × List (List Cell) × FlickState) → AreOf s now.1 → AreOf s (run_of k now).1
-run-are zero s now of = of
-run-are (suc k) s now of =
-    let c : CursorState = (run_of k now).0 in
-    let memory : List (List Cell) = (run_of k now).1 in
-    let flick : Bool = flick_of (run_of k now).2 in
-    let a : Access = answered c.copies memory flick (next_access c flick) in
-    moved-are s memory (lane_of_access c.copies a) a.bit a.how (run-are k s now of)
 
 -- two memories of one setup are alike
 pub one-setup : (memory other : List (List Cell)) → AreOfOneSetup memory other → (length memory ≡ length other) × ((lane : ℕ) → lane < length memory → length (lane_of memory lane) ≡ length (lane_of other lane))

@@ -1,6 +1,6 @@
 -- What one access keeps, and how far it brings its number access.
-use Rattle.std.proofs.Common.{◌≡◌, ℕ, zero, suc, ◌+◌, ◌*◌, ◌<◌, ◌≤◌, ◌==◌, ◌&&◌, Bool, true, false, not, cond, add-one, List, [], set, length, refl, sym, ◌∙◌, arith, ap, subst, inl, inr}
-use Rattle.std.proofs.Math.Nat.{mul-suc, lt_of_mul-lt-mul_left}
+use Rattle.std.proofs.Common.{◌≡◌, ℕ, zero, suc, ◌+◌, ◌*◌, ◌<◌, ◌≤◌, ◌==◌, ◌&&◌, Bool, true, false, not, cond, add-one, List, [], set, length, sym, ◌∙◌, arith, ap, subst, inl, inr}
+use Rattle.std.proofs.Math.Nat.{mul-suc}
 use Rattle.std.proofs.lemmas.Bool.{cases_eq, eq-eqb, ne_eqb}
 use Rattle.std.proofs.lemmas.List.{get_or-set_same, get_or-set_other, length-set}
 use Rattle.safe_bit.specs.Cell.{Cell}
@@ -40,10 +40,6 @@ pub begun-one : (b : Bool) → cond b 1 0 ≤ 1
 begun-one true = omega arith
 begun-one false = omega arith
 
--- nothing is made yet
-pub read-starts : (now : CursorState × List (List Cell) × FlickState) → HasLanes now.1 (first_lane now.0) 1 now.0.width → HasRead 0 now now
-read-starts now there = record { now_is = refl; counts = omega arith; run = refl; width = refl; there = there }
-
 -- one access more
 pub read-goes_on : (made : ℕ) (before now : CursorState × List (List Cell) × FlickState) → HasRead made before now → now.0.bit < now.0.width → HasRead (suc made) before (read_access now)
 read-goes_on made before now h going = record {
@@ -53,9 +49,6 @@ read-goes_on made before now h going = record {
   width = h.width;
   there = lanes-moved now.1 (first_lane now.0) now.0.bit (first_lane now.0) 1 now.0.width (read_move now.0.begun (answer_of now.0 now.1 (flick_of now.2))) (omega (arith, h.there.lanes)) h.there;
 }
-
-pub write-starts : (now : CursorState × List (List Cell)) → HasLanes now.1 (first_lane now.0) now.0.copies now.0.width → HasWritten 0 now now
-write-starts now there = record { now_is = refl; counts = omega arith; run = refl; width = refl; copies = refl; there = there }
 
 write_counts : (copies bit copy : ℕ) (begun : Bool) → copy < copies → let ends = begun && (copy + 1 == copies) in 2 * (copies * cond ends (bit + 1) bit + cond ends 0 (cond begun (copy + 1) copy)) + cond (not begun) 1 0 ≡ suc (2 * (copies * bit + copy) + cond begun 1 0)
 write_counts copies bit copy false h = omega arith
@@ -80,9 +73,6 @@ write-goes_on made before now h inside = record {
 -- where accesses are left, bits are
 pub read-going : (r : CursorState) → made_of_read r < 2 * r.width → r.bit < r.width
 read-going r h = omega arith
-
-pub write-going : (w : CursorState) → made_of_write w < 2 * (w.copies * w.width) → w.bit < w.width
-write-going w h = lt_of_mul-lt-mul_left w.copies (omega arith)
 
 -- so many accesses more
 pub read-goes_far : (m made : ℕ) (before now : CursorState × List (List Cell) × FlickState) → HasRead made before now → m ≤ rest_by Reads now.0 → HasRead (made + m) before (reads_of m now)

@@ -1,5 +1,5 @@
 //! How far a number access of a process has come.
-ghost use Rattle.std.specs.Prelude.{◌≡◌, ℕ, ◌<◌, ◌≤◌, ◌+◌, ◌*◌, ◌/◌, ◌%◌, ◌^◌, true, false, Ok, length, slice_index_or};
+ghost use Rattle.std.specs.Prelude.{◌≡◌, ℕ, ◌<◌, ◌≤◌, ◌+◌, ◌*◌, ◌/◌, ◌%◌, ◌^◌, false, Ok, length, slice_index_or};
 ghost use Rattle.plain_store.specs.Setups.{checked};
 ghost use Rattle.reader_copies.specs.Runs.{HasItsValue};
 ghost use Rattle.record.specs.Cuts.{IsTornOf};

@@ -1,12 +1,11 @@
 //! Reading a scenario file, line by line.
-ghost use Rattle.std.specs.Prelude.{◌≡◌, [], true, false, not, ◌&&◌, length, Ok};
+ghost use Rattle.std.specs.Prelude.{◌≡◌, [], true, length, Ok};
 ghost use Rattle.std.specs.Int.{is_in_range};
-ghost use Rattle.files.specs.Files.{one_more};
 ghost use Rattle.plain_store.specs.Setups.{checked};
 ghost use Rattle.files.specs.Reads.{Makes, Takes};
 ghost use Rattle.scenario.specs.Reads.{Gives, script};
 ghost use Rattle.scenario.specs.Reading.{first_read, at_version, heading_read, heading_set, pair_read, open_read, kept_read, other_read, opened_read, script_of, scenario_of};
-ghost use Rattle.scenario.specs.Setting.{most_of, may_open, with_pair};
+ghost use Rattle.scenario.specs.Setting.{most_of};
 ghost use Rattle.scenario.specs.Statements.{is_line_of};
 ghost use Rattle.files.specs.Words.{texts};
 

@@ -1,8 +1,8 @@
 -- The newest of some versions, with one more.
-use Rattle.std.proofs.Common.{length-append, ◌≡◌, ℕ, ◌+◌, ◌<◌, ◌≤◌, ◌⊎◌, max, Bool, false, List, [], ◌∷◌, ◌++◌, length, map, fold, cond, refl, sym, ap, ◌∙◌, arith, inl, inr}
-use Rattle.std.proofs.lemmas.Bool.{cases_lt, cases_eq, ne_eqb}
+use Rattle.std.proofs.Common.{◌≡◌, ℕ, ◌+◌, ◌<◌, ◌≤◌, ◌⊎◌, max, Bool, false, List, [], ◌∷◌, ◌++◌, length, map, fold, cond, refl, sym, ap, ◌∙◌, arith, inl, inr}
+use Rattle.std.proofs.lemmas.Bool.{cases_eq, ne_eqb}
 use Rattle.std.proofs.lemmas.Bool.Decides.{nat_tests}
-use Rattle.std.proofs.lemmas.List.{map-append, get_or_append_left, get_or_past}
+use Rattle.std.proofs.lemmas.List.{map-append, get_or_append_left}
 use Rattle.std.proofs.lemmas.List.Sums.{fold-append}
 use Rattle.std.proofs.Math.Seq.{get_or-append_seam}
 use Rattle.std.proofs.lemmas.List.{length-map}
@@ -88,16 +88,6 @@ version-last vs b t k last =
     let f : Version → Bool = λ v. v.0 in
     let at : k ≡ length (map f vs) = omega (arith, last, length-map vs f) in
     rw (map-append, at) (get_or-append_seam (map f vs) b [] false)
-
-pub version-other : (vs : List Version) (b : Bool) (t k : ℕ) → (k ≡ length vs → ⊥) → version_of (vs ++ (b, t) ∷ []) k ≡ version_of vs k
-version-other vs b t k other =
-    let f : Version → Bool = λ v. v.0 in
-    elim (cases_lt k (length vs)) [
-      | inl there ↦ version-more vs b t k there
-      | inr past ↦
-          get_or_past (map f (vs ++ (b, t) ∷ [])) k false (omega (arith, length-map (vs ++ (b, t) ∷ []) f, length-append vs ((b, t) ∷ [])))
-          ∙ sym (get_or_past (map f vs) k false (omega (arith, length-map vs f)))
-    ]
 
 -- the greatest stamp with one more
 pub stamp-more : (vs : List Version) (b : Bool) (t : ℕ) → newest_stamp (vs ++ (b, t) ∷ []) ≡ max (newest_stamp vs) t

@@ -1,20 +1,19 @@
 -- The registers as they open.
-use Rattle.std.proofs.Common.{◌≡◌, ℕ, zero, suc, ◌+◌, ◌<◌, Bool, true, false, List, [], ◌∷◌, length, map, replicate, get_or, refl, sym, ap, ◌∙◌}
+use Rattle.std.proofs.Common.{◌≡◌, ℕ, zero, suc, ◌+◌, ◌<◌, Bool, false, List, [], ◌∷◌, length, map, replicate, get_or, refl, sym, ap, ◌∙◌}
 use Rattle.std.proofs.lemmas.List.FromFn.{length-map-range_with_len, get_or-map-range_with_len}
 use Rattle.std.specs.List.{range_with_len}
 use Rattle.reader_copies.specs.safe_bit.Cell.{Cell, new_cell}
 use Rattle.reader_copies.specs.Row.{new_row, cell_at, IsClosed}
 use Rattle.safe_number.specs.Bytes.{bit_in, bits_in}
 use Rattle.safe_number.specs.Runs.{preset_number}
-use Rattle.record.specs.declared.access.Access.{Access}
 use Rattle.record.specs.declared.access.Field.{Field}
-use Rattle.record.specs.declared.access.Field.TheVariants.{Choosing, Ticket, Commit, Stamp0, Stamp1, Image0, Image1}
+use Rattle.record.specs.declared.access.Field.TheVariants.{Image0}
 use Rattle.safe_number.proofs.Numbers.{range_same, get-bits}
 use Rattle.store_image.specs.Image.{image_of}
 use Rattle.plain_store.specs.Setups.{opening_store}
 use Rattle.plain_store.specs.declared.Setup.{Setup}
 use Rattle.record.specs.Registers.{width}
-use Rattle.section.specs.Registers.{Data, is_data, register_of, data_from, register_from, opening_cell, zero_cell}
+use Rattle.section.specs.Registers.{Data, data_from, register_from, opening_cell, zero_cell}
 
 -- a constant over a range
 pub const-range : {X : Type 0} (x : X) (a n : ℕ) → replicate n x ≡ map (λ (k : ℕ). x) (range_with_len a n)
@@ -68,12 +67,3 @@ zero-wide s owner field some =
     let copies : ℕ → List Cell = λ r. map (λ (k : ℕ). new_cell false) (range_with_len 0 (width s field)) in
     let none : List Cell = [] in
     ap length (get_or-map-range_with_len copies 0 s.processes 0 0 none some refl) ∙ length-map-range_with_len (λ (k : ℕ). new_cell false) 0 (width s field)
-
-data-register : (cells : Access → Cell) (s : Setup) (owner : ℕ) (field : Field) → is_data field ≡ true → register_from cells s owner field ≡ register_of (data_from cells s owner) field
-data-register cells s owner Choosing is = cc
-data-register cells s owner Ticket is = cc
-data-register cells s owner Commit is = refl
-data-register cells s owner Stamp0 is = refl
-data-register cells s owner Stamp1 is = refl
-data-register cells s owner Image0 is = refl
-data-register cells s owner Image1 is = refl

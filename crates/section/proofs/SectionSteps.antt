@@ -114,9 +114,6 @@ going-by Lies going = absurd (cc)
 going-by (Runs command number at) going = refl
 going-by (Closes command number at) going = absurd (cc)
 
-pub section-goes : (now : ProcessState) → is_going now ≡ true → may_step now.doing ≡ true
-section-goes now going = going-by now.doing going
-
 -- what is told of its step
 pub record IsTold (now : ProcessState) (flick v : Bool) : Type 0 where
   pub going : is_going (stepped now flick v) ≡ goes_on (progress_on now (stepped now flick v))

@@ -1,5 +1,5 @@
 //! How a pair stands in the 23 bytes of a slot.
-ghost use Rattle.std.specs.Prelude.{◌≡◌, ◌≤◌, length, IsTrue, Some, None, if◌then◌else◌};
+ghost use Rattle.std.specs.Prelude.{◌≡◌, length, IsTrue, Some, None, if◌then◌else◌};
 ghost use Rattle.std.specs.Str.{bytes_eq};
 ghost use Rattle.plain_store.specs.Names.{is_name, is_text};
 ghost use Rattle.plain_store.specs.Values.{fits_i64, is_value};

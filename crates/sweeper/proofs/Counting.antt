@@ -1,5 +1,5 @@
 -- What a sweep has counted, after one run and after one event more.
-use Rattle.std.proofs.Common.{◌≡◌, ℕ, zero, suc, ◌+◌, ◌<◌, ◌≤◌, ◌&&◌, Bool, true, false, cond, List, [], ◌∷◌, ◌++◌, filter, length, reverse, take, get_or, Option, None, Some, refl, ap, sym, subst, ◌∙◌, arith, append-nil, append_assoc}
+use Rattle.std.proofs.Common.{◌≡◌, ℕ, zero, suc, ◌+◌, ◌<◌, ◌&&◌, Bool, true, false, cond, List, [], ◌∷◌, ◌++◌, filter, length, reverse, take, get_or, Option, None, Some, refl, ap, sym, subst, ◌∙◌, arith, append-nil, append_assoc}
 use Rattle.std.specs.Prelude.{option_map}
 use Rattle.std.specs.List.{All}
 use Rattle.std.proofs.lemmas.List.{length-append, length_push, reverse-append, take_more}
@@ -17,7 +17,7 @@ use Rattle.sweeper.specs.declared.swept.BadRun.{BadRun}
 use Rattle.sweeper.specs.declared.swept.Swept.{Swept}
 use Rattle.sweeper.specs.Runners.{Follows, IsRun, RunnerState, RunsOn}
 use Rattle.sweeper.specs.Sweeps.{Cut, cut, cut_off, cuts, is_accepted, is_cut, on_from}
-use Rattle.sweeper.specs.Tallies.{AreFew, Counts, HasSwept, bad_run, counted}
+use Rattle.sweeper.specs.Tallies.{Counts, HasSwept, bad_run, counted}
 
 -- One run.
 

@@ -1,7 +1,7 @@
 //! A run that is audited while it is made.
-ghost use Rattle.std.specs.Prelude.{◌≡◌, ◌+◌, ◌*◌, ◌^◌, ◌<◌, ◌≤◌, ◌∷◌, [], true, false, cond, IfOk, None, Ok};
+ghost use Rattle.std.specs.Prelude.{◌≡◌, ◌+◌, ◌^◌, ◌<◌, ◌≤◌, ◌∷◌, [], true, false, cond, IfOk, None, Ok};
 ghost use Rattle.plain_store.specs.Setups.{checked};
-ghost use Rattle.record.specs.declared.Event.TheVariants.{Fail, Step};
+ghost use Rattle.record.specs.declared.Event.TheVariants.{Step};
 ghost use Rattle.record.specs.Given.{is_event};
 ghost use Rattle.record.specs.Records.{is_call};
 ghost use Rattle.world.specs.Cores.{taking};

@@ -1,5 +1,5 @@
 //! What is found in the runs of a sweep.
-ghost use Rattle.std.specs.Prelude.{◌≡◌, ◌+◌, ◌^◌, ◌<◌, ◌≤◌, None, option_map};
+ghost use Rattle.std.specs.Prelude.{◌≡◌, ◌+◌, ◌^◌, ◌<◌, None, option_map};
 ghost use Rattle.sweeper.specs.Tallies.{AreFew, bad_run as bad_run_of, counted};
 
 use crate::runner::BadEntry;

@@ -1,5 +1,5 @@
 -- Texts behind one another.
-use Rattle.std.proofs.Common.{◌≡◌, ℕ, List, [], ◌++◌, sym, ap, ◌∙◌, append_assoc, append-nil}
+use Rattle.std.proofs.Common.{◌≡◌, ℕ, List, [], ◌++◌, sym, ◌∙◌, append_assoc, append-nil}
 
 -- nothing more
 pub none : (t : List ℕ) → t ≡ t ++ []

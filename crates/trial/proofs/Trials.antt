@@ -1,5 +1,5 @@
 -- What a line of a record file leaves of what was heard before it.
-use Rattle.std.proofs.Common.{◌≡◌, ℕ, ◌<◌, ◌≤◌, Bool, true, false, List, [], ◌∷◌, ◌++◌, length, IsErrAnd, IsSome, Option, Some, None, Result, Ok, Err, refl, ap, sym, subst, ◌∙◌, append-nil, arith}
+use Rattle.std.proofs.Common.{◌≡◌, ℕ, ◌≤◌, Bool, true, false, List, [], ◌∷◌, ◌++◌, length, IsErrAnd, IsSome, Option, Some, None, Result, Ok, Err, refl, ap, sym, subst, ◌∙◌, append-nil, arith}
 use Rattle.std.specs.Option.{is_some, option_to_list}
 use Rattle.plain_store.specs.declared.setups.Setup.{Setup}
 use Rattle.files.specs.Files.{words_read}
@@ -16,7 +16,7 @@ use Rattle.record_file.specs.scenario.Reading.{Progress as Head}
 use Rattle.record_file.proofs.EntryLines.{entry_of_line}
 use Rattle.record_file.specs.RecordFiles.{Progress, cleared, entry_in, line_read, record_grammar}
 use Rattle.trial.specs.Numbers.{number_in, say_entry}
-use Rattle.trial.specs.Trials.{GoesOn, Hears, HearsAt, IsHeard, LineEnds, Stands}
+use Rattle.trial.specs.Trials.{GoesOn, Hears, HearsAt, LineEnds, Stands}
 use Rattle.trial.proofs.Lines.{Left, clear_twice, empty, first_left, later_left, number_of_none, number_of_some, short_read}
 
 -- what follows from a fact that is known unless memory ran out

@@ -175,9 +175,6 @@ next-few c seat (event.Restart p) there = let fewer = next-fewer c seat (event.R
 pub keeps_core : (c : CoreState) (taken : List Taken) (events : List Event) → Shows (with_history c taken) events → KeepsCore c
 keeps_core c taken events shows = record { taken = taken; events = events; shows = shows }
 
-pub shows_of : (c d : CoreState) (taken : List Taken) (events : List Event) → c ≡ d → Shows (with_history d taken) events → Shows (with_history c taken) events
-shows_of c d taken events is h = subst (λ (x : CoreState). Shows (with_history x taken) events) (sym is) h
-
 -- the process of an event that is not refused is there
 pub core_in : (c d : CoreState) (what : Event) → KeepsCore c → c ≡ d → CoreRefuses d what None → process_of what < length c.seats
 core_in c d what k is ok =

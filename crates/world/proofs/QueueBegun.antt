@@ -8,7 +8,7 @@ use Rattle.record.specs.safe_number.Runs.{new_write}
 use Rattle.plain_store.specs.declared.Command.{Command}
 use Rattle.plain_store.specs.declared.Setup.{Setup}
 use Rattle.record.specs.declared.events.Event.{Event}
-use Rattle.record.specs.Closings.{Closing, Withdraws, Settles, Frees, Quit, Ended, no_ticket, is_last_written, is_last_settled, freeing, closing_after, closing_next}
+use Rattle.record.specs.Closings.{Closing, Withdraws, Settles, Frees, Quit, Ended, no_ticket, is_last_written, is_last_settled, freeing, closing_after}
 use Rattle.record.specs.Closings as closing
 use Rattle.record.specs.Doorways.{begins_doorway, doorway_begin, first_of, is_queued, number_in_call, raises}
 use Rattle.record.specs.Entries.{Entry, Past, has, is_called}

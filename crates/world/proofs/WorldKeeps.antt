@@ -1,11 +1,10 @@
 -- A world is a core and a history: what it keeps after what its core does.
-use Rattle.std.proofs.Common.{◌≡◌, ℕ, zero, suc, ◌+◌, ◌≤◌, Bool, true, false, List, [], ◌∷◌, Option, None, length, map, refl, sym, ap, subst, ◌∙◌, arith}
+use Rattle.std.proofs.Common.{◌≡◌, ℕ, zero, suc, ◌+◌, ◌≤◌, Bool, true, false, List, [], ◌∷◌, length, map, refl, sym, ap, subst, ◌∙◌, arith}
 use Rattle.std.specs.List.{range_with_len}
 use Rattle.plain_store.specs.declared.Setup.{Setup}
 use Rattle.record.specs.declared.events.Event.{Event}
 use Rattle.record.specs.declared.events.Event.TheVariants.{Step}
 use Rattle.record.specs.declared.history.Taken.{Taken}
-use Rattle.record.specs.declared.refusals.Refusal.{Refusal}
 use Rattle.record.specs.Records.{is_call, process_of}
 use Rattle.record.specs.Histories.{reply_taken}
 use Rattle.process.specs.declared.told.Effect.{Effect}
@@ -13,7 +12,7 @@ use Rattle.process.specs.declared.told.Effect.TheVariants.{Steps}
 use Rattle.process.specs.declared.told.StepTold.{StepTold}
 use Rattle.process.specs.Telling.{marks_of, marks_told}
 use Rattle.world.specs.Changes.{pending_in, with_taken}
-use Rattle.world.specs.Cores.{CoreMakes, CoreRefuses, CoreState, CoreSteps, CoreStepsQuietly, CoreWalks, call_in, taking, with_history}
+use Rattle.world.specs.Cores.{CoreMakes, CoreState, CoreSteps, CoreStepsQuietly, CoreWalks, call_in, taking, with_history}
 use Rattle.world.specs.Events.{KeepsWorld}
 use Rattle.flicks.specs.Flicks.{FlickState, flick_of}
 use Rattle.world.specs.Seats.{seat_of}
@@ -85,7 +84,3 @@ walk_keeps n overlapped c new h f g p capacity keeps walks =
 pub quietly_keeps : (c new : CoreState) (h : List Taken) (p : ℕ) (flick : Bool) (capacity : ℕ) → KeepsWorld (with_history c h) capacity → CoreStepsQuietly c p flick new → KeepsWorld (with_history new h) capacity
 quietly_keeps c new h p flick capacity keeps quietly =
     record { events = Step p flick ∷ keeps.events; shows = (quietly.steps h).shows keeps.events keeps.shows; room = let room = keeps.room in let fewer = quietly.pending in omega (arith, room, fewer) }
-
--- an event that its core does not refuse
-pub core_allowed : (d : CoreState) (what is : Event) (r : Option Refusal) → CoreRefuses d what r → r ≡ None → what ≡ is → CoreRefuses d is None
-core_allowed d what is r h none same = subst (λ e. CoreRefuses d e None) same (subst (λ r. CoreRefuses d what r) none h)

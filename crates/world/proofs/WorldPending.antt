@@ -15,7 +15,7 @@ use Rattle.record.specs.Cuts.{Change, pending_at, torn_at, torn_closing}
 use Rattle.record.specs.Failures.{cut, begun_at, begun_closing, taken_with}
 use Rattle.record.specs.Histories.{reply_taken}
 use Rattle.record.specs.Parts as part
-use Rattle.record.specs.Parts.{Part, is_over, first_marks, last_marks, part_after, to_g}
+use Rattle.record.specs.Parts.{Part, is_over, first_marks, last_marks, part_after}
 use Rattle.record.specs.Places.{Place, enter, is_fresh, is_last, bits_with, run_after, place_after, write_moved}
 use Rattle.record.specs.Program.{entered_if_none, lets_by, max_of, newest_stamp, reply, store_read, waits_of}
 use Rattle.record.specs.Scripts.{Call}

@@ -59,9 +59,6 @@ CoreTurnsAway c event refusal = (taken : List Taken) → IsTurnedAway (with_hist
 abbrev pub UnlessCoreRefuses : CoreState → Event → Type 0 → Type 0
 UnlessCoreRefuses c event P = (taken : List Taken) → UnlessRefused (with_history c taken) event P
 
-abbrev pub CoreGoesOn : CoreState → Event → CoreState → Type 0
-CoreGoesOn old event new = (taken : List Taken) → GoesOn (with_history old taken) event (with_history new taken)
-
 -- the command and the number of the last call of a process, by its seat
 abbrev pub call_in : List Seat → ℕ → Command × ℕ
 call_in seats p = elim (slice_get seats p) as (λ _. Command × ℕ) [ None ↦ (Ask, 0) | Some seat ↦ (seat.process.command, seat.process.number) ]

@@ -1,5 +1,5 @@
 //! A listener that draws a run as it hears it.
-ghost use Rattle.std.specs.Prelude.{◌≡◌, ◌+◌, ◌-◌, ◌^◌, ◌<◌, ℕ, Err, IfErr, OnOk, is_some, refl, false};
+ghost use Rattle.std.specs.Prelude.{◌≡◌, ◌+◌, ◌-◌, ◌^◌, ◌<◌, ℕ, Err, IfErr, OnOk, is_some, refl};
 ghost use Rattle.std.proofs.Common.{add-zero, ap, sym, ◌∙◌};
 ghost use Rattle.course.specs.Summaries.{CanCount, can_count_less};
 ghost use Rattle.course.specs.Writing.{IsWriteFault, failed_write};

@@ -1,7 +1,6 @@
 //! Where a process gives up waiting, and where it fails.
-ghost use Rattle.std.specs.Prelude.{◌≡◌, ◌∷◌, [], Bool, IfSome, true};
+ghost use Rattle.std.specs.Prelude.{◌≡◌, IfSome, true};
 ghost use Rattle.record.specs.declared.Stage.TheVariants.{Waiting};
-ghost use Rattle.record.specs.Parts.{written_at};
 ghost use Rattle.process.specs.Places.{failed, may_fail, stage_doing, withdrawn};
 ghost use Rattle.process.specs.Working.{IsOfCommit, is_torn_at, reply_taken, taken_at};
 

@@ -1,5 +1,4 @@
 use Rattle.std.proofs.Common.{◌≡◌, ℕ, ◌<◌, length, take}
-use Rattle.call_check.specs.Following.{IsFollowed}
 use Rattle.record.specs.CallLists.{lists_of}
 use Rattle.call_check.specs.Weighing.{IsBadAt, all_calls}
 use Rattle.call_check.proofs.weighing.weigh.Given as goal

@@ -1,4 +1,4 @@
-use Rattle.std.proofs.Common.{◌≡◌, ◌+◌, ◌∙◌, add-zero, ap, subst, sym}
+use Rattle.std.proofs.Common.{◌+◌, ◌∙◌, add-zero, ap, subst, sym}
 use Rattle.course.specs.Replays.{CutsLine}
 use Rattle.course.specs.Runs.{run_after}
 use Rattle.course.specs.Texts.{text_of}

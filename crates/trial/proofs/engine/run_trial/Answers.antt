@@ -1,4 +1,4 @@
-use Rattle.std.proofs.Common.{ℕ, List, refl, subst}
+use Rattle.std.proofs.Common.{refl}
 use Rattle.files.specs.Engines.{Streams, streams}
 use Rattle.files.specs.declared.faults.Fault.TheVariants.{Memory}
 use Rattle.trial.proofs.EngineEnds.{trial_cut, trial_fault, trial_told}

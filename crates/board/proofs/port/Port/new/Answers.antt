@@ -1,4 +1,4 @@
-use Rattle.std.proofs.Common.{◌≡◌, ap, sym, subst, ◌∙◌, refl}
+use Rattle.std.proofs.Common.{◌≡◌, ap, sym, subst, ◌∙◌}
 use Rattle.board.proofs.Listings.{place_new}
 use Rattle.board.proofs.Pendings.{new_tied}
 use Rattle.board.proofs.SeenStands.{stands_new}

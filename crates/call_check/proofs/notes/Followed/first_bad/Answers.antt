@@ -1,9 +1,5 @@
-use Rattle.std.proofs.Common.{◌≡◌, ◌+◌, ◌<◌, ◌≤◌, ℕ, List, take, length, refl, sym, subst, ◌∙◌, arith, true≢false}
-use Rattle.std.proofs.lemmas.Option.{slice_get_read}
-use Rattle.plain_store.specs.declared.Setup.{Setup}
+use Rattle.std.proofs.Common.{◌≤◌, ℕ, take, length, refl, sym, ◌∙◌, arith, true≢false}
 use Rattle.call_check.specs.declared.calls.Call.{Call}
-use Rattle.call_check.specs.declared.notes.Note.{Note}
-use Rattle.call_check.specs.Following.{ArePart, IsFollowed, IsNote}
 use Rattle.call_check.proofs.Judged.{bad_in, judged_more, none_bad, note_there}
 use Rattle.call_check.proofs.notes.Followed.first_bad.Goals as goal
 

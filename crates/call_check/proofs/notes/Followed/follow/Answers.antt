@@ -1,8 +1,8 @@
-use Rattle.std.proofs.Common.{◌≡◌, ◌<◌, ◌≤◌, ℕ, List, true, false, length, Some, refl, sym, ap, subst, ◌∙◌, arith}
+use Rattle.std.proofs.Common.{◌≡◌, ℕ, List, true, false, length, Some, refl, sym, ap, subst, ◌∙◌, arith}
 use Rattle.plain_store.specs.declared.Setup.{Setup}
 use Rattle.plain_store.specs.Store.{Contents}
 use Rattle.call_check.specs.declared.calls.Call.{Call}
-use Rattle.call_check.specs.Following.{AreBlank, AreFew, AreNotedBelow, IsFollowed}
+use Rattle.call_check.specs.Following.{AreBlank, IsFollowed}
 use Rattle.record.specs.CallLists.{lists_of}
 use Rattle.call_check.specs.Weighing.{all_calls}
 use Rattle.call_check.proofs.Followed.{callers_of_store}

@@ -1,6 +1,4 @@
-use Rattle.std.proofs.Common.{◌≡◌, ◌∷◌, ◌∙◌, List, add-zero, refl}
-use Rattle.plain_store.specs.declared.setups.Setup.{Setup}
-use Rattle.course.specs.Happenings.{Happening}
+use Rattle.std.proofs.Common.{◌∙◌, add-zero, refl}
 use Rattle.course.proofs.Played.{on_fault}
 use Rattle.engines.proofs.Recordings.{entry_copied, entry_cut}
 use Rattle.engines.proofs.recording.CopierListener.hear.Goals as goal

@@ -1,7 +1,5 @@
-use Rattle.std.proofs.Common.{List, ℕ, Option, Some, subst}
-use Rattle.record.specs.Entries.{Entry}
-use Rattle.record_file.specs.RecordFiles.{Progress}
-use Rattle.trial.specs.Trials.{GoesOn, Stands}
+use Rattle.std.proofs.Common.{Option, subst}
+use Rattle.trial.specs.Trials.{Stands}
 use Rattle.trial.proofs.Trials.{ends_stepped}
 use Rattle.trial.proofs.trial.Trial.hears_step.Goals as goal
 
