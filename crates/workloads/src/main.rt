@@ -8,7 +8,6 @@ mod counters;
 mod images;
 mod rounds;
 mod weighing;
-mod worlds;
 
 use anyhow::{Result, bail};
 use std::env::{self, Env};
@@ -16,9 +15,9 @@ use std::rt::Clock;
 use std::thread::Threads;
 
 /// All parts, in the order in which they are run: whole writes and whole reads of a register; commands on an image; word steps
-/// of ports, and the making of the largest board; long lists of finished calls, which are weighed; events of worlds, and
-/// entries that an auditor hears; rounds of ports that are cut by failures.
-const PARTS: [&str; 6] = ["registers", "image", "board", "weigh", "world", "rounds"];
+/// of ports, and the making of the largest board; long lists of finished calls, which are weighed; and
+/// rounds of ports that are cut by failures.
+const PARTS: [&str; 5] = ["registers", "image", "board", "weigh", "rounds"];
 
 /// Runs the part that the first word names, or all parts if there is none, and prints what they leave. The second and the
 /// third word are numbers, which say how much of it there is; of `rounds` the second is a scenario, and the third says how many of
@@ -52,8 +51,6 @@ fn run<T: Env + Print + Eprint + Clock + AllocGlobal + Threads + Sync>(
         boards::times(rt, some, more)
     } else if part == "weigh" {
         weighing::times(rt, first, second)
-    } else if part == "world" {
-        worlds::times(rt, some, more)
     } else {
         bail!("there is no part {part}")
     }

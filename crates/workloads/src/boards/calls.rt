@@ -3,8 +3,8 @@ ghost use Rattle.std.specs.Prelude.{◌≡◌, ℕ, Some, slice_get};
 ghost use Rattle.board_runs.specs.board.Boards.{IsOf};
 ghost use Rattle.board_runs.specs.board.Ports.{PortState, SamePort};
 
-use auditor::Flicks;
 use board_runs::{Board, Driven, Port};
+use flicks::Flicks;
 use plain_store::Command;
 use record::Refusal;
 use std::alloc::AllocError;
