@@ -2,11 +2,9 @@
 //! entries one by one, in memory of a fixed size. Every record of a list of events is good, which is a law here.
 //!
 //! ```rust
-//! for entry in &record.entries {
-//!     if auditor.hear(entry).is_some() {
-//!         bail!("an entry breaks a law");
-//!     }
-//! }
+//! let mut auditor = Auditor::new(alloc, setup)?;
+//! for (number, entry) in entries.iter().enumerate() {
+//!     if let Some(law) = auditor.hear(entry) {
 //! ```
 #![tactic(auto)]
 

@@ -15,7 +15,8 @@ use Rattle.record.specs.Registers.{width}
 use Rattle.laws.specs.Held.{IsThere}
 use Rattle.registers.specs.Accesses.{lane_of_access}
 use Rattle.registers.specs.Cursors.{lane_number}
-use Rattle.registers.specs.Memory.{cell_at, cell_in, lane_of}
+use Rattle.registers.specs.reader_copies.Row.{cell_in}
+use Rattle.registers.specs.Memory.{cell_at, lane_of}
 use Rattle.registers.specs.Openings.{AreOf, field_numbered}
 use Rattle.registers.specs.Rows.{register_number}
 use Rattle.registers.specs.declared.fields.RegisterName.{RegisterName}

@@ -16,7 +16,7 @@ use Rattle.registers.specs.Cursors.{lane_number}
 use Rattle.registers.specs.Memory.{cell_at, lane_of, without_reads}
 use Rattle.registers.specs.Openings.{field_numbered}
 use Rattle.registers.specs.declared.fields.RegisterName.{RegisterName}
-use Rattle.registers.proofs.Flags.{made-set}
+use Rattle.record.proofs.reader_copies.Flags.{made-set}
 use Rattle.registers.proofs.Openings.{lane-field, lane-in}
 use Rattle.process.specs.Memories.{access_there, cells_after, cells_dropped, is_of_reader, lane_with, memory_with}
 use Rattle.process.proofs.Memories.{lane-named, lane-there, named-lane, with-copy, with-lane}

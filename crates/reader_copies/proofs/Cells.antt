@@ -1,12 +1,17 @@
 -- Copies, sixty-four to a place, as a list of cells.
-use Rattle.std.proofs.Common.{◌≡◌, ℕ, ◌+◌, ◌*◌, ◌/◌, ◌%◌, ◌<◌, ◌≤◌, false, List, map, set, get_or, length, replicate, sym, subst, ◌∙◌, arith, ap, inl, inr}
+use Rattle.std.proofs.Common.{◌≡◌, ◌≢◌, ℕ, ◌+◌, ◌-◌, ◌*◌, ◌/◌, ◌%◌, ◌<◌, ◌≤◌, false, List, map, set, get_or, length, replicate, sym, subst, ◌∙◌, arith, ap, inl, inr}
 use Rattle.safe_bit.specs.Cell.{Cell, new_cell, without_read}
-use Rattle.std.proofs.lemmas.Bool.{cases_eq}
+use Rattle.std.proofs.lemmas.Bool.{cases_eq, cases_lt}
 use Rattle.std.proofs.lemmas.List.{get_or-set_same, get_or-set_other, get_or-replicate, length-replicate, length-map, get_or-map, get_or_default, ext_get_or}
 use Rattle.std.proofs.lemmas.List.FromFn.{length-map-range_with_len, get_or-map-range_with_len}
 use Rattle.reader_copies.specs.declared.flag_words.Flags.{Flags}
-use Rattle.reader_copies.specs.Flags.{ChangesAt, cell_among, cell_in_flags, cells_of, flag_in, no_flags}
+use Rattle.reader_copies.specs.Flags.{ChangesAt, cell_among, cell_in_flags, cells_of, flag_in, no_flags, open_flags}
+use Rattle.std.specs.List.{range_with_len}
 use Rattle.reader_copies.specs.Row.{cell_in}
+use Rattle.reader_copies.specs.Words.{bits_of_words}
+use Rattle.reader_copies.proofs.Words.{bit-found, length-bits}
+use Rattle.reader_copies.specs.Wordwise.{over}
+use Rattle.reader_copies.proofs.Over.{length-over, over-inside, over-outside}
 use Rattle.reader_copies.proofs.Flags.{cell, flag-zero, made-set, same_cell}
 
 pub length_cells : (flags : List Flags) (n : ℕ) → length (cells_of flags n) ≡ n
@@ -63,6 +68,59 @@ cells-new flags m n is fits =
     ∙ no-flags (k % 64)
     ∙ sym (get_or-replicate n k (new_cell false) (new_cell false) inside))
 
+at_index : (flags : List Flags) (len k n : ℕ) (f : ℕ → Cell → Cell) (at now : Flags) (cells : List Cell) (j : ℕ) →
+    (j / 64 ≡ k / 64 → cell_in (cells_of (set flags (k / 64) now) len) j ≡ cell_in_flags now (j % 64)) →
+    (j / 64 ≡ k / 64 → cell_in_flags at (j % 64) ≡ cell_in cells j) →
+    (j / 64 ≢ k / 64 → cell_in (cells_of (set flags (k / 64) now) len) j ≡ cell_in cells j) →
+    k % 64 + n ≤ 64 → k + n ≤ length cells →
+    ((i : ℕ) → i < 64 → k % 64 ≤ i → i < k % 64 + n → cell_in_flags now i ≡ f (64 * (k / 64) + i) (cell_in_flags at i)) →
+    ((i : ℕ) → i < 64 → i < k % 64 → cell_in_flags now i ≡ cell_in_flags at i) →
+    ((i : ℕ) → i < 64 → k % 64 + n ≤ i → cell_in_flags now i ≡ cell_in_flags at i) →
+    cell_in (cells_of (set flags (k / 64) now) len) j ≡ cell_in (over n f k cells) j
+at_index flags len k n f at now cells j new_is cell_is far_is word there inside below above = elim (cases_lt j k) [
+  | inl low ↦ elim (cases_eq (j / 64) (k / 64)) [
+    | inl e ↦ new_is e ∙ below (j % 64) (omega arith) (omega arith) ∙ cell_is e ∙ sym (over-outside n f k j cells (λ x h. omega arith))
+    | inr e ↦ far_is e ∙ sym (over-outside n f k j cells (λ x h. omega arith))
+  ]
+  | inr high ↦ elim (cases_lt j (k + n)) [
+    | inl here ↦
+        let e : j / 64 ≡ k / 64 = omega arith in
+        let number : 64 * (k / 64) + j % 64 ≡ j = omega arith in
+        let step : k + (j - k) ≡ j = omega arith in
+        new_is e ∙ inside (j % 64) (omega arith) (omega arith) (omega arith) ∙ ap (λ c. f (64 * (k / 64) + j % 64) c) (cell_is e) ∙ ap (λ x. f x (cell_in cells j)) number
+        ∙ ap (λ x. f x (cell_in cells x)) (sym step) ∙ sym (over-inside n f k (j - k) cells (omega arith) there) ∙ ap (λ x. cell_in (over n f k cells) x) step
+    | inr far ↦ elim (cases_eq (j / 64) (k / 64)) [
+      | inl e ↦ new_is e ∙ above (j % 64) (omega arith) (omega arith) ∙ cell_is e ∙ sym (over-outside n f k j cells (λ x h. omega arith))
+      | inr e ↦ far_is e ∙ sym (over-outside n f k j cells (λ x h. omega arith))
+    ]
+  ]
+]
+
+-- bits of one word change
+pub cells-over : (flags : List Flags) (len k n : ℕ) (f : ℕ → Cell → Cell) (at now : Flags) (cells : List Cell) → cells_of flags len ≡ cells → length flags ≡ (len + 63) / 64 → k % 64 + n ≤ 64 → k + n ≤ length cells → 1 ≤ n → at ≡ get_or flags (k / 64) at →
+    ((i : ℕ) → i < 64 → k % 64 ≤ i → i < k % 64 + n → cell_in_flags now i ≡ f (64 * (k / 64) + i) (cell_in_flags at i)) →
+    ((i : ℕ) → i < 64 → i < k % 64 → cell_in_flags now i ≡ cell_in_flags at i) →
+    ((i : ℕ) → i < 64 → k % 64 + n ≤ i → cell_in_flags now i ≡ cell_in_flags at i) →
+    cells_of (set flags (k / 64) now) len ≡ over n f k cells
+cells-over flags len k n f at now cells seen many word there some read inside below above =
+    let long : length cells ≡ len = omega (arith, length_cells flags len, ap length seen) in
+    let place : k / 64 < length flags = omega (arith, many) in
+    let is : at ≡ get_or flags (k / 64) no_flags = read ∙ get_or_default flags (k / 64) at no_flags place in
+    let cell_is : (j : ℕ) → j < len → j / 64 ≡ k / 64 → cell_in_flags at (j % 64) ≡ cell_in cells j =
+    λ j h e. ap (λ x. cell_in_flags x (j % 64)) is ∙ ap (λ p. cell_in_flags (get_or flags p no_flags) (j % 64)) (sym e) ∙ sym (get-cells flags len j h) ∙ ap (λ x. cell_in x j) seen in
+    let new_is : (j : ℕ) → j < len → j / 64 ≡ k / 64 → cell_in (cells_of (set flags (k / 64) now) len) j ≡ cell_in_flags now (j % 64) =
+    λ j h e. get-cells (set flags (k / 64) now) len j h ∙ ap (λ p. cell_in_flags (get_or (set flags (k / 64) now) p no_flags) (j % 64)) e ∙ ap (λ x. cell_in_flags x (j % 64)) (get_or-set_same flags (k / 64) now no_flags place) in
+    let far_is : (j : ℕ) → j < len → j / 64 ≢ k / 64 → cell_in (cells_of (set flags (k / 64) now) len) j ≡ cell_in cells j =
+    λ j h e. get-cells (set flags (k / 64) now) len j h ∙ ap (λ x. cell_in_flags x (j % 64)) (get_or-set_other flags (k / 64) (j / 64) now no_flags e) ∙ sym (get-cells flags len j h) ∙ ap (λ x. cell_in x j) seen in
+    ext_get_or (new_cell false) _ _ (length_cells (set flags (k / 64) now) len ∙ sym long ∙ sym (length-over n f k cells))
+    (λ j h.
+    let inside_len : j < len = omega (arith, length_cells (set flags (k / 64) now) len) in
+    at_index flags len k n f at now cells j (λ e. new_is j inside_len e) (λ e. cell_is j inside_len e) (λ e. far_is j inside_len e) word there inside below above)
+
+-- another bit of the word that was read
+pub cell-in_place : (flags : List Flags) (len k i : ℕ) (at : Flags) (cells : List Cell) → cells_of flags len ≡ cells → length flags ≡ (len + 63) / 64 → i < length cells → i / 64 ≡ k / 64 → at ≡ get_or flags (k / 64) at → cell_in_flags at (i % 64) ≡ cell_in cells i
+cell-in_place flags len k i at cells seen many inside same read = cells-read flags len i at cells seen many inside (read ∙ ap (λ p. get_or flags p at) (sym same))
+
 -- the flags of sixty-four copies with each open read dropped
 abbrev pub dropped : Flags → Flags
 dropped flags = record { value = flags.value; writing = flags.writing; reading = 0; touched = flags.touched }
@@ -79,3 +137,17 @@ cells-without_reads flags now n cells seen many is =
     ∙ ap without_read (sym (get-cells flags n k inside))
     ∙ sym (get_or-map without_read (cells_of flags n) k (new_cell false) (new_cell false) (omega (arith, length_cells flags n))))
     ∙ ap (map without_read) seen
+
+-- copies that open at bits
+pub cells-open : (flags : List Flags) (words : List ℕ) (m n : ℕ) → flags ≡ map (λ p. open_flags (get_or words p 0)) (range_with_len 0 m) → n ≤ 64 * m → cells_of flags n ≡ map new_cell (bits_of_words words n)
+cells-open flags words m n is fits =
+    let made : ℕ → Flags = λ p. open_flags (get_or words p 0) in
+    let places : List Flags = map made (range_with_len 0 m) in
+    ap (λ fs. cells_of fs n) is
+    ∙ ext_get_or (new_cell false) _ _ (length_cells places n ∙ sym (length-map (bits_of_words words n) new_cell ∙ length-bits words n))
+    (λ k below.
+    let inside : k < n = omega (arith, length_cells places n) in
+    get-cells places n k inside
+    ∙ ap (λ x. cell_in_flags x (k % 64)) (get_or-map-range_with_len made 0 m (k / 64) (k / 64) no_flags (omega arith) (omega arith))
+    ∙ same_cell _ _ _ _ _ _ _ _ (sym (bit-found words n k inside)) (flag-zero (k % 64)) (flag-zero (k % 64)) (flag-zero (k % 64))
+    ∙ sym (get_or-map new_cell (bits_of_words words n) k false (new_cell false) (omega (arith, length-bits words n))))

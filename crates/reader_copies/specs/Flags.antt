@@ -1,5 +1,5 @@
 -- What the flags of copies say.
-use Rattle.std.specs.Prelude.{◌≡◌, ◌≢◌, ℕ, ◌<◌, ◌/◌, ◌%◌, ◌==◌, Bool, List, map, slice_index_or}
+use Rattle.std.specs.Prelude.{◌≡◌, ◌≢◌, ℕ, ◌<◌, ◌≤◌, ◌+◌, ◌/◌, ◌%◌, ◌==◌, Bool, true, false, List, map, slice_index_or}
 use Rattle.std.specs.Int.{bit_at}
 use Rattle.std.specs.List.{range_with_len}
 use Rattle.safe_bit.specs.Cell.{Cell}
@@ -16,6 +16,10 @@ cell_in_flags flags k = record { value = flag_in flags.value k; writing = flag_i
 -- copies that open at 0
 abbrev pub no_flags : Flags
 no_flags = record { value = 0; writing = 0; reading = 0; touched = 0 }
+
+-- copies that open at the bits of a word
+abbrev pub open_flags : ℕ → Flags
+open_flags word = record { value = word; writing = 0; reading = 0; touched = 0 }
 
 -- copy k of many, sixty-four to a place
 abbrev pub cell_among : List Flags → ℕ → Cell
@@ -34,3 +38,9 @@ pub record SetsFlag (word k : ℕ) (flag : Bool) (new : ℕ) : Type 0 where
 pub record ChangesAt (flags : Flags) (k : ℕ) (cell : Cell) (new : Flags) : Type 0 where
   pub same : cell_in_flags new k ≡ cell
   pub others : (i : ℕ) → i < 64 → i ≢ k → cell_in_flags new i ≡ cell_in_flags flags i
+
+-- n ones from one place on
+pub record IsMask (from n mask : ℕ) : Type 0 where
+  pub inside : (i : ℕ) → from ≤ i → i < from + n → flag_in mask i ≡ true
+  pub below : (i : ℕ) → i < from → flag_in mask i ≡ false
+  pub above : (i : ℕ) → from + n ≤ i → flag_in mask i ≡ false

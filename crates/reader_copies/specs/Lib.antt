@@ -4,4 +4,7 @@ pub mod Histories
 pub mod Laws
 pub mod Row
 pub mod Runs
+pub mod Seeing
+pub mod Words
+pub mod Wordwise
 pub mod Written

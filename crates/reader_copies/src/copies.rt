@@ -1,8 +1,13 @@
-ghost use Rattle.std.specs.Prelude.{◌≡◌, ◌<◌, false, length, map, replicate, slice_set, IfOk};
-ghost use Rattle.safe_bit.specs.Cell.{new_cell, cell_after, without_read, read_answer};
+ghost use Rattle.std.specs.Prelude.{◌≡◌, ℕ, ◌<◌, ◌≤◌, ◌+◌, ◌*◌, ◌/◌, ◌%◌, true, false, length, map, replicate, slice_set, if◌then◌else◌, IfOk};
+ghost use Rattle.safe_bit.specs.Cell.{new_cell, cell_after, read_answer, without_read};
+ghost use Rattle.reader_copies.specs.Flags.{flag_in};
+ghost use Rattle.reader_copies.specs.Wordwise.{after_read, after_write, over};
 ghost use Rattle.reader_copies.specs.Row.{cell_in};
+ghost use Rattle.reader_copies.specs.Seeing.{bit_seen};
+ghost use Rattle.reader_copies.specs.Words.{bits_of_words};
 
-use crate::flag_words::Flags;
+use crate::bit_seen::BitSeen;
+use crate::flag_words::{Flags, mask};
 use safe_bit::Move;
 use std::alloc::{AllocError, Global};
 use std::marker::Model;
@@ -36,6 +41,18 @@ impl Copies {
         Ok(Copies { flags, len: width })
     }
 
+    /// Copies of `width` bits that open at those of `words`.
+    pub fn open(alloc: Global, width: usize, words: &[u64]) -> Result<Copies, AllocError>
+        requires { width ≤ 64 * length words.now }
+        ensures { IfOk result (λ copies. copies ≡ map new_cell (bits_of_words words.now width)) }
+    {
+        let mut flags = Vec::new(alloc);
+        for place in 0..width.div_ceil(64) {
+            flags.push(Flags::open(words[place]))?;
+        }
+        Ok(Copies { flags, len: width })
+    }
+
     /// The copy of bit `k` goes on by one access.
     #[inline]
     pub fn go_on(&mut self, k: usize, how: Move)
@@ -45,21 +62,20 @@ impl Copies {
         self.flags[k / 64].go_on(k % 64, how);
     }
 
-    /// What the end of the open read of bit `k` gives.
-    #[inline]
-    pub fn answer(&self, k: usize, flick: bool) -> bool
-        requires { k < length self.now }
-        ensures { result ≡ read_answer (cell_in self.now k) flick }
-    {
-        self.flags[k / 64].answer(k % 64, flick)
-    }
-
     /// Drops the open read of bit `k`.
     pub fn drop_read(&mut self, k: usize)
         requires { k < length self.old }
         ensures { self.new ≡ slice_set self.old k (without_read (cell_in self.old k)) }
     {
         self.flags[k / 64].drop_read(k % 64);
+    }
+
+    /// Bit `k` is as if it had opened at `value`.
+    pub fn preset(&mut self, k: usize, value: bool)
+        requires { k < length self.old }
+        ensures { self.new ≡ slice_set self.old k (new_cell value) }
+    {
+        self.flags[k / 64].preset(k % 64, value);
     }
 
     /// Drops every open read.
@@ -71,20 +87,76 @@ impl Copies {
         }
     }
 
-    /// Bit `k` is as if it had opened at `value`.
-    pub fn preset(&mut self, k: usize, value: bool)
-        requires { k < length self.old }
-        ensures { self.new ≡ slice_set self.old k (new_cell value) }
+    /// Becomes as the other, of as many bits. It takes no memory.
+    pub fn copy_from(&mut self, other: &Copies)
+        requires { length self.old ≡ length other.now }
+        ensures { self.new ≡ other.now }
     {
-        self.flags[k / 64].preset(k % 64, value);
+        self.flags.copy_from_slice(&other.flags);
+    }
+
+    /// What the end of the open read of bit `k` gives.
+    #[inline]
+    pub fn answer(&self, k: usize, flick: bool) -> bool
+        requires { k < length self.now }
+        ensures { result ≡ read_answer (cell_in self.now k) flick }
+    {
+        self.flags[k / 64].answer(k % 64, flick)
+    }
+
+    /// The copy of bit `k` goes on by begin or end of a read, without a branch on which.
+    #[inline(always)]
+    pub fn read_next(&mut self, k: usize, begun: bool)
+        requires { k < length self.old }
+        ensures { self.new ≡ slice_set self.old k (cell_after (cell_in self.old k) (if begun then Move.EndRead false else Move.BeginRead)) }
+    {
+        self.flags[k / 64].read_next(k % 64, begun);
+    }
+
+    /// So many bits of one word go on by begin and end of a read.
+    pub fn read_word(&mut self, k: usize, n: usize)
+        requires some { 1 ≤ n }
+        requires word { k % 64 + n ≤ 64 }
+        requires there { k + n ≤ length self.old }
+        ensures { self.new ≡ over n (λ i c. after_read c) k self.old }
+    {
+        self.flags[k / 64].read_where(mask(k % 64, n));
+    }
+
+    /// So many bits of one word go on by begin and end of a write of these.
+    pub fn write_word(&mut self, k: usize, n: usize, word: u64)
+        requires some { 1 ≤ n }
+        requires word { k % 64 + n ≤ 64 }
+        requires there { k + n ≤ length self.old }
+        ensures { self.new ≡ over n (λ i c. after_write (flag_in word (i % 64)) c) k self.old }
+    {
+        self.flags[k / 64].write_where(mask(k % 64, n), word);
+    }
+
+    /// Whether no write is open on so many bits of one word. Where it answers `false` it says nothing.
+    pub fn is_quiet(&self, k: usize, n: usize) -> bool
+        requires some { 1 ≤ n }
+        requires word { k % 64 + n ≤ 64 }
+        requires there { k + n ≤ length self.now }
+        ensures { result ≡ true → (j : ℕ) → j < n → (cell_in self.now (k + j)).writing ≡ false }
+    {
+        self.flags[k / 64].is_quiet(mask(k % 64, n))
+    }
+
+    /// The word that bit `k` stands in.
+    pub fn word(&self, k: usize) -> u64
+        requires { k < length self.now }
+        ensures { (i : ℕ) → i / 64 ≡ k / 64 → i < length self.now → flag_in result (i % 64) ≡ (cell_in self.now i).value }
+    {
+        self.flags[k / 64].word()
     }
 
     /// What the copy of bit `k` is.
     #[inline]
-    pub fn value(&self, k: usize) -> bool
+    pub fn seen(&self, k: usize) -> BitSeen
         requires { k < length self.now }
-        ensures { result ≡ (cell_in self.now k).value }
+        ensures { result ≡ bit_seen (cell_in self.now k) }
     {
-        self.flags[k / 64].value(k % 64)
+        self.flags[k / 64].seen(k % 64)
     }
 }

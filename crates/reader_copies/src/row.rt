@@ -155,7 +155,7 @@ impl CopiedRow {
         requires closed { (cell_at self.now bit reader).writing ≡ false }
         ensures { result ≡ (cell_at self.now bit reader).value }
     {
-        self.copies[reader as usize].value(bit as usize)
+        self.copies[reader as usize].seen(bit as usize).value
     }
 
     /// Sets all copies of a bit to `value`, while no access to it is open.

@@ -3,10 +3,12 @@ use Rattle.std.proofs.Common.{◌≡◌, ◌<◌, ◌+◌, ◌*◌, ◌/◌, ◌
 use Rattle.std.proofs.lemmas.Bool.{cases_eq}
 use Rattle.std.proofs.lemmas.List.{ext_get_or, get_or_default, get_or-map, length-map}
 use Rattle.safe_bit.specs.Cell.{Cell, new_cell}
-use Rattle.registers.specs.Memory.{cell_in, lane_of}
-use Rattle.registers.specs.Words.{bit_of_words, bits_of_words}
-use Rattle.registers.specs.Flags.{flag_in}
-use Rattle.registers.proofs.Words.{bit-elsewhere, bit-found, bit-in_word, length-bits}
+use Rattle.reader_copies.specs.Row.{cell_in}
+use Rattle.registers.specs.Memory.{lane_of}
+use Rattle.reader_copies.specs.Words.{bit_of_words, bits_of_words}
+use Rattle.reader_copies.specs.Flags.{flag_in}
+use Rattle.reader_copies.proofs.Words.{bit-found, length-bits}
+use Rattle.registers.proofs.Words.{bit-elsewhere, bit-in_word}
 
 -- words that have the values of a lane's cells hold them
 pub values-kept : (words : List ℕ) (lane : List Cell) (n : ℕ) → length lane ≡ n → ((k : ℕ) → k < n → bit_of_words words k ≡ (cell_in lane k).value) → bits_of_words words n ≡ map (λ (c : Cell). c.value) lane

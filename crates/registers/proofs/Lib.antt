@@ -1,12 +1,9 @@
 pub mod AtOnce
-pub mod Cells
 pub mod ClosingMoves
 pub mod CursorRuns
-pub mod Flags
 pub mod Held
 pub mod Iterates
 pub mod Kept
-pub mod Masks
 pub mod Numbers
 pub mod Openings
 pub mod Over

@@ -5,11 +5,13 @@ use Rattle.safe_bit.specs.Cell.{Cell, new_cell, cell_after, read_answer}
 use Rattle.safe_bit.specs.declared.moves.Move.{Move}
 use Rattle.safe_bit.specs.declared.moves.Move.TheVariants.{BeginRead, EndRead}
 use Rattle.flicks.specs.Flicks.{FlickState, flick_of, after_flick, flicks_after}
-use Rattle.registers.specs.Memory.{cell_at, cell_in, lane_of, moved}
+use Rattle.reader_copies.specs.Row.{cell_in}
+use Rattle.registers.specs.Memory.{cell_at, lane_of, moved}
 use Rattle.registers.specs.Cursors.{CursorState, first_lane}
 use Rattle.registers.specs.Accesses.{read_access, reads_of}
-use Rattle.registers.specs.Wordwise.{after_read, over, more_bits}
-use Rattle.registers.proofs.Over.{length-over, over-outside}
+use Rattle.reader_copies.specs.Wordwise.{after_read, over}
+use Rattle.registers.specs.Wordwise.{more_bits}
+use Rattle.reader_copies.proofs.Over.{length-over, over-outside}
 
 -- a cell that was changed
 pub cell-moved : (memory : List (List Cell)) (lane bit : ℕ) (how : Move) → lane < length memory → bit < length (lane_of memory lane) → cell_at (moved memory lane bit how) lane bit ≡ cell_after (cell_at memory lane bit) how

@@ -8,9 +8,11 @@ use Rattle.std.proofs.lemmas.Nat.{pow_pos}
 use Rattle.std.proofs.lemmas.Nat.Bits.{bit_at_cat_high, bit_at_cat_low}
 use Rattle.safe_number.specs.Bytes.{AreBytes, bit_in, bits_in, little_endian}
 use Rattle.safe_number.proofs.Bits.{bit_in-number}
-use Rattle.registers.specs.Flags.{flag_in}
-use Rattle.registers.specs.Words.{bit_of_words, bits_of_words, byte_of_word}
-use Rattle.registers.proofs.Words.{bit-elsewhere, bit-found, bit-in_word, length-bits}
+use Rattle.reader_copies.specs.Flags.{flag_in}
+use Rattle.reader_copies.specs.Words.{bit_of_words, bits_of_words}
+use Rattle.registers.specs.Words.{byte_of_word}
+use Rattle.reader_copies.proofs.Words.{bit-found, length-bits}
+use Rattle.registers.proofs.Words.{bit-elsewhere, bit-in_word}
 
 bit-shifted : (w k i : ℕ) → bit_at (w / 2 ^ k) i ≡ bit_at w (k + i)
 bit-shifted w k i =

@@ -1,11 +1,11 @@
 -- Words as a list of bits.
 use Rattle.std.proofs.Common.{true, ◌≡◌, ◌≢◌, ℕ, zero, suc, ◌+◌, ◌/◌, ◌%◌, ◌<◌, ◌≤◌, Bool, false, cond, List, [], ◌∷◌, ◌++◌, set, get_or, length, refl, sym, ◌∙◌, arith, ap, inl, inr}
 use Rattle.std.proofs.lemmas.Bool.{cases_eq}
-use Rattle.std.proofs.lemmas.List.{get_or-set_same, get_or-set_other, get_or_append_left, get_or_push, length_push}
+use Rattle.std.proofs.lemmas.List.{get_or-set_same, get_or-set_other}
 use mir.Val.{bool_byte}
-use Rattle.registers.specs.Flags.{IsMask, SetsFlag, flag_in}
+use Rattle.reader_copies.specs.Flags.{IsMask, SetsFlag, flag_in}
 use Rattle.registers.specs.Wordwise.{more_bits}
-use Rattle.registers.specs.Words.{bit_of_words, bits_of_words}
+use Rattle.reader_copies.specs.Words.{bit_of_words, bits_of_words}
 
 pub bits-same : (a b : List ℕ) (n : ℕ) → ((i : ℕ) → i < n → bit_of_words a i ≡ bit_of_words b i) → bits_of_words a n ≡ bits_of_words b n
 bits-same a b zero same = refl
@@ -13,18 +13,6 @@ bits-same a b (suc n) same =
     let before : bits_of_words a n ≡ bits_of_words b n = bits-same a b n (λ i h. same i (omega arith)) in
     let last : bit_of_words a n ≡ bit_of_words b n = same n (omega arith) in
     ap (λ bits. bits ++ bit_of_words a n ∷ []) before ∙ ap (λ v. bits_of_words b n ++ v ∷ []) last
-
-pub length-bits : (a : List ℕ) (n : ℕ) → length (bits_of_words a n) ≡ n
-length-bits a zero = refl
-length-bits a (suc n) = length_push (bits_of_words a n) (bit_of_words a n) ∙ omega (arith, length-bits a n)
-
--- a bit of a list of bits
-pub bit-found : (a : List ℕ) (n k : ℕ) → k < n → get_or (bits_of_words a n) k false ≡ bit_of_words a k
-bit-found a zero k h = absurd (omega arith)
-bit-found a (suc n) k h = elim (cases_eq k n) [
-  | inl e ↦ get_or_push (bits_of_words a n) (bit_of_words a n) false k (length-bits a n ∙ sym e) ∙ ap (bit_of_words a) (sym e)
-  | inr e ↦ get_or_append_left (bits_of_words a n) (bit_of_words a n ∷ []) false k (omega (arith, length-bits a n)) ∙ bit-found a n k (omega arith)
-]
 
 -- a word is written where it stands
 pub bit-in_word : (words : List ℕ) (place now i : ℕ) → place < length words → i / 64 ≡ place → bit_of_words (set words place now) i ≡ flag_in now (i % 64)

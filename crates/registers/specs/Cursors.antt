@@ -4,7 +4,7 @@ use Rattle.safe_bit.specs.Cell.{Cell}
 use Rattle.registers.specs.declared.fields.RegisterName.{RegisterName}
 use Rattle.record.specs.Moves.{field_number}
 use Rattle.registers.specs.Memory.{HasLanes}
-use Rattle.registers.specs.Words.{bits_of_words}
+use Rattle.reader_copies.specs.Words.{bits_of_words}
 use Rattle.registers.specs.declared.cursor.NumberRun.{NumberRun}
 use Rattle.registers.specs.declared.cursor.NumberRun.TheVariants.{Reads, Writes, Settles}
 

@@ -5,12 +5,10 @@ pub mod Accesses
 pub mod AtParts
 pub mod Begins
 pub mod Cursors
-pub mod Flags
 pub mod Laws
 pub mod Loops
 pub mod Memory
 pub mod Openings
 pub mod Rows
-pub mod Seeing
 pub mod Wordwise
 pub mod Words

@@ -1,11 +1,8 @@
 -- A memory of safe bits: lanes of cells. A lane holds the copies that one reader has of one register, bit by bit.
-use Rattle.std.specs.Prelude.{ℕ, ◌<◌, ◌≤◌, ◌+◌, List, [], false, length, map, slice_index_or, slice_set}
-use Rattle.safe_bit.specs.Cell.{Cell, new_cell, cell_after, without_read}
+use Rattle.std.specs.Prelude.{ℕ, ◌<◌, ◌≤◌, ◌+◌, List, [], length, map, slice_index_or, slice_set}
+use Rattle.safe_bit.specs.Cell.{Cell, cell_after, without_read}
 use Rattle.safe_bit.specs.declared.moves.Move.{Move}
-
--- bit k of a lane
-abbrev pub cell_in : List Cell → ℕ → Cell
-cell_in lane k = slice_index_or lane k (new_cell false)
+use Rattle.reader_copies.specs.Row.{cell_in}
 
 -- a lane of a memory
 abbrev pub lane_of : List (List Cell) → ℕ → List Cell

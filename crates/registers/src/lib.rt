@@ -4,19 +4,16 @@
 #![tactic(auto)]
 
 mod access_made;
-mod bit_seen;
-mod copies;
 mod cursor;
 mod fields;
-mod flag_words;
 mod laws;
 mod memory;
 mod word_bytes;
 
 pub use access_made::AccessMade;
-pub use bit_seen::BitSeen;
 pub use cursor::{Cursor, NumberRun, given};
 pub use fields::{FIELDS, RegisterName, width_of};
 pub use laws::cursors_follow_places;
 pub use memory::BitMemory;
+pub use reader_copies::BitSeen;
 pub use word_bytes::words_of;

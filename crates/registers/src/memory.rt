@@ -6,21 +6,22 @@ ghost use Rattle.flicks.specs.Flicks.{FlickState, flicks_after};
 ghost use Rattle.registers.specs.Accesses.{answer_of, applied, cursor_after, ends_overlapped, ends_read, next_access, next_answered, overlapped_of, overlapped_reads, read_after, read_move, read_overlaps, reads_of, run_of, write_access, writes_of};
 ghost use Rattle.registers.specs.Begins.{is_settling};
 ghost use Rattle.registers.specs.Cursors.{Fits, first_lane, rest_of, rest_by};
-ghost use Rattle.registers.specs.Flags.{flag_in};
+ghost use Rattle.reader_copies.specs.Flags.{flag_in};
 ghost use Rattle.registers.specs.Memory.{HasLanes, cell_at, moved, without_reads};
 ghost use Rattle.registers.specs.Openings.{AreOfOneSetup, field_numbered, opening_lane, opening_memory};
-ghost use Rattle.registers.specs.Words.{bits_of_words};
-ghost use Rattle.registers.specs.Wordwise.{after_write, over, over_lanes};
+ghost use Rattle.reader_copies.specs.Words.{bits_of_words};
+ghost use Rattle.reader_copies.specs.Wordwise.{after_write, over};
+ghost use Rattle.registers.specs.Wordwise.{over_lanes};
 
 mod held;
 mod seeing;
 
 use crate::access_made::AccessMade;
-use crate::copies::BitLane;
 use crate::cursor::{Cursor, NumberRun};
 use crate::fields::{FIELDS, width_of};
 use flicks::Flicks;
 use plain_store::Setup;
+use reader_copies::Copies;
 use record::{Access, Field, Move};
 use std::alloc::{AllocError, Global};
 use std::marker::Model;
@@ -30,7 +31,7 @@ use std::marker::Model;
 /// Contracts see them as lanes: lane `lane_number` holds the copies that one reader has of one register, bit by bit.
 #[derive(Drop)]
 pub struct BitMemory {
-    lanes: Vec<BitLane>,
+    lanes: Vec<Copies>,
 }
 
 impl Model for BitMemory {
@@ -359,22 +360,17 @@ fn ends_read(how: Move) -> bool
 }
 
 /// A lane as it opens.
-fn open_lane(
-    alloc: Global,
-    setup: &Setup,
-    image: &[u64],
-    lane: usize,
-) -> Result<BitLane, AllocError>
+fn open_lane(alloc: Global, setup: &Setup, image: &[u64], lane: usize) -> Result<Copies, AllocError>
     requires good { checked setup.now ≡ Ok tt }
     requires image { width setup.now Field.Image0 ≤ 64 * length image.now }
     ensures { IfOk result (λ copies. copies ≡ opening_lane setup.now (bits_of_words image.now (width setup.now Field.Image0)) lane) }
 {
     let register = lane / usize::from(setup.processes);
     if register == 5 {
-        BitLane::open(alloc, usize::from(width_of(Field::Image0, setup)), image)
+        Copies::open(alloc, usize::from(width_of(Field::Image0, setup)), image)
     } else {
         let field = field_numbered(register % 7);
-        BitLane::new(alloc, usize::from(width_of(field, setup)))
+        Copies::new(alloc, usize::from(width_of(field, setup)))
     }
 }
 

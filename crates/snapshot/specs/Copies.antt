@@ -17,8 +17,8 @@ use Rattle.record.specs.Entries.{Past}
 use Rattle.record.specs.Registers.{bytes_of_bits, image_bytes, opening_bit, processes, width}
 use Rattle.record_file.specs.Printing.{field_word}
 use Rattle.calls.specs.read_law.laws.Held.{cell_held}
-use Rattle.world.specs.process.registers.Seeing.{bit_seen}
-use Rattle.world.specs.process.registers.declared.bit_seen.BitSeen.{BitSeen}
+use Rattle.world.specs.process.registers.reader_copies.Seeing.{bit_seen}
+use Rattle.world.specs.process.registers.reader_copies.declared.bit_seen.BitSeen.{BitSeen}
 use Rattle.snapshot.specs.Stores.{number_word, store_text}
 
 -- Bits.

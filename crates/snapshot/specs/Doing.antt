@@ -24,7 +24,7 @@ use Rattle.world.specs.process.Looks.{number_read, settling_of, ticket_known}
 use Rattle.world.specs.process.declared.looks.Settling.{Settling as Torn}
 use Rattle.world.specs.process.declared.looks.TicketKnown.{TicketKnown}
 use Rattle.world.specs.process.declared.looks.TicketKnown.TheVariants.{Above, Is}
-use Rattle.world.specs.process.registers.declared.bit_seen.BitSeen.{BitSeen}
+use Rattle.world.specs.process.registers.reader_copies.declared.bit_seen.BitSeen.{BitSeen}
 use Rattle.snapshot.specs.declared.kept.ProcessKept.{ProcessKept}
 use Rattle.snapshot.specs.Copies.{bit_at, copy_text, is_image}
 use Rattle.snapshot.specs.Keeping.{kept}

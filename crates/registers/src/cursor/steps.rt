@@ -2,11 +2,11 @@
 ghost use Rattle.std.specs.Prelude.{◌≡◌, ℕ, ◌<◌, ◌≤◌, ◌+◌, ◌*◌, ◌/◌, ◌%◌, true, false, slice_index_or};
 ghost use Rattle.registers.specs.Accesses.{read_after, write_after, write_move};
 ghost use Rattle.registers.specs.Cursors.{IsAtCopy, first_lane};
-ghost use Rattle.registers.specs.Flags.{flag_in};
+ghost use Rattle.reader_copies.specs.Flags.{flag_in};
 ghost use Rattle.registers.specs.Wordwise.{more_bits};
 
 use super::{Cursor, NumberRun, word_at};
-use crate::flag_words::{all_flags, choose, has_flag, mask, one_flag};
+use reader_copies::{all_flags, choose, has_flag, mask, one_flag};
 use record::Move;
 
 impl Cursor {

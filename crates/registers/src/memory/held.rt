@@ -5,7 +5,7 @@ ghost use Rattle.record.specs.Registers.{width};
 ghost use Rattle.safe_number.specs.Bytes.{bit_in, number_of_bits};
 ghost use Rattle.registers.specs.Openings.{AreOf};
 ghost use Rattle.registers.specs.Rows.{values_held};
-ghost use Rattle.registers.specs.Words.{bits_of_words};
+ghost use Rattle.reader_copies.specs.Words.{bits_of_words};
 
 use super::BitMemory;
 use crate::cursor::{lane_number, low_bits};

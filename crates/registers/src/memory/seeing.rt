@@ -5,13 +5,13 @@ ghost use Rattle.record.specs.Registers.{width};
 ghost use Rattle.registers.specs.Accesses.{lane_of_access};
 ghost use Rattle.registers.specs.Memory.{cell_at};
 ghost use Rattle.registers.specs.Openings.{AreOf};
-ghost use Rattle.registers.specs.Seeing.{bit_seen};
+ghost use Rattle.reader_copies.specs.Seeing.{bit_seen};
 
 use super::BitMemory;
-use crate::bit_seen::BitSeen;
 use crate::cursor::lane_number;
 use crate::fields::RegisterName;
 use plain_store::Setup;
+use reader_copies::BitSeen;
 use record::Access;
 
 impl BitMemory {

@@ -5,7 +5,7 @@ ghost use Rattle.laws.specs.Doings.{doing};
 ghost use Rattle.laws.specs.Held.{cell_held};
 ghost use Rattle.process.specs.Looks.{number_read};
 ghost use Rattle.process.specs.Places.{process_after};
-ghost use Rattle.process.specs.registers.Seeing.{bit_seen};
+ghost use Rattle.process.specs.registers.reader_copies.Seeing.{bit_seen};
 ghost use Rattle.world.specs.Cores.{InEachCorePast};
 
 use super::Core;

@@ -8,7 +8,7 @@ use Rattle.record.specs.safe_number.Bytes.{bits_in}
 use Rattle.store_image.specs.Image.{image_of}
 use Rattle.registers.proofs.WordBytes.{bits-as-bytes}
 use Rattle.registers.specs.Openings.{opening_memory}
-use Rattle.registers.specs.Words.{bits_of_words}
+use Rattle.registers.specs.reader_copies.Words.{bits_of_words}
 use Rattle.process.specs.Memories.{cells_opening, memory_with}
 use Rattle.process.proofs.MemoriesOpening.{opening-with}
 use Rattle.process.proofs.PartOver.{bits-padded}

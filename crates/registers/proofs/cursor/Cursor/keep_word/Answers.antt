@@ -1,7 +1,7 @@
 use Rattle.std.proofs.Common.{◌≡◌, ◌<◌, ◌≤◌, ◌+◌, ◌/◌, ◌%◌, ℕ, List, Bool, set, arith, ◌∙◌, length, ap, sym}
 use Rattle.registers.specs.Cursors.{CursorState, bits_kept}
-use Rattle.registers.specs.Flags.{flag_in}
-use Rattle.registers.specs.Words.{bits_of_words}
+use Rattle.reader_copies.specs.Flags.{flag_in}
+use Rattle.reader_copies.specs.Words.{bits_of_words}
 use Rattle.registers.specs.Wordwise.{more_bits}
 use Rattle.registers.specs.declared.cursor.NumberRun.TheVariants.{Reads}
 use Rattle.registers.proofs.Words.{bits-chosen}

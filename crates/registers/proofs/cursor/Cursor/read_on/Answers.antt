@@ -2,9 +2,9 @@ use Rattle.std.proofs.Common.{◌≡◌, ◌<◌, ◌+◌, ◌/◌, ◌%◌, ◌
 use mir.Val.{bool_byte}
 use Rattle.registers.specs.Accesses.{read_after}
 use Rattle.registers.specs.Cursors.{CursorState, bits_kept}
-use Rattle.registers.specs.Flags.{SetsFlag, flag_in}
+use Rattle.reader_copies.specs.Flags.{SetsFlag, flag_in}
 use Rattle.registers.specs.declared.cursor.NumberRun.TheVariants.{Reads}
-use Rattle.registers.proofs.Flags.{flag-both}
+use Rattle.reader_copies.proofs.Flags.{flag-both}
 use Rattle.registers.proofs.Words.{bits-gone, next-bit}
 use Rattle.registers.proofs.cursor.Cursor.read_on.Goals as goal
 

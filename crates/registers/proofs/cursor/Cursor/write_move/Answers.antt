@@ -2,9 +2,9 @@ use Rattle.std.proofs.Common.{◌≡◌, ◌<◌, ◌%◌, false, cond, get_or, 
 use Rattle.safe_bit.specs.declared.moves.Move.TheVariants.{BeginWrite, EndWrite}
 use Rattle.registers.specs.Accesses.{write_move}
 use Rattle.registers.specs.Cursors.{CursorState, bits_kept}
-use Rattle.registers.specs.Flags.{flag_in}
+use Rattle.reader_copies.specs.Flags.{flag_in}
 use Rattle.registers.specs.declared.cursor.NumberRun.TheVariants.{Writes}
-use Rattle.registers.proofs.Words.{bit-found}
+use Rattle.reader_copies.proofs.Words.{bit-found}
 use Rattle.registers.proofs.cursor.Cursor.write_move.Goals as goal
 
 pub returns-else-self : goal.returns-else-self

@@ -1,7 +1,8 @@
 use Rattle.std.proofs.Common.{◌≡◌, length, ap, ◌∙◌, arith}
 use Rattle.registers.specs.Accesses.{lane_of_access}
-use Rattle.registers.specs.Memory.{cell_in, lane_of}
-use Rattle.registers.specs.Seeing.{bit_seen}
+use Rattle.reader_copies.specs.Row.{cell_in}
+use Rattle.registers.specs.Memory.{lane_of}
+use Rattle.reader_copies.specs.Seeing.{bit_seen}
 use Rattle.registers.proofs.Held.{lane-found}
 use Rattle.registers.proofs.Openings.{access-lane}
 use Rattle.registers.proofs.memory.BitMemory.bit_seen.Goals as goal

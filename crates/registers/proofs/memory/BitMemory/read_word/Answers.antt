@@ -5,7 +5,7 @@ use Rattle.flicks.specs.Flicks.{FlickState, flicks_after}
 use Rattle.registers.specs.Accesses.{overlapped_reads}
 use Rattle.registers.specs.Memory.{lane_of}
 use Rattle.registers.specs.Cursors.{CursorState, first_lane}
-use Rattle.registers.specs.Wordwise.{after_read, over}
+use Rattle.reader_copies.specs.Wordwise.{after_read, over}
 use Rattle.registers.proofs.AtOnce.{read-at_once}
 use Rattle.registers.proofs.Overlaps.{none-overlapped}
 use Rattle.registers.proofs.memory.BitMemory.read_word.Goals as goal

@@ -1,9 +1,9 @@
 use Rattle.std.proofs.Common.{◌≡◌, ◌<◌, ◌+◌, ◌%◌, ℕ, List, [], length, arith, ◌∙◌, ap}
 use Rattle.std.proofs.lemmas.List.{get_or_default}
 use Rattle.safe_bit.specs.Cell.{Cell}
-use Rattle.registers.specs.Flags.{flag_in}
+use Rattle.reader_copies.specs.Flags.{flag_in}
 use Rattle.registers.specs.Memory.{lane_of}
-use Rattle.registers.specs.Wordwise.{after_write, over}
+use Rattle.reader_copies.specs.Wordwise.{after_write, over}
 use Rattle.registers.proofs.Over.{lanes-above, length-over_lanes}
 use Rattle.registers.proofs.memory.BitMemory.write_lanes.Goals as goal
 

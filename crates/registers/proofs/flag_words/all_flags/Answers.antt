@@ -1,7 +1,0 @@
-use Rattle.std.proofs.Common.{◌∙◌, ap, ◌+◌, ◌-◌, ◌%◌}
-use Rattle.registers.specs.Flags.{flag_in}
-use Rattle.registers.proofs.Flags.{flag-all}
-use Rattle.registers.proofs.flag_words.all_flags.Goals as goal
-
-pub returns : goal.returns
-returns c = λ i below. ap (λ n. flag_in ((0 + (18446744073709551616 - n)) % 18446744073709551616) i) c.from.ensures ∙ flag-all c.args.flag i below

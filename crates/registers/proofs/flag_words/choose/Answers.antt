@@ -1,5 +1,0 @@
-use Rattle.registers.proofs.Flags.{flag-chosen}
-use Rattle.registers.proofs.flag_words.choose.Goals as goal
-
-pub returns : goal.returns
-returns c = λ i. flag-chosen c.args.among c.args.ones c.args.zeros i
