@@ -6,6 +6,7 @@ use Rattle.std.proofs.lemmas.List.{get_or-set_same, get_or-set_other}
 use Rattle.std.proofs.lemmas.List.FromFn.{get_or-map-range_with_len, length-map-range_with_len, map-range_with_len_more}
 use Rattle.std.specs.List.{range_with_len}
 use Rattle.plain_store.specs.declared.Setup.{Setup}
+use Rattle.record.specs.safe_bit.declared.Move.{Move}
 use Rattle.record.specs.declared.access.Access.{Access}
 use Rattle.record.specs.declared.marks.Mark.{Mark}
 use Rattle.record.specs.Entries.{Entry, Past}
@@ -14,11 +15,11 @@ use Rattle.calls.specs.declared.called.EntryKnown.{EntryKnown}
 use Rattle.calls.specs.declared.standing.CallStanding.{CallStanding}
 use Rattle.world.specs.Walks.{ends_overlapped_read}
 use Rattle.calls.specs.Columns.{is_read, is_write, makes_itself}
-use Rattle.calls.specs.Hearing.{ComesInTurn, GoesOn, HasHeard, TableState, ended_call}
-use Rattle.calls.specs.Passing.{HasNotFailed, HaveRoom, Passes, passed}
+use Rattle.calls.specs.Hearing.{ComesInTurn, GoesBy, GoesOn, HasHeard, TableState, ended_call}
+use Rattle.calls.specs.Passing.{HasAccessed, HasNotFailed, HaveRoom, Passes, passed, reads_begun, writes_begun}
 use Rattle.calls.specs.Stepping.{AreFew, at_rest, heard, standing}
 use Rattle.calls.proofs.InCall.{calls-few, count-few}
-use Rattle.calls.proofs.Passing.{HasPassed, passes}
+use Rattle.calls.proofs.Passing.{HasPassed, passed_by, passes, reads_few, writes_few}
 use Rattle.calls.proofs.Steps.{standing-heard, standing-other}
 
 -- a look into a list that was set
@@ -113,27 +114,30 @@ hears_entry old new q known access marks ended setup count few goes past e p a m
 
 -- And of entries that pass by, many at once.
 
-has_room_for : (s : Setup) (p : ℕ) (past : Past) (n : ℕ) → length past + n < 2 ^ 64 → HaveRoom (standing s p past).last.accesses n
-has_room_for s p past n few = record {
-  reads = omega (arith, count-few p (makes_itself p is_read) past, few);
-  writes = omega (arith, count-few p (makes_itself p is_write) past, few);
-  overlapped = omega (arith, count-few p ends_overlapped_read past, few);
-}
+has_room_for : (s : Setup) (p : ℕ) (past : Past) (n : ℕ) (how : Move) (overlapped : ℕ) → length past + n < 2 ^ 64 → overlapped ≤ n → HaveRoom (standing s p past).last.accesses (reads_begun n how) (writes_begun n how) overlapped
+has_room_for s p past n how overlapped room few =
+    let reads = reads_few n how in
+    let writes = writes_few n how in
+    record {
+      reads_fit = omega (arith, count-few p (makes_itself p is_read) past, reads, room);
+      writes_fit = omega (arith, count-few p (makes_itself p is_write) past, writes, room);
+      overlapped_fit = omega (arith, count-few p ends_overlapped_read past, few, room);
+    }
 
-pub hears_passing : (t : TableState) (p n : ℕ) (newest : Access) (overlapped : ℕ) (past after : Past) (then : CallStanding) → 0 < n → p < t.setup.processes → t.entries + n < 2 ^ 64 → Passes t.setup p n newest overlapped past after → HasNotFailed p past → HasHeard t past →
-    (HaveRoom (standing t.setup p past).last.accesses n → overlapped ≤ n → then ≡ passed t.entries n newest.how overlapped (standing t.setup p past)) →
+pub hears_passing : (t : TableState) (p n : ℕ) (newest : Access) (overlapped : ℕ) (past after : Past) (then : CallStanding) → 0 < n → p < t.setup.processes → t.entries + n < 2 ^ 64 → Passes t.setup p n newest overlapped past after → HasNotFailed p past → HasAccessed p past → HasHeard t past →
+    (HaveRoom (standing t.setup p past).last.accesses (reads_begun n newest.how) (writes_begun n newest.how) overlapped → then ≡ passed_by n newest.how overlapped (standing t.setup p past)) →
     HasHeard (record t { standings = slice_set t.standings p then; entries = t.entries + n }) after
-hears_passing t p zero newest overlapped past after then some below room by none h on = absurd (omega (arith, some))
-hears_passing t p (suc m) newest overlapped past after then some below room by none h on = record { standings = each; entries = ap (λ n. n + suc m) h.entries ∙ sym all.long }
+hears_passing t p zero newest overlapped past after then some below room by none there h on = absurd (omega (arith, some))
+hears_passing t p (suc m) newest overlapped past after then some below room by none there h on = record { standings = each; entries = ap (λ n. n + suc m) h.entries ∙ sym all.long }
   where
     s : Setup
     s = t.setup
 
     all : HasPassed s p (suc m) newest overlapped past after
-    all = passes m s p newest overlapped past after none by
+    all = passes m s p newest overlapped past after none there by
 
     now : then ≡ standing s p after
-    now = on (has_room_for s p past (suc m) (subst (λ n. n + suc m < 2 ^ 64) h.entries room)) all.few ∙ ap (λ n. passed n (suc m) newest.how overlapped (standing s p past)) h.entries ∙ sym all.standing_is
+    now = on (has_room_for s p past (suc m) newest.how overlapped (subst (λ n. n + suc m < 2 ^ 64) h.entries room) all.few) ∙ sym all.standing_is
 
     each : (q : ℕ) → q < s.processes → slice_get (slice_set t.standings p then) q ≡ Some (standing s q after)
     each q inside = elim (cases_eq q p) [
@@ -142,3 +146,18 @@ hears_passing t p (suc m) newest overlapped past after then some below room by n
       | inr apart ↦ slice_get-set_other t.standings p q then apart ∙ h.standings q inside
           ∙ ap Some (sym (all.others q (ne_eqb p q (λ h. apart (sym h)))))
     ]
+
+-- What a table makes of entries that pass by, so many of which begin a read or a write, whatever it has heard before.
+pub hears_by : (old new : TableState) (p n : ℕ) (how : Move) (reads writes overlapped : ℕ) → 0 < n → old.entries + n < 2 ^ 64 → reads ≡ reads_begun n how → writes ≡ writes_begun n how → new.setup ≡ old.setup → new.entries ≡ old.entries + n →
+    ((before : CallStanding) → slice_get old.standings p ≡ Some before → GoesBy old p reads writes overlapped before new.standings) →
+    (past after : Past) (newest : Access) → newest.how ≡ how → Passes old.setup p n newest overlapped past after → p < old.setup.processes → HasNotFailed p past → HasAccessed p past → HasHeard old past → HasHeard new after
+hears_by old new p n how reads writes overlapped some room reads_are writes_are setup count goes past after newest is by below none there h =
+    let s : Setup = old.setup in
+    let g : GoesBy old p reads writes overlapped (standing s p past) new.standings = goes (standing s p past) (h.standings p below) in
+    let reads_of : reads ≡ reads_begun n newest.how = reads_are ∙ ap (reads_begun n) (sym is) in
+    let writes_of : writes ≡ writes_begun n newest.how = writes_are ∙ ap (writes_begun n) (sym is) in
+    let then = λ (room : HaveRoom (standing s p past).last.accesses (reads_begun n newest.how) (writes_begun n newest.how) overlapped).
+    g.passes (subst (λ k. HaveRoom (standing s p past).last.accesses k writes overlapped) (sym reads_of) (subst (λ k. HaveRoom (standing s p past).last.accesses (reads_begun n newest.how) k overlapped) (sym writes_of) room))
+    ∙ (λ i. passed (reads_of i) (writes_of i) overlapped (standing s p past)) in
+    subst (λ (t : TableState). HasHeard t after) (sym (λ i. record { setup = setup i; standings = g.set i; entries = count i }))
+    (hears_passing old p n newest overlapped past after g.then some below room by none there h then)

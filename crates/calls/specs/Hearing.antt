@@ -1,5 +1,5 @@
 -- What a table of calls keeps of the entries that it has heard.
-use Rattle.std.specs.Prelude.{◌≡◌, ℕ, ◌<◌, ◌≤◌, true, false, not, ◌&&◌, List, ◌∷◌, length, cond, slice_get, slice_set, ◌-◌, ◌^◌, Option, None, Some, Ok}
+use Rattle.std.specs.Prelude.{◌≡◌, ℕ, ◌<◌, true, false, not, ◌&&◌, List, ◌∷◌, length, cond, slice_get, slice_set, ◌-◌, ◌^◌, Option, None, Some, Ok}
 use Rattle.plain_store.specs.declared.Setup.{Setup}
 use Rattle.plain_store.specs.Setups.{checked}
 use Rattle.record.specs.declared.access.Access.{Access}
@@ -62,8 +62,8 @@ pub record GoesOn (t : TableState) (p : ℕ) (known : EntryKnown) (access : Opti
   pub heard : before.last.call < 2 ^ 64 - 1 → AreFew before.last.accesses → then ≡ heard t.setup t.entries known access marks before
   pub is : ended ≡ cond (before.calling && not then.calling) (Some then.last) None
 
--- it goes on with so many entries within a number access, where it was this before
-pub record GoesBy (t : TableState) (p steps : ℕ) (newest : Access) (overlapped : ℕ) (before : CallStanding) (standings : List CallStanding) : Type 0 where
+-- it goes on with so many more reads and writes, where it was this before
+pub record GoesBy (t : TableState) (p reads writes overlapped : ℕ) (before : CallStanding) (standings : List CallStanding) : Type 0 where
   pub then : CallStanding
   pub set : standings ≡ slice_set t.standings p then
-  pub passes : HaveRoom before.last.accesses steps → overlapped ≤ steps → then ≡ passed t.entries steps newest.how overlapped before
+  pub passes : HaveRoom before.last.accesses reads writes overlapped → then ≡ passed reads writes overlapped before

@@ -1,10 +1,10 @@
 //! What an access tells of the call that makes it: what it begins or ends, and the number that is read.
-ghost use Rattle.std.specs.Prelude.{◌≡◌, ◌+◌, ◌-◌, ◌^◌, ◌<◌, ◌&&◌, cond, Some, Ok};
+ghost use Rattle.std.specs.Prelude.{◌≡◌, ◌+◌, ◌-◌, ◌^◌, ◌<◌, ◌&&◌, Some, Ok};
 ghost use Rattle.plain_store.specs.Setups.{checked};
 ghost use Rattle.record.specs.Program.{is_below as below};
 ghost use Rattle.record.specs.Registers.{width};
 ghost use Rattle.calls.specs.Columns.{ends_number, holds_up as holds, is_read as begins_read, is_write as begins_write, more_if as one_more_if, number_after as after, tells_waiting, with_bit as bit_with};
-ghost use Rattle.calls.specs.Passing.{begun_among, of_read, of_write};
+ghost use Rattle.calls.specs.Passing.{of_read, reads_begun, writes_begun};
 ghost use Rattle.calls.specs.Stepping.{waits_by};
 
 use crate::called::Marked;
@@ -36,10 +36,18 @@ pub(crate) fn is_write(how: Move) -> bool
     matches!(how, Move::BeginWrite(_))
 }
 
+/// Whether a move is one of a read.
+#[inline(always)]
+pub(crate) fn is_of_read(how: Move) -> bool
+    ensures { result ≡ of_read how }
+{
+    matches!(how, Move::BeginRead | Move::EndRead(_))
+}
+
 /// Of so many accesses that begin and end in turns, and of which the newest makes this move, so many begin a read.
 #[inline(always)]
 pub(crate) fn reads_among(steps: u32, newest: Move) -> u64
-    ensures { result ≡ cond (of_read newest) (begun_among steps (begins_read newest)) 0 }
+    ensures { result ≡ reads_begun steps newest }
 {
     match newest {
         Move::BeginRead => (u64::from(steps) + 1) / 2,
@@ -51,7 +59,7 @@ pub(crate) fn reads_among(steps: u32, newest: Move) -> u64
 /// So many begin a write.
 #[inline(always)]
 pub(crate) fn writes_among(steps: u32, newest: Move) -> u64
-    ensures { result ≡ cond (of_write newest) (begun_among steps (begins_write newest)) 0 }
+    ensures { result ≡ writes_begun steps newest }
 {
     match newest {
         Move::BeginWrite(_) => (u64::from(steps) + 1) / 2,

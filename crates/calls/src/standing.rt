@@ -1,5 +1,5 @@
 //! What is kept of a process, entry by entry.
-ghost use Rattle.std.specs.Prelude.{◌≡◌, ◌-◌, ◌^◌, ◌<◌, ◌≤◌, ◌&&◌, not, cond, None, Some, Ok};
+ghost use Rattle.std.specs.Prelude.{◌≡◌, ◌-◌, ◌^◌, ◌<◌, ◌&&◌, not, cond, None, Some, Ok};
 ghost use Rattle.plain_store.specs.Setups.{checked};
 ghost use Rattle.record.specs.Calls.{called_in as command_in};
 ghost use Rattle.record.specs.Doorways.{first_of as first};
@@ -7,11 +7,11 @@ ghost use Rattle.record.specs.Registers.{width};
 ghost use Rattle.calls.specs.Passing.{HaveRoom, passed, with_passed};
 ghost use Rattle.calls.specs.Stepping.{AreFew, accessed, heard, at_rest, begun, marked_all, marked_on, no_accesses, no_marks, with_access, with_mark};
 
-use crate::accesses::{is_read, is_write, more_if, reads_among, waits_by, writes_among};
+use crate::accesses::{is_read, is_write, more_if, waits_by};
 use crate::called::{Accesses, Called, EntryKnown, Marked};
 use plain_store::{Command, NestedTypes, Setup};
 use read_law::width;
-use record::{Access, Field, Mark, Move};
+use record::{Access, Field, Mark};
 
 /// What is kept of a process: its last call, and whether that goes on.
 #[derive(Clone, Copy, Debug)]
@@ -113,13 +113,13 @@ impl CallStanding {
             .note(setup, process, number, known, marks, access);
     }
 
-    /// So many accesses within a number access, of a process that has not failed in its call, the first of them of the entry
-    /// with this number; the newest makes this move, and so many end a read that a write overlapped.
+    /// So many more reads and writes of a process that has made an access before in its call and has not failed; so many
+    /// reads ended that a write overlapped.
     #[inline(always)]
-    pub fn pass(&mut self, number: u64, steps: u32, newest: Move, overlapped: u32)
-        ensures { HaveRoom self.old.last.accesses steps → overlapped ≤ steps → self.new ≡ passed number steps newest overlapped self.old }
+    pub fn pass(&mut self, reads: u64, writes: u64, overlapped: u32)
+        ensures { HaveRoom self.old.last.accesses reads writes overlapped → self.new ≡ passed reads writes overlapped self.old }
     {
-        self.last.accesses.pass(number, steps, newest, overlapped);
+        self.last.accesses.pass(reads, writes, overlapped);
     }
 
     /// The marks of the entry with this number.
@@ -185,26 +185,14 @@ impl Accesses {
 }
 
 impl Accesses {
-    /// So many more within a number access, of a process that has not failed; the first of them is of the entry with this
-    /// number.
+    /// So many more of a process that has not failed; none is the first.
     #[inline(always)]
-    fn pass(&mut self, number: u64, steps: u32, newest: Move, overlapped: u32)
-        ensures { HaveRoom self.old steps → overlapped ≤ steps → self.new ≡ with_passed number steps newest overlapped self.old }
+    fn pass(&mut self, reads: u64, writes: u64, overlapped: u32)
+        ensures { HaveRoom self.old reads writes overlapped → self.new ≡ with_passed reads writes overlapped self.old }
     {
-        if self.doorway.is_none() {
-            self.open(number);
-        }
-        self.reads = self.reads.wrapping_add(reads_among(steps, newest));
-        self.writes = self.writes.wrapping_add(writes_among(steps, newest));
+        self.reads = self.reads.wrapping_add(reads);
+        self.writes = self.writes.wrapping_add(writes);
         self.overlapped = self.overlapped.wrapping_add(u64::from(overlapped));
-    }
-
-    /// The doorway begins, with the entry of this number. It is no part of its caller, which has no call begin but seldom.
-    #[inline(never)]
-    fn open(&mut self, number: u64)
-        ensures { self.new ≡ record self.old { doorway = Some number } }
-    {
-        self.doorway = Some(number);
     }
 }
 

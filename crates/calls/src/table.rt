@@ -2,14 +2,16 @@ ghost use Rattle.std.specs.Prelude.{◌≡◌, ◌+◌, ◌-◌, ◌^◌, ◌<�
 ghost use Rattle.plain_store.specs.Setups.{checked};
 ghost use Rattle.record.specs.Calls.{calls_in};
 ghost use Rattle.record.specs.Entries.{Entry as Noted, Past, own};
+ghost use Rattle.record.specs.declared.access.Access.{Access as AccessMade};
 ghost use Rattle.calls.specs.declared.standing.CallStanding.{CallStanding as Stood};
-ghost use Rattle.calls.specs.Passing.{HasNotFailed, Passes};
+ghost use Rattle.calls.specs.Passing.{HasAccessed, HasNotFailed, Passes};
 ghost use Rattle.calls.specs.Hearing.{ComesInTurn, GoesBy, GoesOn, HasHeard, ended_call, open_call};
 
+use crate::accesses::{is_of_read, reads_among, writes_among};
 use crate::called::{Accesses, Called, EntryKnown, Marked};
 use crate::standing::{CallStanding, called_in};
 use plain_store::{NestedTypes, Setup};
-use record::{Access, Mark};
+use record::{Access, Mark, Move};
 use std::alloc::{AllocError, Global};
 use std::marker::Model;
 
@@ -73,35 +75,39 @@ impl CallTable {
         self.go_on(process, known, access, marks)
     }
 
-    /// So many more entries of a process within a number access, without a mark: the newest makes this access, and so many end
-    /// a read that a write overlapped. The process has not failed in its call.
+    /// So many more entries of a process within a number access, without a mark: the newest makes this move, and so many end
+    /// a read that a write overlapped. The process has made an access in its call, and has not failed.
     #[inline(always)]
-    pub fn pass(&mut self, process: u8, steps: u32, newest: &Access, overlapped: u32)
+    pub fn pass(&mut self, process: u8, steps: u32, newest: Move, overlapped: u32)
         requires some { 0 < steps }
         requires room { self.old.entries + steps < 2 ^ 64 }
         ensures setup { self.new.setup ≡ self.old.setup }
         ensures count { self.new.entries ≡ self.old.entries + steps }
-        ensures heard { (past after : Past) → Passes self.old.setup process steps newest.now overlapped past after → process < self.old.setup.processes → HasNotFailed process past → HasHeard self.old past → HasHeard self.new after }
+        ensures heard { (past after : Past) (access : AccessMade) → access.how ≡ newest → Passes self.old.setup process steps access overlapped past after → process < self.old.setup.processes → HasNotFailed process past → HasAccessed process past → HasHeard self.old past → HasHeard self.new after }
     {
-        self.pass_on(process, steps, newest, overlapped);
+        // Asked first of all: where its caller knows what was made, a compiler keeps one of the two ways there.
+        if is_of_read(newest) {
+            self.pass_on(process, steps, reads_among(steps, newest), 0, overlapped);
+        } else {
+            self.pass_on(process, steps, 0, writes_among(steps, newest), overlapped);
+        }
     }
 
-    /// The same, by what is kept of their process.
+    /// The same, by what is kept of their process: so many of them begin a read, and so many a write.
     #[inline(always)]
-    fn pass_on(&mut self, process: u8, steps: u32, newest: &Access, overlapped: u32)
+    fn pass_on(&mut self, process: u8, steps: u32, reads: u64, writes: u64, overlapped: u32)
         requires { self.old.entries + steps < 2 ^ 64 }
         ensures setup { self.new.setup ≡ self.old.setup }
         ensures count { self.new.entries ≡ self.old.entries + steps }
-        ensures goes { (before : Stood) → slice_get self.old.standings process ≡ Some before → GoesBy self.old process steps newest.now overlapped before self.new.standings }
+        ensures goes { (before : Stood) → slice_get self.old.standings process ≡ Some before → GoesBy self.old process reads writes overlapped before self.new.standings }
     {
         let _nested: NestedTypes = None;
-        let number = self.entries;
         self.entries += u64::from(steps);
         let place = usize::from(process);
         if place >= self.standings.len() {
             return;
         }
-        self.standings[place].pass(number, steps, newest.how, overlapped);
+        self.standings[place].pass(reads, writes, overlapped);
     }
 
     /// The same, by what is kept of its process.

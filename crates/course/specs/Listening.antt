@@ -5,6 +5,7 @@ use Rattle.plain_store.specs.Setups.{checked}
 use Rattle.record.specs.declared.events.Event.{Event}
 use Rattle.record.specs.declared.events.Event.TheVariants.{Step}
 use Rattle.record.specs.declared.history.Taken.{Taken}
+use Rattle.record.specs.safe_bit.declared.Move.{Move}
 use Rattle.record.specs.declared.access.Access.{Access}
 use Rattle.record.specs.Entries.{Past}
 use Rattle.record.specs.Given.{AreGiven}
@@ -91,9 +92,9 @@ HearsTold Hears told taken was is = (s : Setup) (before : List Happening) (this 
 abbrev pub HearsUnmarked : {L : Type 0} → (L → Setup → List Happening → List Happening → L → Type 0) → Stepped → L → L → Type 0
 HearsUnmarked Hears made was is = (s : Setup) (before : List Happening) → StepsOn s before made → Hears was s before (Tries (Step made.process made.flick) ∷ before) is
 
--- so many Steps of p within a number access are heard of, the access of the newest, and how many end a read that a write overlapped
-abbrev pub HearsPassing : {L : Type 0} → (L → Setup → List Happening → List Happening → L → Type 0) → ℕ → ℕ → Access → ℕ → L → L → Type 0
-HearsPassing Hears p steps newest overlapped was is = (s : Setup) (before after : List Happening) → PassBy s p steps newest overlapped before after → Hears was s before after is
+-- so many Steps of p within a number access are heard of, the move that the newest makes, and how many end a read that a write overlapped
+abbrev pub HearsPassing : {L : Type 0} → (L → Setup → List Happening → List Happening → L → Type 0) → ℕ → ℕ → Move → ℕ → L → L → Type 0
+HearsPassing Hears p steps how overlapped was is = (s : Setup) (before after : List Happening) (newest : Access) → newest.how ≡ how → PassBy s p steps newest overlapped before after → Hears was s before after is
 
 -- who stops by this fault has heard a front of what it would have heard
 abbrev pub StopsBy : {L : Type 0} → (L → Setup → List Happening → List Happening → Fault → L → Type 0) → Fault → L → Setup → List Happening → List Happening → L → Type 0

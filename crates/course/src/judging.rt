@@ -14,7 +14,7 @@ use crate::listening::Listener;
 use crate::told::{Stepped, Told};
 use auditor::{Auditor, Law, Verdict};
 use plain_store::{NestedTypes, Setup};
-use record::{Access, Mark, Taken};
+use record::{Access, Mark, Move, Taken};
 use scenario::Fault;
 use std::alloc::{AllocError, Global};
 
@@ -147,7 +147,7 @@ impl<L: Listener + Drop> Listener for Overheard<L> {
         self.listener.step(made)
     }
 
-    fn pass(&mut self, process: u8, steps: u32, newest: &Access, overlapped: u32) {
+    fn pass(&mut self, process: u8, steps: u32, newest: Move, overlapped: u32) {
         self.listener.pass(process, steps, newest, overlapped);
     }
 

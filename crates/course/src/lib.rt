@@ -16,7 +16,7 @@ mod turns;
 pub use auditor::Watch;
 pub use judging::{Audit, Overheard};
 pub use listening::Listener;
-pub use record::{Access, Entry, Event, Mark, Record, Refusal, Taken, refusal_line};
+pub use record::{Access, Entry, Event, Mark, Move, Record, Refusal, Taken, refusal_line};
 pub use store_line::{newest_line, newest_words};
 pub use summaries::Summary;
 pub use told::{Accepted, Stepped, Told};

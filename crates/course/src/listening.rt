@@ -8,7 +8,7 @@ ghost use Rattle.course.specs.Happenings.{Happening, Tries};
 ghost use Rattle.course.specs.Listening.{HearsPassing, HearsTold, HearsUnmarked, StopsBy, TakesRoom};
 
 use crate::told::{Stepped, Told};
-use record::{Access, Taken};
+use record::{Move, Taken};
 use scenario::Fault;
 
 /// Who hears a run. Two relations say what it has heard between two moments: of what happened in a run of a setup,
@@ -47,12 +47,12 @@ pub trait Listener {
             HearsUnmarked (StopsBy Stops fault) made self.old self.new) };
 
     /// So many Steps of this process, within a number access of its call and without a mark, are passed by; the newest of
-    /// them made this access, and so many of them ended a read that a write overlapped.
-    fn pass(&mut self, process: u8, steps: u32, newest: &Access, overlapped: u32)
+    /// them made this move, and so many of them ended a read that a write overlapped.
+    fn pass(&mut self, process: u8, steps: u32, newest: Move, overlapped: u32)
         requires some { 0 < steps }
         requires room { HasRoom self.old steps }
         ensures ok { hears_steps self.old ≡ false
-            → HearsPassing Hears process steps newest.now overlapped self.old self.new }
+            → HearsPassing Hears process steps newest overlapped self.old self.new }
         ensures room { TakesRoom HasRoom self.old steps self.new };
 
     ghost room_less: { (a : Self) (n k : ℕ) → n ≤ k → HasRoom a k → HasRoom a n };

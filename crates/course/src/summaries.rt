@@ -5,7 +5,7 @@ ghost use Rattle.course.specs.Writing.{Counts};
 
 use crate::listening::Listener;
 use crate::told::{Stepped, Told};
-use record::{Access, Taken};
+use record::{Move, Taken};
 use scenario::{DONE, Ending, Fault};
 
 /// The three numbers that a replay ends with.
@@ -82,7 +82,7 @@ impl Listener for Summary {
     }
 
     #[tactic(auto, using(crate::proofs::Counting::counts_passed))]
-    fn pass(&mut self, _process: u8, steps: u32, _newest: &Access, _overlapped: u32) {
+    fn pass(&mut self, _process: u8, steps: u32, _newest: Move, _overlapped: u32) {
         self.events += u64::from(steps);
     }
 

@@ -11,9 +11,7 @@ ghost use Rattle.engines.specs.Listings.{RecordsEvent, event_told};
 ghost use Rattle.engines.specs.RecordedRuns.{IsReadAgain};
 ghost use Rattle.course.specs.RunRecords.{accepted_events, listed};
 
-use course::{
-    Access, Course, Entry, Event, Listener, Record, Refusal, Stepped, Taken, Told, World,
-};
+use course::{Course, Entry, Event, Listener, Move, Record, Refusal, Stepped, Taken, Told, World};
 use plain_store::{NestedTypes, Setup};
 use scenario::{Fault, Scenario};
 use std::alloc::{AllocError, Global};
@@ -63,7 +61,7 @@ impl Listener for Lister {
         Ok(add(Event::Step(made.process, made.flick), &mut self.events)?)
     }
 
-    fn pass(&mut self, _process: u8, _steps: u32, _newest: &Access, _overlapped: u32) {}
+    fn pass(&mut self, _process: u8, _steps: u32, _newest: Move, _overlapped: u32) {}
 
     ghost room_less = { λ a n k few room. tt };
 

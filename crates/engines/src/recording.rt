@@ -14,7 +14,7 @@ ghost use Rattle.course.specs.Takings.{Took, TookPart, part_before, part_on, par
 ghost use Rattle.course.specs.Replays.{ended};
 ghost use Rattle.course.specs.Writing.{IsWriteFault, failed_write};
 
-use course::{Access, Course, Entry, Listener, Stepped, Taken, Told};
+use course::{Course, Entry, Listener, Move, Stepped, Taken, Told};
 use judge::{StepLine, print_entry, print_setup};
 use scenario::{Fault, Line, Scenario, Sink, Source, read_input, read_scenario, write_all};
 use std::alloc::{AllocError, Global};
@@ -145,7 +145,7 @@ impl<'a, W: Sink> Listener for Copier<'a, W> {
         Ok(())
     }
 
-    fn pass(&mut self, _process: u8, _steps: u32, _newest: &Access, _overlapped: u32) {}
+    fn pass(&mut self, _process: u8, _steps: u32, _newest: Move, _overlapped: u32) {}
 
     ghost room_less = { λ a n k few room. room };
 

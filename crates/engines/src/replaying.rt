@@ -14,7 +14,7 @@ ghost use Rattle.course.specs.Writing.{Counts, IsWriteFault, failed_write};
 ghost use Rattle.course.specs.Takings.{Took, TookPart, part_before, part_on, part_unheard, took_none, took_on};
 
 use crate::writing::{tell, write_end};
-use course::{Access, Course, Listener, Stepped, Summary, Taken, Told};
+use course::{Course, Listener, Move, Stepped, Summary, Taken, Told};
 use scenario::{Fault, Line, Scenario, Sink, Source, read_input, read_scenario};
 use std::alloc::Global;
 use sweeper::progress::{LinePlace, Onlooker};
@@ -134,7 +134,7 @@ impl<'a, W: Sink> Listener for Printer<'a, W> {
         Ok(())
     }
 
-    fn pass(&mut self, _process: u8, steps: u32, _newest: &Access, _overlapped: u32) {
+    fn pass(&mut self, _process: u8, steps: u32, _newest: Move, _overlapped: u32) {
         self.summary.events += u64::from(steps);
     }
 

@@ -3,7 +3,7 @@ ghost use Rattle.std.specs.Prelude.{◌≡◌, ◌+◌, ◌-◌, ◌^◌, ◌<�
 ghost use Rattle.std.proofs.Common.{◌∙◌};
 ghost use Rattle.plain_store.specs.Setups.{checked};
 ghost use Rattle.scenario.specs.files.declared.faults.Fault.TheVariants.{Memory};
-ghost use Rattle.record.specs.declared.access.Access.{Access as AccessSeen};
+ghost use Rattle.record.specs.safe_bit.declared.Move.{Move as MoveSeen};
 ghost use Rattle.course.specs.Listening.{HearsPassing, HearsUnmarked};
 ghost use Rattle.course.specs.declared.told.Told.TheVariants.{Accepted as IsAccepted};
 ghost use Rattle.snapshot.specs.Processes.{newest_line};
@@ -12,7 +12,7 @@ ghost use Rattle.inspect.specs.Tables.{fewer};
 
 use course::{Accepted, Listener, Stepped, Taken, Told};
 use plain_store::{NestedTypes, Setup};
-use record::{Access, Act, Entry};
+use record::{Access, Act, Entry, Move};
 use scenario::Fault;
 use smallvec::SmallVec;
 use snapshot::Snapshot;
@@ -128,7 +128,7 @@ impl HeardRun {
     fn pass_steps(&mut self, steps: u32)
         requires { self.old.snapshot.entries + steps < 2 ^ 64 }
         ensures entries { self.new.snapshot.entries ≡ self.old.snapshot.entries + steps }
-        ensures heard { (p : ℕ) (newest : AccessSeen) (overlapped : ℕ)
+        ensures heard { (p : ℕ) (newest : MoveSeen) (overlapped : ℕ)
             → HearsPassing (Hears false) p steps newest overlapped self.old self.new }
     {
         self.snapshot.pass(steps);
@@ -206,7 +206,7 @@ impl Listener for HeardRun {
     }
 
     #[inline(always)]
-    fn pass(&mut self, _process: u8, steps: u32, _newest: &Access, _overlapped: u32) {
+    fn pass(&mut self, _process: u8, steps: u32, _newest: Move, _overlapped: u32) {
         self.pass_steps(steps);
     }
 
@@ -252,7 +252,7 @@ impl<'a> Listener for EachStep<'a> {
         Ok(())
     }
 
-    fn pass(&mut self, _process: u8, _steps: u32, _newest: &Access, _overlapped: u32) {}
+    fn pass(&mut self, _process: u8, _steps: u32, _newest: Move, _overlapped: u32) {}
 
     ghost room_less = { λ a n k few room. fewer a.heard.now.snapshot.entries n k few room };
 

@@ -11,7 +11,7 @@ ghost use Rattle.snapshot.specs.calls.Lines.{call_line, line_of};
 ghost use Rattle.inspect.specs.Tables.{CutsTold, HasTabled, Tells, fewer, known_step, lines_after, lines_longer};
 
 use course::{Listener, Stepped, Taken, Told};
-use record::{Access, Mark};
+use record::{Access, Mark, Move};
 use scenario::{Fault, Sink, write_all};
 use snapshot::calls::{CallTable, Called, EntryKnown, print_call};
 use std::alloc::Global;
@@ -49,7 +49,7 @@ impl<'a, W: Sink> Listener for Tabler<'a, W> {
     }
 
     #[inline(always)]
-    fn pass(&mut self, process: u8, steps: u32, newest: &Access, overlapped: u32) {
+    fn pass(&mut self, process: u8, steps: u32, newest: Move, overlapped: u32) {
         self.table.pass(process, steps, newest, overlapped);
     }
 

@@ -32,9 +32,13 @@ move_by Reads c flick = read_move c.begun flick
 move_by Writes c flick = write_move c
 move_by (Settles cut value) c flick = settle_move cut c (unwrap_or value flick)
 
+-- the access that comes next, if it makes this move
+abbrev pub access_with : CursorState → Move → Access
+access_with c how = record { owner = c.register.owner; field = c.register.field; bit = c.bit; reader = c.reader + c.copy; how = how }
+
 -- the access that comes next, by this flick; the end of a read is open, and has the flick
 abbrev pub next_access : CursorState → Bool → Access
-next_access c flick = record { owner = c.register.owner; field = c.register.field; bit = c.bit; reader = c.reader + c.copy; how = move_by c.run c flick }
+next_access c flick = access_with c (move_by c.run c flick)
 
 -- WHAT THE MEMORY ANSWERS, AND WHAT IT IS THEN
 

@@ -139,10 +139,7 @@ impl BitMemory {
     {
         match cursor.run() {
             NumberRun::Reads => self.read_step(cursor, flick),
-            _ => AccessMade {
-                access: self.write_step(cursor),
-                overlapped: false,
-            },
+            _ => self.write_step(cursor),
         }
     }
 
@@ -179,31 +176,28 @@ impl BitMemory {
         let copies = &mut self.lanes[cursor.lane()];
         let value = copies.answer(bit, flick);
         let overlapped = begun && copies.seen(bit).touched;
+        let made = cursor.made(cursor.read_move(value), overlapped);
         copies.read_next(bit, begun);
-        let access = cursor.next(value);
         cursor.read_on(value);
-        AccessMade { access, overlapped }
+        made
     }
 
     /// One access of a write.
     #[inline(always)]
-    fn write_step(&mut self, cursor: &mut Cursor) -> Access
+    fn write_step(&mut self, cursor: &mut Cursor) -> AccessMade
         requires writes { cursor.old.run ≡ NumberRun.Writes }
         requires going { cursor.old.bit < cursor.old.width }
         requires there { HasLanes self.old (first_lane cursor.old) cursor.old.copies cursor.old.width }
-        ensures access { result ≡ next_access cursor.old false }
+        ensures access { result.access ≡ next_access cursor.old false }
+        ensures overlapped { result.overlapped ≡ false }
         ensures now { (cursor.new, self.new) ≡ write_access (cursor.old, self.old) }
         ensures inside { cursor.old.copy < cursor.old.copies }
     {
-        // `next` looks at the kind of run, which is known here: where nobody looks at the access, that goes.
         let how = cursor.write_move();
-        let access = Access {
-            how,
-            ..cursor.next(false)
-        };
+        let made = cursor.made(how, false);
         self.lanes[cursor.copy_lane()].go_on(cursor.bit(), how);
         cursor.write_on();
-        access
+        made
     }
 
     /// So many accesses of a read. It answers how many of them ended a read that a write overlapped.
@@ -308,7 +302,7 @@ impl BitMemory {
     {
         let bits = cursor.whole_ahead(steps);
         if bits == 0 {
-            let _access = self.write_step(cursor);
+            let _made = self.write_step(cursor);
             1
         } else {
             let made = 2 * (cursor.copies() * bits);

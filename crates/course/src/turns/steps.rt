@@ -48,7 +48,7 @@ pub(super) fn pass_by<L: Listener>(
     let made = run_within(world, flicks, process, within);
     *left -= within;
     *quiet = 0;
-    listener.pass(process, within, &made.0, made.1);
+    listener.pass(process, within, made.0.how, made.1);
 }
 
 /// So many Steps of a process, all of them within its number access: the access of the newest, and how many of them ended a
@@ -111,7 +111,7 @@ pub(super) fn step<L: Listener>(
         })?;
         return Ok(());
     }
-    listener.pass(process, 1, &made.access, u32::from(made.overlapped));
+    listener.pass(process, 1, made.access.how, u32::from(made.overlapped));
     Ok(())
 }
 

@@ -8,7 +8,7 @@ ghost use Rattle.drawer.specs.Drawings.{DrawsLine, GoesOnDrawing};
 use super::Drawing;
 use companions::hear;
 use course::{Course, Listener, Stepped, Taken, Told};
-use record::Access;
+use record::Move;
 use scenario::{Fault, Line, Sink};
 
 /// Makes the turns of a line, and draws what each tells before the next is made.
@@ -63,7 +63,7 @@ impl<'a, W: Sink> Listener for Drawer<'a, W> {
         Ok(())
     }
 
-    fn pass(&mut self, _process: u8, steps: u32, _newest: &Access, _overlapped: u32) {
+    fn pass(&mut self, _process: u8, steps: u32, _newest: Move, _overlapped: u32) {
         self.drawing.summary.events += u64::from(steps);
     }
 

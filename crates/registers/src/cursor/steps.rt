@@ -1,13 +1,14 @@
 //! How a cursor goes on: by the single access of a read or of a write, and by whole words.
 ghost use Rattle.std.specs.Prelude.{◌≡◌, ℕ, ◌<◌, ◌≤◌, ◌+◌, ◌*◌, ◌/◌, ◌%◌, true, false, slice_index_or};
-ghost use Rattle.registers.specs.Accesses.{read_after, write_after, write_move};
+ghost use Rattle.registers.specs.Accesses.{access_with, read_after, read_move, write_after, write_move};
 ghost use Rattle.registers.specs.Cursors.{IsAtCopy, first_lane};
 ghost use Rattle.reader_copies.specs.Flags.{flag_in};
 ghost use Rattle.registers.specs.Wordwise.{more_bits};
 
 use super::{Cursor, NumberRun, word_at};
+use crate::access_made::AccessMade;
 use reader_copies::{all_flags, choose, has_flag, mask, one_flag};
-use record::Move;
+use record::{Access, Move};
 
 impl Cursor {
     /// The lane of its reader, and the first of those that it writes.
@@ -41,6 +42,38 @@ impl Cursor {
         ensures at { IsAtCopy self.now.run self.now.reader self.now.copy }
     {
         self.copies as u32
+    }
+
+    /// The next access of a read, whose end gives `value`.
+    #[inline(always)]
+    pub(crate) fn read_move(&self, value: bool) -> Move
+        ensures { result ≡ read_move self.now.begun value }
+    {
+        if self.begun {
+            Move::EndRead(value)
+        } else {
+            Move::BeginRead
+        }
+    }
+
+    /// The next access, which makes this move, and whether that ends a read that a write overlapped. The kind of run is not
+    /// looked at, and all is put together here: so a part at which nobody looks costs nothing.
+    #[inline(always)]
+    pub(crate) fn made(&self, how: Move, overlapped: bool) -> AccessMade
+        requires { self.now.bit < self.now.width }
+        ensures access { result.access ≡ access_with self.now how }
+        ensures overlapped { result.overlapped ≡ overlapped }
+    {
+        AccessMade {
+            access: Access {
+                owner: self.register.owner,
+                field: self.register.field,
+                bit: self.bit,
+                reader: self.reader + self.copy,
+                how,
+            },
+            overlapped,
+        }
     }
 
     /// The next access of a write.

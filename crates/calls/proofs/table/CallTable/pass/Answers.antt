@@ -1,13 +1,18 @@
-use Rattle.std.proofs.Common.{subst, sym}
-use Rattle.calls.specs.Hearing.{HasHeard, TableState}
-use Rattle.calls.specs.Stepping.{standing}
-use Rattle.calls.proofs.Heard.{hears_passing}
+use Rattle.std.proofs.Common.{sym, ◌∙◌}
+use Rattle.calls.proofs.Heard.{hears_by}
+use Rattle.calls.proofs.Passing.{others_alone, reads_alone}
 use Rattle.calls.proofs.table.CallTable.pass.Goals as goal
 
-pub returns-clause-heard : goal.returns-clause-heard
-returns-clause-heard c = λ past after by below none h.
-    let old = c.args.self.now in
+pub returns-then-is_of_read-clause-heard : goal.returns-then-is_of_read-clause-heard
+returns-then-is_of_read-clause-heard c =
     let on = c.pass_on.ensures in
-    let g = on.goes (standing old.setup c.args.process past) (h.standings c.args.process below) in
-    subst (λ (t : TableState). HasHeard t after) (sym (λ i. record { setup = on.setup i; standings = g.set i; entries = on.count i }))
-    (hears_passing old c.args.process c.args.steps c.args.newest.now c.args.overlapped past after g.then c.requires.some below c.requires.room by none h g.passes)
+    let reads = sym c.is_of_read.ensures ∙ c.if-is_of_read.true in
+    hears_by c.args.self.now c.pass_on.new.self c.args.process c.args.steps c.args.newest c.reads_among.result 0 c.args.overlapped c.requires.some c.requires.room c.reads_among.ensures
+    (sym (reads_alone c.args.steps c.args.newest reads)) on.setup on.count on.goes
+
+pub returns-else-is_of_read-clause-heard : goal.returns-else-is_of_read-clause-heard
+returns-else-is_of_read-clause-heard c =
+    let on = c.pass_on-else-is_of_read.ensures in
+    let others = sym c.is_of_read.ensures ∙ c.if-is_of_read.false in
+    hears_by c.args.self.now c.pass_on-else-is_of_read.new.self c.args.process c.args.steps c.args.newest 0 c.writes_among.result c.args.overlapped c.requires.some c.requires.room
+    (sym (others_alone c.args.steps c.args.newest others)) c.writes_among.ensures on.setup on.count on.goes

@@ -25,7 +25,7 @@ pub returns-clause-on : goal.returns-clause-on
 returns-clause-on g c = λ l run follows next.
     let made = c.run_within-made in
     alone_pass g.L.Listener.Hears c.min-within.result c.args.world.now made.new.world c.args.flicks.now made.new.flicks made.result.0 made.result.1 l c.args.left.now _ c.args.process c.args.floor run c.args.listener.now c.pass.new.self refl
-    (omega (arith, c.requires.floor, c.min-within.ensures)) (omega (arith, c.min-within.ensures, c.left.ensures)) made.ensures (c.pass.ensures.ok (sym c.hears_steps.ensures ∙ c.if-hears_steps.false)) follows next
+    (omega (arith, c.requires.floor, c.min-within.ensures)) (omega (arith, c.min-within.ensures, c.left.ensures)) made.ensures (λ s before after. c.pass.ensures.ok (sym c.hears_steps.ensures ∙ c.if-hears_steps.false) s before after made.result.0 refl) follows next
 
 pub returns-clause-room : goal.returns-clause-room
 returns-clause-room g c = λ more room.

@@ -1,4 +1,4 @@
-use Rattle.std.proofs.Common.{◌∙◌, ◌∷◌, arith, sym}
+use Rattle.std.proofs.Common.{◌∙◌, ◌∷◌, arith, refl, sym}
 use Rattle.record.specs.declared.events.Event.TheVariants.{Step}
 use Rattle.course.specs.Happenings.{Tries}
 use Rattle.course.specs.Listening.{HearsStep}
@@ -33,6 +33,6 @@ returns-clause-ok g c =
     untold g.L.Listener.Hears w c.args.process c.args.flick c.args.told.now made.new.self c.args.listener.now c.pass.new.self c.requires.untold
     (record {
       step = made.ensures.quietly.0;
-      hears = λ before shows. c.pass.ensures.ok (sym c.hears_steps.ensures ∙ c.if-hears_steps.false) w.setup before (Tries (Step c.args.process c.args.flick) ∷ before)
+      hears = λ before shows. c.pass.ensures.ok (sym c.hears_steps.ensures ∙ c.if-hears_steps.false) w.setup before (Tries (Step c.args.process c.args.flick) ∷ before) made.result.access refl
           (pass_one w made.new.self c.args.process c.args.flick made.result.access made.result.overlapped c.from.result before made.ensures.quietly shows (omega (arith, c.quiet_known-known.ensures, c.if-known-eq0.false)) (c.from.ensures ∙ byte_is made.result.overlapped));
     })

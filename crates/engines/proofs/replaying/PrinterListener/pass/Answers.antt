@@ -7,7 +7,7 @@ use Rattle.course.proofs.Within.{within_quietly}
 use Rattle.engines.proofs.replaying.PrinterListener.pass.Goals as goal
 
 pub returns-clause-ok : goal.returns-clause-ok
-returns-clause-ok g c = λ off s before after passed.
+returns-clause-ok g c = λ off s before after newest is passed.
     let passes = within_quietly s _ c.args.steps before after passed.within in
     let old = c.args.self.now in (
       refl,

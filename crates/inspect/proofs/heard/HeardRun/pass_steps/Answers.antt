@@ -6,7 +6,7 @@ use Rattle.inspect.proofs.Seeing.{passes_of}
 use Rattle.inspect.proofs.heard.HeardRun.pass_steps.Goals as goal
 
 pub returns-clause-heard : goal.returns-clause-heard
-returns-clause-heard c = λ p newest overlapped s before after passed seen.
+returns-clause-heard c = λ p how overlapped s before after newest is passed seen.
     let n = c.args.steps in
     record {
       setup = c.pass.ensures.setup ∙ seen.setup;

@@ -5,7 +5,7 @@ use Rattle.drawer.proofs.Marked.{quiet_drawn, recalls_passed}
 use Rattle.drawer.proofs.drawing.listening.DrawerListener.pass.Goals as goal
 
 pub returns-clause-ok : goal.returns-clause-ok
-returns-clause-ok g c = λ none s before after passed.
+returns-clause-ok g c = λ none s before after newest is passed.
     let passes = within_quietly s _ c.args.steps before after passed.within in
     let drawing = c.args.self.now.drawing.now in (
       refl,
