@@ -1,10 +1,10 @@
 //! The entries of a record told line by line to a picture, whose bands are written as they are full.
-ghost use Rattle.std.specs.Prelude.{◌≡◌, ◌+◌, ◌-◌, ◌^◌, ◌<◌, ℕ, List, [], ◌∷◌, ◌++◌, length, map, IfErr, IfOk, Ok, OnOk};
+ghost use Rattle.std.specs.Prelude.{◌≡◌, ◌+◌, ◌-◌, ◌^◌, ◌<◌, ℕ, List, [], ◌∷◌, ◌++◌, is_none, map, IfErr, IfOk, Ok, OnOk};
 ghost use Rattle.plain_store.specs.Setups.{checked};
 ghost use Rattle.plain_store.specs.declared.setups.Setup.{Setup as Given};
 ghost use Rattle.record.specs.Entries.{Entry as Noted, Past};
 ghost use Rattle.record.specs.declared.marks.Mark.{Mark as Told};
-ghost use Rattle.record_file.specs.Printing.{head_words, step_entry};
+ghost use Rattle.record_file.specs.Printing.{step_entry};
 ghost use Rattle.companions.specs.picture.columns.declared.reads.OverlappedRead.{OverlappedRead as Ended};
 ghost use Rattle.companions.specs.picture.declared.reads.Reads.{Reads as Mode};
 ghost use Rattle.record_drawer.specs.Drawings.{DrawsOn, DrawsRest, IsAmong, Recalls, kept, kept_at_first, plan_of};
@@ -25,7 +25,7 @@ use companions::{
 use files::{Fault, Sink};
 use plain_store::{NestedTypes, Setup};
 use record::{Access, Entry, Mark};
-use std::alloc::Global;
+use std::alloc::{AllocError, Global};
 
 /// The picture of a record, on its way.
 #[derive(Drop)]
@@ -76,6 +76,14 @@ impl RecordDrawing {
         })
     }
 
+    /// Whether no reads are shown.
+    #[inline(always)]
+    pub fn hides_reads(&self) -> bool
+        ensures { result ≡ is_none self.now.overlaps }
+    {
+        self.overlaps.is_none()
+    }
+
     /// Draws the marks of the next entry.
     pub fn hear<W: Sink>(&mut self, entry: &Entry, output: &mut W) -> Result<(), Fault>
         requires writes { W.failures output.old < 2 ^ 64 - 1 }
@@ -116,14 +124,12 @@ impl RecordDrawing {
 
     /// The next entry, if it is one of this access and no mark: nothing is drawn of it.
     #[inline(always)]
-    pub fn hear_step(&mut self, access: Access) -> Result<(), Fault>
+    pub fn hear_step(&mut self, access: Access) -> Result<(), AllocError>
         requires few { self.old.entries < 2 ^ 64 - 1 }
         ensures page { self.new.page ≡ self.old.page }
         ensures recalls { OnOk result ((mode : Mode) (s : Given) (past : Past) (p : ℕ) → Recalls mode s past self.old → Recalls mode s (step_entry p access ∷ past) self.new) }
         ensures last { self.new.last ≡ self.old.last }
         ensures entries { OnOk result (self.new.entries ≡ self.old.entries + 1) }
-        ensures fault { IfErr result IsWriteFault }
-        ensures failures { failed_write result ≡ 0 }
     {
         hear(&mut self.overlaps, self.entries, Some(access))?;
         self.entries += 1;

@@ -67,16 +67,48 @@ impl Sheet {
         ensures fault { IfErr result (λ fault. LineStops fault number (λ kind. (before : Option Progress) → self.old.reader ≡ before → line_read line.now before ≡ Err kind)) }
         ensures failures { W.failures output.new ≡ W.failures output.old + failed_write result }
     {
+        if self.hides_reads() {
+            if self.hears_step(line)? {
+                return Ok(());
+            }
+            return self.any_line(number, line, output);
+        }
+        self.shown_line(number, line, output)
+    }
+
+    /// The same where reads are shown, or nothing is drawn yet. It stands beside the other: where no reads are shown, nobody asks
+    /// which access a Step made, and so the compiler keeps of `read_step` only the test that the line is one.
+    #[inline(always)]
+    fn shown_line<W: Sink>(&mut self, number: u64, line: &[u8], output: &mut W) -> Result<(), Fault>
+        requires short { length line.now ≤ 128 }
+        requires few { entries_of self.old.drawing < 2 ^ 64 - 1 }
+        requires writes { W.failures output.old < 2 ^ 64 - 1 }
+        ensures form { self.new.form ≡ self.old.form }
+        ensures reads { self.new.reads ≡ self.old.reads }
+        ensures ok { OnOk result ((before : Option Progress) (past : Past) (first : Option (List ℕ)) → Stands self.old before past first (W.taken output.old) → GoesOn (line_read line.now before) self.new past first (W.taken output.new)) }
+        ensures few { OnOk result (entries_of self.new.drawing ≤ entries_of self.old.drawing + 1) }
+        ensures fault { IfErr result (λ fault. LineStops fault number (λ kind. (before : Option Progress) → self.old.reader ≡ before → line_read line.now before ≡ Err kind)) }
+        ensures failures { W.failures output.new ≡ W.failures output.old + failed_write result }
+    {
         if self.hears_step(line)? {
             return Ok(());
         }
         self.any_line(number, line, output)
     }
 
+    /// Whether entries are drawn and no reads among them. It has no clause: a line is heard the same by either way.
+    #[inline(always)]
+    fn hides_reads(&self) -> bool {
+        match &self.drawing {
+            Some(drawing) => drawing.hides_reads(),
+            None => false,
+        }
+    }
+
     /// Whether behind an entry the line is as it is printed for a Step with an access and no mark, as most lines are: then
     /// that was heard. Else nothing is changed, and nothing is known of the line.
     #[inline(always)]
-    fn hears_step(&mut self, line: &[u8]) -> Result<bool, Fault>
+    fn hears_step(&mut self, line: &[u8]) -> Result<bool, AllocError>
         requires short { length line.now ≤ 128 }
         requires few { entries_of self.old.drawing < 2 ^ 64 - 1 }
         ensures form { self.new.form ≡ self.old.form }
@@ -84,8 +116,6 @@ impl Sheet {
         ensures heard { IfOk result (λ heard. heard ≡ true → (before : Option Progress) (past : Past) (first now : Option (List ℕ)) → Stands self.old before past first now → GoesOn (line_read line.now before) self.new past first now) }
         ensures few { OnOk result (entries_of self.new.drawing ≤ entries_of self.old.drawing + 1) }
         ensures same { IfOk result (λ heard. heard ≡ false → self.new ≡ self.old) }
-        ensures fault { IfErr result IsWriteFault }
-        ensures failures { failed_write result ≡ 0 }
     {
         let Some(drawing) = &mut self.drawing else {
             return Ok(false);

@@ -2,7 +2,7 @@
 use Rattle.std.proofs.Common.{◌≡◌, ℕ, ◌+◌, ◌-◌, ◌*◌, ◌/◌, ◌%◌, ◌<◌, ◌≤◌, List, [], ◌∷◌, ◌++◌, length, take, drop, slice_index_or, suc, Bool, true, false, codes, refl, subst, ap, sym, ◌∙◌, append_assoc, arith}
 use Rattle.std.proofs.lemmas.Fmt.{decimal_digit, decimal_step}
 use Rattle.std.proofs.Math.Seq.{drop-append_seam, split_at}
-use Rattle.std.proofs.lemmas.List.{length-append, take-append-le, take_rest}
+use Rattle.std.proofs.lemmas.List.{length-append, take-append-drop, take-append-le, take_rest}
 use Rattle.std.specs.Fmt.{decimal}
 use Rattle.safe_bit.specs.declared.Move.{Move}
 use Rattle.safe_bit.specs.declared.Move.TheVariants as move
@@ -64,7 +64,7 @@ small_digit byte n is valued = let e : byte ≡ 48 + n = valued is.0 in omega (a
 
 -- a number and how many digits write it, at the front of these bytes
 abbrev pub Written : (ℕ × ℕ) → List ℕ → Type 0
-Written read bytes = (decimal read.0 ≡ take read.1 bytes) × (100 ≤ read.0 → read.1 ≡ 3)
+Written read bytes = (decimal read.0 ≡ take read.1 bytes) × (read.1 ≡ 3 → 100 ≤ read.0)
 
 pub few_are : (a b c x y z : ℕ) (two three : Bool) (second last : ℕ × ℕ) → IsDigit a → (two ≡ true → 48 < a) → (two ≡ true → IsDigit b) → (three ≡ true → (two ≡ true) × IsDigit c) → Valued a x → Valued b y → Valued c z →
     (two ≡ true → second ≡ (x * 10 + y, 2)) → (two ≡ false → second ≡ (x, 1)) → (three ≡ true → last ≡ ((x * 10 + y) * 10 + z, second.1 + 1)) → (three ≡ false → last ≡ second) → Written last (a ∷ b ∷ c ∷ [])
@@ -78,18 +78,18 @@ few_are a b c x y z two true second last is some is_b is_c va vb vc yes2 no2 yes
     let more : 48 < a = some of2 in
     let places : last ≡ ((x * 10 + y) * 10 + z, 3) = yes3 refl ∙ ap (λ k. ((x * 10 + y) * 10 + z, k + 1)) (ap (λ (r : ℕ × ℕ). r.1) (yes2 of2)) in
     subst (λ read. Written read (a ∷ b ∷ c ∷ [])) (sym places)
-    (three_are a b c x y z ea small (omega (arith, ea, more)) (vb (is_b of2).0) small_b (vc dc.0) small_c, (λ _. refl))
+    (three_are a b c x y z ea small (omega (arith, ea, more)) (vb (is_b of2).0) small_b (vc dc.0) small_c, (λ _. omega (arith, ea, more)))
 few_are a b c x y z true false second last is some is_b is_c va vb vc yes2 no2 yes3 no3 =
     let small : x < 10 = small_digit a x is va in
     let small_b : y < 10 = small_digit b y (is_b refl) vb in
     let ea : a ≡ 48 + x = va is.0 in
     let more : 48 < a = some refl in
     subst (λ read. Written read (a ∷ b ∷ c ∷ [])) (sym (no3 refl ∙ yes2 refl))
-    (two_are a b x y ea small (omega (arith, ea, more)) (vb (is_b refl).0) small_b, (λ many. absurd (omega (arith, many, small, small_b))))
+    (two_are a b x y ea small (omega (arith, ea, more)) (vb (is_b refl).0) small_b, (λ three. absurd (omega (arith, three))))
 few_are a b c x y z false false second last is some is_b is_c va vb vc yes2 no2 yes3 no3 =
     let small : x < 10 = small_digit a x is va in
     subst (λ read. Written read (a ∷ b ∷ c ∷ [])) (sym (no3 refl ∙ no2 refl))
-    (one_is a x (va is.0) small, (λ many. absurd (omega (arith, many, small))))
+    (one_is a x (va is.0) small, (λ three. absurd (omega (arith, three))))
 
 -- the first four bytes
 abbrev pub heads : List ℕ → List ℕ
@@ -126,16 +126,17 @@ digits_and_dot bytes n count some few digits dot =
     ∙ ap (λ k. decimal n ++ (46 ∷ take (length bytes - k) (drop k bytes))) next
 
 -- three digits, one more, and the dot behind them
-pub fourth_digit : (bytes : List ℕ) (n count last : ℕ) → 5 ≤ length bytes → decimal n ≡ take count (three_heads bytes) → (100 ≤ n → count ≡ 3) → 100 ≤ n → n < 1000 → slice_index_or bytes 3 0 ≡ 48 + last → last < 10 → slice_index_or bytes 4 0 ≡ 46 →
+pub fourth_digit : (bytes : List ℕ) (n count last : ℕ) → 5 ≤ length bytes → decimal n ≡ take count (three_heads bytes) → (count ≡ 3 → 100 ≤ n) → count ≡ 3 → n < 1000 → slice_index_or bytes 3 0 ≡ 48 + last → last < 10 → slice_index_or bytes 4 0 ≡ 46 →
     bytes ≡ decimal (n * 10 + last) ++ (46 ∷ take (length bytes - 5) (drop 5 bytes))
-fourth_digit [] n count last some digits all many few is small dot = absurd (omega (arith, some))
-fourth_digit (a ∷ []) n count last some digits all many few is small dot = absurd (omega (arith, some))
-fourth_digit (a ∷ b ∷ []) n count last some digits all many few is small dot = absurd (omega (arith, some))
-fourth_digit (a ∷ b ∷ c ∷ []) n count last some digits all many few is small dot = absurd (omega (arith, some))
-fourth_digit (a ∷ b ∷ c ∷ d ∷ []) n count last some digits all many few is small dot = absurd (omega (arith, some))
-fourth_digit (a ∷ b ∷ c ∷ d ∷ e ∷ rest) n count last some digits all many few is small dot =
-    let three : decimal n ≡ a ∷ b ∷ c ∷ [] = digits ∙ ap (λ k. take k (a ∷ b ∷ c ∷ [])) (all many) in
-    let four : decimal (n * 10 + last) ≡ a ∷ b ∷ c ∷ d ∷ [] = one_more_is (a ∷ b ∷ c ∷ []) n last d three (omega (arith, many)) few is small in
+fourth_digit [] n count last some digits many is_three few is small dot = absurd (omega (arith, some))
+fourth_digit (a ∷ []) n count last some digits many is_three few is small dot = absurd (omega (arith, some))
+fourth_digit (a ∷ b ∷ []) n count last some digits many is_three few is small dot = absurd (omega (arith, some))
+fourth_digit (a ∷ b ∷ c ∷ []) n count last some digits many is_three few is small dot = absurd (omega (arith, some))
+fourth_digit (a ∷ b ∷ c ∷ d ∷ []) n count last some digits many is_three few is small dot = absurd (omega (arith, some))
+fourth_digit (a ∷ b ∷ c ∷ d ∷ e ∷ rest) n count last some digits many is_three few is small dot =
+    let three : decimal n ≡ a ∷ b ∷ c ∷ [] = digits ∙ ap (λ k. take k (a ∷ b ∷ c ∷ [])) is_three in
+    let hundred : 100 ≤ n = many is_three in
+    let four : decimal (n * 10 + last) ≡ a ∷ b ∷ c ∷ d ∷ [] = one_more_is (a ∷ b ∷ c ∷ []) n last d three (omega (arith, hundred)) few is small in
     ap (λ x. a ∷ b ∷ c ∷ d ∷ x ∷ rest) dot ∙ ap (λ ds. ds ++ (46 ∷ rest)) (sym four) ∙ ap (λ r. decimal (n * 10 + last) ++ (46 ∷ r)) (sym (take_rest (a ∷ b ∷ c ∷ d ∷ e ∷ rest) 5))
 
 -- four to eight bytes are told by the first four and the last four
@@ -169,12 +170,19 @@ more_digits bytes (b ∷ bs) n m so_far more is small some few =
     ∙ ap (λ ds. ds ++ bs) (sym (digit_behind n m small some few))
     ∙ ap (λ rest. decimal (n * 10 + m) ++ rest) (sym (take_rest (b ∷ bs) 1))
 
+-- eight bytes that are a word between two dots
+pub between_dots : (bytes name behind word : List ℕ) → name ≡ take 8 bytes → behind ≡ drop 8 bytes → name ≡ 46 ∷ (word ++ (46 ∷ [])) → bytes ≡ 46 ∷ (word ++ (46 ∷ behind))
+between_dots bytes name behind word front rest is =
+    sym (take-append-drop 8 bytes)
+    ∙ ap (λ bs. bs ++ drop 8 bytes) (sym front ∙ is)
+    ∙ ap (λ bs. 46 ∷ bs) (append_assoc word (46 ∷ []) (drop 8 bytes))
+    ∙ ap (λ bs. 46 ∷ (word ++ (46 ∷ bs))) (sym rest)
+
 -- the word of a copy of a bit, and the words of a move
-pub access_is : (bytes second third fourth last : List ℕ) (a : Access) → bytes ≡ decimal a.owner ++ (46 ∷ second) → second ≡ field_word a.field ++ (46 ∷ third) → third ≡ decimal a.bit ++ (46 ∷ fourth) → fourth ≡ decimal a.reader ++ last → last ≡ codes " " ++ spaced (move_words a.how) →
-    bytes ≡ copy_word a ++ (codes " " ++ spaced (move_words a.how))
-access_is bytes second third fourth last a one two three four five =
-    one
-    ∙ ap (λ bs. decimal a.owner ++ (46 ∷ bs)) two
+pub access_is : (bytes third fourth last : List ℕ) (a : Access) → bytes ≡ 46 ∷ (field_word a.field ++ (46 ∷ third)) → third ≡ decimal a.bit ++ (46 ∷ fourth) → fourth ≡ decimal a.reader ++ last → last ≡ codes " " ++ spaced (move_words a.how) →
+    decimal a.owner ++ bytes ≡ copy_word a ++ (codes " " ++ spaced (move_words a.how))
+access_is bytes third fourth last a two three four five =
+    ap (λ bs. decimal a.owner ++ bs) two
     ∙ ap (λ bs. decimal a.owner ++ (46 ∷ (field_word a.field ++ (46 ∷ bs)))) three
     ∙ ap (λ bs. decimal a.owner ++ (46 ∷ (field_word a.field ++ (46 ∷ (decimal a.bit ++ (46 ∷ bs)))))) four
     ∙ ap (λ bs. decimal a.owner ++ (46 ∷ (field_word a.field ++ (46 ∷ (decimal a.bit ++ (46 ∷ (decimal a.reader ++ bs))))))) five
@@ -182,6 +190,24 @@ access_is bytes second third fourth last a one two three four five =
   where
     together : decimal a.owner ++ (46 ∷ (field_word a.field ++ (46 ∷ (decimal a.bit ++ (46 ∷ (decimal a.reader ++ (32 ∷ spaced (move_words a.how)))))))) ≡ copy_word a ++ (codes " " ++ spaced (move_words a.how))
     together = simp append_assoc
+
+-- a process and an owner of one digit, and of any number
+pub near_is : (line : List ℕ) (process owner : ℕ) (text : List ℕ) → 3 ≤ length line → slice_index_or line 0 0 ≡ 48 + process → process < 10 → slice_index_or line 1 0 ≡ 32 → slice_index_or line 2 0 ≡ 48 + owner → owner < 10 →
+    decimal owner ++ take (length line - 3) (drop 3 line) ≡ text → line ≡ decimal process ++ (32 ∷ text)
+near_is [] process owner text some is small space is_owner small_owner behind = absurd (omega (arith, some))
+near_is (a ∷ []) process owner text some is small space is_owner small_owner behind = absurd (omega (arith, some))
+near_is (a ∷ b ∷ []) process owner text some is small space is_owner small_owner behind = absurd (omega (arith, some))
+near_is (a ∷ b ∷ c ∷ bs) process owner text some is small space is_owner small_owner behind =
+    ap (λ d. d ∷ b ∷ c ∷ bs) is
+    ∙ ap (λ d. (48 + process) ∷ d ∷ c ∷ bs) space
+    ∙ ap (λ ds. ds ++ (32 ∷ c ∷ bs)) (sym (decimal_digit process small))
+    ∙ ap (λ d. decimal process ++ (32 ∷ d ∷ bs)) is_owner
+    ∙ ap (λ ds. decimal process ++ (32 ∷ (ds ++ bs))) (sym (decimal_digit owner small_owner))
+    ∙ ap (λ rest. decimal process ++ (32 ∷ (decimal owner ++ rest))) (sym (take_rest (a ∷ b ∷ c ∷ bs) 3))
+    ∙ ap (λ t. decimal process ++ (32 ∷ t)) behind
+
+pub far_is : (line behind bytes text : List ℕ) (process owner : ℕ) → line ≡ decimal process ++ (32 ∷ behind) → behind ≡ decimal owner ++ bytes → decimal owner ++ bytes ≡ text → line ≡ decimal process ++ (32 ∷ text)
+far_is line behind bytes text process owner is owned rest = is ∙ ap (λ bs. decimal process ++ (32 ∷ bs)) (owned ∙ rest)
 
 -- the words of a move behind another word
 move_behind : (w : List ℕ) (how : Move) → spaced (w ∷ (move_words how ++ [])) ≡ w ++ (codes " " ++ spaced (move_words how))
@@ -192,5 +218,5 @@ move_behind w (move.EndRead v) = refl
 move_behind w (move.Settle v) = refl
 
 -- The whole line.
-pub line_is : (line behind : List ℕ) (process : ℕ) (a : Access) → line ≡ decimal process ++ (32 ∷ behind) → behind ≡ copy_word a ++ (codes " " ++ spaced (move_words a.how)) → line ≡ spaced (entry_words (step_entry process a))
-line_is line behind process a is rest = is ∙ ap (λ bs. decimal process ++ (32 ∷ bs)) rest ∙ ap (λ bs. decimal process ++ (32 ∷ bs)) (sym (move_behind (copy_word a) a.how))
+pub line_is : (line : List ℕ) (process : ℕ) (a : Access) → line ≡ decimal process ++ (32 ∷ (copy_word a ++ (codes " " ++ spaced (move_words a.how)))) → line ≡ spaced (entry_words (step_entry process a))
+line_is line process a is = is ∙ ap (λ bs. decimal process ++ (32 ∷ bs)) (sym (move_behind (copy_word a) a.how))

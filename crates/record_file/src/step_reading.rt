@@ -10,6 +10,9 @@ use crate::sound::sound_step;
 use record::{Access, Field};
 use safe_bit::Move;
 
+/// How many bytes such a line has at least, as `0 1.commit.0.0 end`. It is asked once, so that the parts need not ask it.
+const FEWEST_BYTES: usize = 18;
+
 /// The process and the access of a line that is as it is printed for them. It is read once from its front to its end, and
 /// takes no room for words. `None` tells nothing of the line.
 #[inline(always)]
@@ -18,22 +21,62 @@ pub fn read_step(line: &[u8]) -> Option<(u8, Access)>
     ensures line { IfSome result (λ r. line.now ≡ spaced (entry_words (step_entry r.0 r.1))) }
     ensures sound { IfSome result (λ read. is_entry (step_entry read.0 read.1) ≡ true) }
 {
-    let (process, behind) = process_before(line, b' ')?;
-    let access = access_in(behind)?;
+    let (process, access) = step_in(line)?;
     sound_step(process, &access);
     Some((process, access))
 }
 
-/// The access whose words these bytes are.
+/// The same, by the number of the process and the words of the access. Most processes have a number of one digit: then what is
+/// behind it stands at a place that is known.
+#[inline(always)]
+fn step_in(line: &[u8]) -> Option<(u8, Access)>
+    ensures { IfSome result (λ read. line.now ≡ decimal read.0 ++ (32 ∷ access_text read.1)) }
+{
+    if line.len() < FEWEST_BYTES {
+        return None;
+    }
+    match line {
+        [_, b' ', _, b'.', ..] => near_step_in(line),
+        _ => far_step_in(line),
+    }
+}
+
+/// The same where both processes have one digit.
+#[inline(always)]
+#[tactic(auto, using(crate::proofs::StepWords::near_is))]
+fn near_step_in(line: &[u8]) -> Option<(u8, Access)>
+    ensures { IfSome result (λ read. line.now ≡ decimal read.0 ++ (32 ∷ access_text read.1)) }
+{
+    let [first, b' ', second, behind @ ..] = line else {
+        return None;
+    };
+    let process = digit(*first)? as u8;
+    let owner = digit(*second)? as u8;
+    let access = access_behind(owner, behind)?;
+    Some((process, access))
+}
+
+/// The same of processes of any number.
+#[inline(always)]
+#[tactic(auto, using(crate::proofs::StepWords::far_is))]
+fn far_step_in(line: &[u8]) -> Option<(u8, Access)>
+    ensures { IfSome result (λ read. line.now ≡ decimal read.0 ++ (32 ∷ access_text read.1)) }
+{
+    let (process, behind) = process_before(line, b' ')?;
+    let (owner, behind) = process_at(behind, b'.')?;
+    let access = access_behind(owner, behind)?;
+    Some((process, access))
+}
+
+/// The access to a register of this process whose other words these bytes are, from the first dot on.
 #[inline(always)]
 #[tactic(auto, using(crate::proofs::StepWords::access_is))]
-fn access_in(bytes: &[u8]) -> Option<Access>
-    ensures { IfSome result (λ access. bytes.now ≡ access_text access) }
+fn access_behind(owner: u8, bytes: &[u8]) -> Option<Access>
+    ensures { IfSome result (λ access. decimal owner ++ bytes.now ≡ access_text access) }
 {
-    let (owner, behind) = process_before(bytes, b'.')?;
-    let (field, behind) = field_before_dot(behind)?;
+    let (field, behind) = field_between_dots(bytes)?;
     let (bit, behind) = bit_before_dot(behind)?;
-    let (reader, text) = reader_in(behind)?;
+    let (reader, text) = process_at(behind, b' ')?;
     let how = move_in(text)?;
     Some(Access {
         owner,
@@ -68,7 +111,7 @@ fn bit_before_dot(bytes: &[u8]) -> Option<(u16, &[u8])>
             if bytes[count] == b'.' {
                 return Some((number as u16, &bytes[count + 1..]));
             }
-            if *e == b'.' && number >= 100 {
+            if *e == b'.' && count == 3 {
                 let last = digit(*d)?;
                 return Some(((number * 10 + last) as u16, behind));
             }
@@ -86,7 +129,7 @@ fn bit_before_dot(bytes: &[u8]) -> Option<(u16, &[u8])>
 #[inline(always)]
 fn few_digits(a: u8, b: u8, c: u8) -> Option<(u32, usize)>
     ensures written { IfSome result (λ read. decimal read.0 ≡ take read.1 (a ∷ b ∷ c ∷ [])) }
-    ensures all { IfSome result (λ read. 100 ≤ read.0 → read.1 ≡ 3) }
+    ensures all { IfSome result (λ read. read.1 ≡ 3 → 100 ≤ read.0) }
     ensures small { IfSome result (λ read. read.0 < 1000) }
     ensures few { IfSome result (λ read. read.1 ≤ 3) }
 {
@@ -192,19 +235,21 @@ fn digit(byte: u8) -> Option<u32>
     }
 }
 
-/// The register that is named before a dot, and what is behind that.
+/// The register that is named between two dots, and what is behind them.
 #[inline(always)]
-fn field_before_dot(bytes: &[u8]) -> Option<(Field, &[u8])>
-    ensures { IfSome result (λ read. bytes.now ≡ field_word read.0 ++ (46 ∷ read.1.now)) }
+#[tactic(auto, using(crate::proofs::StepWords::between_dots))]
+fn field_between_dots(bytes: &[u8]) -> Option<(Field, &[u8])>
+    ensures { IfSome result (λ read. bytes.now ≡ 46 ∷ (field_word read.0 ++ (46 ∷ read.1.now))) }
 {
-    if let [a, b, c, d, e, f, b'.', behind @ ..] = bytes {
-        let (field, front, end) = likely_field(*a, *f);
-        if are(&[*a, *b, *c, *d], &front) && are_two(&[*e, *f], &end) {
+    if let Some((name, behind)) = bytes.split_first_chunk::<8>() {
+        let (field, likely) = likely_field(u64::from_le_bytes(*name));
+        if are_eight(name, &likely) {
             return Some((field, behind));
         }
     }
     match bytes {
         [
+            b'.',
             b'c',
             b'h',
             b'o',
@@ -220,19 +265,19 @@ fn field_before_dot(bytes: &[u8]) -> Option<(Field, &[u8])>
     }
 }
 
-/// The register whose name has six letters, this one first and this one last, if there is one, and its name: the first four
-/// letters, and the last two. Three bits of the two letters tell it.
+/// The register whose name has six letters, if these eight bytes are that name between two dots, and those bytes. Three bits
+/// of the name's first letter and its last one tell it.
 #[inline(always)]
-fn likely_field(first: u8, last: u8) -> (Field, [u8; 4], [u8; 2])
-    ensures { field_word result.0 ≡ result.1 ++ result.2 }
+fn likely_field(word: u64) -> (Field, [u8; 8])
+    ensures { 46 ∷ (field_word result.0 ++ (46 ∷ [])) ≡ result.1 }
 {
-    match (first >> 1) & 9 | (last & 1) << 1 {
-        0 => (Field::Image0, *b"imag", *b"e0"),
-        2 => (Field::Image1, *b"imag", *b"e1"),
-        8 | 10 => (Field::Ticket, *b"tick", *b"et"),
-        9 => (Field::Stamp0, *b"stam", *b"p0"),
-        11 => (Field::Stamp1, *b"stam", *b"p1"),
-        _ => (Field::Commit, *b"comm", *b"it"),
+    match (word >> 9) & 9 | (word >> 47) & 2 {
+        0 => (Field::Image0, *b".image0."),
+        2 => (Field::Image1, *b".image1."),
+        8 | 10 => (Field::Ticket, *b".ticket."),
+        9 => (Field::Stamp0, *b".stamp0."),
+        11 => (Field::Stamp1, *b".stamp1."),
+        _ => (Field::Commit, *b".commit."),
     }
 }
 
@@ -244,26 +289,28 @@ fn are(bytes: &[u8; 4], word: &[u8; 4]) -> bool
     u32::from_le_bytes(*bytes) == u32::from_le_bytes(*word)
 }
 
-/// The same of two bytes.
+/// The same of eight bytes.
 #[inline(always)]
-fn are_two(bytes: &[u8; 2], word: &[u8; 2]) -> bool
+fn are_eight(bytes: &[u8; 8], word: &[u8; 8]) -> bool
     ensures { result ≡ true → bytes.now ≡ word.now }
 {
-    u16::from_le_bytes(*bytes) == u16::from_le_bytes(*word)
+    u64::from_le_bytes(*bytes) == u64::from_le_bytes(*word)
 }
 
-/// The number of a process before a space, and what is behind that, from the space on.
+/// The number of a process before such a byte, and what is behind that, from the byte on.
 #[inline(always)]
 #[tactic(auto, using(crate::proofs::StepWords::one_digit, crate::proofs::StepWords::from_end))]
-fn reader_in(bytes: &[u8]) -> Option<(u8, &[u8])>
+fn process_at(bytes: &[u8], end: u8) -> Option<(u8, &[u8])>
     ensures { IfSome result (λ read. bytes.now ≡ decimal read.0 ++ read.1.now) }
 {
-    if let [only, b' ', ..] = bytes {
-        let number = digit(*only)?;
-        return Some((number as u8, &bytes[1..]));
+    if let [only, next, ..] = bytes {
+        if *next == end {
+            let number = digit(*only)?;
+            return Some((number as u8, &bytes[1..]));
+        }
     }
-    let (reader, behind) = process_before(bytes, b' ')?;
-    Some((reader, &bytes[bytes.len() - behind.len() - 1..]))
+    let (process, behind) = process_before(bytes, end)?;
+    Some((process, &bytes[bytes.len() - behind.len() - 1..]))
 }
 
 /// The move whose words these bytes are, each behind a space. Their first four and their last four are compared: most have
