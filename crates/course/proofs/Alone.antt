@@ -13,7 +13,7 @@ use Rattle.world.specs.Walks.{StepsQuietly, Walks, left_in}
 use Rattle.world.proofs.WorldWithin.{left-on}
 use Rattle.course.specs.Courses.{CourseState, Follows, IsQuiet, QuietTurns, course}
 use Rattle.course.specs.Happenings.{Happening, Tries, past_after, tried}
-use Rattle.course.specs.Listening.{ComesOn, ComesTo, HearsStep, IsNewest, MakesSteps, PassBy, PassWithin, RunsTo, StepsWithin, TellsStep, overlapped_in}
+use Rattle.course.specs.Listening.{ComesOn, ComesTo, HearsFrom, HearsStep, IsNewest, KnowsOr, MakesSteps, MaySteps, PassBy, PassWithin, PassesAlone, RunsTo, StepsWithin, TellsStep, overlapped_in}
 use Rattle.course.specs.Runs.{Run, is_there, may_step, next_step, past_in, stepped}
 use Rattle.course.specs.Steppers.{IsAlone, left_told}
 use Rattle.course.specs.Telling.{AddsMarks, TellsOf, entry_made}
@@ -23,9 +23,16 @@ use Rattle.course.specs.declared.told.Told.TheVariants as told
 use Rattle.course.proofs.CourseTurns.{turn_next}
 use Rattle.course.proofs.Goes.{go_steps}
 use Rattle.course.proofs.Refusals.{entry_by, not_refused}
-use Rattle.course.proofs.Runnings.{IsStep, comes_end, drawn_run, one_on, one_stops, one_told, quiet_adds, turns_then}
+use Rattle.course.proofs.Runnings.{IsStep, comes_as, comes_end, comes_then, drawn_run, one_on, one_stops, one_told, quiet_adds, turns_then}
 use Rattle.course.proofs.Within.{newest_made, overlapped_more, passes_then, steps_within}
 use Rattle.course.proofs.Wanders.{stage_quiet}
+
+-- the newest event is known, or it makes a Step more, which is not refused
+abbrev pub MakesMore : ℕ → ℕ → ℕ → Setup → List Happening → Type 0
+MakesMore p floor left s happened = (floor < left) × MaySteps p s happened
+
+abbrev pub KnowsAlone : {L : Type 0} → (L → Setup → List Happening → Type 0) → ℕ → ℕ → ℕ → L → Setup → List Happening → Type 0
+KnowsAlone Knows p floor left = KnowsOr Knows (MakesMore p floor left)
 
 -- its next turn is a Step
 alone_turn : (s : Setup) (l : Line) (left p floor : ℕ) (run : Run) → floor < left → IsAlone p floor s l run → turn_of s l left run ≡ step_turn s p (left - 1) run
@@ -75,7 +82,7 @@ module _ (w w' : WorldState) (l : Line) (left p floor : ℕ) (flick : Bool) (run
   alone_stops Stops was is fault stops_before h few = one_stops Stops w w' l left p flick run run.flicks (left - 1) was is fault stops_before (quiet_step h.step) h few
 
   -- one that tells
-  pub alone_told : {L : Type 0} (Hears : L → Setup → List Happening → List Happening → L → Type 0) (a : L) (answer : Told) (left' : ℕ) → ((a : L) (s : Setup) (x : List Happening) → Hears a s x x a) → TellsStep w p flick answer w' → left' ≡ left_told answer (left - 1) →
+  pub alone_told : {L : Type 0} (Hears : L → Setup → List Happening → List Happening → L → Type 0) (a : L) (answer : Told) (left' : ℕ) → (TellsOf w.setup (past_in w.setup run) (Tries (next_step p run)) answer → Hears a w.setup run.happened run.happened a) → TellsStep w p flick answer w' → left' ≡ left_told answer (left - 1) →
       ComesTo Hears w.setup l left run a a (Some answer) (course w' flicks' left')
   alone_told Hears a answer left' nothing t fewer =
       let tells : TellsOf w.setup (past_in w.setup run) (Tries (next_step p run)) answer = subst (λ b. TellsOf w.setup (past_in w.setup run) (Tries (Step p b)) answer) by (t.tells (tried run.happened) follows.shows) in
@@ -164,6 +171,26 @@ alone_pass Hears n w w' flicks flicks' access overlapped l left left' p floor ru
     subst (λ k. ComesOn Hears s l left run was is (course w' flicks' k) (IsAlone p floor)) (sym all)
     (record { quiet = suc m.earlier; now = b.now; turns = b.turns; hears = pass s run.happened b.now.happened by; follows = b.follows; setup = b.setup; next = b.next })
 
+module _ {L : Type 0} (Hears : L → Setup → List Happening → List Happening → L → Type 0) (Knows : L → Setup → List Happening → Type 0) (s : Setup) (l : Line) (had p floor : ℕ) (run : Run) (was mid : L) (course : CourseState) (u : ComesOn (HearsFrom Hears Knows (KnowsAlone Knows p floor course.left)) s l had run was mid course (IsAlone p floor)) where
+  -- then some pass by
+  pub alone_passed : ((a b c : L) (s : Setup) (x y z : List Happening) → Hears a s x y b → Hears b s y z c → Hears a s x z c) → (course' : CourseState) (is : L) → PassesAlone Hears Knows course p floor course' mid is →
+      ComesOn (HearsFrom Hears Knows (KnowsOr Knows (MaySteps p))) s l had run was is course' (IsAlone p floor)
+  alone_passed hears_on course' is passes =
+      comes_then Hears hears_on Knows (KnowsOr Knows (MaySteps p)) s l had run was mid is course (IsAlone p floor) (comes_as Hears Knows (KnowsAlone Knows p floor course.left) (KnowsOr Knows (MaySteps p)) s l had run was mid course (IsAlone p floor) may u)
+      (KnowsOr Knows (MaySteps p)) course' (IsAlone p floor) (passes l)
+    where
+      may : (x : List Happening) → KnowsAlone Knows p floor course.left mid s x → KnowsOr Knows (MaySteps p) mid s x
+      may x (inl known) = inl known
+      may x (inr makes) = inr makes.1
+
+  -- or no turn is left
+  pub alone_ended : course.left ≤ floor → ComesOn (HearsFrom Hears Knows Knows) s l had run was mid course (IsAlone p floor)
+  alone_ended none = comes_as Hears Knows (KnowsAlone Knows p floor course.left) Knows s l had run was mid course (IsAlone p floor) ended u
+    where
+      ended : (x : List Happening) → KnowsAlone Knows p floor course.left mid s x → Knows mid s x
+      ended x (inl known) = known
+      ended x (inr makes) = absurd (let more = makes.0 in omega (arith, none, more))
+
 -- and leave the setup
 walks_setup : (n overlapped : ℕ) (w w' : WorldState) (flicks flicks' : FlickState) (p : ℕ) → Walks w flicks p n overlapped w' flicks' → w'.setup ≡ w.setup
 walks_setup zero overlapped w w' flicks flicks' p (same, same_flicks, none) = ap (λ (w : WorldState). w.setup) same
@@ -173,8 +200,8 @@ pub steps_setup : (w w' : WorldState) (flicks flicks' : FlickState) (p n : ℕ) 
 steps_setup w w' flicks flicks' p n access overlapped m = m.newest.0.setup ∙ walks_setup m.earlier m.overlapped_before w m.world flicks m.source p m.walks
 
 -- a line of Steps that has made them all has ended
-pub alone_whole : {L : Type 0} (Hears : L → Setup → List Happening → List Happening → L → Type 0) (old new : CourseState) (l : Line) (p steps : ℕ) (was is : L) (result : Result (Option Told) Fault) → l ≡ line.Step p steps → IfOk result (λ told. told ≡ None → new.left ≡ 0) →
-    IfOk result (λ told. (l : Line) (run : Run) → Follows old run → IsAlone p 0 old.world.setup l run → RunsTo Hears old.world.setup l old.left run was is p 0 told new) → IfOk result (λ told. (run : Run) → Follows old run → ComesTo Hears old.world.setup l old.left run was is told new)
+pub alone_whole : {L : Type 0} (Hears : Option Told → L → Setup → List Happening → List Happening → L → Type 0) (old new : CourseState) (l : Line) (p steps : ℕ) (was is : L) (result : Result (Option Told) Fault) → l ≡ line.Step p steps → IfOk result (λ told. told ≡ None → new.left ≡ 0) →
+    IfOk result (λ told. (l : Line) (run : Run) → Follows old run → IsAlone p 0 old.world.setup l run → RunsTo (Hears told) old.world.setup l old.left run was is p 0 told new) → IfOk result (λ told. (run : Run) → Follows old run → ComesTo (Hears told) old.world.setup l old.left run was is told new)
 alone_whole Hears old new l p steps was is (Err fault) same ended runs = tt
-alone_whole Hears old new l p steps was is (Ok None) same ended runs = λ run follows. comes_end Hears old.world.setup l old.left run was is new (IsAlone p 0) (ended refl) (runs l run follows (inl (steps, same)))
+alone_whole Hears old new l p steps was is (Ok None) same ended runs = λ run follows. comes_end (Hears None) old.world.setup l old.left run was is new (IsAlone p 0) (ended refl) (runs l run follows (inl (steps, same)))
 alone_whole Hears old new l p steps was is (Ok (Some answer)) same ended runs = λ run follows. runs l run follows (inl (steps, same))

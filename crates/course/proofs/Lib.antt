@@ -12,6 +12,7 @@ pub mod Goes
 pub mod Alone
 pub mod Movers
 pub mod Wanders
+pub mod Knowing
 pub mod Counted
 pub mod Refusals
 pub mod InTurn

@@ -11,7 +11,7 @@ use Rattle.scenario.specs.files.declared.faults.Fault.{Fault}
 use Rattle.world.specs.Shows.{WorldState}
 use Rattle.course.specs.Courses.{CourseState, Follows}
 use Rattle.course.specs.Happenings.{Happening, Tries, past_after, tried}
-use Rattle.course.specs.Listening.{ComesTo, Happens, HearsStep, MakesStep, Plays, room_wanted}
+use Rattle.course.specs.Listening.{ComesTo, Happens, HearsStep, HearsUpTo, Keeps, LearnsTold, MakesStep, Plays, room_wanted}
 use Rattle.course.specs.Runs.{Run, past_in, run_after, run_at_start, runs}
 use Rattle.course.specs.Telling.{Tells}
 use Rattle.course.specs.Turns.{Turn, rest_of, turn_of, turns_in}
@@ -66,18 +66,22 @@ pub record Played {L : Type 0} (Hears : L → Setup → List Happening → List 
   pub hears : Hears was s start.happened now.happened is
   pub rest : rest_of s line course.left now ≡ run_after s line start
 
-module _ {L : Type 0} (Hears : L → Setup → List Happening → List Happening → L → Type 0) where
-  pub played_start : (s : Setup) (line : Line) (start : Run) (old course : CourseState) (a : L) → ((a : L) (s : Setup) (x : List Happening) → Hears a s x x a) → old.world.setup ≡ s → course ≡ record old { left = turns_in line } → Follows old start → Played Hears s line start a course a
+module _ {L : Type 0} (Hears : L → Setup → List Happening → List Happening → L → Type 0) (Knows : L → Setup → List Happening → Type 0) where
+  -- all was heard, and the newest event is known if it was
+  abbrev pub PlayedOn : Setup → Line → Run → L → CourseState → L → Type 0
+  PlayedOn = Played (HearsUpTo Hears Knows None)
+
+  pub played_start : (s : Setup) (line : Line) (start : Run) (old course : CourseState) (a : L) → ((a : L) (s : Setup) (x : List Happening) → Hears a s x x a) → old.world.setup ≡ s → course ≡ record old { left = turns_in line } → Follows old start → PlayedOn s line start a course a
   played_start s line start old course a nothing setup begun follows = record {
     now = start;
     follows = subst (λ course. Follows course start) (sym begun) (record { shows = follows.shows; flicks = follows.flicks });
     setup = ap (λ (c : CourseState). c.world.setup) begun ∙ setup;
-    hears = nothing a s start.happened;
+    hears = (nothing a s start.happened, λ known. known);
     rest = ap (λ (c : CourseState). rest_of s line c.left start) begun ∙ rest_whole s line start;
   }
 
   -- what is left once a turn is made
-  rest_after : (s : Setup) (line : Line) (start : Run) (was is is' : L) (course course' : CourseState) (answer : Option Told) → course.left ≤ turns_in line → (u : Played Hears s line start was course is) → (c : ComesTo Hears s line course.left u.now is is' answer course') →
+  rest_after : (s : Setup) (line : Line) (start : Run) (was is is' : L) (course course' : CourseState) (answer : Option Told) → course.left ≤ turns_in line → (u : PlayedOn s line start was course is) → (c : ComesTo (HearsUpTo Hears Knows answer) s line course.left u.now is is' answer course') →
       rest_of s line (turn_of s line c.left c.now).left (turn_of s line c.left c.now).run ≡ run_after s line start
   rest_after s line start was is is' course course' answer few u c =
       let q = rest_quiet s line c.quiet course.left u.now c.left c.now few c.turns in
@@ -85,15 +89,16 @@ module _ {L : Type 0} (Hears : L → Setup → List Happening → List Happening
 
   module _ (s : Setup) (line : Line) (start : Run) (was is is' : L) (course course' : CourseState) (few : course.left ≤ turns_in line) (hears_on : (a b c : L) (s : Setup) (x y z : List Happening) → Hears a s x y b → Hears b s y z c → Hears a s x z c) where
     abbrev pub Comes : Option Told → Type 0
-    Comes answer = (run : Run) → Follows course run → ComesTo Hears course.world.setup line course.left run is is' answer course'
+    Comes answer = (run : Run) → Follows course run → ComesTo (HearsUpTo Hears Knows answer) course.world.setup line course.left run is is' answer course'
 
-    comes_now : (answer : Option Told) (u : Played Hears s line start was course is) → Comes answer → ComesTo Hears s line course.left u.now is is' answer course'
-    comes_now answer u comes = subst (λ s. ComesTo Hears s line course.left u.now is is' answer course') u.setup (comes u.now u.follows)
+    comes_now : (answer : Option Told) (u : PlayedOn s line start was course is) → Comes answer → ComesTo (HearsUpTo Hears Knows answer) s line course.left u.now is is' answer course'
+    comes_now answer u comes = subst (λ s. ComesTo (HearsUpTo Hears Knows answer) s line course.left u.now is is' answer course') u.setup (comes u.now u.follows)
 
     -- a turn more, which is heard
-    pub played_on : (is'' : L) (answer : Told) (taken : List Taken) → Played Hears s line start was course is → Comes (Some answer) → AnswersTaken course' taken →
-        ((s : Setup) (before : List Happening) (this : Happening) → Happens s before this answer taken → Hears is' s before (this ∷ before) is'') → Played Hears s line start was course' is''
-    played_on is'' answer taken u comes are heard =
+    pub played_on : (is'' : L) (answer : Told) (taken : List Taken) → PlayedOn s line start was course is → Comes (Some answer) → AnswersTaken course' taken →
+        ((s : Setup) (before : List Happening) (this : Happening) → Happens s before this answer taken → Hears is' s before (this ∷ before) is'') →
+        ((s : Setup) (before : List Happening) (this : Happening) → Happens s before this answer taken → LearnsTold Knows answer is' s before (this ∷ before) is'') → PlayedOn s line start was course' is''
+    played_on is'' answer taken u comes are heard learns =
         let c = comes_now (Some answer) u comes in
         let one = tells_one s line c.left c.now answer course' taken c.tells c.follows c.setup are in
         let t : Turn = turn_of s line c.left c.now in
@@ -101,34 +106,35 @@ module _ {L : Type 0} (Hears : L → Setup → List Happening → List Happening
           now = t.run;
           follows = c.follows;
           setup = c.setup;
-          hears = hears_on was is is'' s start.happened u.now.happened t.run.happened u.hears
-              (subst (λ l. Hears is s u.now.happened l is'') (sym one.same) (hears_on is is' is'' s u.now.happened c.now.happened (one.this ∷ c.now.happened) c.hears (heard s c.now.happened one.this one.happens)));
+          hears = subst (λ l. HearsUpTo Hears Knows None was s start.happened l is'') (sym one.same) (
+            hears_on was is is'' s start.happened u.now.happened (one.this ∷ c.now.happened) u.hears.0 (hears_on is is' is'' s u.now.happened c.now.happened (one.this ∷ c.now.happened) c.hears.0 (heard s c.now.happened one.this one.happens)),
+            λ known. learns s c.now.happened one.this one.happens (c.hears.1 (u.hears.1 known)),
+          );
           rest = ap (λ n. rest_of s line n t.run) c.left_is ∙ rest_after s line start was is is' course course' (Some answer) few u c;
         }
 
     -- the end of the line
-    pub played_ended : Played Hears s line start was course is → Comes None → Plays Hears s line start course' was is'
+    pub played_ended : PlayedOn s line start was course is → Comes None → Plays Hears s line start course' was is' × Plays (Keeps Knows) s line start course' was is'
     played_ended u comes = by (turned s line c.left c.now)
       where
-        c : ComesTo Hears s line course.left u.now is is' None course'
+        c : ComesTo (HearsUpTo Hears Knows None) s line course.left u.now is is' None course'
         c = comes_now None u comes
 
         t : Turn
         t = turn_of s line c.left c.now
 
-        by : Turned t c.now.happened → Plays Hears s line start course' was is'
+        by : Turned t c.now.happened → Plays Hears s line start course' was is' × Plays (Keeps Knows) s line start course' was is'
         by (One this some same) = absurd (silent_one s (past_in s c.now) t.this this some c.tells)
         by (Nothing none ended same) =
             let all : t.run ≡ run_after s line start = sym (rest_none s line t.run) ∙ ap (λ n. rest_of s line n t.run) (sym ended) ∙ rest_after s line start was is is' course course' None few u c in
-            record {
-              follows = subst (λ (r : Run). Follows course' r) all c.follows;
-              setup = c.setup;
-              hears = subst (λ l. Hears was s start.happened l is') (sym same ∙ ap (λ (r : Run). r.happened) all) (hears_on was is is' s start.happened u.now.happened c.now.happened u.hears c.hears);
-            }
+            let follows : Follows course' (run_after s line start) = subst (λ (r : Run). Follows course' r) all c.follows in
+            let hears : HearsUpTo Hears Knows None was s start.happened (run_after s line start).happened is' = subst (λ l. HearsUpTo Hears Knows None was s start.happened l is') (sym same ∙ ap (λ (r : Run). r.happened) all)
+            (hears_on was is is' s start.happened u.now.happened c.now.happened u.hears.0 c.hears.0, λ known. c.hears.1 (u.hears.1 known)) in
+            (record { follows = follows; setup = c.setup; hears = hears.0 }, record { follows = follows; setup = c.setup; hears = hears.1 })
 
     module _ (Stops : L → Setup → List Happening → List Happening → Fault → L → Type 0) (stops_on : (a b c : L) (s : Setup) (x y z : List Happening) (fault : Fault) → Hears a s x y b → Stops b s y z fault c → Stops a s x z fault c) (fault : Fault) where
       -- a fault as a turn is heard
-      pub played_cut : (is'' : L) (answer : Told) (taken : List Taken) → ((a b : L) (s : Setup) (x y more : List Happening) (fault : Fault) → Stops a s x y fault b → Stops a s x (more ++ y) fault b) → Played Hears s line start was course is → Comes (Some answer) → AnswersTaken course' taken →
+      pub played_cut : (is'' : L) (answer : Told) (taken : List Taken) → ((a b : L) (s : Setup) (x y more : List Happening) (fault : Fault) → Stops a s x y fault b → Stops a s x (more ++ y) fault b) → PlayedOn s line start was course is → Comes (Some answer) → AnswersTaken course' taken →
           ((s : Setup) (before : List Happening) (this : Happening) → Happens s before this answer taken → Stops is' s before (this ∷ before) fault is'') → Stops was s start.happened (run_after s line start).happened fault is''
       played_cut is'' answer taken stops_before u comes are cut =
           let c = comes_now (Some answer) u comes in
@@ -137,15 +143,15 @@ module _ {L : Type 0} (Hears : L → Setup → List Happening → List Happening
           let more : Grows t.run.happened (rest_of s line t.left t.run).happened = rest_grows s line t.left t.run in
           let all : (run_after s line start).happened ≡ more.more ++ (one.this ∷ c.now.happened) = ap (λ (r : Run). r.happened) (sym (rest_after s line start was is is' course course' (Some answer) few u c)) ∙ more.is ∙ ap (λ l. more.more ++ l) one.same in
           subst (λ l. Stops was s start.happened l fault is'') (sym all)
-          (stops_on was is is'' s start.happened u.now.happened (more.more ++ (one.this ∷ c.now.happened)) fault u.hears
-          (stops_on is is' is'' s u.now.happened c.now.happened (more.more ++ (one.this ∷ c.now.happened)) fault c.hears
+          (stops_on was is is'' s start.happened u.now.happened (more.more ++ (one.this ∷ c.now.happened)) fault u.hears.0
+          (stops_on is is' is'' s u.now.happened c.now.happened (more.more ++ (one.this ∷ c.now.happened)) fault c.hears.0
           (stops_before is' is'' s c.now.happened (one.this ∷ c.now.happened) more.more fault (cut s c.now.happened one.this one.happens))))
 
       -- a fault before the turn
-      pub played_torn : Played Hears s line start was course is → ((run : Run) → Follows course run → Stops is course.world.setup run.happened (rest_of course.world.setup line course.left run).happened fault is') → Stops was s start.happened (run_after s line start).happened fault is'
+      pub played_torn : PlayedOn s line start was course is → ((run : Run) → Follows course run → Stops is course.world.setup run.happened (rest_of course.world.setup line course.left run).happened fault is') → Stops was s start.happened (run_after s line start).happened fault is'
       played_torn u cut =
           subst (λ (r : Run). Stops was s start.happened r.happened fault is') u.rest
-          (stops_on was is is' s start.happened u.now.happened (rest_of s line course.left u.now).happened fault u.hears
+          (stops_on was is is' s start.happened u.now.happened (rest_of s line course.left u.now).happened fault u.hears.0
           (subst (λ s. Stops is s u.now.happened (rest_of s line course.left u.now).happened fault is') u.setup (cut u.now u.follows)))
 
 -- a fault before anything is heard

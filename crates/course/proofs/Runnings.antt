@@ -11,7 +11,7 @@ use Rattle.world.specs.Shows.{Shows, WorldState}
 use Rattle.world.specs.Walks.{StepsQuietly}
 use Rattle.course.specs.Courses.{CourseState, Follows, IsQuiet, Makes, QuietTurns, course}
 use Rattle.course.specs.Happenings.{Happening, Tries, tried}
-use Rattle.course.specs.Listening.{ComesOn, ComesTo, HearsStep, PassQuietly, TellsStep}
+use Rattle.course.specs.Listening.{ComesOn, ComesTo, HearsFrom, HearsStep, PassQuietly, TellsStep}
 use Rattle.course.specs.Runs.{Run, next_step, past_in, stepped}
 use Rattle.course.specs.Telling.{AddsMarks, Tells, TellsOf}
 use Rattle.course.specs.Turns.{Turn, made_turn, rest_of, turn_of, turns_in}
@@ -74,19 +74,19 @@ quiet_adds w w' p flick run source q shows is = subst (λ b. AddsMarks w.setup (
 
 module _ {L : Type 0} (Hears : L → Setup → List Happening → List Happening → L → Type 0) where
   -- Before the first.
-  pub comes_start : (line : Line) (start : Run) (old new : CourseState) (a : L) (Next : Setup → Line → Run → Type 0) → ((a : L) (s : Setup) (x : List Happening) → Hears a s x x a) → new ≡ old → Follows old start → Next old.world.setup line start → ComesOn Hears old.world.setup line old.left start a a new Next
+  pub comes_start : (line : Line) (start : Run) (old new : CourseState) (a : L) (Next : Setup → Line → Run → Type 0) → Hears a old.world.setup start.happened start.happened a → new ≡ old → Follows old start → Next old.world.setup line start → ComesOn Hears old.world.setup line old.left start a a new Next
   comes_start line start old new a Next nothing same follows next =
       subst (λ (c : CourseState). ComesOn Hears old.world.setup line old.left start a a c Next) (sym same)
-      (record { quiet = 0; now = start; turns = (refl, refl); hears = nothing a old.world.setup start.happened; follows = record { shows = follows.shows; flicks = follows.flicks }; setup = refl; next = next })
+      (record { quiet = 0; now = start; turns = (refl, refl); hears = nothing; follows = record { shows = follows.shows; flicks = follows.flicks }; setup = refl; next = next })
 
   -- a turn that tells, with none before it
-  pub at_once : (line : Line) (start : Run) (old new : CourseState) (a : L) (answer : Option Told) → ((a : L) (s : Setup) (x : List Happening) → Hears a s x x a) → Makes old start (turn_of old.world.setup line old.left start) answer new → ComesTo Hears old.world.setup line old.left start a a answer new
+  pub at_once : (line : Line) (start : Run) (old new : CourseState) (a : L) (answer : Option Told) → Hears a old.world.setup start.happened start.happened a → Makes old start (turn_of old.world.setup line old.left start) answer new → ComesTo Hears old.world.setup line old.left start a a answer new
   at_once line start old new a answer nothing m = record {
     quiet = 0;
     left = old.left;
     now = start;
     turns = (refl, refl);
-    hears = nothing a old.world.setup start.happened;
+    hears = nothing;
     tells = m.tells;
     follows = m.follows;
     left_is = m.left;
@@ -126,7 +126,7 @@ module _ {L : Type 0} (Hears : L → Setup → List Happening → List Happening
       }
 
   -- one that tells
-  pub one_told : (w w' : WorldState) (line : Line) (left p : ℕ) (flick : Bool) (run : Run) (source flicks : FlickState) (left' : ℕ) (a : L) (answer : Told) → ((a : L) (s : Setup) (x : List Happening) → Hears a s x x a) → IsStep w line left p flick run source left' → TellsStep w p flick answer w' →
+  pub one_told : (w w' : WorldState) (line : Line) (left p : ℕ) (flick : Bool) (run : Run) (source flicks : FlickState) (left' : ℕ) (a : L) (answer : Told) → (TellsOf w.setup (past_in w.setup run) (Tries (next_step p (drawn_run run source))) answer → Hears a w.setup run.happened run.happened a) → IsStep w line left p flick run source left' → TellsStep w p flick answer w' →
       flicks ≡ after_flick source → ComesTo Hears w.setup line left run a a (Some answer) (course w' flicks left')
   one_told w w' line left p flick run source flicks left' a answer nothing step t after =
       let s : Setup = w.setup in
@@ -138,40 +138,45 @@ module _ {L : Type 0} (Hears : L → Setup → List Happening → List Happening
         left = left;
         now = run;
         turns = (refl, refl);
-        hears = nothing a s run.happened;
+        hears = nothing tells;
         tells = subst (λ (t : Turn). Tells s (past_in s run) t.this (Some answer)) (sym step.turn) (tells, t.marked);
         follows = subst (λ (t : Turn). Follows (course w' flicks left') t.run) (sym step.turn) follows;
         left_is = subst (λ (t : Turn). left' ≡ t.left) (sym step.turn) refl;
         setup = t.setup;
       }
 
+  -- what is known may be said with less
+  pub comes_as : (P Q R : L → Setup → List Happening → Type 0) (s : Setup) (line : Line) (had : ℕ) (start : Run) (was is : L) (course : CourseState) (Next : Setup → Line → Run → Type 0) → ((x : List Happening) → Q is s x → R is s x) → ComesOn (HearsFrom Hears P Q) s line had start was is course Next →
+      ComesOn (HearsFrom Hears P R) s line had start was is course Next
+  comes_as P Q R s line had start was is course Next less u = record { quiet = u.quiet; now = u.now; turns = u.turns; hears = (u.hears.0, λ known. less u.now.happened (u.hears.1 known)); follows = u.follows; setup = u.setup; next = u.next }
+
   -- Steps without a mark, and then others
-  module _ (hears_on : (a b c : L) (s : Setup) (x y z : List Happening) → Hears a s x y b → Hears b s y z c → Hears a s x z c) (s : Setup) (line : Line) (had : ℕ) (start : Run) (was mid is : L) (course : CourseState) (Next : Setup → Line → Run → Type 0) (u : ComesOn Hears s line had start was mid course Next) where
+  module _ (hears_on : (a b c : L) (s : Setup) (x y z : List Happening) → Hears a s x y b → Hears b s y z c → Hears a s x z c) (P Q : L → Setup → List Happening → Type 0) (s : Setup) (line : Line) (had : ℕ) (start : Run) (was mid is : L) (course : CourseState) (Next : Setup → Line → Run → Type 0) (u : ComesOn (HearsFrom Hears P Q) s line had start was mid course Next) where
     here : Next course.world.setup line u.now
     here = subst (λ (s : Setup). Next s line u.now) (sym u.setup) u.next
 
-    pub comes_then : (course' : CourseState) (Then : Setup → Line → Run → Type 0) → ((run : Run) → Follows course run → Next course.world.setup line run → ComesOn Hears course.world.setup line course.left run mid is course' Then) → ComesOn Hears s line had start was is course' Then
-    comes_then course' Then on =
-        let v : ComesOn Hears s line course.left u.now mid is course' Then = subst (λ s. ComesOn Hears s line course.left u.now mid is course' Then) u.setup (on u.now u.follows here) in
+    pub comes_then : (R : L → Setup → List Happening → Type 0) (course' : CourseState) (Then : Setup → Line → Run → Type 0) → ((run : Run) → Follows course run → Next course.world.setup line run → ComesOn (HearsFrom Hears Q R) course.world.setup line course.left run mid is course' Then) → ComesOn (HearsFrom Hears P R) s line had start was is course' Then
+    comes_then R course' Then on =
+        let v : ComesOn (HearsFrom Hears Q R) s line course.left u.now mid is course' Then = subst (λ s. ComesOn (HearsFrom Hears Q R) s line course.left u.now mid is course' Then) u.setup (on u.now u.follows here) in
         record {
           quiet = u.quiet + v.quiet;
           now = v.now;
           turns = turns_then s line u.quiet v.quiet had start course.left u.now course'.left v.now u.turns v.turns;
-          hears = hears_on was mid is s start.happened u.now.happened v.now.happened u.hears v.hears;
+          hears = (hears_on was mid is s start.happened u.now.happened v.now.happened u.hears.0 v.hears.0, λ known. v.hears.1 (u.hears.1 known));
           follows = v.follows;
           setup = v.setup;
           next = v.next;
         }
 
-    pub comes_to : (course' : CourseState) (answer : Option Told) → ((run : Run) → Follows course run → Next course.world.setup line run → ComesTo Hears course.world.setup line course.left run mid is answer course') → ComesTo Hears s line had start was is answer course'
-    comes_to course' answer on =
-        let c : ComesTo Hears s line course.left u.now mid is answer course' = subst (λ s. ComesTo Hears s line course.left u.now mid is answer course') u.setup (on u.now u.follows here) in
+    pub comes_to : (R : L → Setup → List Happening → Type 0) (course' : CourseState) (answer : Option Told) → ((run : Run) → Follows course run → Next course.world.setup line run → ComesTo (HearsFrom Hears Q R) course.world.setup line course.left run mid is answer course') → ComesTo (HearsFrom Hears P R) s line had start was is answer course'
+    comes_to R course' answer on =
+        let c : ComesTo (HearsFrom Hears Q R) s line course.left u.now mid is answer course' = subst (λ s. ComesTo (HearsFrom Hears Q R) s line course.left u.now mid is answer course') u.setup (on u.now u.follows here) in
         record {
           quiet = u.quiet + c.quiet;
           left = c.left;
           now = c.now;
           turns = turns_then s line u.quiet c.quiet had start course.left u.now c.left c.now u.turns c.turns;
-          hears = hears_on was mid is s start.happened u.now.happened c.now.happened u.hears c.hears;
+          hears = (hears_on was mid is s start.happened u.now.happened c.now.happened u.hears.0 c.hears.0, λ known. c.hears.1 (u.hears.1 known));
           tells = c.tells;
           follows = c.follows;
           left_is = c.left_is;
@@ -183,7 +188,7 @@ module _ {L : Type 0} (Hears : L → Setup → List Happening → List Happening
     comes_stop Stops stops_on fault few cut =
         let q = rest_quiet s line u.quiet had start course.left u.now few u.turns in
         subst (λ (r : Run). Stops was s start.happened r.happened fault is) (sym q.1)
-        (stops_on was mid is s start.happened u.now.happened (rest_of s line course.left u.now).happened fault u.hears
+        (stops_on was mid is s start.happened u.now.happened (rest_of s line course.left u.now).happened fault u.hears.0
         (subst (λ s. Stops mid s u.now.happened (rest_of s line course.left u.now).happened fault is) u.setup (cut u.now u.follows here q.0)))
 
 -- a fault as a Step without a mark is heard

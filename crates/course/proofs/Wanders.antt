@@ -13,15 +13,15 @@ use Rattle.scenario.specs.files.declared.faults.Fault.{Fault}
 use Rattle.world.specs.flicks.Flicks.{FlickState, flick_of, after_flick, pick_of, after_pick}
 use Rattle.world.specs.Shows.{WorldState}
 use Rattle.course.specs.Courses.{Follows, Makes, course}
-use Rattle.course.specs.Happenings.{Happening, tried}
-use Rattle.course.specs.Listening.{ComesOn, ComesTo, HearsStep, TellsStep}
-use Rattle.course.specs.Runs.{Run, after_pick_in, has_step, movers, past_in}
-use Rattle.course.specs.Telling.{AddsMarks}
+use Rattle.course.specs.Happenings.{Happening, Tries, tried}
+use Rattle.course.specs.Listening.{ComesOn, ComesTo, HearsStep, KnowsOr, TellsStep}
+use Rattle.course.specs.Runs.{Run, after_pick_in, has_step, movers, next_step, past_in}
+use Rattle.course.specs.Telling.{AddsMarks, TellsOf}
 use Rattle.course.specs.Turns.{Turn, ends, made_turn, rest_of, turn_of, wander_turn}
 use Rattle.course.specs.declared.told.Told.{Told}
 use Rattle.course.proofs.CourseTurns.{turn_next}
 use Rattle.course.proofs.Refusals.{entry_by}
-use Rattle.course.proofs.Runnings.{IsStep, one_on, one_stops, one_told, quiet_adds}
+use Rattle.course.proofs.Runnings.{IsStep, drawn_run, one_on, one_stops, one_told, quiet_adds}
 
 -- an entry without a mark leaves each process in its stage
 stage_kept : (p : ℕ) (e : Entry) (past : Past) → e.marks ≡ [] → stage p (e ∷ past) ≡ stage p past
@@ -44,6 +44,10 @@ movers_quiet s events event adds = λ i. filter (λ p. has_step (stage_quiet s p
 -- these may be picked
 abbrev pub ArePicked : List ℕ → Setup → Line → Run → Type 0
 ArePicked ps s l run = ps ≡ movers s (past_in s run)
+
+-- the newest event is known, or a Step is left
+abbrev pub KnowsWhile : {L : Type 0} → (L → Setup → List Happening → Type 0) → ℕ → L → Setup → List Happening → Type 0
+KnowsWhile Knows left = KnowsOr Knows (λ s happened. 0 < left)
 
 -- the turn of `wander` with one to pick
 pub pick_turn : (s : Setup) (steps left p : ℕ) (flicks : FlickState) (ps : List ℕ) (run : Run) → (left ≡ 0 → ⊥) → 0 < length ps → flicks ≡ run.flicks → p ≡ slice_index ps (pick_of (length ps) flicks) → ps ≡ movers s (past_in s run) →
@@ -79,7 +83,7 @@ module _ (w w' : WorldState) (steps left p : ℕ) (ps : List ℕ) (flick : Bool)
       HearsStep (λ was s x y is. Stops was s x y fault is) w p flick w' was is → left ≤ steps → Stops was w.setup run.happened (rest_of w.setup (line.Wander steps) left run).happened fault is
   picked_stops Stops was is fault stops_before h few = one_stops Stops w w' (line.Wander steps) left p flick run source (left - 1) was is fault stops_before picked_step h few
 
-  pub picked_told : {L : Type 0} (Hears : L → Setup → List Happening → List Happening → L → Type 0) (a : L) (answer : Told) → ((a : L) (s : Setup) (x : List Happening) → Hears a s x x a) → TellsStep w p flick answer w' →
+  pub picked_told : {L : Type 0} (Hears : L → Setup → List Happening → List Happening → L → Type 0) (a : L) (answer : Told) → (TellsOf w.setup (past_in w.setup run) (Tries (next_step p (drawn_run run source))) answer → Hears a w.setup run.happened run.happened a) → TellsStep w p flick answer w' →
       ComesTo Hears w.setup (line.Wander steps) left run a a (Some answer) (course w' flicks' (left - 1))
   picked_told Hears a answer nothing t = one_told Hears w w' (line.Wander steps) left p flick run source flicks' (left - 1) a answer nothing picked_step t then
 

@@ -1,5 +1,5 @@
 -- Who hears a run: what is told to it, and what it has heard once a line has made its turns.
-use Rattle.std.specs.Prelude.{◌≡◌, ◌+◌, ◌<◌, ◌≤◌, ℕ, zero, suc, Bool, if◌then◌else◌, List, [], ◌∷◌, Option, None, Some, Ok}
+use Rattle.std.specs.Prelude.{◌≡◌, ◌⊎◌, ◌+◌, ◌<◌, ◌≤◌, ℕ, zero, suc, Bool, if◌then◌else◌, List, [], ◌∷◌, Option, None, Some, Ok}
 use Rattle.plain_store.specs.declared.setups.Setup.{Setup}
 use Rattle.plain_store.specs.Setups.{checked}
 use Rattle.record.specs.declared.events.Event.{Event}
@@ -11,7 +11,7 @@ use Rattle.record.specs.Entries.{Past}
 use Rattle.record.specs.Given.{AreGiven}
 use Rattle.record.specs.Histories.{history}
 use Rattle.record.specs.Moves.{moves_of}
-use Rattle.record.specs.Records.{entry_of, past_of}
+use Rattle.record.specs.Records.{entry_of, past_of, refused}
 use Rattle.scenario.specs.declared.lines.Line.{Line}
 use Rattle.scenario.specs.files.declared.faults.Fault.{Fault}
 use Rattle.world.specs.laws.Doings.{doing}
@@ -29,6 +29,7 @@ use Rattle.course.specs.Telling.{IsMarked, Tells, TellsOf}
 use Rattle.course.specs.Turns.{rest_of, turn_of, turns_in}
 use Rattle.course.specs.declared.told.Stepped.{Stepped}
 use Rattle.course.specs.declared.told.Told.{Told}
+use Rattle.course.specs.declared.told.Told.TheVariants.{Accepted}
 
 -- this happens in the run of a setup, and is told so; these commands are taken then
 pub record Happens (s : Setup) (before : List Happening) (this : Happening) (told : Told) (taken : List Taken) : Type 0 where
@@ -95,6 +96,43 @@ HearsUnmarked Hears made was is = (s : Setup) (before : List Happening) → Step
 -- so many Steps of p within a number access are heard of, the move that the newest makes, and how many end a read that a write overlapped
 abbrev pub HearsPassing : {L : Type 0} → (L → Setup → List Happening → List Happening → L → Type 0) → ℕ → ℕ → Move → ℕ → L → L → Type 0
 HearsPassing Hears p steps how overlapped was is = (s : Setup) (before after : List Happening) (newest : Access) → newest.how ≡ how → PassBy s p steps newest overlapped before after → Hears was s before after is
+
+-- who knew the newest event still does
+abbrev pub Keeps : {L : Type 0} → (L → Setup → List Happening → Type 0) → L → Setup → List Happening → List Happening → L → Type 0
+Keeps Knows was s before after is = Knows was s before → Knows is s after
+
+-- who hears a Step knows it
+abbrev pub Learns : {L : Type 0} → (L → Setup → List Happening → Type 0) → L → Setup → List Happening → List Happening → L → Type 0
+Learns Knows was s before after is = Knows is s after
+
+-- what is to be known of the newest event as this is told: nothing where an event is accepted, which is the newest then
+abbrev pub Needs : Option Told → Type 0 → Type 0
+Needs (Some (Accepted made)) Known = Unit {0}
+Needs _ Known = Known
+
+-- it knows that
+abbrev pub KnowsEnough : {L : Type 0} → (L → Setup → List Happening → Type 0) → Option Told → L → Setup → List Happening → Type 0
+KnowsEnough Knows answer is s happened = Needs answer (Knows is s happened)
+
+-- who hears what is told knows the newest event, if it knew enough
+abbrev pub LearnsTold : {L : Type 0} → (L → Setup → List Happening → Type 0) → Told → L → Setup → List Happening → List Happening → L → Type 0
+LearnsTold Knows answer was s before after is = KnowsEnough Knows (Some answer) was s before → Knows is s after
+
+-- all is heard, and where the one holds before, the other does after
+abbrev pub HearsFrom : {L : Type 0} → (L → Setup → List Happening → List Happening → L → Type 0) → (P Q : L → Setup → List Happening → Type 0) → L → Setup → List Happening → List Happening → L → Type 0
+HearsFrom Hears P Q was s before after is = Hears was s before after is × (P was s before → Q is s after)
+
+-- all is heard before this is told, and enough is known
+abbrev pub HearsUpTo : {L : Type 0} → (L → Setup → List Happening → List Happening → L → Type 0) → (L → Setup → List Happening → Type 0) → Option Told → L → Setup → List Happening → List Happening → L → Type 0
+HearsUpTo Hears Knows answer = HearsFrom Hears Knows (KnowsEnough Knows answer)
+
+-- no Step of this process is refused
+abbrev pub MaySteps : ℕ → Setup → List Happening → Type 0
+MaySteps p s happened = (flick : Bool) → refused s (past_after s happened) (Step p flick) ≡ None
+
+-- it knows the newest event, or else this holds
+abbrev pub KnowsOr : {L : Type 0} → (L → Setup → List Happening → Type 0) → (Setup → List Happening → Type 0) → L → Setup → List Happening → Type 0
+KnowsOr Knows Else is s happened = Knows is s happened ⊎ Else s happened
 
 -- who stops by this fault has heard a front of what it would have heard
 abbrev pub StopsBy : {L : Type 0} → (L → Setup → List Happening → List Happening → Fault → L → Type 0) → Fault → L → Setup → List Happening → List Happening → L → Type 0
@@ -176,8 +214,8 @@ RunsTo Hears s line had run was is p floor (Some answer) course = ComesTo Hears 
 RunsTo Hears s line had run was is p floor None course = ComesOn Hears s line had run was is course (IsAlone p floor)
 
 -- the turns of a line up to one that tells are made, in each run that the course shows
-abbrev pub Comes : {L : Type 0} → (L → Setup → List Happening → List Happening → L → Type 0) → CourseState → Line → CourseState → L → L → Option Told → Type 0
-Comes Hears old line new was is told = InItsRun old (λ run. ComesTo Hears old.world.setup line old.left run was is told new)
+abbrev pub Comes : {L : Type 0} → (L → Setup → List Happening → List Happening → L → Type 0) → (L → Setup → List Happening → Type 0) → CourseState → Line → CourseState → L → L → Option Told → Type 0
+Comes Hears Knows old line new was is told = InItsRun old (λ run. ComesTo (HearsUpTo Hears Knows told) old.world.setup line old.left run was is told new)
 
 -- a listener stops amid the turns that a line has left, or amid all of them
 abbrev pub StopsAmid : {L : Type 0} → (L → Setup → List Happening → List Happening → Fault → L → Type 0) → CourseState → Line → L → L → Fault → Type 0
@@ -187,15 +225,15 @@ abbrev pub StopsLine : {L : Type 0} → (L → Setup → List Happening → List
 StopsLine Stops old line was is fault = InItsRun old (λ run. Stops was old.world.setup run.happened (run_after old.world.setup line run).happened fault is)
 
 -- one process makes the Steps of a line, in each run that the course shows, or a listener stops amid them
-abbrev pub RunsAlone : {L : Type 0} → (L → Setup → List Happening → List Happening → L → Type 0) → CourseState → ℕ → ℕ → CourseState → L → L → Option Told → Type 0
-RunsAlone Hears old p floor new was is told = (line : Line) → InItsRun old (λ run. IsAlone p floor old.world.setup line run → RunsTo Hears old.world.setup line old.left run was is p floor told new)
+abbrev pub RunsAlone : {L : Type 0} → (L → Setup → List Happening → List Happening → L → Type 0) → (L → Setup → List Happening → Type 0) → CourseState → ℕ → ℕ → CourseState → L → L → Option Told → Type 0
+RunsAlone Hears Knows old p floor new was is told = (line : Line) → InItsRun old (λ run. IsAlone p floor old.world.setup line run → RunsTo (HearsUpTo Hears Knows told) old.world.setup line old.left run was is p floor told new)
 
 abbrev pub StopsAlone : {L : Type 0} → (L → Setup → List Happening → List Happening → Fault → L → Type 0) → CourseState → ℕ → ℕ → L → L → Fault → Type 0
 StopsAlone Stops old p floor was is fault = (line : Line) → InItsRun old (λ run. IsAlone p floor old.world.setup line run → old.left ≤ turns_in line → Stops was old.world.setup run.happened (rest_of old.world.setup line old.left run).happened fault is)
 
--- it passes Steps by
-abbrev pub PassesAlone : {L : Type 0} → (L → Setup → List Happening → List Happening → L → Type 0) → CourseState → ℕ → ℕ → CourseState → L → L → Type 0
-PassesAlone Hears old p floor new was is = (line : Line) → InItsRun old (λ run. IsAlone p floor old.world.setup line run → ComesOn Hears old.world.setup line old.left run was is new (IsAlone p floor))
+-- it passes Steps by: if before that the newest event is known, or none of its Steps is refused, it is so after
+abbrev pub PassesAlone : {L : Type 0} → (L → Setup → List Happening → List Happening → L → Type 0) → (L → Setup → List Happening → Type 0) → CourseState → ℕ → ℕ → CourseState → L → L → Type 0
+PassesAlone Hears Knows old p floor new was is = (line : Line) → InItsRun old (λ run. IsAlone p floor old.world.setup line run → ComesOn (HearsFrom Hears (KnowsOr Knows (MaySteps p)) (KnowsOr Knows (MaySteps p))) old.world.setup line old.left run was is new (IsAlone p floor))
 
 -- all turns of a line are made, in each run that the course shows
 abbrev pub PlaysLine : {L : Type 0} → (L → Setup → List Happening → List Happening → L → Type 0) → CourseState → Line → CourseState → L → L → Type 0

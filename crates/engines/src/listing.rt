@@ -49,6 +49,8 @@ impl Listener for Lister {
 
     ghost Hears = { λ a s x y b. a.events.items ≡ listed s x → b.events.items ≡ listed s y };
 
+    ghost Knows = { λ _ _ _. ⊤ };
+
     ghost Stops = { λ a s x y fault b. ⊤ };
 
     #[tactic(auto, using(crate::proofs::Listed::told_listed))]

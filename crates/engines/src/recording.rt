@@ -130,6 +130,8 @@ impl<'a, W: Sink> Listener for Copier<'a, W> {
 
     ghost Hears = { λ a s x y b. (b.output.ghost_name ≡ a.output.ghost_name) × Took ⊤ (entries_text s x) (entries_text s y) (W.taken a.output.now) (W.taken b.output.now) (W.failures a.output.now) (W.failures b.output.now) };
 
+    ghost Knows = { λ _ _ _. ⊤ };
+
     ghost Stops = { λ a s x y fault b. (b.output.ghost_name ≡ a.output.ghost_name) × TookPart ⊤ (entries_text s x) (entries_text s y) (W.taken a.output.now) (W.taken b.output.now) (W.failures a.output.now) (W.failures b.output.now) fault };
 
     fn hear(&mut self, told: &Told, _taken: &[Taken]) -> Result<(), Fault> {

@@ -1,21 +1,13 @@
 -- A part of a run comes along a line, and along the lines of a scenario.
-use Rattle.std.proofs.Common.{◌≡◌, inl, inr, ℕ, zero, suc, ◌+◌, ◌-◌, ◌<◌, ◌≤◌, nat_lt, Bool, true, false, cond, List, [], ◌∷◌, ◌++◌, drop, filter, length, slice_index, Option, None, Some, Ok, refl, ap, sym, subst, ◌∙◌, arith, append_assoc}
-use Rattle.std.specs.Prelude.{is_none, slice_index_or}
-use Rattle.std.specs.List.{range_with_len}
+use Rattle.std.proofs.Common.{◌≡◌, inl, inr, ℕ, zero, suc, ◌+◌, ◌-◌, ◌<◌, ◌≤◌, nat_lt, Bool, true, false, cond, List, [], ◌∷◌, ◌++◌, drop, length, Option, None, Some, Ok, refl, ap, sym, subst, ◌∙◌, arith, append_assoc}
+use Rattle.std.specs.Prelude.{is_none}
 use Rattle.std.proofs.Math.Seq.{drop-append_seam}
 use Rattle.std.proofs.lemmas.Bool.Decides.{nat_tests}
 use Rattle.std.proofs.lemmas.List.{length-append}
-use Rattle.std.proofs.lemmas.List.Elements.{All-filter, filter_passes}
-use Rattle.std.proofs.lemmas.List.FromFn.{get_or-range_with_len, length-range_with_len}
-use Rattle.std.proofs.lemmas.Nat.{mod_below}
 use Rattle.plain_store.specs.declared.setups.Setup.{Setup}
 use Rattle.plain_store.specs.Setups.{checked}
-use Rattle.record.specs.declared.refusals.Refusal.{Refusal}
-use Rattle.record.specs.declared.refusals.Refusal.TheVariants.{CallsFull, NoProcess}
-use Rattle.record.specs.declared.stages.Stage.{Stage}
-use Rattle.record.specs.declared.stages.Stage.TheVariants as stages
 use Rattle.record.specs.Entries.{Entry, Past}
-use Rattle.record.specs.Records.{calls_full, entry_of, refused, refused_at}
+use Rattle.record.specs.Records.{entry_of, refused}
 use Rattle.record.specs.Registers.{processes}
 use Rattle.record.specs.Stages.{stage}
 use Rattle.record.proofs.Accepted.{accepted_adds}
@@ -23,10 +15,11 @@ use Rattle.record.proofs.Width.{is_good}
 use Rattle.scenario.specs.declared.lines.Line.{Line}
 use Rattle.scenario.specs.declared.lines.Line.TheVariants as line
 use Rattle.scenario.specs.declared.lines.Target.{Target}
-use Rattle.course.specs.world.flicks.Flicks.{pick_of}
+use Rattle.course.specs.world.flicks.Flicks.{after_pick, flick_of}
 use Rattle.course.specs.Happenings.{Happening, Tries, Lacks, Tires, Looks, past_after, tried}
-use Rattle.course.specs.Runs.{Run, after_pick_in, goes, has_step, is_there, may_step, movers, next_step, past_in, pick_among, picked, run_after, run_at_start, runs, stepped, steps, wanders, with_happening}
+use Rattle.course.specs.Runs.{Run, after_pick_in, goes, is_there, may_step, movers, next_step, past_in, pick_among, picked, run_after, run_at_start, runs, stepped, steps, wanders, with_happening}
 use Rattle.course.proofs.Grows.{Grows, line_grows, rest_grows}
+use Rattle.course.proofs.Knowing.{pick_steps}
 use Rattle.course.proofs.Refusals.{past_kept}
 use Rattle.inspect.specs.States.{ComesAlong, IsAt, MadePart, MakesPart, Part, clipped, first_of, long_go}
 use Rattle.inspect.specs.declared.part_of_run.PartOfRun.{PartOfRun}
@@ -99,41 +92,6 @@ steps_part s good p (suc k) (suc n) run less = by (may_step s p run) refl (steps
     by true may part = part_more s k run (stepped p run) (steps s p k (stepped p run)) (steps s p n (stepped p run)) (step_added s good run p may) part
     by false may part = let kept = step_refused s run p may in part_all s (suc k) run (stepped p run) (omega (arith, kept))
 
--- a process that has a Step to make may make it
-mover_may : (s : Setup) (run : Run) (p : ℕ) → p < s.processes → has_step (stage p (past_in s run)) ≡ true → may_step s p run ≡ true
-mover_may s run p within has =
-    let there : nat_lt p s.processes ≡ true = grind (arith, nat_tests) in
-    ap (λ b. is_none (cond b (at (stage p (past_in s run))) (Some NoProcess))) there ∙ by (stage p (past_in s run)) has
-  where
-    at : Stage → Option Refusal
-    at st = elim (refused_at (next_step p run) st) as (λ _. Option Refusal) [ Some r ↦ Some r | None ↦ cond (calls_full s (past_in s run) (next_step p run)) (Some CallsFull) None ]
-
-    by : (st : Stage) → has_step st ≡ true → is_none (at st) ≡ true
-    by stages.Idle has = absurd (cc)
-    by stages.Down has = absurd (cc)
-    by stages.Doorway has = refl
-    by stages.Waiting has = refl
-    by stages.Inside has = refl
-    by stages.Leaving has = refl
-    by stages.Settling has = refl
-
--- a picked one has
-pick_has : (s : Setup) (run : Run) (ps : List ℕ) → movers s (past_in s run) ≡ ps → 0 < length ps → (pick_among ps run < s.processes) × (has_step (stage (pick_among ps run) (past_in s run)) ≡ true)
-pick_has s run ps are some =
-    let k : ℕ = pick_of (length ps) run.flicks in
-    let less : k < length ps = mod_below _ (length ps) some in
-    let test : ℕ → Bool = λ p. has_step (stage p (past_in s run)) in
-    let below : k < length (filter test (processes s)) = subst (λ l. k < length l) (sym are) less in (
-      subst (λ l. slice_index l k < s.processes) are (All-filter test (λ p. p < s.processes) (processes s) (all_below s.processes) k 0 below),
-      subst (λ l. has_step (stage (slice_index l k) (past_in s run)) ≡ true) are (filter_passes test (processes s) k 0 below),
-    )
-  where
-    all_below : (n i d : ℕ) → i < length (range_with_len 0 n) → slice_index_or (range_with_len 0 n) i d < n
-    all_below n i d within =
-        let long = length-range_with_len 0 n in
-        let is = get_or-range_with_len 0 n i d (omega (arith, within, long)) in
-        omega (arith, is, within, long)
-
 -- Steps of picked ones
 wanders_part : (s : Setup) → checked s ≡ Ok tt → (k n : ℕ) (run : Run) → k ≤ n → Part s k run (wanders s k run) (wanders s n run)
 wanders_part s good zero n run less = part_none s 0 run (wanders s n run) (rest_grows s (line.Wander n) n run) refl
@@ -144,8 +102,7 @@ wanders_part s good (suc k) (suc n) run less = by (movers s (past_in s run)) ref
         Part s (suc k) run (elim ps as (λ _. Run) [ [] ↦ run | p ∷ ps ↦ wanders s k (picked (p ∷ ps) run) ]) (elim ps as (λ _. Run) [ [] ↦ run | p ∷ ps ↦ wanders s n (picked (p ∷ ps) run) ])
     by [] none part = part_all s (suc k) run run (omega arith)
     by (p ∷ ps) are part =
-        let has = pick_has s run (p ∷ ps) are (omega arith) in
-        let may : may_step s (pick_among (p ∷ ps) run) (after_pick_in run) ≡ true = mover_may s (after_pick_in run) (pick_among (p ∷ ps) run) has.0 has.1 in
+        let may : may_step s (pick_among (p ∷ ps) run) (after_pick_in run) ≡ true = ap is_none (pick_steps s run (p ∷ ps) are (omega arith) (flick_of (after_pick run.flicks))) in
         part_more s k run (picked (p ∷ ps) run) (wanders s k (picked (p ∷ ps) run)) (wanders s n (picked (p ∷ ps) run)) (step_added s good (after_pick_in run) (pick_among (p ∷ ps) run) may) (part (p ∷ ps))
 
 -- a part of so many Steps, of which there are more or not

@@ -23,23 +23,22 @@ use Rattle.snapshot.proofs.world.WorldWithin.{inside-number}
 use Rattle.record.specs.declared.history.Taken.{Taken}
 use Rattle.record.specs.Entries.{Entry, Past}
 use Rattle.course.specs.Happenings.{Happening, Tries, past_after, tried}
-use Rattle.course.specs.Listening.{Happens, PassWithin, StepsOn, StepsWithin}
-use Rattle.course.specs.Telling.{IsMarked, TellsOf, told_unmarked}
+use Rattle.course.specs.Listening.{Happens, LearnsTold, PassWithin, StepsOn, StepsWithin}
+use Rattle.course.specs.Telling.{told_unmarked}
 use Rattle.course.specs.declared.told.Stepped.{Stepped}
 use Rattle.course.specs.declared.told.Told.{Told}
 use Rattle.snapshot.specs.Processes.{newest_line}
-use Rattle.inspect.specs.States.{HasSeen, HearsTold, newest}
+use Rattle.inspect.specs.States.{HasSeen, HearsTold, Knows, KnowsNewest, KnowsTold, newest}
 use Rattle.inspect.specs.declared.heard.HeardRun.{HeardRun}
 use Rattle.inspect.proofs.Tabling.{in_turn, past_told}
 
-seen_with : (s : Setup) (all : Bool) → checked s ≡ Ok tt → (before : List Happening) (this : Happening) (answer : Told) (old new : HeardRun) → TellsOf s (past_after s before) this answer → IsMarked answer → HearsTold answer old new →
-    HasSeen s all (past_after s before) old → HasSeen s all (past_after s (this ∷ before)) new
-seen_with s all good before this answer old new tells marked heard seen =
-    subst (λ past. HasSeen s all past new) (sym (past_told s before this answer tells)) (heard s (past_after s before) (in_turn s before this answer tells marked) marked all seen)
-
 -- what a turn tells
-pub told_seen : (s : Setup) (all : Bool) (before : List Happening) (this : Happening) (answer : Told) (taken : List Taken) (old new : HeardRun) → Happens s before this answer taken → HearsTold answer old new → HasSeen s all (past_after s before) old → HasSeen s all (past_after s (this ∷ before)) new
-told_seen s all before this answer taken old new h heard seen = seen_with s all h.good before this answer old new h.tells h.marked heard seen
+pub told_seen : (s : Setup) (before : List Happening) (this : Happening) (answer : Told) (taken : List Taken) (old new : HeardRun) → Happens s before this answer taken → HearsTold answer old new → HasSeen s (past_after s before) old → HasSeen s (past_after s (this ∷ before)) new
+told_seen s before this answer taken old new h heard seen =
+    subst (λ past. HasSeen s past new) (sym (past_told s before this answer h.tells)) (heard s (past_after s before) (in_turn s before this answer h.tells h.marked) h.marked seen)
+
+pub told_known : (s : Setup) (before : List Happening) (this : Happening) (answer : Told) (taken : List Taken) (old new : HeardRun) → Happens s before this answer taken → KnowsTold answer old new → LearnsTold Knows answer old s before (this ∷ before) new
+told_known s before this answer taken old new h knows known = subst (λ past. KnowsNewest past new) (sym (past_told s before this answer h.tells)) (knows (past_after s before) known)
 
 -- A Step without a mark.
 

@@ -1,5 +1,5 @@
 -- The state after the first events of a scenario's run, and the part of the run that has those.
-use Rattle.std.specs.Prelude.{◌≡◌, ◌⊎◌, ◌+◌, ◌-◌, ◌≤◌, ◌^◌, ℕ, nat_lt, Bool, false, true, cond, if◌then◌else◌, List, [], ◌∷◌, ◌++◌, codes, drop, length, Option, None, Some, Result, Ok, Err, option_map}
+use Rattle.std.specs.Prelude.{◌≡◌, ◌⊎◌, ◌+◌, ◌-◌, ◌≤◌, ◌^◌, ℕ, nat_lt, cond, if◌then◌else◌, List, [], ◌∷◌, ◌++◌, codes, drop, length, Option, None, Some, Result, Ok, Err, option_map}
 use Rattle.std.specs.Fmt.{decimal}
 use Rattle.std.specs.Str.{bytes_eq}
 use Rattle.plain_store.specs.declared.setups.Setup.{Setup}
@@ -14,6 +14,7 @@ use Rattle.scenario.specs.declared.lines.Line.TheVariants as line
 use Rattle.scenario.specs.declared.lines.Target.{Target}
 use Rattle.course.specs.Courses.{Follows}
 use Rattle.course.specs.Happenings.{Happening, past_after}
+use Rattle.course.specs.Listening.{Needs}
 use Rattle.course.specs.Runs.{Run, happenings, past_in, run_after}
 use Rattle.course.specs.Telling.{IsMarked, entry_made}
 use Rattle.course.specs.declared.told.Accepted.{Accepted}
@@ -74,24 +75,34 @@ abbrev pub newest_heard : Option Unmarked → Option Accepted → Option Entry
 newest_heard None marked = option_map entry_made marked
 newest_heard (Some step) marked = Some (unmarked_entry step)
 
--- these entries were heard; the newest is known unless it has passed by, as none does where all Steps are heard
-pub record HasSeen (s : Setup) (all : Bool) (past : Past) (kept : HeardRun) : Type 0 where
+-- these entries were heard
+pub record HasSeen (s : Setup) (past : Past) (kept : HeardRun) : Type 0 where
   pub setup : kept.snapshot.setup ≡ s
   pub heard : HasHeard kept.snapshot past
-  pub knows : all ≡ true → kept.passed ≡ false
-  pub newest_is : kept.passed ≡ false → newest past ≡ newest_heard kept.unmarked kept.marked
+
+-- the newest of these is known
+abbrev pub KnowsNewest : Past → HeardRun → Type 0
+KnowsNewest past kept = newest past ≡ newest_heard kept.unmarked kept.marked
+
+-- the newest event is known
+abbrev pub Knows : HeardRun → Setup → List Happening → Type 0
+Knows kept s happened = KnowsNewest (past_after s happened) kept
 
 -- all that has happened between two moments was heard
-abbrev pub Hears : Bool → HeardRun → Setup → List Happening → List Happening → HeardRun → Type 0
-Hears all old s before after new = HasSeen s all (past_after s before) old → HasSeen s all (past_after s after) new
+abbrev pub Hears : HeardRun → Setup → List Happening → List Happening → HeardRun → Type 0
+Hears old s before after new = HasSeen s (past_after s before) old → HasSeen s (past_after s after) new
 
 -- what is told is heard, whatever has happened before
 abbrev pub HearsTold : Told → HeardRun → HeardRun → Type 0
-HearsTold answer old new = (s : Setup) (past : Past) → IsInTurn s past answer → IsMarked answer → (all : Bool) → HasSeen s all past old → HasSeen s all (past_with past answer) new
+HearsTold answer old new = (s : Setup) (past : Past) → IsInTurn s past answer → IsMarked answer → HasSeen s past old → HasSeen s (past_with past answer) new
+
+-- and the newest event is known then
+abbrev pub KnowsTold : Told → HeardRun → HeardRun → Type 0
+KnowsTold answer old new = (past : Past) → Needs (Some answer) (KnowsNewest past old) → KnowsNewest (past_with past answer) new
 
 -- these lines of what was heard are added to a text
 abbrev pub WritesSeen : (Past → List ℕ) → HeardRun → List ℕ → List ℕ → Type 0
-WritesSeen lines kept old new = (s : Setup) (all : Bool) (past : Past) → HasSeen s all past kept → new ≡ old ++ lines past
+WritesSeen lines kept old new = (s : Setup) (past : Past) → HasSeen s past kept → KnowsNewest past kept → new ≡ old ++ lines past
 
 -- The part of a run.
 
@@ -106,11 +117,12 @@ abbrev pub long_go : ℕ → Line → Option (ℕ × Target)
 long_go most (line.Go p target) = cond (nat_lt most 65536) (Some (p, target)) None
 long_go most _ = None
 
--- it has made all that has happened in this run, and heard it
+-- it has made all that has happened in this run, and heard it, and it knows the newest event
 pub record IsAt (s : Setup) (part : PartOfRun) (run : Run) : Type 0 where
   pub follows : Follows part.course run
   pub setup : part.course.world.setup ≡ s
-  pub seen : HasSeen s part.all (past_in s run) part.heard
+  pub seen : HasSeen s (past_in s run) part.heard
+  pub knows : KnowsNewest (past_in s run) part.heard
 
 -- it has at most so many events more
 abbrev pub GrowsBy : ℕ → PartOfRun → PartOfRun → Type 0

@@ -1,13 +1,11 @@
-//! Listeners that keep the state of a run.
-ghost use Rattle.std.specs.Prelude.{◌≡◌, ◌+◌, ◌-◌, ◌^◌, ◌<◌, ◌≤◌, ℕ, [], Bool, IfOk, Ok, OnOk, not, refl, false, true};
-ghost use Rattle.std.proofs.Common.{◌∙◌};
+//! A listener that keeps the state of a run.
+ghost use Rattle.std.specs.Prelude.{◌≡◌, ◌+◌, ◌-◌, ◌^◌, ◌<◌, ◌≤◌, [], IfOk, Ok, OnOk, refl, false};
 ghost use Rattle.plain_store.specs.Setups.{checked};
 ghost use Rattle.scenario.specs.files.declared.faults.Fault.TheVariants.{Memory};
-ghost use Rattle.record.specs.safe_bit.declared.Move.{Move as MoveSeen};
-ghost use Rattle.course.specs.Listening.{HearsPassing, HearsUnmarked};
+ghost use Rattle.course.specs.Listening.{HearsUnmarked, Learns};
 ghost use Rattle.course.specs.declared.told.Told.TheVariants.{Accepted as IsAccepted};
 ghost use Rattle.snapshot.specs.Processes.{newest_line};
-ghost use Rattle.inspect.specs.States.{HasSeen, Hears, HearsTold, WritesSeen, head_lines, newest_heard, unmarked_entry};
+ghost use Rattle.inspect.specs.States.{HasSeen, Hears, HearsTold, Knows, KnowsNewest, KnowsTold, WritesSeen, head_lines, newest_heard, unmarked_entry};
 ghost use Rattle.inspect.specs.Tables.{fewer};
 
 use course::{Accepted, Listener, Stepped, Taken, Told};
@@ -41,14 +39,12 @@ impl Unmarked {
     }
 }
 
-/// What was heard of a run: its state, and the newest event, unless that has passed by. One with marks is large, and so it is
-/// written only where it comes.
+/// What was heard of a run: its state, and the newest event, unless Steps have passed by since. One with marks is large, and so
+/// it is written only where it comes.
 #[derive(Drop)]
 pub(crate) struct HeardRun {
     alloc: Global,
     pub snapshot: Snapshot,
-    /// Whether the newest event has passed by.
-    passed: bool,
     /// The newest event that was heard, if it has no mark.
     unmarked: Option<Unmarked>,
     /// The newest one with marks.
@@ -59,14 +55,14 @@ impl HeardRun {
     /// Nothing.
     pub fn new(alloc: Global, setup: &Setup) -> Result<HeardRun, AllocError>
         requires { checked setup.now ≡ Ok tt }
-        ensures seen { IfOk result (λ heard. (all : Bool) → HasSeen setup.now all [] heard) }
+        ensures seen { IfOk result (HasSeen setup.now []) }
+        ensures knows { IfOk result (KnowsNewest []) }
         ensures entries { IfOk result (λ heard. heard.snapshot.entries ≡ 0) }
     {
         let snapshot = Snapshot::new(alloc, setup)?;
         Ok(HeardRun {
             alloc,
             snapshot,
-            passed: false,
             unmarked: None,
             marked: None,
         })
@@ -78,6 +74,7 @@ impl HeardRun {
         requires { self.old.snapshot.entries < 2 ^ 64 - 1 }
         ensures entries { self.new.snapshot.entries ≤ self.old.snapshot.entries + 1 }
         ensures heard { HearsTold told.now self.old self.new }
+        ensures knows { KnowsTold told.now self.old self.new }
     {
         let _nested: NestedTypes = None;
         match told {
@@ -93,6 +90,7 @@ impl HeardRun {
         requires { self.old.snapshot.entries < 2 ^ 64 - 1 }
         ensures entries { self.new.snapshot.entries ≤ self.old.snapshot.entries + 1 }
         ensures heard { HearsTold (IsAccepted made) self.old self.new }
+        ensures knows { KnowsTold (IsAccepted made) self.old self.new }
     {
         let _nested: NestedTypes = None;
         let marks = made.marks(self.alloc);
@@ -101,7 +99,6 @@ impl HeardRun {
             made.access.is_some(),
             marks.as_slice(),
         );
-        self.passed = false;
         self.unmarked = None;
         self.marked = Some(made);
     }
@@ -111,40 +108,20 @@ impl HeardRun {
     fn hear_step(&mut self, made: Stepped)
         requires { self.old.snapshot.entries < 2 ^ 64 - 1 }
         ensures entries { self.new.snapshot.entries ≡ self.old.snapshot.entries + 1 }
-        ensures heard { (all : Bool) → HearsUnmarked (Hears all) made self.old self.new }
+        ensures heard { HearsUnmarked Hears made self.old self.new }
+        ensures knows { HearsUnmarked (Learns Knows) made self.old self.new }
     {
         let _nested: NestedTypes = None;
         let number = made.number.unwrap_or(0);
         self.snapshot.step(made.process, &made.access, number);
-        self.passed = false;
         self.unmarked = Some(Unmarked {
             process: made.process,
             access: made.access,
         });
     }
 
-    /// Steps of a process pass by.
-    #[inline(always)]
-    fn pass_steps(&mut self, steps: u32)
-        requires { self.old.snapshot.entries + steps < 2 ^ 64 }
-        ensures entries { self.new.snapshot.entries ≡ self.old.snapshot.entries + steps }
-        ensures heard { (p : ℕ) (newest : MoveSeen) (overlapped : ℕ)
-            → HearsPassing (Hears false) p steps newest overlapped self.old self.new }
-    {
-        self.snapshot.pass(steps);
-        self.passed = true;
-    }
-
-    /// Whether the newest event was heard, or there is none.
-    pub fn knows_newest(&self) -> bool
-        ensures { result ≡ not self.now.passed }
-    {
-        !self.passed
-    }
-
     /// Writes how many events there were, and the entry of the newest one.
     pub fn print_head(&self, text: &mut Vec<u8>) -> Result<(), AllocError>
-        requires { self.now.passed ≡ false }
         ensures { OnOk result (WritesSeen head_lines self.now text.old.items text.new.items) }
     {
         let events = self.snapshot.entries();
@@ -155,7 +132,6 @@ impl HeardRun {
 
     /// Writes the entry of the newest event, if there is one.
     fn print_entry(&self, text: &mut Vec<u8>) -> Result<(), AllocError>
-        requires { self.now.passed ≡ false }
         ensures { OnOk result (WritesSeen newest_line self.now text.old.items text.new.items) }
     {
         let _nested: NestedTypes = None;
@@ -191,7 +167,9 @@ impl Listener for HeardRun {
 
     ghost HasRoom = { λ heard more. heard.snapshot.entries + more < 2 ^ 64 };
 
-    ghost Hears = { λ a s x y b. Hears false a s x y b };
+    ghost Hears = { Hears };
+
+    ghost Knows = { Knows };
 
     ghost Stops = { λ a s x y fault b. fault ≡ Memory };
 
@@ -207,7 +185,7 @@ impl Listener for HeardRun {
 
     #[inline(always)]
     fn pass(&mut self, _process: u8, steps: u32, _newest: Move, _overlapped: u32) {
-        self.pass_steps(steps);
+        self.snapshot.pass(steps);
     }
 
     ghost room_less = { λ a n k few room. fewer a.snapshot.entries n k few room };
@@ -221,48 +199,4 @@ impl Listener for HeardRun {
     ghost stops_before = { λ a b s x y more fault p. p };
 
     ghost stops_on = { λ a b c s x y z fault p q. q };
-}
-
-/// The same of a run in which each Step is heard.
-#[derive(Drop)]
-pub(crate) struct EachStep<'a> {
-    pub heard: &'a mut HeardRun,
-}
-
-impl<'a> Listener for EachStep<'a> {
-    ghost hears_steps = { λ _. true };
-
-    fn hears_steps(&self) -> bool {
-        true
-    }
-
-    ghost HasRoom = { λ each more. each.heard.now.snapshot.entries + more < 2 ^ 64 };
-
-    ghost Hears = { λ a s x y b. (b.heard.ghost_name ≡ a.heard.ghost_name) × Hears true a.heard.now s x y b.heard.now };
-
-    ghost Stops = { λ a s x y fault b. b.heard.ghost_name ≡ a.heard.ghost_name };
-
-    fn hear(&mut self, told: &Told, _taken: &[Taken]) -> Result<(), Fault> {
-        self.heard.hear_told(told);
-        Ok(())
-    }
-
-    fn step(&mut self, made: Stepped) -> Result<(), Fault> {
-        self.heard.hear_step(made);
-        Ok(())
-    }
-
-    fn pass(&mut self, _process: u8, _steps: u32, _newest: Move, _overlapped: u32) {}
-
-    ghost room_less = { λ a n k few room. fewer a.heard.now.snapshot.entries n k few room };
-
-    ghost hears_nothing = { λ a s x. (refl, λ seen. seen) };
-
-    ghost hears_on = { λ a b c s x y z p q. (q.0 ∙ p.0, λ seen. q.1 (p.1 seen)) };
-
-    ghost stops_unheard = { λ a s x. refl };
-
-    ghost stops_before = { λ a b s x y more fault p. p };
-
-    ghost stops_on = { λ a b c s x y z fault p q. q ∙ p.0 };
 }

@@ -1,11 +1,11 @@
 //! The first events of a run: its lines are played up to an event.
-ghost use Rattle.std.specs.Prelude.{◌≡◌, ◌<◌, ◌^◌, IfOk, OnOk, Ok, false, true};
+ghost use Rattle.std.specs.Prelude.{◌≡◌, ◌<◌, ◌^◌, IfOk, OnOk, Ok};
 ghost use Rattle.plain_store.specs.Setups.{checked};
 ghost use Rattle.scenario.specs.declared.lines.Line.TheVariants.{Go as GoLine};
 ghost use Rattle.course.specs.Runs.{run_at_start};
 ghost use Rattle.inspect.specs.States.{GoesAlong, GrowsBy, IsAt, MakesLine, MakesPart, WritesState, clipped, long_go};
 
-use crate::heard::{EachStep, HeardRun};
+use crate::heard::HeardRun;
 use course::{Course, is_there};
 use plain_store::{NestedTypes, Setup};
 use scenario::{Line, Target};
@@ -19,18 +19,15 @@ const GO_LIMIT: u64 = 65_536;
 pub(crate) struct PartOfRun {
     /// So many events it is to have at most.
     most: u64,
-    /// Whether each Step is heard.
-    all: bool,
     course: Course,
     pub heard: HeardRun,
 }
 
 impl PartOfRun {
-    /// Before the first event of so many. `all`: each Step is heard.
-    pub fn new(alloc: Global, setup: &Setup, most: u64, all: bool) -> Result<PartOfRun, AllocError>
+    /// Before the first event of so many.
+    pub fn new(alloc: Global, setup: &Setup, most: u64) -> Result<PartOfRun, AllocError>
         requires { checked setup.now ≡ Ok tt }
         ensures most { IfOk result (λ part. part.most ≡ most) }
-        ensures all { IfOk result (λ part. part.all ≡ all) }
         ensures entries { IfOk result (λ part. part.heard.snapshot.entries ≡ 0) }
         ensures at { IfOk result (λ part. IsAt setup.now part run_at_start) }
     {
@@ -38,7 +35,6 @@ impl PartOfRun {
         let heard = HeardRun::new(alloc, setup)?;
         Ok(PartOfRun {
             most,
-            all,
             course,
             heard,
         })
@@ -55,7 +51,6 @@ impl PartOfRun {
     pub fn make_line(&mut self, line: &Line) -> Result<(), AllocError>
         requires { self.old.heard.snapshot.entries < 2 ^ 62 }
         ensures most { self.new.most ≡ self.old.most }
-        ensures all { self.new.all ≡ self.old.all }
         ensures entries { OnOk result (GrowsBy (2 ^ 48) self.old self.new) }
         ensures along { OnOk result (GoesAlong line.now self.old self.new) }
     {
@@ -71,7 +66,6 @@ impl PartOfRun {
         requires entries { self.old.heard.snapshot.entries < 2 ^ 62 }
         requires some { 0 < most }
         ensures most { self.new.most ≡ self.old.most }
-        ensures all { self.new.all ≡ self.old.all }
         ensures entries { OnOk result (GrowsBy (2 ^ 48) self.old self.new) }
         ensures part { OnOk result (MakesPart line.now most self.old self.new) }
     {
@@ -86,7 +80,6 @@ impl PartOfRun {
         requires entries { self.old.heard.snapshot.entries < 2 ^ 62 }
         requires few { most < 65536 }
         ensures most { self.new.most ≡ self.old.most }
-        ensures all { self.new.all ≡ self.old.all }
         ensures entries { OnOk result (GrowsBy (2 ^ 48) self.old self.new) }
         ensures part { OnOk result (MakesPart (GoLine process target) most self.old self.new) }
     {
@@ -113,45 +106,10 @@ impl PartOfRun {
     fn play(&mut self, line: &Line) -> Result<(), AllocError>
         requires { self.old.heard.snapshot.entries < 2 ^ 63 }
         ensures most { self.new.most ≡ self.old.most }
-        ensures all { self.new.all ≡ self.old.all }
-        ensures entries { OnOk result (GrowsBy (2 ^ 32) self.old self.new) }
-        ensures made { OnOk result (MakesLine line.now self.old self.new) }
-    {
-        if self.all {
-            self.play_each(line)
-        } else {
-            self.play_passing(line)
-        }
-    }
-
-    /// The same where Steps may pass by.
-    fn play_passing(&mut self, line: &Line) -> Result<(), AllocError>
-        requires entries { self.old.heard.snapshot.entries < 2 ^ 63 }
-        requires some { self.old.all ≡ false }
-        ensures most { self.new.most ≡ self.old.most }
-        ensures all { self.new.all ≡ self.old.all }
         ensures entries { OnOk result (GrowsBy (2 ^ 32) self.old self.new) }
         ensures made { OnOk result (MakesLine line.now self.old self.new) }
     {
         match self.course.play(line, &mut self.heard) {
-            Ok(()) => Ok(()),
-            Err(_) => Err(AllocError),
-        }
-    }
-
-    /// The same where each Step is heard.
-    fn play_each(&mut self, line: &Line) -> Result<(), AllocError>
-        requires entries { self.old.heard.snapshot.entries < 2 ^ 63 }
-        requires every { self.old.all ≡ true }
-        ensures most { self.new.most ≡ self.old.most }
-        ensures all { self.new.all ≡ self.old.all }
-        ensures entries { OnOk result (GrowsBy (2 ^ 32) self.old self.new) }
-        ensures made { OnOk result (MakesLine line.now self.old self.new) }
-    {
-        let mut each = EachStep {
-            heard: &mut self.heard,
-        };
-        match self.course.play(line, &mut each) {
             Ok(()) => Ok(()),
             Err(_) => Err(AllocError),
         }

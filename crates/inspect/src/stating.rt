@@ -1,5 +1,5 @@
 //! The engine `state`: the state after the first events of a scenario's run.
-ghost use Rattle.std.specs.Prelude.{◌≡◌, ◌-◌, ◌^◌, ◌<◌, ◌++◌, ℕ, IfOk, List, OnOk, false};
+ghost use Rattle.std.specs.Prelude.{◌≡◌, ◌-◌, ◌^◌, ◌<◌, ◌++◌, ℕ, IfOk, List, OnOk};
 ghost use Rattle.scenario.specs.files.Engines.{Ran, streams};
 ghost use Rattle.scenario.specs.files.Streams.{ReadsFront};
 ghost use Rattle.scenario.specs.Reading.{Script};
@@ -58,9 +58,7 @@ pub fn run_state<R: Source, W: Sink, L: Onlooker>(
     write_all(output, text.as_slice())
 }
 
-/// The state after so many events of the run of a file's scenario. A line's last Step is heard, and so the newest event is
-/// known; but nothing proves that a refused turn never comes behind Steps that have passed by. Where one did, the run would be
-/// made once more, and each Step heard.
+/// The state after so many events of the run of a file's scenario.
 fn state_text<L: Onlooker>(
     alloc: Global,
     events: u64,
@@ -71,12 +69,8 @@ fn state_text<L: Onlooker>(
     ensures { IfOk result (λ text. (made : List ℕ)
         × (text.items ≡ stated events made (script scenario.now))) }
 {
-    let first = run_part(alloc, events, false, file, scenario, onlooker)?;
-    if first.part.heard.knows_newest() {
-        return first.text(alloc, file);
-    }
-    let second = run_part(alloc, events, true, file, scenario, onlooker)?;
-    second.text(alloc, file)
+    let stated = run_part(alloc, events, file, scenario, onlooker)?;
+    stated.text(alloc, file)
 }
 
 /// A run up to an event, and the line that made the newest one.
@@ -86,21 +80,19 @@ struct StatedRun {
     newest: Option<MakingLine>,
 }
 
-/// Makes so many events of the run of a file's scenario; `all`: each Step is heard.
+/// Makes so many events of the run of a file's scenario.
 fn run_part<L: Onlooker>(
     alloc: Global,
     events: u64,
-    all: bool,
     file: &[u8],
     scenario: &Scenario,
     onlooker: &mut L,
 ) -> Result<StatedRun, AllocError>
     ensures made { IfOk result (λ made. IsPartOf events (script scenario.now) made.part) }
-    ensures all { IfOk result (λ made. made.part.all ≡ all) }
     ensures setup { IfOk result (λ made.
         made.part.course.world.setup ≡ made.part.heard.snapshot.setup) }
 {
-    let mut part = PartOfRun::new(alloc, &scenario.setup, events, all)?;
+    let mut part = PartOfRun::new(alloc, &scenario.setup, events)?;
     let mut newest = None;
     let mut place = LinePlace::before(file, scenario.lines.len());
     let mut behind = scenario.lines.len();
@@ -121,10 +113,9 @@ fn run_part<L: Onlooker>(
 }
 
 impl StatedRun {
-    /// The state there. Its newest event was heard, or there is none.
+    /// The state there.
     fn text(&self, alloc: Global, file: &[u8]) -> Result<Vec<u8>, AllocError>
-        requires heard { self.now.part.heard.passed ≡ false }
-        requires setup { self.now.part.course.world.setup ≡ self.now.part.heard.snapshot.setup }
+        requires { self.now.part.course.world.setup ≡ self.now.part.heard.snapshot.setup }
         ensures { IfOk result (λ text. (n : ℕ) (said : Script) → IsPartOf n said self.now.part
             → (made : List ℕ) × (text.items ≡ stated n made said)) }
     {

@@ -1,7 +1,7 @@
 //! A line is played: its turns are made, one after the other, and a listener hears what they tell.
 ghost use Rattle.std.specs.Prelude.{◌≡◌, ◌+◌, ◌^◌, ◌≤◌, ℕ, IfErr, IfOk, OnOk};
 ghost use Rattle.course.specs.Courses.{Follows};
-ghost use Rattle.course.specs.Listening.{Comes, LeavesRoom, PlaysLine, StopsAmid, StopsLine, TakesRoom, room_wanted};
+ghost use Rattle.course.specs.Listening.{Comes, Keeps, LeavesRoom, PlaysLine, StopsAmid, StopsLine, TakesRoom, room_wanted};
 ghost use Rattle.course.specs.Runs.{Run, run_after};
 ghost use Rattle.course.specs.Turns.{makes_steps as has_steps, rest_of, turns_in as turns_of};
 
@@ -17,6 +17,8 @@ impl Course {
         requires { L.HasRoom listener.old (2 ^ 32) }
         ensures ok { OnOk result
             (PlaysLine L.Hears self.old line.now self.new listener.old listener.new) }
+        ensures knows { OnOk result
+            (PlaysLine (Keeps L.Knows) self.old line.now self.new listener.old listener.new) }
         ensures runs { (run : Run) × Follows self.old run }
         ensures room { OnOk result (TakesRoom L.HasRoom listener.old (2 ^ 32) listener.new) }
         ensures cut { IfErr result (StopsLine L.Stops self.old line.now listener.old listener.new) }
@@ -46,7 +48,7 @@ impl Course {
         requires room { L.HasRoom listener.old self.old.left }
         ensures left { IfOk result (λ told. room_wanted told self.new.left ≤ self.old.left) }
         ensures ok { IfOk result
-            (Comes L.Hears self.old line.now self.new listener.old listener.new) }
+            (Comes L.Hears L.Knows self.old line.now self.new listener.old listener.new) }
         ensures room { IfOk result
             (LeavesRoom L.HasRoom listener.old self.old.left listener.new self.new.left) }
         ensures cut { IfErr result (StopsAmid L.Stops self.old line.now listener.old listener.new) }

@@ -33,7 +33,7 @@ impl Course {
         ensures left { IfOk result (λ told. room_wanted told self.new.left ≤ self.old.left) }
         ensures ended { IfOk result (λ told. told ≡ None → self.new.left ≡ floor) }
         ensures ok { IfOk result
-            (RunsAlone L.Hears self.old process floor self.new listener.old listener.new) }
+            (RunsAlone L.Hears L.Knows self.old process floor self.new listener.old listener.new) }
         ensures room { IfOk result
             (LeavesRoom L.HasRoom listener.old self.old.left listener.new self.new.left) }
         ensures cut { IfErr result
@@ -81,8 +81,8 @@ impl Course {
         requires few { self.old.left ≤ turns_in (GoLine process target) }
         requires room { L.HasRoom listener.old self.old.left }
         ensures left { IfOk result (λ told. room_wanted told self.new.left ≤ self.old.left) }
-        ensures ok { IfOk result (Comes L.Hears self.old (GoLine process target) self.new
-            listener.old listener.new) }
+        ensures ok { IfOk result (Comes L.Hears L.Knows self.old (GoLine process target)
+            self.new listener.old listener.new) }
         ensures room { IfOk result
             (LeavesRoom L.HasRoom listener.old self.old.left listener.new self.new.left) }
         ensures cut { IfErr result (StopsAmid L.Stops self.old (GoLine process target)
@@ -118,7 +118,8 @@ impl Course {
         requires { L.HasRoom listener.old self.old.left }
         ensures left { IfOk result (λ told. room_wanted told self.new.left ≤ self.old.left) }
         ensures ok { IfOk result (λ told. (steps : ℕ) →
-            Comes L.Hears self.old (WanderLine steps) self.new listener.old listener.new told) }
+            Comes L.Hears L.Knows self.old (WanderLine steps) self.new
+            listener.old listener.new told) }
         ensures room { IfOk result
             (LeavesRoom L.HasRoom listener.old self.old.left listener.new self.new.left) }
         ensures cut { IfErr result (λ fault. (steps : ℕ) →

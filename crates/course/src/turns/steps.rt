@@ -1,11 +1,11 @@
 //! Steps of a run: they pass a listener by, are heard by it, or are told.
-ghost use Rattle.std.specs.Prelude.{◌≡◌, ◌+◌, ◌<◌, ◌≤◌, IfErr, IfOk, IfSome, None, Ok, OnOk};
+ghost use Rattle.std.specs.Prelude.{◌≡◌, ◌+◌, ◌<◌, ◌≤◌, IfErr, IfOk, IfSome, None, Ok, OnOk, true};
 ghost use Rattle.record.specs.declared.Event.TheVariants.{Step};
 ghost use Rattle.world.specs.Walks.{KeepOthers, left_in};
 ghost use Rattle.world.specs.process.declared.told.StepTold.TheVariants.{Nothing};
 ghost use Rattle.world.specs.process.registers.declared.access_made.AccessMade.{AccessMade as MadeSeen};
 ghost use Rattle.course.specs.Courses.{course};
-ghost use Rattle.course.specs.Listening.{HearsStep, LeavesRoom, MakesStep, MakesSteps, PassesAlone, StopsBy};
+ghost use Rattle.course.specs.Listening.{HearsStep, Learns, LeavesRoom, MakesStep, MakesSteps, PassesAlone, StopsBy};
 ghost use Rattle.course.specs.Telling.{told_step};
 
 use crate::listening::Listener;
@@ -34,7 +34,7 @@ pub(super) fn pass_by<L: Listener>(
     ensures fewer { left.new ≤ left.old }
     ensures above { floor < left.new }
     ensures setup { world.new.setup ≡ world.old.setup }
-    ensures on { PassesAlone L.Hears (course world.old flicks.old left.old) process floor
+    ensures on { PassesAlone L.Hears L.Knows (course world.old flicks.old left.old) process floor
         (course world.new flicks.new left.new) listener.old listener.new }
     ensures room { LeavesRoom L.HasRoom listener.old left.old listener.new left.new None }
 {
@@ -88,6 +88,8 @@ pub(super) fn step<L: Listener>(
     ensures within { quiet.new ≤ left_in world.new.seats process }
     ensures ok { OnOk result
         (MakesStep L.Hears world.old process flick told.new world.new listener.old listener.new) }
+    ensures knows { OnOk result (is_last ≡ true → MakesStep (Learns L.Knows) world.old process flick
+        told.new world.new listener.old listener.new) }
     ensures room { OnOk result (LeavesRoom L.HasRoom listener.old 1 listener.new 0 told.new) }
     ensures cut { IfErr result (λ fault.
         HearsStep (StopsBy L.Stops fault) world.old process flick world.new listener.old listener.new) }
@@ -120,7 +122,8 @@ pub(super) fn step<L: Listener>(
 #[inline(always)]
 fn quiet_known(world: &World, known: u32, process: u8, is_last: bool) -> u32
     requires { known ≤ left_in world.now.seats process }
-    ensures { result ≤ left_in world.now.seats process }
+    ensures within { result ≤ left_in world.now.seats process }
+    ensures last { is_last ≡ true → result ≡ 0 }
 {
     if is_last {
         return 0;
@@ -144,6 +147,8 @@ fn any_step<L: Listener>(
     requires untold { told.old ≡ None }
     ensures ok { OnOk result
         (MakesStep L.Hears world.old process flick told.new world.new listener.old listener.new) }
+    ensures knows { OnOk result (MakesStep (Learns L.Knows) world.old process flick told.new world.new
+        listener.old listener.new) }
     ensures room { OnOk result (LeavesRoom L.HasRoom listener.old 1 listener.new 0 told.new) }
     ensures cut { IfErr result (λ fault.
         HearsStep (StopsBy L.Stops fault) world.old process flick world.new listener.old listener.new) }

@@ -12,7 +12,6 @@ use Rattle.inspect.proofs.stating.run_part.Goals as goal
 pub loop-line-init : goal.loop-line-init
 loop-line-init g c = record {
   most = c.in_ok-part.ensures.most;
-  all = c.in_ok-part.ensures.all;
   entries = omega (arith, c.in_ok-part.ensures.entries);
   along = (run_at_start, refl, record { now = run_at_start; at = c.in_ok-part.ensures.at; more = []; is = refl; few = omega arith; ends = inr refl });
 }
@@ -32,7 +31,6 @@ loop-line-preserved g c =
     let was = c.loop-line.invariant.along in
     record {
       most = c.make_line.ensures.most ∙ c.loop-line.invariant.most;
-      all = c.make_line.ensures.all ∙ c.loop-line.invariant.all;
       entries = omega (arith, c.in_ok-make_line.ensures.entries, c.loop-line.invariant.entries);
       along = (run_after s here was.0, subst (λ (rest : List Line). runs s rest was.0 ≡ runs s lines run_at_start) next was.1, c.in_ok-make_line.ensures.along s was.0 was.2);
     }

@@ -7,7 +7,6 @@ use Rattle.inspect.proofs.stating.run_part.Given as goal
 abbrev pub invariant-loop-line : goal.invariant-loop-line
 invariant-loop-line g l = record {
   most : l.part.most ≡ l.events;
-  all : l.part.all ≡ l.all;
   entries : l.part.heard.snapshot.entries ≤ l.line-index * 2 ^ 48;
   along : (whole : Run) × (runs l.scenario.setup (drop l.line-index l.scenario.lines.items) whole ≡ runs l.scenario.setup l.scenario.lines.items run_at_start) × ComesAlong l.scenario.setup whole l.part;
 }

@@ -1,10 +1,11 @@
 use Rattle.std.proofs.Common.{◌+◌, arith}
 use Rattle.scenario.specs.files.declared.faults.Fault.TheVariants.{Memory}
 use Rattle.course.specs.Courses.{Follows}
-use Rattle.course.specs.Listening.{room_wanted}
+use Rattle.course.specs.Listening.{HearsUpTo, room_wanted}
 use Rattle.course.specs.Runs.{Run}
 use Rattle.course.specs.Turns.{rest_of}
 use Rattle.course.proofs.Alone.{alone_whole}
+use Rattle.course.proofs.Knowing.{nothing_yet}
 use Rattle.course.proofs.Played.{on_fault, unheard}
 use Rattle.course.proofs.Runnings.{at_once}
 use Rattle.course.proofs.turns.Course.next.Goals as goal
@@ -19,7 +20,8 @@ returns-in_err-make-clause-cut g c =
 
 pub returns-then-not-makes_steps-clause-ok : goal.returns-then-not-makes_steps-clause-ok
 returns-then-not-makes_steps-clause-ok g c = λ run follows.
-    at_once g.L.Listener.Hears c.args.line.now run c.args.self.now c.make.new.self c.args.listener.now c.in_ok-make.field-0 g.met.L.Listener.hears_nothing (c.in_ok-make.ensures.made run follows)
+    at_once (HearsUpTo g.L.Listener.Hears g.L.Listener.Knows c.in_ok-make.field-0) c.args.line.now run c.args.self.now c.make.new.self c.args.listener.now c.in_ok-make.field-0
+    (nothing_yet g.L.Listener.Hears g.L.Listener.Knows g.met.L.Listener.hears_nothing c.in_ok-make.field-0 c.args.listener.now c.args.self.now.world.setup run.happened) (c.in_ok-make.ensures.made run follows)
 
 pub returns-then-not-makes_steps-clause-room : goal.returns-then-not-makes_steps-clause-room
 returns-then-not-makes_steps-clause-room g c = λ more room.
@@ -27,4 +29,4 @@ returns-then-not-makes_steps-clause-room g c = λ more room.
 
 pub returns-in-Step-clause-ok : goal.returns-in-Step-clause-ok
 returns-in-Step-clause-ok g c =
-    alone_whole g.L.Listener.Hears c.args.self.now c.run_alone.new.self c.args.line.now c.in-Step.process c.in-Step.field-1 c.args.listener.now c.run_alone.new.listener c.run_alone.result c.in-Step.is c.run_alone.ensures.ended c.run_alone.ensures.ok
+    alone_whole (HearsUpTo g.L.Listener.Hears g.L.Listener.Knows) c.args.self.now c.run_alone.new.self c.args.line.now c.in-Step.process c.in-Step.field-1 c.args.listener.now c.run_alone.new.listener c.run_alone.result c.in-Step.is c.run_alone.ensures.ended c.run_alone.ensures.ok

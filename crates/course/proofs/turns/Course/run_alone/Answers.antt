@@ -1,11 +1,15 @@
-use Rattle.std.proofs.Common.{Some, refl, ◌≤◌, ◌+◌, ◌-◌, ◌∙◌, ℕ, ap, arith, subst, sym}
+use Rattle.std.proofs.Common.{Some, refl, ◌==◌, ◌≤◌, ◌+◌, ◌-◌, ◌∙◌, ℕ, ap, arith, inl, subst, sym}
+use Rattle.std.proofs.lemmas.Bool.Decides.{nat_tests}
 use Rattle.scenario.specs.declared.lines.Line.{Line}
+use Rattle.world.specs.flicks.Flicks.{flick_of}
 use Rattle.course.specs.Courses.{CourseState, Follows, course}
-use Rattle.course.specs.Listening.{ComesTo, RunsAlone}
+use Rattle.course.specs.Happenings.{tried}
+use Rattle.course.specs.Listening.{ComesTo, HearsFrom, HearsStep, KnowsEnough, KnowsOr, Learns, MakesStep, MaySteps, RunsAlone}
 use Rattle.course.specs.Runs.{Run}
 use Rattle.course.specs.Steppers.{IsAlone}
 use Rattle.course.specs.Turns.{rest_of, turns_in}
-use Rattle.course.proofs.Alone.{alone_on, alone_stops, alone_told}
+use Rattle.course.proofs.Alone.{KnowsAlone, MakesMore, alone_ended, alone_on, alone_passed, alone_stops, alone_told}
+use Rattle.course.proofs.Knowing.{quiet_steps, step_knows, step_needs}
 use Rattle.course.proofs.Played.{on_fault}
 use Rattle.course.proofs.Runnings.{comes_start, comes_stop, comes_then, comes_to}
 use Rattle.course.proofs.turns.Course.run_alone.Goals as goal
@@ -15,7 +19,7 @@ steps-init g c =
     let i = c.self.inside in
     let left = ap (λ (old : CourseState). old.left) c.self.view_is in
     record {
-      on = λ line run follows next. comes_start g.L.Listener.Hears line run c.args.self.now (course i.world i.flicks i.left) c.args.listener.now (IsAlone c.args.process c.args.floor) g.met.L.Listener.hears_nothing c.self.view_is follows next;
+      on = λ line run follows next. comes_start (HearsFrom g.L.Listener.Hears g.L.Listener.Knows (KnowsAlone g.L.Listener.Knows c.args.process c.args.floor i.left)) line run c.args.self.now (course i.world i.flicks i.left) c.args.listener.now (IsAlone c.args.process c.args.floor) (g.met.L.Listener.hears_nothing c.args.listener.now c.args.self.now.world.setup run.happened, λ known. inl known) c.self.view_is follows next;
       kept = record { are = c.self.invariant.are; few = c.self.invariant.few };
       left = omega (arith, left);
       floor = omega (arith, left, c.requires.floor);
@@ -40,20 +44,27 @@ pub steps-preserved : goal.steps-preserved
 steps-preserved g c =
     let laws = g.met.L.Listener in
     let Hears = g.L.Listener.Hears in
+    let Knows = g.L.Listener.Knows in
+    let s = c.args.self.now.world.setup in
+    let had : ℕ = c.args.self.now.left in
     let p = c.args.process in
     let floor = c.args.floor in
     let i = c.steps.self-inside in
     let w = c.pass_by.new.world in
     let flicks = c.pass_by.new.flicks in
     let left : ℕ = c.pass_by.new.left in
-    let heard = rw c.in_default.is at c.in_ok-step.ensures.ok in
+    let heard : HearsStep Hears w p c.flick-flick.result c.step.new.world c.pass_by.new.listener c.step.new.listener = rw c.in_default.is at c.in_ok-step.ensures.ok in
     let setup = c.step.ensures.setup ∙ c.pass_by.ensures.setup in
+    let knows : HearsStep (HearsFrom Hears (KnowsOr Knows (MaySteps p)) (KnowsAlone Knows p floor (left - 1))) w p c.flick-flick.result c.step.new.world c.pass_by.new.listener c.step.new.listener =
+    step_knows Hears Knows w c.step.new.world p c.flick-flick.result c.pass_by.new.listener c.step.new.listener (KnowsOr Knows (MaySteps p)) (MakesMore p floor (left - 1)) (left - 1 == floor) heard
+    (λ last. subst (λ told. MakesStep (Learns Knows) w p c.flick-flick.result told c.step.new.world c.pass_by.new.listener c.step.new.listener) c.in_default.is (c.in_ok-step.ensures.knows last))
+    (λ more before shows. (grind (arith, nat_tests, c.pass_by.ensures.above), quiet_steps w.setup p c.flick-flick.result before (Some heard.step.access, heard.step.adds (tried before) shows))) in
     record {
       on = λ line run follows next.
-          let u = c.steps.invariant.on line run follows next in
-          let v = comes_then Hears laws.hears_on c.args.self.now.world.setup line c.args.self.now.left run c.args.listener.now c.steps.listener c.pass_by.new.listener (course i.world i.flicks i.left) (IsAlone p floor) u (course w flicks left) (IsAlone p floor) (c.pass_by.ensures.on line) in
-          comes_then Hears laws.hears_on c.args.self.now.world.setup line c.args.self.now.left run c.args.listener.now c.pass_by.new.listener c.step.new.listener (course w flicks left) (IsAlone p floor) v (course c.step.new.world c.flick-flick.new.self (left - 1)) (IsAlone p floor)
-          (λ run follows next. alone_on w c.step.new.world line left p floor c.flick-flick.result run flicks c.flick-flick.new.self c.pass_by.ensures.above c.flick-flick.ensures.flick c.flick-flick.ensures.after follows next Hears c.pass_by.new.listener c.step.new.listener heard);
+          let v = alone_passed Hears Knows s line had p floor run c.args.listener.now c.steps.listener (course i.world i.flicks i.left) (c.steps.invariant.on line run follows next) laws.hears_on (course w flicks left) c.pass_by.new.listener c.pass_by.ensures.on in
+          comes_then Hears laws.hears_on Knows (KnowsOr Knows (MaySteps p)) s line had run c.args.listener.now c.pass_by.new.listener c.step.new.listener (course w flicks left) (IsAlone p floor) v (KnowsAlone Knows p floor (left - 1)) (course c.step.new.world c.flick-flick.new.self (left - 1)) (IsAlone p floor)
+          (λ run follows next. alone_on w c.step.new.world line left p floor c.flick-flick.result run flicks c.flick-flick.new.self c.pass_by.ensures.above c.flick-flick.ensures.flick c.flick-flick.ensures.after follows next
+          (HearsFrom Hears (KnowsOr Knows (MaySteps p)) (KnowsAlone Knows p floor (left - 1))) c.pass_by.new.listener c.step.new.listener knows);
       kept = record { are = c.steps.invariant.kept.are ∙ ap (λ s. s.processes) (sym setup); few = c.steps.invariant.kept.few };
       left = omega (arith, c.pass_by.ensures.fewer, c.steps.invariant.left);
       floor = omega (arith, c.pass_by.ensures.above);
@@ -68,6 +79,7 @@ pub returns-in_err-step-clause-cut : goal.returns-in_err-step-clause-cut
 returns-in_err-step-clause-cut g c =
     let laws = g.met.L.Listener in
     let Hears = g.L.Listener.Hears in
+    let Knows = g.L.Listener.Knows in
     let Stops = g.L.Listener.Stops in
     let s = c.args.self.now.world.setup in
     let had : ℕ = c.args.self.now.left in
@@ -79,16 +91,16 @@ returns-in_err-step-clause-cut g c =
     let left : ℕ = c.pass_by.new.left in
     on_fault c.from_residual.result c.in_err-step.field-0.0 (λ fault. (l : Line) (run : Run) → Follows c.args.self.now run → IsAlone p floor s l run → had ≤ turns_in l → Stops c.args.listener.now s run.happened (rest_of s l had run).happened fault c.step.new.listener) c.from_residual.ensures.1
     (λ l run follows next few.
-    let u = c.steps.invariant.on l run follows next in
-    let v = comes_then Hears laws.hears_on s l had run c.args.listener.now c.steps.listener c.pass_by.new.listener (course i.world i.flicks i.left) (IsAlone p floor) u (course w flicks left) (IsAlone p floor) (c.pass_by.ensures.on l) in
-    comes_stop Hears laws.hears_on s l had run c.args.listener.now c.pass_by.new.listener c.step.new.listener (course w flicks left) (IsAlone p floor) v Stops laws.stops_on c.in_err-step.field-0.0 few
+    let v = alone_passed Hears Knows s l had p floor run c.args.listener.now c.steps.listener (course i.world i.flicks i.left) (c.steps.invariant.on l run follows next) laws.hears_on (course w flicks left) c.pass_by.new.listener c.pass_by.ensures.on in
+    comes_stop Hears laws.hears_on Knows (KnowsOr Knows (MaySteps p)) s l had run c.args.listener.now c.pass_by.new.listener c.step.new.listener (course w flicks left) (IsAlone p floor) v Stops laws.stops_on c.in_err-step.field-0.0 few
     (λ run follows next few. alone_stops w c.step.new.world l left p floor c.flick-flick.result run flicks c.flick-flick.new.self c.pass_by.ensures.above c.flick-flick.ensures.flick c.flick-flick.ensures.after follows next Stops c.pass_by.new.listener c.step.new.listener c.in_err-step.field-0.0 laws.stops_before
     c.in_err-step.ensures.cut few))
 
 pub returns-in-Some-clause-ok : goal.returns-in-Some-clause-ok
-returns-in-Some-clause-ok g c = subst (λ told. RunsAlone g.L.Listener.Hears c.args.self.now c.args.process c.args.floor (course c.step.new.world c.flick-flick.new.self c.left_after-self-inside.result) c.args.listener.now c.step.new.listener told) (sym c.in-Some.is) (λ l run follows next.
+returns-in-Some-clause-ok g c = subst (λ told. RunsAlone g.L.Listener.Hears g.L.Listener.Knows c.args.self.now c.args.process c.args.floor (course c.step.new.world c.flick-flick.new.self c.left_after-self-inside.result) c.args.listener.now c.step.new.listener told) (sym c.in-Some.is) (λ l run follows next.
     let laws = g.met.L.Listener in
     let Hears = g.L.Listener.Hears in
+    let Knows = g.L.Listener.Knows in
     let s = c.args.self.now.world.setup in
     let had : ℕ = c.args.self.now.left in
     let p = c.args.process in
@@ -98,10 +110,18 @@ returns-in-Some-clause-ok g c = subst (λ told. RunsAlone g.L.Listener.Hears c.a
     let flicks = c.pass_by.new.flicks in
     let left : ℕ = c.pass_by.new.left in
     let left' : ℕ = c.left_after-self-inside.result in
+    let is = c.pass_by.new.listener in
+    let answer = c.in-Some.answer in
     let both = rw c.in-Some.is at c.in_ok-step.ensures.ok in
-    let u = c.steps.invariant.on l run follows next in
-    let v = comes_then Hears laws.hears_on s l had run c.args.listener.now c.steps.listener c.pass_by.new.listener (course i.world i.flicks i.left) (IsAlone p floor) u (course w flicks left) (IsAlone p floor) (c.pass_by.ensures.on l) in
+    let v = alone_passed Hears Knows s l had p floor run c.args.listener.now c.steps.listener (course i.world i.flicks i.left) (c.steps.invariant.on l run follows next) laws.hears_on (course w flicks left) is c.pass_by.ensures.on in
     let new : CourseState = course c.step.new.world c.flick-flick.new.self left' in
-    comes_to Hears laws.hears_on s l had run c.args.listener.now c.pass_by.new.listener c.step.new.listener (course w flicks left) (IsAlone p floor) v new (Some c.in-Some.answer)
-    (λ run follows next. subst (λ b. ComesTo Hears w.setup l left run c.pass_by.new.listener b (Some c.in-Some.answer) new) (sym both.1)
-    (alone_told w c.step.new.world l left p floor c.flick-flick.result run flicks c.flick-flick.new.self c.pass_by.ensures.above c.flick-flick.ensures.flick c.flick-flick.ensures.after follows next Hears c.pass_by.new.listener c.in-Some.answer left' laws.hears_nothing both.0 c.left_after-self-inside.ensures)))
+    comes_to Hears laws.hears_on Knows (KnowsOr Knows (MaySteps p)) s l had run c.args.listener.now is c.step.new.listener (course w flicks left) (IsAlone p floor) v (KnowsEnough Knows (Some answer)) new (Some answer)
+    (λ run follows next. subst (λ b. ComesTo (HearsFrom Hears (KnowsOr Knows (MaySteps p)) (KnowsEnough Knows (Some answer))) w.setup l left run is b (Some answer) new) (sym both.1)
+    (alone_told w c.step.new.world l left p floor c.flick-flick.result run flicks c.flick-flick.new.self c.pass_by.ensures.above c.flick-flick.ensures.flick c.flick-flick.ensures.after follows next (HearsFrom Hears (KnowsOr Knows (MaySteps p)) (KnowsEnough Knows (Some answer))) is answer left'
+    (λ tells. (laws.hears_nothing is w.setup run.happened, λ may. step_needs w.setup p (flick_of run.flicks) run.happened answer (Knows is w.setup run.happened) tells may)) both.0 c.left_after-self-inside.ensures)))
+
+pub returns-clause-ok : goal.returns-clause-ok
+returns-clause-ok g c = λ l run follows next.
+    let i = c.steps.self-inside in
+    alone_ended g.L.Listener.Hears g.L.Listener.Knows c.args.self.now.world.setup l c.args.self.now.left c.args.process c.args.floor run c.args.listener.now c.steps.listener (course i.world i.flicks i.left) (c.steps.invariant.on l run follows next)
+    (omega (arith, c.steps-test.false))

@@ -1,16 +1,18 @@
-use Rattle.std.proofs.Common.{Some, refl, None, ◌≡◌, ◌<◌, ◌≤◌, ◌+◌, ◌-◌, ◌∙◌, ℕ, List, ap, arith, length, set, sym, subst, slice_index}
+use Rattle.std.proofs.Common.{Some, refl, None, ◌≡◌, ◌==◌, ◌<◌, ◌≤◌, ◌+◌, ◌-◌, ◌∙◌, ℕ, List, ap, arith, inl, inr, length, set, sym, subst, slice_index}
+use Rattle.std.proofs.lemmas.Bool.Decides.{nat_tests}
 use Rattle.scenario.specs.declared.lines.Line.TheVariants.{Wander as WanderLine}
 use Rattle.world.specs.flicks.Flicks.{FlickState, after_flick, after_pick, flick_of, pick_of}
 use Rattle.course.specs.Counts.{IsCounted}
 use Rattle.course.specs.Courses.{CourseState, Follows, Makes, course}
-use Rattle.course.specs.Listening.{Comes, ComesTo}
+use Rattle.course.specs.Listening.{Comes, ComesTo, HearsFrom, HearsStep, HearsUpTo, KnowsEnough, Learns, MakesStep, MaySteps}
 use Rattle.course.specs.Runs.{Run, movers, past_in}
 use Rattle.course.specs.Turns.{rest_of, turn_of}
 use Rattle.course.proofs.Counted.{counted_put, none_known}
+use Rattle.course.proofs.Knowing.{nothing_yet, pick_steps, step_knows, step_needs}
 use Rattle.course.proofs.Movers.{none_left, some_left}
 use Rattle.course.proofs.Played.{on_fault}
-use Rattle.course.proofs.Runnings.{at_once, comes_end, comes_start, comes_stop, comes_then, comes_to}
-use Rattle.course.proofs.Wanders.{ArePicked, picked_on, picked_stops, picked_told, wander_ends}
+use Rattle.course.proofs.Runnings.{at_once, comes_as, comes_end, comes_start, comes_stop, comes_then, comes_to}
+use Rattle.course.proofs.Wanders.{ArePicked, KnowsWhile, picked_on, picked_stops, picked_told, wander_ends}
 use Rattle.course.proofs.turns.Course.run_random.Goals as goal
 
 pub returns-then-is_empty-clause-ok : goal.returns-then-is_empty-clause-ok
@@ -20,7 +22,7 @@ returns-then-is_empty-clause-ok g c = λ steps run follows.
     let l = WanderLine steps in
     let new = course i.world i.flicks 0 in
     let family : CourseState → Type 0 = λ old. (run : Run) → Follows old run → ps ≡ movers old.world.setup (past_in old.world.setup run) → Makes old run (turn_of old.world.setup l old.left run) None new in
-    at_once g.L.Listener.Hears l run c.args.self.now new c.args.listener.now None g.met.L.Listener.hears_nothing
+    at_once (HearsUpTo g.L.Listener.Hears g.L.Listener.Knows None) l run c.args.self.now new c.args.listener.now None (nothing_yet g.L.Listener.Hears g.L.Listener.Knows g.met.L.Listener.hears_nothing None c.args.listener.now c.args.self.now.world.setup run.happened)
     (subst family c.self.view_is (wander_ends i.world i.flicks i.left steps ps (none_left ps (sym c.is_empty.ensures ∙ c.if-is_empty.true))) run follows (c.movers-movers.ensures run follows))
 
 pub steps-init : goal.steps-init
@@ -29,7 +31,7 @@ steps-init g c =
     let ps = c.as_slice-movers.result.now in
     let left = ap (λ (old : CourseState). old.left) c.self.view_is in
     record {
-      on = λ steps run follows. comes_start g.L.Listener.Hears (WanderLine steps) run c.args.self.now (course i.world i.flicks i.left) c.args.listener.now (ArePicked ps) g.met.L.Listener.hears_nothing c.self.view_is follows (c.as_slice-movers.ensures ∙ c.movers-movers.ensures run follows);
+      on = λ steps run follows. comes_start (HearsFrom g.L.Listener.Hears g.L.Listener.Knows (KnowsWhile g.L.Listener.Knows i.left)) (WanderLine steps) run c.args.self.now (course i.world i.flicks i.left) c.args.listener.now (ArePicked ps) (g.met.L.Listener.hears_nothing c.args.listener.now c.args.self.now.world.setup run.happened, λ known. inl known) c.self.view_is follows (c.as_slice-movers.ensures ∙ c.movers-movers.ensures run follows);
       kept = record { are = c.self.invariant.are; few = c.self.invariant.few };
       left = omega (arith, left);
       process = c.drawn-next.ensures.process ∙ ap (λ (f : FlickState). slice_index ps (pick_of (length ps) f)) c.twin-ahead.ensures;
@@ -56,15 +58,20 @@ steps-preserved g c =
     let laws = g.met.L.Listener in
     let Hears = g.L.Listener.Hears in
     let i = c.steps.self-inside in
-    let heard = rw c.in_default.is at c.in_ok-step.ensures.ok in
+    let Knows = g.L.Listener.Knows in
+    let heard : HearsStep Hears i.world c.steps.next.0 c.steps.next.1 c.step.new.world c.steps.listener c.step.new.listener = rw c.in_default.is at c.in_ok-step.ensures.ok in
+    let knows : HearsStep (HearsFrom Hears (KnowsWhile Knows i.left) (KnowsWhile Knows (i.left - 1))) i.world c.steps.next.0 c.steps.next.1 c.step.new.world c.steps.listener c.step.new.listener =
+    step_knows Hears Knows i.world c.step.new.world c.steps.next.0 c.steps.next.1 c.steps.listener c.step.new.listener (KnowsWhile Knows i.left) (λ s x. 0 < i.left - 1) (i.left - 1 == 0) heard
+    (λ last. subst (λ told. MakesStep (Learns Knows) i.world c.steps.next.0 c.steps.next.1 told c.step.new.world c.steps.listener c.step.new.listener) c.in_default.is (c.in_ok-step.ensures.knows last))
+    (λ more before shows. grind (arith, nat_tests)) in
     let same : c.steps.ahead ≡ c.copy_from.new.self = sym c.copy_from.ensures in
     let ps = c.as_slice-movers.result.now in
     let some : 0 < length ps = subst (λ (l : List ℕ). 0 < length l) (sym c.as_slice-movers.ensures) (some_left c.movers-movers.result.items (sym c.is_empty.ensures ∙ c.if-is_empty.false)) in
     record {
       on = λ steps run follows.
-          comes_then Hears laws.hears_on c.args.self.now.world.setup (WanderLine steps) c.args.self.now.left run c.args.listener.now c.steps.listener c.step.new.listener (course i.world i.flicks i.left) (ArePicked ps) (c.steps.invariant.on steps run follows) (course c.step.new.world c.copy_from.new.self (i.left - 1)) (ArePicked ps)
+          comes_then Hears laws.hears_on Knows (KnowsWhile Knows i.left) c.args.self.now.world.setup (WanderLine steps) c.args.self.now.left run c.args.listener.now c.steps.listener c.step.new.listener (course i.world i.flicks i.left) (ArePicked ps) (c.steps.invariant.on steps run follows) (KnowsWhile Knows (i.left - 1)) (course c.step.new.world c.copy_from.new.self (i.left - 1)) (ArePicked ps)
           (λ run follows are. picked_on i.world c.step.new.world steps i.left c.steps.next.0 ps c.steps.next.1 run i.flicks c.copy_from.new.self (λ none. omega (arith, none, c.steps-test.true)) some c.steps.invariant.process c.steps.invariant.flick (c.copy_from.ensures ∙ c.steps.invariant.ahead)
-          follows are Hears c.steps.listener c.step.new.listener heard);
+          follows are (HearsFrom Hears (KnowsWhile Knows i.left) (KnowsWhile Knows (i.left - 1))) c.steps.listener c.step.new.listener knows);
       kept = record { are = c.steps.invariant.kept.are ∙ ap (λ s. s.processes) (sym c.step.ensures.setup); few = c.steps.invariant.kept.few };
       left = omega (arith, c.steps-test.true, c.steps.invariant.left);
       process = c.drawn-next-in-steps.ensures.process ∙ ap (λ (f : FlickState). slice_index ps (pick_of (length ps) f)) same;
@@ -81,6 +88,7 @@ pub returns-in_err-step-clause-cut : goal.returns-in_err-step-clause-cut
 returns-in_err-step-clause-cut g c =
     let laws = g.met.L.Listener in
     let Hears = g.L.Listener.Hears in
+    let Knows = g.L.Listener.Knows in
     let Stops = g.L.Listener.Stops in
     let s = c.args.self.now.world.setup in
     let had : ℕ = c.args.self.now.left in
@@ -89,14 +97,15 @@ returns-in_err-step-clause-cut g c =
     let some : 0 < length ps = subst (λ (l : List ℕ). 0 < length l) (sym c.as_slice-movers.ensures) (some_left c.movers-movers.result.items (sym c.is_empty.ensures ∙ c.if-is_empty.false)) in
     on_fault c.from_residual.result c.in_err-step.field-0.0 (λ fault. (steps : ℕ) (run : Run) → Follows c.args.self.now run → had ≤ steps → Stops c.args.listener.now s run.happened (rest_of s (WanderLine steps) had run).happened fault c.step.new.listener) c.from_residual.ensures.1
     (λ steps run follows few.
-    comes_stop Hears laws.hears_on s (WanderLine steps) had run c.args.listener.now c.steps.listener c.step.new.listener (course i.world i.flicks i.left) (ArePicked ps) (c.steps.invariant.on steps run follows) Stops laws.stops_on c.in_err-step.field-0.0 few
+    comes_stop Hears laws.hears_on Knows (KnowsWhile Knows i.left) s (WanderLine steps) had run c.args.listener.now c.steps.listener c.step.new.listener (course i.world i.flicks i.left) (ArePicked ps) (c.steps.invariant.on steps run follows) Stops laws.stops_on c.in_err-step.field-0.0 few
     (λ run follows are few. picked_stops i.world c.step.new.world steps i.left c.steps.next.0 ps c.steps.next.1 run i.flicks c.copy_from.new.self (λ none. omega (arith, none, c.steps-test.true)) some c.steps.invariant.process c.steps.invariant.flick (c.copy_from.ensures ∙ c.steps.invariant.ahead)
     follows are Stops c.steps.listener c.step.new.listener c.in_err-step.field-0.0 laws.stops_before c.in_err-step.ensures.cut few))
 
 pub returns-in-Some-clause-ok : goal.returns-in-Some-clause-ok
-returns-in-Some-clause-ok g c = subst (λ told. (steps : ℕ) → Comes g.L.Listener.Hears c.args.self.now (WanderLine steps) (course c.step.new.world c.copy_from.new.self (c.steps.self-inside.left - 1)) c.args.listener.now c.step.new.listener told) (sym c.in-Some.is) (λ steps run follows.
+returns-in-Some-clause-ok g c = subst (λ told. (steps : ℕ) → Comes g.L.Listener.Hears g.L.Listener.Knows c.args.self.now (WanderLine steps) (course c.step.new.world c.copy_from.new.self (c.steps.self-inside.left - 1)) c.args.listener.now c.step.new.listener told) (sym c.in-Some.is) (λ steps run follows.
     let laws = g.met.L.Listener in
     let Hears = g.L.Listener.Hears in
+    let Knows = g.L.Listener.Knows in
     let s = c.args.self.now.world.setup in
     let had : ℕ = c.args.self.now.left in
     let i = c.steps.self-inside in
@@ -104,12 +113,20 @@ returns-in-Some-clause-ok g c = subst (λ told. (steps : ℕ) → Comes g.L.List
     let ps = c.as_slice-movers.result.now in
     let some : 0 < length ps = subst (λ (l : List ℕ). 0 < length l) (sym c.as_slice-movers.ensures) (some_left c.movers-movers.result.items (sym c.is_empty.ensures ∙ c.if-is_empty.false)) in
     let new : CourseState = course c.step.new.world c.copy_from.new.self (i.left - 1) in
-    comes_to Hears laws.hears_on s (WanderLine steps) had run c.args.listener.now c.steps.listener c.step.new.listener (course i.world i.flicks i.left) (ArePicked ps) (c.steps.invariant.on steps run follows) new (Some c.in-Some._answer)
-    (λ run follows are. subst (λ b. ComesTo Hears i.world.setup (WanderLine steps) i.left run c.steps.listener b (Some c.in-Some._answer) new) (sym both.1)
+    comes_to Hears laws.hears_on Knows (KnowsWhile Knows i.left) s (WanderLine steps) had run c.args.listener.now c.steps.listener c.step.new.listener (course i.world i.flicks i.left) (ArePicked ps) (c.steps.invariant.on steps run follows) (KnowsEnough Knows (Some c.in-Some._answer)) new (Some c.in-Some._answer)
+    (λ run follows are. subst (λ b. ComesTo (HearsFrom Hears (KnowsWhile Knows i.left) (KnowsEnough Knows (Some c.in-Some._answer))) i.world.setup (WanderLine steps) i.left run c.steps.listener b (Some c.in-Some._answer) new) (sym both.1)
     (picked_told i.world c.step.new.world steps i.left c.steps.next.0 ps c.steps.next.1 run i.flicks c.copy_from.new.self (λ none. omega (arith, none, c.steps-test.true)) some c.steps.invariant.process c.steps.invariant.flick (c.copy_from.ensures ∙ c.steps.invariant.ahead)
-    follows are Hears c.steps.listener c.in-Some._answer laws.hears_nothing both.0)))
+    follows are (HearsFrom Hears (KnowsWhile Knows i.left) (KnowsEnough Knows (Some c.in-Some._answer))) c.steps.listener c.in-Some._answer
+    (λ tells. (
+      laws.hears_nothing c.steps.listener i.world.setup run.happened,
+      λ known. step_needs i.world.setup c.steps.next.0 (flick_of (after_pick run.flicks)) run.happened c.in-Some._answer (Knows c.steps.listener i.world.setup run.happened) tells
+          (inr (subst (λ p. MaySteps p i.world.setup run.happened) (sym (c.steps.invariant.process ∙ ap (λ (f : FlickState). slice_index ps (pick_of (length ps) f)) follows.flicks)) (pick_steps i.world.setup run ps (sym are) some))),
+    )) both.0)))
 
 pub returns-clause-ok : goal.returns-clause-ok
 returns-clause-ok g c = λ steps run follows.
     let i = c.steps.self-inside in
-    comes_end g.L.Listener.Hears c.args.self.now.world.setup (WanderLine steps) c.args.self.now.left run c.args.listener.now c.steps.listener (course i.world i.flicks i.left) (ArePicked c.as_slice-movers.result.now) (omega (arith, c.steps-test.false)) (c.steps.invariant.on steps run follows)
+    let ps = c.as_slice-movers.result.now in
+    comes_end (HearsUpTo g.L.Listener.Hears g.L.Listener.Knows None) c.args.self.now.world.setup (WanderLine steps) c.args.self.now.left run c.args.listener.now c.steps.listener (course i.world i.flicks i.left) (ArePicked ps) (omega (arith, c.steps-test.false))
+    (comes_as g.L.Listener.Hears g.L.Listener.Knows (KnowsWhile g.L.Listener.Knows i.left) g.L.Listener.Knows c.args.self.now.world.setup (WanderLine steps) c.args.self.now.left run c.args.listener.now c.steps.listener (course i.world i.flicks i.left) (ArePicked ps)
+    (λ x known. elim known [ inl known ↦ known | inr more ↦ absurd (omega (arith, more, c.steps-test.false)) ]) (c.steps.invariant.on steps run follows))

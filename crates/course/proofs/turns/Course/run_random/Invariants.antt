@@ -3,17 +3,17 @@ use Rattle.scenario.specs.declared.lines.Line.TheVariants.{Wander as WanderLine}
 use Rattle.world.specs.flicks.Flicks.{after_flick, after_pick, flick_of, pick_of}
 use Rattle.course.specs.Counts.{IsCounted}
 use Rattle.course.specs.Courses.{Follows, KeepsCourse, course}
-use Rattle.course.specs.Listening.{ComesOn}
+use Rattle.course.specs.Listening.{ComesOn, HearsFrom}
 use Rattle.course.specs.Runs.{Run}
-use Rattle.course.proofs.Wanders.{ArePicked}
+use Rattle.course.proofs.Wanders.{ArePicked, KnowsWhile}
 use Rattle.course.proofs.turns.Course.run_random.Given as goal
 
--- so far each Step was made without a mark and was heard, and so the same processes may be picked; what comes next is
+-- so far each Step was made without a mark and was heard, the newest is known or others are left, and the same processes may be picked; what comes next is
 -- drawn already; what is known of how far each process is within its number access is so
 abbrev pub invariant-steps : goal.invariant-steps
 invariant-steps g l = record {
   on : (steps : ℕ) (run : Run) → Follows l.fn.self run →
-      ComesOn g.L.Listener.Hears l.fn.self.world.setup (WanderLine steps) l.fn.self.left run l.fn.listener l.listener (course l.self-inside.world l.self-inside.flicks l.self-inside.left) (ArePicked l.movers);
+      ComesOn (HearsFrom g.L.Listener.Hears g.L.Listener.Knows (KnowsWhile g.L.Listener.Knows l.self-inside.left)) l.fn.self.world.setup (WanderLine steps) l.fn.self.left run l.fn.listener l.listener (course l.self-inside.world l.self-inside.flicks l.self-inside.left) (ArePicked l.movers);
   kept : KeepsCourse l.self-inside.processes l.self-inside.world;
   left : l.self-inside.left ≤ l.fn.self.left;
   process : l.next.0 ≡ slice_index l.movers (pick_of (length l.movers) l.self-inside.flicks);

@@ -1,6 +1,6 @@
-use Rattle.std.proofs.Common.{◌+◌, ◌∙◌, Some, arith, length, refl, subst, sym, None}
+use Rattle.std.proofs.Common.{◌+◌, ◌∙◌, Some, arith, length, refl, subst, sym}
 use Rattle.course.specs.Happenings.{tried}
-use Rattle.course.specs.Listening.{HearsStep, LeavesRoom}
+use Rattle.course.specs.Listening.{HearsStep, Learns, LeavesRoom}
 use Rattle.course.proofs.Played.{on_fault, untold}
 use Rattle.course.proofs.StepsTold.{overlaps_of, step_quiet, step_setup, step_told}
 use Rattle.course.proofs.Within.{some_is, steps_on}
@@ -11,6 +11,9 @@ returns-in_default-clause-ok g c =
     let w = c.args.world.now in
     let s = c.step-stepped in
     (step_told w s.new.self c.args.process c.args.flick s.new.told s.result s.ensures.accepted s.ensures.shows s.ensures.setup (length c.history.result.now) c.history.result.now c.told_of.result (c.unmarked.ensures.none c.in_default.is) c.history.ensures refl s.ensures.refused s.ensures.unchanged s.ensures.overlapped c.told_of.ensures, refl)
+
+pub returns-in_default-clause-knows : goal.returns-in_default-clause-knows
+returns-in_default-clause-knows g c = returns-in_default-clause-ok g c
 
 pub returns-in_default-clause-setup : goal.returns-in_default-clause-setup
 returns-in_default-clause-setup g c = step_setup c.args.world.now c.step-stepped.new.self c.step-stepped.result c.step-stepped.ensures.setup c.step-stepped.ensures.unchanged
@@ -28,6 +31,18 @@ returns-clause-ok g c =
     (record {
       step = quiet;
       hears = λ before shows. c.in_ok-step.ensures.ok w.setup before (steps_on w s.new.self c.args.process c.args.flick (Some c.number_read.result) before quiet shows (λ n is. some_is c.number_read.result n is ∙ c.number_read.ensures (tried before) shows) (λ none. absurd (cc)) c.in-Some.made.overlapped (overlaps_of w s.result c.in-Some.made made.0 s.ensures.overlapped));
+    })
+
+pub returns-clause-knows : goal.returns-clause-knows
+returns-clause-knows g c =
+    let w = c.args.world.now in
+    let s = c.step-stepped in
+    let made = c.in-Some.ensures.some in
+    let quiet = step_quiet w s.new.self c.args.process c.args.flick s.new.told s.result s.ensures.accepted s.ensures.shows s.ensures.setup c.in-Some.made made.0 made.1 s.ensures.headline in
+    untold (Learns g.L.Listener.Knows) w c.args.process c.args.flick c.args.told.now s.new.self c.args.listener.now c.step.new.self c.requires.untold
+    (record {
+      step = quiet;
+      hears = λ before shows. c.in_ok-step.ensures.knows w.setup before (steps_on w s.new.self c.args.process c.args.flick (Some c.number_read.result) before quiet shows (λ n is. some_is c.number_read.result n is ∙ c.number_read.ensures (tried before) shows) (λ none. absurd (cc)) c.in-Some.made.overlapped (overlaps_of w s.result c.in-Some.made made.0 s.ensures.overlapped));
     })
 
 pub returns-clause-room : goal.returns-clause-room

@@ -1,19 +1,27 @@
-use Rattle.std.proofs.Common.{◌+◌, ◌-◌, ◌∙◌, arith, refl, sym}
+use Rattle.std.proofs.Common.{◌+◌, ◌-◌, ◌<◌, ◌∙◌, ℕ, List, arith, inr, refl, sym}
+use Rattle.plain_store.specs.declared.setups.Setup.{Setup}
 use Rattle.course.specs.Courses.{course}
+use Rattle.course.specs.Happenings.{Happening}
+use Rattle.course.specs.Listening.{HearsFrom, KnowsOr, MaySteps}
 use Rattle.course.specs.Steppers.{IsAlone}
 use Rattle.course.proofs.Alone.{alone_pass, steps_setup}
+use Rattle.course.proofs.Knowing.{passed_steps}
 use Rattle.course.proofs.Runnings.{comes_start}
 use Rattle.course.proofs.turns.steps.pass_by.Goals as goal
+
+-- who knew the newest event, or that no Step is refused, still does
+abbrev Alert : {L : Type 0} → (L → Setup → List Happening → List Happening → L → Type 0) → (L → Setup → List Happening → Type 0) → (p : ℕ) → L → Setup → List Happening → List Happening → L → Type 0
+Alert Hears Knows p = HearsFrom Hears (KnowsOr Knows (MaySteps p)) (KnowsOr Knows (MaySteps p))
 
 pub returns-then-hears_steps-clause-on : goal.returns-then-hears_steps-clause-on
 returns-then-hears_steps-clause-on g c = λ l run follows next.
     let here = course c.args.world.now c.args.flicks.now c.args.left.now in
-    comes_start g.L.Listener.Hears l run here here c.args.listener.now (IsAlone c.args.process c.args.floor) g.met.L.Listener.hears_nothing refl follows next
+    comes_start (Alert g.L.Listener.Hears g.L.Listener.Knows c.args.process) l run here here c.args.listener.now (IsAlone c.args.process c.args.floor) (g.met.L.Listener.hears_nothing c.args.listener.now c.args.world.now.setup run.happened, λ known. known) refl follows next
 
 pub returns-then-within-eq0-clause-on : goal.returns-then-within-eq0-clause-on
 returns-then-within-eq0-clause-on g c = λ l run follows next.
     let here = course c.args.world.now c.args.flicks.now c.args.left.now in
-    comes_start g.L.Listener.Hears l run here here c.args.listener.now (IsAlone c.args.process c.args.floor) g.met.L.Listener.hears_nothing refl follows next
+    comes_start (Alert g.L.Listener.Hears g.L.Listener.Knows c.args.process) l run here here c.args.listener.now (IsAlone c.args.process c.args.floor) (g.met.L.Listener.hears_nothing c.args.listener.now c.args.world.now.setup run.happened, λ known. known) refl follows next
 
 pub pass-requires-clause-room : goal.pass-requires-clause-room
 pass-requires-clause-room g c = g.met.L.Listener.room_less c.args.listener.now c.min-within.result c.args.left.now (omega (arith, c.requires.floor, c.min-within.ensures)) c.requires.room
@@ -24,8 +32,10 @@ returns-clause-setup g c = steps_setup c.args.world.now c.run_within-made.new.wo
 pub returns-clause-on : goal.returns-clause-on
 returns-clause-on g c = λ l run follows next.
     let made = c.run_within-made in
-    alone_pass g.L.Listener.Hears c.min-within.result c.args.world.now made.new.world c.args.flicks.now made.new.flicks made.result.0 made.result.1 l c.args.left.now _ c.args.process c.args.floor run c.args.listener.now c.pass.new.self refl
-    (omega (arith, c.requires.floor, c.min-within.ensures)) (omega (arith, c.min-within.ensures, c.left.ensures)) made.ensures (λ s before after. c.pass.ensures.ok (sym c.hears_steps.ensures ∙ c.if-hears_steps.false) s before after made.result.0 refl) follows next
+    let some : 0 < c.min-within.result = omega (arith, c.if-within-eq0.false) in
+    alone_pass (Alert g.L.Listener.Hears g.L.Listener.Knows c.args.process) c.min-within.result c.args.world.now made.new.world c.args.flicks.now made.new.flicks made.result.0 made.result.1 l c.args.left.now _ c.args.process c.args.floor run c.args.listener.now c.pass.new.self refl
+    (omega (arith, c.requires.floor, c.min-within.ensures)) (omega (arith, c.min-within.ensures, c.left.ensures)) made.ensures
+    (λ s before after by. (c.pass.ensures.ok (sym c.hears_steps.ensures ∙ c.if-hears_steps.false) s before after made.result.0 refl by, λ known. inr (passed_steps s c.args.process c.min-within.result before after some by.within))) follows next
 
 pub returns-clause-room : goal.returns-clause-room
 returns-clause-room g c = λ more room.

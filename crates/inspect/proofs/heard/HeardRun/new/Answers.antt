@@ -2,4 +2,7 @@ use Rattle.std.proofs.Common.{refl}
 use Rattle.inspect.proofs.heard.HeardRun.new.Goals as goal
 
 pub returns-clause-seen : goal.returns-clause-seen
-returns-clause-seen c = λ all. record { setup = c.in_ok-snapshot.ensures.setup; heard = c.in_ok-snapshot.ensures.heard; knows = λ on. refl; newest_is = λ known. refl }
+returns-clause-seen c = record { setup = c.in_ok-snapshot.ensures.setup; heard = c.in_ok-snapshot.ensures.heard }
+
+pub returns-clause-knows : goal.returns-clause-knows
+returns-clause-knows c = refl

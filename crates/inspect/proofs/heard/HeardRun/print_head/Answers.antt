@@ -5,9 +5,9 @@ use Rattle.snapshot.proofs.Stand.{ok_then}
 use Rattle.inspect.proofs.heard.HeardRun.print_head.Goals as goal
 
 pub returns : goal.returns
-returns c = ok_then c.print_entry.result (λ newest s all past seen.
+returns c = ok_then c.print_entry.result (λ newest s past seen known.
     let events = c.entries-events.ensures ∙ seen.heard.entries in
     let head = c.in_ok-head.ensures.ok ∙ ap (λ n. codes "events " ++ (decimal n ++ codes "\n")) events in
-    newest s all past seen
+    newest s past seen known
     ∙ ap (λ l. l ++ newest_line past) (c.in_ok-extend_from_slice.ensures.items ∙ ap (λ l. c.args.text.now.items ++ l) (c.as_bytes.ensures.value ∙ head))
     ∙ append_assoc c.args.text.now.items (codes "events " ++ (decimal (length past) ++ codes "\n")) (newest_line past)) c.print_entry.ensures

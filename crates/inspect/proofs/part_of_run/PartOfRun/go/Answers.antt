@@ -4,7 +4,7 @@ use Rattle.inspect.proofs.Going.{AnswersStage, InGo, go_enough, go_none, go_on, 
 use Rattle.inspect.proofs.part_of_run.PartOfRun.go.Goals as goal
 
 pub loop-step-init : goal.loop-step-init
-loop-step-init c = record { most = refl; all = refl; entries = omega arith; within = λ s run at. go_start s c.args.process c.args.target run c.args.self.now at }
+loop-step-init c = record { most = refl; entries = omega arith; within = λ s run at. go_start s c.args.process c.args.target run c.args.self.now at }
 
 pub returns-in_default-clause-part : goal.returns-in_default-clause-part
 returns-in_default-clause-part c = ok_then c.play.result (λ makes s run at.
@@ -22,7 +22,6 @@ returns-then-after-before-clause-part c = λ s run at.
 pub loop-step-preserved : goal.loop-step-preserved
 loop-step-preserved c = record {
   most = c.play-in-loop-step.ensures.most ∙ c.loop-step.invariant.most;
-  all = c.play-in-loop-step.ensures.all ∙ c.loop-step.invariant.all;
   entries = omega (arith, c.in_ok-play.ensures.entries, c.loop-step.invariant.entries);
   within = λ s run at.
       go_on s c.args.process c.args.target run c.loop-step.step c.args.most c.in-Some.stage c.loop-step.self c.play-in-loop-step.new.self c.loop-step-test.true c.requires.few (subst (AnswersStage c.loop-step.self c.args.process) c.in-Some.is c.stage.ensures) (sym c.is_there-there.ensures ∙ c.if-there.false) c.in_ok-play.ensures.made (c.loop-step.invariant.within s run at)

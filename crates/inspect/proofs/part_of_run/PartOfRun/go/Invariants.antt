@@ -9,7 +9,6 @@ use Rattle.inspect.proofs.part_of_run.PartOfRun.go.Given as goal
 abbrev pub invariant-loop-step : goal.invariant-loop-step
 invariant-loop-step l = record {
   most : l.self.most ≡ l.fn.self.most;
-  all : l.self.all ≡ l.fn.self.all;
   entries : l.self.heard.snapshot.entries ≤ l.fn.self.heard.snapshot.entries + l.step * 2 ^ 32;
   within : (s : Setup) (run : Run) → IsAt s l.fn.self run → InGo s l.process l.target run l.step l.self;
 }

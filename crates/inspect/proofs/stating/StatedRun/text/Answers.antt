@@ -8,7 +8,7 @@ pub returns : goal.returns
 returns c = λ n said u.
     let s = said.setup in
     let past = past_in s u.run in
-    let head = c.in_ok-print_head.ensures s _ past u.at.seen in
+    let head = c.in_ok-print_head.ensures s past u.at.seen u.at.knows in
     let made = c.in_ok-push_made.ensures in
     let print = c.in_ok-print.ensures s u.run u.at in (
       made.0,

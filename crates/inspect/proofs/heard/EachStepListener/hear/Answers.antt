@@ -1,6 +1,0 @@
-use Rattle.std.proofs.Common.{refl, true}
-use Rattle.inspect.proofs.Seeing.{told_seen}
-use Rattle.inspect.proofs.heard.EachStepListener.hear.Goals as goal
-
-pub returns-clause-ok : goal.returns-clause-ok
-returns-clause-ok c = λ s before this happens. (refl, λ seen. told_seen s true before this c.args.told.now c.args._taken.now c.args.self.now.heard.now c.hear_told.new.self happens c.hear_told.ensures.heard seen)
