@@ -56,8 +56,9 @@ fn near_step_in(line: &[u8]) -> Option<(u8, Access)>
     Some((process, access))
 }
 
-/// The same of processes of any number.
-#[inline(always)]
+/// The same of processes of any number. It is a call: as a part of its caller it would make that so large that the caller is no
+/// part of the loop any more.
+#[inline(never)]
 #[tactic(auto, using(crate::proofs::StepWords::far_is))]
 fn far_step_in(line: &[u8]) -> Option<(u8, Access)>
     ensures { IfSome result (λ read. line.now ≡ decimal read.0 ++ (32 ∷ access_text read.1)) }
