@@ -77,8 +77,9 @@ impl Sheet {
     }
 
     /// The same where reads are shown, or nothing is drawn yet. It stands beside the other: where no reads are shown, nobody asks
-    /// which access a Step made, and so the compiler keeps of `read_step` only the test that the line is one.
-    #[inline(always)]
+    /// which access a Step made, and so the compiler keeps of `read_step` only the test that the line is one. It is a call: with
+    /// both, the caller would be too large to be a part of the loop.
+    #[inline(never)]
     fn shown_line<W: Sink>(&mut self, number: u64, line: &[u8], output: &mut W) -> Result<(), Fault>
         requires short { length line.now ≤ 128 }
         requires few { entries_of self.old.drawing < 2 ^ 64 - 1 }
