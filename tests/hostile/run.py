@@ -34,7 +34,7 @@ Made by `python3 tests/hostile/run.py`. It was last run whole over the program o
 """
 # what is alike stands on one line of a table
 ALIKE = {
-    r"^the same by `[\w-]+`": "the same by the other commands",
+    r"^the same by `[\w -]+`": "the same by the other commands",
     r"^each byte replaced by (0x\w\w|its neighbour)": "each byte replaced",
     r"^each line (doubled|dropped|exchanged with the next)": "each line doubled, dropped, exchanged",
     r" in turn (takes one byte|takes no byte|fails)$": " in turn",
