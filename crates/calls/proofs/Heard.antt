@@ -16,7 +16,7 @@ use Rattle.calls.specs.declared.standing.CallStanding.{CallStanding}
 use Rattle.world.specs.Walks.{ends_overlapped_read}
 use Rattle.calls.specs.Columns.{is_read, is_write, makes_itself}
 use Rattle.calls.specs.Hearing.{ComesInTurn, GoesBy, GoesOn, HasHeard, TableState, ended_call}
-use Rattle.calls.specs.Passing.{HasAccessed, HasNotFailed, HaveRoom, Passes, passed, reads_begun, writes_begun}
+use Rattle.calls.specs.Passing.{HasNotFailed, HaveRoom, Passes, passed, reads_begun, writes_begun}
 use Rattle.calls.specs.Stepping.{AreFew, at_rest, heard, standing}
 use Rattle.calls.proofs.InCall.{calls-few, count-few}
 use Rattle.calls.proofs.Passing.{HasPassed, passed_by, passes, reads_few, writes_few}
@@ -124,20 +124,20 @@ has_room_for s p past n how overlapped room few =
       overlapped_fit = omega (arith, count-few p ends_overlapped_read past, few, room);
     }
 
-pub hears_passing : (t : TableState) (p n : ℕ) (newest : Access) (overlapped : ℕ) (past after : Past) (then : CallStanding) → 0 < n → p < t.setup.processes → t.entries + n < 2 ^ 64 → Passes t.setup p n newest overlapped past after → HasNotFailed p past → HasAccessed p past → HasHeard t past →
-    (HaveRoom (standing t.setup p past).last.accesses (reads_begun n newest.how) (writes_begun n newest.how) overlapped → then ≡ passed_by n newest.how overlapped (standing t.setup p past)) →
+pub hears_passing : (t : TableState) (p n : ℕ) (newest : Access) (overlapped : ℕ) (past after : Past) (then : CallStanding) → 0 < n → p < t.setup.processes → t.entries + n < 2 ^ 64 → Passes t.setup p n newest overlapped past after → HasNotFailed p past → HasHeard t past →
+    (HaveRoom (standing t.setup p past).last.accesses (reads_begun n newest.how) (writes_begun n newest.how) overlapped → then ≡ passed_by t.entries n newest.how overlapped (standing t.setup p past)) →
     HasHeard (record t { standings = slice_set t.standings p then; entries = t.entries + n }) after
-hears_passing t p zero newest overlapped past after then some below room by none there h on = absurd (omega (arith, some))
-hears_passing t p (suc m) newest overlapped past after then some below room by none there h on = record { standings = each; entries = ap (λ n. n + suc m) h.entries ∙ sym all.long }
+hears_passing t p zero newest overlapped past after then some below room by none h on = absurd (omega (arith, some))
+hears_passing t p (suc m) newest overlapped past after then some below room by none h on = record { standings = each; entries = ap (λ n. n + suc m) h.entries ∙ sym all.long }
   where
     s : Setup
     s = t.setup
 
     all : HasPassed s p (suc m) newest overlapped past after
-    all = passes m s p newest overlapped past after none there by
+    all = passes m s p newest overlapped past after none by
 
     now : then ≡ standing s p after
-    now = on (has_room_for s p past (suc m) newest.how overlapped (subst (λ n. n + suc m < 2 ^ 64) h.entries room) all.few) ∙ sym all.standing_is
+    now = on (has_room_for s p past (suc m) newest.how overlapped (subst (λ n. n + suc m < 2 ^ 64) h.entries room) all.few) ∙ ap (λ k. passed_by k (suc m) newest.how overlapped (standing s p past)) h.entries ∙ sym all.standing_is
 
     each : (q : ℕ) → q < s.processes → slice_get (slice_set t.standings p then) q ≡ Some (standing s q after)
     each q inside = elim (cases_eq q p) [
@@ -150,14 +150,14 @@ hears_passing t p (suc m) newest overlapped past after then some below room by n
 -- What a table makes of entries that pass by, so many of which begin a read or a write, whatever it has heard before.
 pub hears_by : (old new : TableState) (p n : ℕ) (how : Move) (reads writes overlapped : ℕ) → 0 < n → old.entries + n < 2 ^ 64 → reads ≡ reads_begun n how → writes ≡ writes_begun n how → new.setup ≡ old.setup → new.entries ≡ old.entries + n →
     ((before : CallStanding) → slice_get old.standings p ≡ Some before → GoesBy old p reads writes overlapped before new.standings) →
-    (past after : Past) (newest : Access) → newest.how ≡ how → Passes old.setup p n newest overlapped past after → p < old.setup.processes → HasNotFailed p past → HasAccessed p past → HasHeard old past → HasHeard new after
-hears_by old new p n how reads writes overlapped some room reads_are writes_are setup count goes past after newest is by below none there h =
+    (past after : Past) (newest : Access) → newest.how ≡ how → Passes old.setup p n newest overlapped past after → p < old.setup.processes → HasNotFailed p past → HasHeard old past → HasHeard new after
+hears_by old new p n how reads writes overlapped some room reads_are writes_are setup count goes past after newest is by below none h =
     let s : Setup = old.setup in
     let g : GoesBy old p reads writes overlapped (standing s p past) new.standings = goes (standing s p past) (h.standings p below) in
     let reads_of : reads ≡ reads_begun n newest.how = reads_are ∙ ap (reads_begun n) (sym is) in
     let writes_of : writes ≡ writes_begun n newest.how = writes_are ∙ ap (writes_begun n) (sym is) in
     let then = λ (room : HaveRoom (standing s p past).last.accesses (reads_begun n newest.how) (writes_begun n newest.how) overlapped).
     g.passes (subst (λ k. HaveRoom (standing s p past).last.accesses k writes overlapped) (sym reads_of) (subst (λ k. HaveRoom (standing s p past).last.accesses (reads_begun n newest.how) k overlapped) (sym writes_of) room))
-    ∙ (λ i. passed (reads_of i) (writes_of i) overlapped (standing s p past)) in
+    ∙ (λ i. passed old.entries (reads_of i) (writes_of i) overlapped (standing s p past)) in
     subst (λ (t : TableState). HasHeard t after) (sym (λ i. record { setup = setup i; standings = g.set i; entries = count i }))
-    (hears_passing old p n newest overlapped past after g.then some below room by none there h then)
+    (hears_passing old p n newest overlapped past after g.then some below room by none h then)

@@ -1,5 +1,5 @@
 -- What is kept of a process goes on with many entries at once.
-use Rattle.std.proofs.Common.{◌≡◌, ℕ, zero, suc, ◌+◌, ◌≤◌, ◌==◌, Bool, true, false, ◌&&◌, cond, ◌∷◌, Option, None, Some, is_none, is_some, length, refl, sym, ap, subst, ◌∙◌, arith}
+use Rattle.std.proofs.Common.{◌≡◌, ℕ, zero, suc, ◌+◌, ◌≤◌, ◌==◌, Bool, true, false, ◌&&◌, cond, ◌∷◌, Option, None, Some, is_none, length, refl, sym, ap, subst, ◌∙◌, arith}
 use Rattle.plain_store.specs.declared.Setup.{Setup}
 use Rattle.record.specs.safe_bit.declared.Move.{Move}
 use Rattle.record.specs.safe_bit.declared.Move.TheVariants.{BeginWrite, EndWrite, BeginRead, EndRead, Settle}
@@ -13,15 +13,15 @@ use Rattle.calls.specs.declared.standing.CallStanding.{CallStanding}
 use Rattle.world.specs.Walks.{ends_overlapped_read}
 use Rattle.calls.specs.Columns.{ends_number, is_read, is_write, more_if}
 use Rattle.calls.specs.Hearing.{IsKnown}
-use Rattle.calls.specs.Passing.{HasAccessed, HasNotFailed, Passes, begun_among, follows, of_read, passed, quiet_entry, reads_begun, with_passed, writes_begun}
+use Rattle.calls.specs.Passing.{HasNotFailed, Passes, begun_among, follows, of_read, passed, quiet_entry, reads_begun, with_passed, writes_begun}
 use Rattle.calls.specs.Stepping.{standing, with_access}
 use Rattle.calls.proofs.Steps.{standing-heard, standing-other}
 
 -- The first access.
 
-first-stays : (o : Option ℕ) (n : ℕ) → is_some o ≡ true → first_of o (Some n) ≡ o
-first-stays (Some k) n there = refl
-first-stays None n there = absurd (cc)
+first-again : (o : Option ℕ) (a b : ℕ) → first_of (first_of o (Some a)) (Some b) ≡ first_of o (Some a)
+first-again (Some x) a b = refl
+first-again None a b = refl
 
 -- So many begin.
 
@@ -101,10 +101,10 @@ more-few : (b : Bool) (n m : ℕ) → n ≤ m → more_if b n ≤ suc m
 more-few true n m few = omega (arith, few)
 more-few false n m few = omega (arith, few)
 
--- What is kept after so many, of which the newest makes this move.
+-- What is kept after so many, the first of them of the entry with this number, of which the newest makes this move.
 
-abbrev pub passed_by : ℕ → Move → ℕ → CallStanding → CallStanding
-passed_by n how overlapped k = passed (reads_begun n how) (writes_begun n how) overlapped k
+abbrev pub passed_by : ℕ → ℕ → Move → ℕ → CallStanding → CallStanding
+passed_by number n how overlapped k = passed number (reads_begun n how) (writes_begun n how) overlapped k
 
 -- no more begin than there are
 pub reads_few : (n : ℕ) (how : Move) → reads_begun n how ≤ n
@@ -158,45 +158,45 @@ module _ (s : Setup) (p : ℕ) (a : Access) (past : Past) where
   quiet-heard : ends_number (width s a.field) a.bit a.how ≡ false → standing s p (quiet_entry p a ∷ past) ≡ after_one (standing s p past)
   quiet-heard ends = standing-heard s (quiet_entry p a) past known (turn ends)
 
-  once : (overlapped : ℕ) → HasNotFailed p past → HasAccessed p past → ends_number (width s a.field) a.bit a.how ≡ false → overlapped ≡ more_if known.overlapped 0 → standing s p (quiet_entry p a ∷ past) ≡ passed_by 1 a.how overlapped (standing s p past)
-  once overlapped none there ends is =
+  once : (overlapped : ℕ) → HasNotFailed p past → ends_number (width s a.field) a.bit a.how ≡ false → overlapped ≡ more_if known.overlapped 0 → standing s p (quiet_entry p a ∷ past) ≡ passed_by (length past) 1 a.how overlapped (standing s p past)
+  once overlapped none ends is =
       let k : CallStanding = standing s p past in
       let was : Accesses = k.last.accesses in
-      quiet-heard ends ∙ ap (with_accesses k) (accesses_by (with_access s p (length past) known k.last.marks a was) (with_passed (reads_begun 1 a.how) (writes_begun 1 a.how) overlapped was)
-      (first-stays was.doorway (length past) there) (itself is_read k none was.reads ∙ reads-one a.how was.reads) (itself is_write k none was.writes ∙ writes-one a.how was.writes) (more-one known.overlapped was.overlapped 0 refl ∙ ap (λ n. was.overlapped + n) (sym is)) refl)
+      quiet-heard ends ∙ ap (with_accesses k) (accesses_by (with_access s p (length past) known k.last.marks a was) (with_passed (length past) (reads_begun 1 a.how) (writes_begun 1 a.how) overlapped was)
+      refl (itself is_read k none was.reads ∙ reads-one a.how was.reads) (itself is_write k none was.writes ∙ writes-one a.how was.writes) (more-one known.overlapped was.overlapped 0 refl ∙ ap (λ n. was.overlapped + n) (sym is)) refl)
 
-  again : (n : ℕ) (before : Move) (count overlapped : ℕ) (first : CallStanding) → first.last.marks.failed ≡ None → is_some first.last.accesses.doorway ≡ true → standing s p past ≡ passed_by (suc n) before count first → follows before a.how ≡ true → ends_number (width s a.field) a.bit a.how ≡ false →
-      overlapped ≡ more_if known.overlapped count → standing s p (quiet_entry p a ∷ past) ≡ passed_by (suc (suc n)) a.how overlapped first
-  again n before count overlapped first none there at follow ends is =
+  again : (n number : ℕ) (before : Move) (count overlapped : ℕ) (first : CallStanding) → first.last.marks.failed ≡ None → standing s p past ≡ passed_by number (suc n) before count first → follows before a.how ≡ true → ends_number (width s a.field) a.bit a.how ≡ false →
+      overlapped ≡ more_if known.overlapped count → standing s p (quiet_entry p a ∷ past) ≡ passed_by number (suc (suc n)) a.how overlapped first
+  again n number before count overlapped first none at follow ends is =
       let was : Accesses = first.last.accesses in
-      let mid : Accesses = with_passed (reads_begun (suc n) before) (writes_begun (suc n) before) count was in
+      let mid : Accesses = with_passed number (reads_begun (suc n) before) (writes_begun (suc n) before) count was in
       quiet-heard ends ∙ ap after_one at
-      ∙ ap (with_accesses first) (accesses_by (with_access s p (length past) known first.last.marks a mid) (with_passed (reads_begun (suc (suc n)) a.how) (writes_begun (suc (suc n)) a.how) overlapped was)
-      (first-stays was.doorway (length past) there) (itself is_read first none mid.reads ∙ reads-more n before a.how was.reads follow) (itself is_write first none mid.writes ∙ writes-more n before a.how was.writes follow)
+      ∙ ap (with_accesses first) (accesses_by (with_access s p (length past) known first.last.marks a mid) (with_passed number (reads_begun (suc (suc n)) a.how) (writes_begun (suc (suc n)) a.how) overlapped was)
+      (first-again was.doorway number (length past)) (itself is_read first none mid.reads ∙ reads-more n before a.how was.reads follow) (itself is_write first none mid.writes ∙ writes-more n before a.how was.writes follow)
       (more-again known.overlapped was.overlapped count ∙ ap (λ n. was.overlapped + n) (sym is)) refl)
 
 -- So many.
 
 -- what is kept of p after them, how many entries there are then, and that no more reads ended than there were accesses
 pub record HasPassed (s : Setup) (p n : ℕ) (newest : Access) (overlapped : ℕ) (past after : Past) : Type 0 where
-  pub standing_is : standing s p after ≡ passed_by n newest.how overlapped (standing s p past)
+  pub standing_is : standing s p after ≡ passed_by (length past) n newest.how overlapped (standing s p past)
   pub long : length after ≡ length past + n
   pub few : overlapped ≤ n
   pub others : (q : ℕ) → (p == q) ≡ false → standing s q after ≡ standing s q past
 
-pub passes : (n : ℕ) (s : Setup) (p : ℕ) (newest : Access) (overlapped : ℕ) (past after : Past) → HasNotFailed p past → HasAccessed p past → Passes s p (suc n) newest overlapped past after → HasPassed s p (suc n) newest overlapped past after
-passes zero s p newest overlapped past after failed there (mid, before, count, (same, none), follow, ends, is, counts) =
+pub passes : (n : ℕ) (s : Setup) (p : ℕ) (newest : Access) (overlapped : ℕ) (past after : Past) → HasNotFailed p past → Passes s p (suc n) newest overlapped past after → HasPassed s p (suc n) newest overlapped past after
+passes zero s p newest overlapped past after failed (mid, before, count, (same, none), follow, ends, is, counts) =
     let all : overlapped ≡ more_if (ends_overlapped_read past (quiet_entry p newest)) 0 = counts ∙ (λ i. more_if (ends_overlapped_read (same i) (quiet_entry p newest)) (none i)) in
     subst (λ (after : Past). HasPassed s p 1 newest overlapped past after) (sym (is ∙ ap (λ (mid : Past). quiet_entry p newest ∷ mid) same)) (record {
-      standing_is = once s p newest past overlapped failed there ends all;
+      standing_is = once s p newest past overlapped failed ends all;
       long = omega arith;
       few = let few = more-few (ends_overlapped_read past (quiet_entry p newest)) 0 0 (omega arith) in omega (arith, all, few);
       others = λ q apart. standing-other s q (quiet_entry p newest) past apart;
     })
-passes (suc n) s p newest overlapped past after failed there (mid, before, count, more, follow, ends, is, counts) =
-    let h : HasPassed s p (suc n) before count past mid = passes n s p before count past mid failed there more in
+passes (suc n) s p newest overlapped past after failed (mid, before, count, more, follow, ends, is, counts) =
+    let h : HasPassed s p (suc n) before count past mid = passes n s p before count past mid failed more in
     subst (λ (after : Past). HasPassed s p (suc (suc n)) newest overlapped past after) (sym is) (record {
-      standing_is = again s p newest mid n before.how count overlapped (standing s p past) failed there h.standing_is (follow (omega arith)) ends counts;
+      standing_is = again s p newest mid n (length past) before.how count overlapped (standing s p past) failed h.standing_is (follow (omega arith)) ends counts;
       long = let long = h.long in omega (arith, long);
       few = let few = more-few (ends_overlapped_read mid (quiet_entry p newest)) count (suc n) h.few in omega (arith, counts, few);
       others = λ q apart. standing-other s q (quiet_entry p newest) mid apart ∙ h.others q apart;

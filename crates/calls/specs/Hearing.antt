@@ -66,4 +66,4 @@ pub record GoesOn (t : TableState) (p : ℕ) (known : EntryKnown) (access : Opti
 pub record GoesBy (t : TableState) (p reads writes overlapped : ℕ) (before : CallStanding) (standings : List CallStanding) : Type 0 where
   pub then : CallStanding
   pub set : standings ≡ slice_set t.standings p then
-  pub passes : HaveRoom before.last.accesses reads writes overlapped → then ≡ passed reads writes overlapped before
+  pub passes : HaveRoom before.last.accesses reads writes overlapped → then ≡ passed t.entries reads writes overlapped before

@@ -1,16 +1,16 @@
 -- Entries within a number access, many at once: their accesses begin and end in turns, and are of one kind.
-use Rattle.std.specs.Prelude.{◌≡◌, ℕ, zero, suc, ◌+◌, ◌/◌, ◌<◌, ◌^◌, Bool, true, false, ◌||◌, if◌then◌else◌, [], ◌∷◌, cond, Some, None, is_some}
+use Rattle.std.specs.Prelude.{◌≡◌, ℕ, zero, suc, ◌+◌, ◌/◌, ◌<◌, ◌^◌, Bool, true, false, ◌||◌, if◌then◌else◌, [], ◌∷◌, cond, Some, None}
 use Rattle.plain_store.specs.declared.Setup.{Setup}
 use Rattle.record.specs.safe_bit.declared.Move.{Move}
 use Rattle.record.specs.safe_bit.declared.Move.TheVariants.{BeginWrite, EndWrite, BeginRead, EndRead, Settle}
 use Rattle.record.specs.declared.access.Access.{Access}
-use Rattle.record.specs.Doorways.{number_in_call}
+use Rattle.record.specs.Doorways.{first_of, number_in_call}
 use Rattle.record.specs.Entries.{Entry, Past, has, is_failed}
 use Rattle.record.specs.Registers.{width}
 use Rattle.calls.specs.declared.called.Accesses.{Accesses}
 use Rattle.calls.specs.declared.standing.CallStanding.{CallStanding}
 use Rattle.world.specs.Walks.{ends_overlapped_read}
-use Rattle.calls.specs.Columns.{ends_number, has_access, is_read, is_read_end, is_write, more_if}
+use Rattle.calls.specs.Columns.{ends_number, is_read, is_read_end, is_write, more_if}
 
 -- a write ends
 abbrev pub is_write_end : Move → Bool
@@ -55,21 +55,17 @@ reads_begun steps how = cond (of_read how) (begun_among steps (is_read how)) 0
 abbrev pub writes_begun : ℕ → Move → ℕ
 writes_begun steps how = cond (of_write how) (begun_among steps (is_write how)) 0
 
--- with so many more reads and writes, none of which is the first of its call, and of which so many reads were overlapped
-abbrev pub with_passed : ℕ → ℕ → ℕ → Accesses → Accesses
-with_passed reads writes overlapped k = record k { reads = k.reads + reads; writes = k.writes + writes; overlapped = k.overlapped + overlapped }
+-- with so many more reads and writes, the first of them of the entry with this number, and of which so many reads were overlapped
+abbrev pub with_passed : ℕ → ℕ → ℕ → ℕ → Accesses → Accesses
+with_passed number reads writes overlapped k = record k { doorway = first_of k.doorway (Some number); reads = k.reads + reads; writes = k.writes + writes; overlapped = k.overlapped + overlapped }
 
 -- the same of what is kept
-abbrev pub passed : ℕ → ℕ → ℕ → CallStanding → CallStanding
-passed reads writes overlapped k = record k { last = record k.last { accesses = with_passed reads writes overlapped k.last.accesses } }
+abbrev pub passed : ℕ → ℕ → ℕ → ℕ → CallStanding → CallStanding
+passed number reads writes overlapped k = record k { last = record k.last { accesses = with_passed number reads writes overlapped k.last.accesses } }
 
 -- p has not failed in its last call
 abbrev pub HasNotFailed : ℕ → Past → Type 0
 HasNotFailed p past = number_in_call p (has is_failed) past ≡ None
-
--- p has made an access in its last call
-abbrev pub HasAccessed : ℕ → Past → Type 0
-HasAccessed p past = is_some (number_in_call p has_access past) ≡ true
 
 -- each count has room for so many more
 pub record HaveRoom (k : Accesses) (reads writes overlapped : ℕ) : Type 0 where

@@ -113,13 +113,13 @@ impl CallStanding {
             .note(setup, process, number, known, marks, access);
     }
 
-    /// So many more reads and writes of a process that has made an access before in its call and has not failed; so many
-    /// reads ended that a write overlapped.
+    /// So many more reads and writes of a process that has not failed in its call, the first of them of the entry with this
+    /// number; so many reads ended that a write overlapped.
     #[inline(always)]
-    pub fn pass(&mut self, reads: u64, writes: u64, overlapped: u32)
-        ensures { HaveRoom self.old.last.accesses reads writes overlapped → self.new ≡ passed reads writes overlapped self.old }
+    pub fn pass(&mut self, number: u64, reads: u64, writes: u64, overlapped: u32)
+        ensures { HaveRoom self.old.last.accesses reads writes overlapped → self.new ≡ passed number reads writes overlapped self.old }
     {
-        self.last.accesses.pass(reads, writes, overlapped);
+        self.last.accesses.pass(number, reads, writes, overlapped);
     }
 
     /// The marks of the entry with this number.
@@ -185,11 +185,14 @@ impl Accesses {
 }
 
 impl Accesses {
-    /// So many more of a process that has not failed; none is the first.
+    /// So many more of a process that has not failed, the first of them of the entry with this number.
     #[inline(always)]
-    fn pass(&mut self, reads: u64, writes: u64, overlapped: u32)
-        ensures { HaveRoom self.old reads writes overlapped → self.new ≡ with_passed reads writes overlapped self.old }
+    fn pass(&mut self, number: u64, reads: u64, writes: u64, overlapped: u32)
+        ensures { HaveRoom self.old reads writes overlapped → self.new ≡ with_passed number reads writes overlapped self.old }
     {
+        if self.doorway.is_none() {
+            self.doorway = Some(number);
+        }
         self.reads = self.reads.wrapping_add(reads);
         self.writes = self.writes.wrapping_add(writes);
         self.overlapped = self.overlapped.wrapping_add(u64::from(overlapped));

@@ -4,7 +4,7 @@ ghost use Rattle.record.specs.Calls.{calls_in};
 ghost use Rattle.record.specs.Entries.{Entry as Noted, Past, own};
 ghost use Rattle.record.specs.declared.access.Access.{Access as AccessMade};
 ghost use Rattle.calls.specs.declared.standing.CallStanding.{CallStanding as Stood};
-ghost use Rattle.calls.specs.Passing.{HasAccessed, HasNotFailed, Passes};
+ghost use Rattle.calls.specs.Passing.{HasNotFailed, Passes};
 ghost use Rattle.calls.specs.Hearing.{ComesInTurn, GoesBy, GoesOn, HasHeard, ended_call, open_call};
 
 use crate::accesses::{is_of_read, reads_among, writes_among};
@@ -76,14 +76,14 @@ impl CallTable {
     }
 
     /// So many more entries of a process within a number access, without a mark: the newest makes this move, and so many end
-    /// a read that a write overlapped. The process has made an access in its call, and has not failed.
+    /// a read that a write overlapped. The process has not failed in its call.
     #[inline(always)]
     pub fn pass(&mut self, process: u8, steps: u32, newest: Move, overlapped: u32)
         requires some { 0 < steps }
         requires room { self.old.entries + steps < 2 ^ 64 }
         ensures setup { self.new.setup ≡ self.old.setup }
         ensures count { self.new.entries ≡ self.old.entries + steps }
-        ensures heard { (past after : Past) (access : AccessMade) → access.how ≡ newest → Passes self.old.setup process steps access overlapped past after → process < self.old.setup.processes → HasNotFailed process past → HasAccessed process past → HasHeard self.old past → HasHeard self.new after }
+        ensures heard { (past after : Past) (access : AccessMade) → access.how ≡ newest → Passes self.old.setup process steps access overlapped past after → process < self.old.setup.processes → HasNotFailed process past → HasHeard self.old past → HasHeard self.new after }
     {
         // Asked first of all: where its caller knows what was made, a compiler keeps one of the two ways there.
         if is_of_read(newest) {
@@ -102,12 +102,13 @@ impl CallTable {
         ensures goes { (before : Stood) → slice_get self.old.standings process ≡ Some before → GoesBy self.old process reads writes overlapped before self.new.standings }
     {
         let _nested: NestedTypes = None;
+        let number = self.entries;
         self.entries += u64::from(steps);
         let place = usize::from(process);
         if place >= self.standings.len() {
             return;
         }
-        self.standings[place].pass(reads, writes, overlapped);
+        self.standings[place].pass(number, reads, writes, overlapped);
     }
 
     /// The same, by what is kept of its process.

@@ -10,8 +10,7 @@ use Rattle.record.proofs.Width.{is_good}
 use Rattle.snapshot.specs.calls.Columns.{ends_number, more_if}
 use Rattle.snapshot.specs.calls.Hearing.{ComesInTurn, HasHeard, TableState, TellsRead}
 use Rattle.snapshot.specs.calls.Lines.{ended_lines, line_of}
-use Rattle.snapshot.specs.calls.Passing.{HasAccessed, HasNotFailed, Passes, follows, quiet_entry}
-use Rattle.snapshot.proofs.FirstAccesses.{has-first}
+use Rattle.snapshot.specs.calls.Passing.{HasNotFailed, Passes, follows, quiet_entry}
 use Rattle.snapshot.proofs.world.WorldTurns.{takes-turns}
 use Rattle.course.specs.world.Walks.{ends_overlapped_read}
 use Rattle.course.specs.Happenings.{Happening, Tries, past_after, tried}
@@ -162,20 +161,16 @@ passes_by s p n newest overlapped x y pass =
 pass_unfailed : (s : Setup) (p n : ℕ) (before after : List Happening) → PassWithin s p (suc n) before after → HasNotFailed p (past_after s before)
 pass_unfailed s p n before after (flick, w, more) = within_unfailed s p (past_after s before) w.within
 
--- none of them is the first of its call
-pass_later : (s : Setup) (p n : ℕ) (before after : List Happening) → PassWithin s p (suc n) before after → HasAccessed p (past_after s before)
-pass_later s p n before after (flick, w, more) = has-first s (is_good s w.good) (tried before) p w.within
-
 pass_below : (s : Setup) (p n : ℕ) (before after : List Happening) → PassWithin s p (suc n) before after → p < s.processes
 pass_below s p n before after (flick, w, more) = (accepted s (is_good s w.good) (tried before) (Step p flick) _ w.quiet.1).below
 
 pub pass_tabled : (s : Setup) (p n : ℕ) (newest : Access) (overlapped : ℕ) (before after : List Happening) (old new : TableState) → 0 < n → PassBy s p n newest overlapped before after →
-    ((past later : Past) → Passes old.setup p n newest overlapped past later → p < old.setup.processes → HasNotFailed p past → HasAccessed p past → HasHeard old past → HasHeard new later) → new.setup ≡ old.setup → HasTabled s before old → HasTabled s after new
+    ((past later : Past) → Passes old.setup p n newest overlapped past later → p < old.setup.processes → HasNotFailed p past → HasHeard old past → HasHeard new later) → new.setup ≡ old.setup → HasTabled s before old → HasTabled s after new
 pass_tabled s p zero newest overlapped before after old new some pass hears kept t = absurd (omega (arith, some))
 pass_tabled s p (suc n) newest overlapped before after old new some pass hears kept t = record {
   setup = kept ∙ t.setup;
   heard = hears (past_after s before) (past_after s after)
       (subst (λ (s' : Setup). Passes s' p (suc n) newest overlapped (past_after s before) (past_after s after)) (sym t.setup) (passes_by s p n newest overlapped before after pass))
       (subst (λ (s' : Setup). p < s'.processes) (sym t.setup) (pass_below s p n before after pass.within)) (pass_unfailed s p n before after pass.within)
-      (pass_later s p n before after pass.within) t.heard;
+      t.heard;
 }
