@@ -1,27 +1,17 @@
 -- How a mark begins: its attributes, and its title.
-use Rattle.std.proofs.Common.{◌≡◌, ℕ, Result, Ok, Err, OnOk, List, [], ◌∷◌, ◌++◌, flat_map, ap, sym, ◌∙◌, append-nil, append_assoc}
-use Rattle.std.proofs.lemmas.Grind.{flat_map-append}
+use Rattle.std.proofs.Common.{◌≡◌, ℕ, Bool, Option, Result, Ok, Err, OnOk, List, [], ◌∷◌, ◌++◌, flat_map, ap, ◌∙◌}
 use Rattle.markup.specs.Figures.{Mark, drawings, drawn}
 use Rattle.markup.specs.Markup.{Said, attribute_text, marking, marking_by, said_text}
 use Rattle.markup.specs.declared.attributes.Attribute.{Attribute}
+use Rattle.columns.specs.declared.told.TakenChange.{TakenChange}
+use Rattle.picture.specs.Drawings.{queue_said, store_said}
 use Rattle.picture.proofs.Drawn.{one_drawn}
 
--- four parts, the second of which ends in nothing
-four_parts : (a b c d : List ℕ) → ((a ++ (b ++ [])) ++ c) ++ d ≡ a ++ (b ++ (c ++ d))
-four_parts a b c d = ap (λ l. ((a ++ l) ++ c) ++ d) (append-nil b) ∙ append_assoc (a ++ b) c d ∙ append_assoc a b (c ++ d)
-
--- attributes that are pushed, one after the other
-pub attributes_said : (none one two three four : List Attribute) (first second : Attribute) (x y : Said) (store queue : List Said) →
-    none ≡ [] → one ≡ none ++ first ∷ [] → two ≡ one ++ second ∷ [] → attribute_text first ≡ said_text x → attribute_text second ≡ said_text y →
-    flat_map attribute_text three ≡ flat_map attribute_text two ++ flat_map said_text store →
-    flat_map attribute_text four ≡ flat_map attribute_text three ++ flat_map said_text queue →
-    flat_map attribute_text four ≡ flat_map said_text (x ∷ y ∷ (store ++ queue))
-attributes_said none one two three four first second x y store queue empty p q is so r s =
-    s ∙ ap (λ l. l ++ flat_map said_text queue) r
-    ∙ ap (λ l. (flat_map attribute_text l ++ flat_map said_text store) ++ flat_map said_text queue) (q ∙ ap (λ l. l ++ second ∷ []) (p ∙ ap (λ l. l ++ first ∷ []) empty))
-    ∙ (λ i. ((is i ++ (so i ++ [])) ++ flat_map said_text store) ++ flat_map said_text queue)
-    ∙ four_parts (said_text x) (said_text y) (flat_map said_text store) (flat_map said_text queue)
-    ∙ ap (λ l. said_text x ++ (said_text y ++ l)) (sym (flat_map-append said_text store queue))
+-- the attributes of a mark: behind its place and its source, what else it says
+pub attributes_said : (place source : Attribute) (more : List Attribute) (x y : Said) (queue : List ℕ) (change told : Option TakenChange) (last is_last : Bool) →
+    attribute_text place ≡ said_text x → attribute_text source ≡ said_text y → flat_map attribute_text more ≡ flat_map said_text (store_said change ++ queue_said last queue) → change ≡ told → last ≡ is_last →
+    flat_map attribute_text (place ∷ source ∷ more) ≡ flat_map said_text (x ∷ y ∷ (store_said told ++ queue_said is_last queue))
+attributes_said place source more x y queue change told last is_last p q said same so = λ i. p i ++ (q i ++ (said ∙ (λ j. flat_map said_text (store_said (same j) ++ queue_said (so j) queue))) i)
 
 -- the mark that begins by them
 pub mark_drawn : {A E : Type 0} (r : Result A E) (old new text line : List ℕ) (attributes : List Attribute) (says : List Said) →

@@ -1,6 +1,6 @@
 -- What stands before and behind the bands begins elements, and ends them.
-use Rattle.std.proofs.Common.{◌≡◌, ℕ, List, [], ◌∷◌, codes, Some, refl, ap, ◌∙◌}
-use Rattle.markup.specs.Elements.{opens_in}
+use Rattle.std.proofs.Common.{◌≡◌, ℕ, Result, Ok, Err, OnOk, List, [], ◌∷◌, codes, Some, refl, ap, ◌∙◌}
+use Rattle.markup.specs.Elements.{begun, opens_in}
 use Rattle.markup.specs.Readings.{Reading, group, reading, with_begun, with_tags}
 use Rattle.picture.specs.Pages.{page_names, picture_names}
 
@@ -11,8 +11,13 @@ Leaves read before after = (read.lines ≡ []) × (read.opens (Some before) ≡ 
 leaves : (read other : Reading) (before after : List (List ℕ)) → read ≡ other → Leaves other before after → Leaves read before after
 leaves read other before after is so = (ap (λ (r : Reading). r.lines) is ∙ so.0, ap (λ (r : Reading). r.opens (Some before)) is ∙ so.1)
 
+-- what holds where a call went well gives what else holds then
+pub on_ok : {A E : Type 0} {P Q : Type 0} (r : Result A E) → (P → Q) → OnOk r P → OnOk r Q
+on_ok (Ok done) gives holds = gives holds
+on_ok (Err e) gives holds = tt
+
 abbrev pub opening_text : List ℕ
-opening_text = codes "<!doctype html>\n<html lang=\"en\"><head><meta charset=\"utf-8\">\n"
+opening_text = codes "<!doctype html>\n<html lang=\"en\"><head><meta charset=\"utf-8\">\n<meta name=\"viewport\" content=\"width=device-width\">\n"
 
 abbrev pub style_text : List ℕ
 style_text = codes "\n<style>\n"
@@ -20,19 +25,29 @@ style_text = codes "\n<style>\n"
 abbrev pub body_text : List ℕ
 body_text = codes "</style></head><body>\n"
 
+pub page_begun_read : (begun titled styled bodied : Reading) →
+    begun ≡ reading [] → titled ≡ with_tags (opens_in opening_text) begun → styled ≡ with_tags (opens_in style_text) titled → bodied ≡ with_tags (opens_in body_text) styled → Leaves bodied [] page_names
+page_begun_read begun titled styled bodied p q r s =
+    leaves bodied (with_tags (opens_in body_text) (with_tags (opens_in style_text) (with_tags (opens_in opening_text) (reading [])))) [] page_names
+    (s ∙ ap (with_tags (opens_in body_text)) (r ∙ ap (with_tags (opens_in style_text)) (q ∙ ap (with_tags (opens_in opening_text)) p)))
+    (refl, refl)
+
 abbrev pub list_text : List ℕ
-list_text = codes "</svg>\n<details open><summary>The scenario</summary><ol>\n"
+list_text = codes "\n</svg>\n<details open><summary>The scenario</summary><ol>\n"
 
 abbrev pub list_end_text : List ℕ
 list_end_text = codes "</ol></details>\n"
 
-pub page_head_read : (begun titled styled bodied shown listed ended : Reading) →
-    begun ≡ reading [] → titled ≡ with_tags (opens_in opening_text) begun → styled ≡ with_tags (opens_in style_text) titled → bodied ≡ with_tags (opens_in body_text) styled →
-    shown ≡ with_begun (codes "svg") bodied → listed ≡ with_tags (opens_in list_text) shown → ended ≡ with_tags (opens_in list_end_text) listed → Leaves ended [] page_names
-page_head_read begun titled styled bodied shown listed ended p q r s t u v =
-    leaves ended (with_tags (opens_in list_end_text) (with_tags (opens_in list_text) (with_begun (codes "svg") (with_tags (opens_in body_text) (with_tags (opens_in style_text) (with_tags (opens_in opening_text) (reading []))))))) [] page_names
-    (v ∙ ap (with_tags (opens_in list_end_text)) (u ∙ ap (with_tags (opens_in list_text)) (t ∙ ap (with_begun (codes "svg")) (s ∙ ap (with_tags (opens_in body_text)) (r ∙ ap (with_tags (opens_in style_text)) (q ∙ ap (with_tags (opens_in opening_text)) p))))))
-    (refl, refl)
+-- the elements that begin in the body before the bands end there too
+module _ {A E : Type 0} (r : Result A E) (old shown listed ended : Reading) (p : shown ≡ with_begun (codes "svg") old) (q : listed ≡ with_tags (opens_in list_text) shown) (is : OnOk r (ended ≡ with_tags (opens_in list_end_text) listed)) where
+  body_read : ended ≡ with_tags (opens_in list_end_text) listed → ended ≡ with_tags (opens_in list_end_text) (with_tags (opens_in list_text) (with_begun (codes "svg") old))
+  body_read is = is ∙ ap (with_tags (opens_in list_end_text)) (q ∙ ap (with_tags (opens_in list_text)) p)
+
+  pub body_lines : OnOk r (ended.lines ≡ old.lines)
+  body_lines = on_ok r (λ is. ap (λ (read : Reading). read.lines) (body_read is)) is
+
+  pub body_elements : OnOk r (old.opens (Some []) ≡ Some page_names → ended.opens (Some []) ≡ Some page_names)
+  body_elements = on_ok r (λ is before. ap (λ (read : Reading). read.opens (Some [])) (body_read is) ∙ ap (λ stack. opens_in list_end_text (opens_in list_text (begun (codes "svg") stack))) before) is
 
 abbrev pub slider_text : List ℕ
 slider_text = codes "<div id=\"now\"><div>"
@@ -62,7 +77,7 @@ picture_head_read begun entered styled ended p q r s =
     (refl, refl)
 
 abbrev pub picture_end_text : List ℕ
-picture_end_text = codes "</g></svg>\n"
+picture_end_text = codes "\n</g></svg>\n"
 
 pub picture_end_read : (begun lowered ended : Reading) → begun ≡ reading [] → lowered ≡ with_begun group begun → ended ≡ with_tags (opens_in picture_end_text) lowered → Leaves ended picture_names []
 picture_end_read begun lowered ended p q r =

@@ -18,3 +18,7 @@ put_last columns new column put is same =
 pub joins_pending : (columns : List Column) (old new : Option Column) (had has : Column) (line : List ℕ) → old ≡ Some had → new ≡ Some has → told_in has ≡ told_in had ++ line ∷ [] → lines_of columns new ≡ lines_of columns old ++ line ∷ []
 joins_pending columns old new had has line was is more =
     one_pending columns new has is ∙ ap (λ l. flat_map told_in columns ++ l) more ∙ sym (append_assoc (flat_map told_in columns) (told_in had) (line ∷ [])) ∙ ap (λ l. l ++ line ∷ []) (sym (one_pending columns old had was))
+
+-- or in a column of its own, once the others are placed
+pub alone_pending : (columns : List Column) (full before : List (List ℕ)) (column : Column) (line : List ℕ) → full ++ flat_map told_in columns ≡ before → told_in column ≡ line ∷ [] → full ++ lines_of columns (Some column) ≡ before ++ line ∷ []
+alone_pending columns full before column line was told = sym (append_assoc full (flat_map told_in columns) (told_in column ++ [])) ∙ (λ i. was i ++ (append-nil (told_in column) ∙ told) i)

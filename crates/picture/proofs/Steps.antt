@@ -1,8 +1,13 @@
 -- What is drawn of a column, and then of those behind it.
-use Rattle.std.proofs.Common.{◌≡◌, ℕ, ◌+◌, add-one, ◌<◌, Bool, is_some, Option, List, ◌++◌, drop, length, map, flat_map, get_or, ap, sym, ◌∙◌}
+use Rattle.std.proofs.Common.{◌≡◌, ℕ, ◌+◌, add-one, ◌<◌, Bool, true, false, cond, is_some, Option, List, ◌++◌, drop, length, map, flat_map, get_or, ap, sym, ◌∙◌}
 use Rattle.markup.specs.Figures.{Shape, drawings}
 use Rattle.markup.specs.declared.figures.Point.{Point}
+use Rattle.record.specs.declared.stages.Stage.{Stage}
 use Rattle.columns.specs.Columns.{Seen, seen}
+use Rattle.columns.specs.Stages.{stage_among}
+use Rattle.columns.specs.declared.layout.Lane.{Lane}
+use Rattle.picture.specs.Bars.{bar, bars, ends_at, free_left, is_stage, next_stretch, stretch_word, words_from}
+use Rattle.picture.specs.declared.words.Stretch.{Stretch}
 use Rattle.picture.specs.Drawings.{SeenBand, axis, axis_up_to, for_each, inside_since, line_shapes, lines_shapes, shade_up_to, shades}
 use Rattle.columns.specs.declared.columns.Column.{Column}
 use Rattle.columns.specs.declared.told.RunLine.{RunLine}
@@ -20,6 +25,35 @@ module _ (columns : List Column) (k : ℕ) (column : Column) (within : k < lengt
   -- the axis
   pub axis_next : (end from : ℕ) → axis end from (map seen (drop k columns)) ≡ axis_up_to from (seen column) ++ axis end column.x (map seen (drop (k + 1) columns))
   axis_next end from = ap (λ cs. axis end from (map seen cs)) (drop_next columns k column within here)
+
+  -- the bars of a lane: the stage of its process is the same behind the column, or another
+  pub bars_stay : (lane : Lane) (p end : ℕ) (stage next : Stage) (from : ℕ) → next ≡ stage_among column.after.stages p → is_stage next stage ≡ true →
+      bars lane p end stage from (map seen (drop k columns)) ≡ bars lane p end stage from (map seen (drop (k + 1) columns))
+  bars_stay lane p end stage next from is same =
+      ap (λ cs. bars lane p end stage from (map seen cs)) (drop_next columns k column within here)
+      ∙ ap (λ (b : Bool). cond b (bars lane p end stage from (map seen (drop (k + 1) columns))) (bar lane stage from column.x ++ bars lane p end (stage_among column.after.stages p) column.x (map seen (drop (k + 1) columns))))
+      (ap (λ (s : Stage). is_stage s stage) (sym is) ∙ same)
+
+  pub bars_change : (lane : Lane) (p end : ℕ) (stage next : Stage) (from : ℕ) → next ≡ stage_among column.after.stages p → is_stage next stage ≡ false →
+      bars lane p end stage from (map seen (drop k columns)) ≡ bar lane stage from column.x ++ bars lane p end next column.x (map seen (drop (k + 1) columns))
+  bars_change lane p end stage next from is other =
+      ap (λ cs. bars lane p end stage from (map seen cs)) (drop_next columns k column within here)
+      ∙ ap (λ (b : Bool). cond b (bars lane p end stage from (map seen (drop (k + 1) columns))) (bar lane stage from column.x ++ bars lane p end (stage_among column.after.stages p) column.x (map seen (drop (k + 1) columns))))
+      (ap (λ (s : Stage). is_stage s stage) (sym is) ∙ other)
+      ∙ ap (λ (s : Stage). bar lane stage from column.x ++ bars lane p end s column.x (map seen (drop (k + 1) columns))) (sym is)
+
+  -- the words of a lane: a stretch goes on behind the column, or ends
+  pub words_stay : (p middle end : ℕ) (stretch : Stretch) → ends_at p stretch (seen column) ≡ false → words_from p middle end stretch (map seen (drop k columns)) ≡ words_from p middle end stretch (map seen (drop (k + 1) columns))
+  words_stay p middle end stretch stays =
+      ap (λ cs. words_from p middle end stretch (map seen cs)) (drop_next columns k column within here)
+      ∙ ap (λ (b : Bool). cond b (stretch_word middle (free_left p (seen column)) column.x stretch ++ words_from p middle end (next_stretch p stretch (seen column)) (map seen (drop (k + 1) columns))) (words_from p middle end stretch (map seen (drop (k + 1) columns)))) stays
+
+  pub words_end : (p middle shown end free : ℕ) (stretch next : Stretch) → ends_at p stretch (seen column) ≡ true → shown ≡ middle → free ≡ free_left p (seen column) → next ≡ next_stretch p stretch (seen column) →
+      words_from p middle end stretch (map seen (drop k columns)) ≡ stretch_word shown free column.x stretch ++ words_from p middle end next (map seen (drop (k + 1) columns))
+  words_end p middle shown end free stretch next ends at is goes =
+      ap (λ cs. words_from p middle end stretch (map seen cs)) (drop_next columns k column within here)
+      ∙ ap (λ (b : Bool). cond b (stretch_word middle (free_left p (seen column)) column.x stretch ++ words_from p middle end (next_stretch p stretch (seen column)) (map seen (drop (k + 1) columns))) (words_from p middle end stretch (map seen (drop (k + 1) columns)))) ends
+      ∙ sym (λ i. stretch_word (at i) (is i) column.x stretch ++ words_from p middle end (goes i) (map seen (drop (k + 1) columns)))
 
   -- what each column adds
   pub each_next : (shapes : Seen → List Shape) → flat_map shapes (map seen (drop k columns)) ≡ shapes (seen column) ++ flat_map shapes (map seen (drop (k + 1) columns))

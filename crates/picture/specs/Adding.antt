@@ -3,9 +3,7 @@ use Rattle.std.specs.Prelude.{◌≡◌, ◌++◌, ℕ, List, Option, Result, If
 use Rattle.columns.specs.declared.columns.Column.{Column}
 use Rattle.columns.specs.Told.{told_in}
 use Rattle.markup.specs.Figures.{Shape, drawings}
-use Rattle.markup.specs.Markup.{Said, attribute_text, said_text}
 use Rattle.markup.specs.Readings.{reading, with_begun, with_lines}
-use Rattle.markup.specs.declared.attributes.Attribute.{Attribute}
 use Rattle.picture.specs.Bandings.{framed}
 use Rattle.picture.specs.Drawings.{band_shapes, seen_band}
 use Rattle.picture.specs.Pages.{lines_of_band}
@@ -38,7 +36,3 @@ GivesLines result kept lines = IfOk result (λ full. lines_of_band full ++ kept 
 abbrev pub FramesBand : {E : Type 0} → Result (List ℕ) E → Form → Page → Band → Type 0
 FramesBand result form page band =
     IfOk result (λ markup. markup ≡ framed form page.bands page.height band.layout.height (drawings (band_shapes (seen_band band))))
-
--- attributes that say this come behind the others
-abbrev pub AddsSaid : {A E : Type 0} → Result A E → List Attribute → List Attribute → List Said → Type 0
-AddsSaid result old new said = OnOk result (flat_map attribute_text new ≡ flat_map attribute_text old ++ flat_map said_text said)

@@ -119,7 +119,7 @@ chain_shapes band =
 
 -- an arrow from a place to the lane of a process that is freed: its line, up to five pixels before its tip, and its tip
 abbrev pub arrow_by : Point → ℕ → ℕ → List ℕ → List Shape
-arrow_by from end tip head = path_from (codes "frees") from (codes "L" ++ decimal from.x ++ codes " " ++ decimal end) ∷ path_from (codes "tip") (point from.x tip) head ∷ []
+arrow_by from end tip head = line_from (codes "frees") from (point from.x end) ∷ path_from (codes "tip") (point from.x tip) head ∷ []
 
 -- how far from the middle line of a lane the tip of an arrow ends
 abbrev pub distance_of_tip : Lane → ℕ
@@ -210,9 +210,12 @@ store_said (Some change) = (key.Store, change.store.items) ∷ []
 abbrev pub queue_said : Bool → List ℕ → List Said
 queue_said is_last queue = cond is_last ((key.Queue, queue) ∷ []) []
 
+-- all that a mark says, where this is who stands in line
+abbrev pub mark_said : ℕ → RunLine → Bool → List ℕ → List Said
+mark_said x line is_last queue = (key.Place, decimal x) ∷ (key.Source, decimal line.source) ∷ (store_said (change_told line.saying) ++ queue_said is_last queue)
+
 abbrev pub mark_shape : Seen → RunLine → Bool → Shape
-mark_shape column line is_last =
-    Mark ((key.Place, decimal column.x) ∷ (key.Source, decimal line.source) ∷ (store_said (change_told line.saying) ++ queue_said is_last (queue_text column.after))) (text_of line)
+mark_shape column line is_last = Mark (mark_said column.x line is_last (queue_text column.after)) (text_of line)
 
 -- the pair that a command changed, below its knot
 abbrev pub pair_words : Option TakenChange → Point → List Shape

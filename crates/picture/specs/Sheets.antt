@@ -50,8 +50,9 @@ height_of_legend Shown = 122
 abbrev pub legend_tag : Reads → List ℕ
 legend_tag reads = entering_by tag.Svg (says ((key.ViewBox, view_of (height_of_legend reads)) ∷ (key.Role, codes "img") ∷ (key.Label, codes "Legend") ∷ []))
 
+-- and that with what the legend shows
 abbrev pub legend_front : Reads → List ℕ
-legend_front reads = codes "\n" ++ legend_tag reads ++ codes "\n"
+legend_front reads = codes "\n" ++ legend_tag reads ++ codes "\n" ++ (PATTERNS.now ++ codes "\n") ++ legend_of reads
 
 -- a line of the scenario in the list of them, and all of them with their end
 abbrev pub item_of : List ℕ → List ℕ
@@ -60,27 +61,31 @@ item_of line = telling_by tag.Item [] line ++ codes "\n"
 abbrev pub list_of : List ℕ → List ℕ
 list_of printed = flat_map item_of (map without_terminator (lines_of printed)) ++ item_of (codes "(end)")
 
--- what a page has before its bands
-abbrev pub page_front : Setup → List ℕ → Reads → List ℕ
-page_front s printed reads =
-    codes "<!doctype html>\n<html lang=\"en\"><head><meta charset=\"utf-8\">\n"
-    ++ codes "<meta name=\"viewport\" content=\"width=device-width\">\n"
-    ++ telling_by tag.Title [] (heading_of s)
+-- the styles of a page, and how it lies where it is printed
+abbrev pub styles_of : ℕ → List ℕ
+styles_of processes = STYLE.now ++ codes "\n" ++ PAGE_STYLE.now ++ paper_of processes
+
+-- how a page begins, up to its body, which is open then
+abbrev pub page_begun : ℕ → List ℕ → List ℕ
+page_begun processes heading =
+    codes "<!doctype html>\n<html lang=\"en\"><head><meta charset=\"utf-8\">\n<meta name=\"viewport\" content=\"width=device-width\">\n"
+    ++ telling_by tag.Title [] heading
     ++ codes "\n<style>\n"
-    ++ STYLE.now
-    ++ codes "\n"
-    ++ PAGE_STYLE.now
-    ++ paper_of s.processes
+    ++ styles_of processes
     ++ codes "</style></head><body>\n"
-    ++ telling_by tag.Heading [] (heading_of s)
+
+-- what the body of a page has before its bands
+abbrev pub body_front : List ℕ → List ℕ → Reads → List ℕ
+body_front heading printed reads =
+    telling_by tag.Heading [] heading
     ++ legend_front reads
-    ++ PATTERNS.now
-    ++ codes "\n"
-    ++ legend_of reads
-    ++ codes "\n"
-    ++ codes "</svg>\n<details open><summary>The scenario</summary><ol>\n"
+    ++ codes "\n</svg>\n<details open><summary>The scenario</summary><ol>\n"
     ++ list_of printed
     ++ codes "</ol></details>\n"
+
+-- what a page has before its bands
+abbrev pub page_front : Setup → List ℕ → Reads → List ℕ
+page_front s printed reads = page_begun s.processes (heading_of s) ++ body_front (heading_of s) printed reads
 
 -- the slider, which shows the opening store at first
 abbrev pub slider_of : List ℕ → List ℕ
@@ -136,10 +141,9 @@ picture_front s bands reads =
     ++ codes "\n<style>\n"
     ++ STYLE.now
     ++ codes "\n</style>\n"
-    ++ PATTERNS.now
-    ++ codes "\n"
+    ++ (PATTERNS.now ++ codes "\n")
     ++ ground_of (picture_height bands reads) (heading_of s)
 
 -- what it has behind them: the legend
 abbrev pub picture_back : ℕ → Reads → List ℕ
-picture_back bands reads = lowering (held_in_64 (bands + 34)) ++ legend_of reads ++ codes "\n" ++ codes "</g></svg>\n"
+picture_back bands reads = lowering (held_in_64 (bands + 34)) ++ legend_of reads ++ codes "\n</g></svg>\n"

@@ -2,7 +2,7 @@
 ghost use Rattle.std.specs.Prelude.{◌≡◌, OnOk};
 ghost use Rattle.picture.specs.Adding.{Draws};
 ghost use Rattle.markup.specs.Readings.{reading};
-ghost use Rattle.picture.specs.Bars.{bar, height_of, lane_name, lane_rule};
+ghost use Rattle.picture.specs.Bars.{bar, height_of, is_stage, lane_name, lane_rule};
 ghost use Rattle.picture.specs.Drawings.{lane_shapes, seen_band};
 ghost use Rattle.picture.specs.Words.{stage_text};
 
@@ -29,7 +29,7 @@ impl Band {
         let mut stage = self.before.stage(process);
         for column in &self.columns {
             let next = column.after.stage(process);
-            if next == stage {
+            if is_same(next, stage) {
                 continue;
             }
             draw_bar(lane, stage, from, column.x, markup)?;
@@ -38,6 +38,13 @@ impl Band {
         }
         draw_bar(lane, stage, from, self.layout.end, markup)
     }
+}
+
+/// Whether two stages are the same.
+fn is_same(stage: Stage, other: Stage) -> bool
+    ensures { result ≡ is_stage stage other }
+{
+    stage == other
 }
 
 /// Draws what stands to the left of a lane, and the rule above it.

@@ -26,7 +26,7 @@ impl Band {
         };
         let x = u32::from(column.x);
         let from = Point::at(x, self.layout.lane(process).bar());
-        self.draw_freed(alloc, from, column.frees, markup)?;
+        self.draw_freed(from, column.frees, markup)?;
         self.draw_drop(from, column, markup)?;
         match &column.read {
             Some(read) => self.draw_open(alloc, read, x, markup),
@@ -48,7 +48,6 @@ impl Band {
     /// Draws an arrow to the lane of the process that is freed, if one is, from above or from below.
     fn draw_freed(
         &self,
-        alloc: Global,
         from: Point,
         frees: Option<u8>,
         markup: &mut Markup,
@@ -63,10 +62,10 @@ impl Band {
         let bar = lane.bar();
         if bar > from.y {
             let tip = bar.saturating_sub(tip_distance(lane));
-            draw_arrow(alloc, from, tip.saturating_sub(5), tip, "l-4 -7h8z", markup)
+            draw_arrow(from, tip.saturating_sub(5), tip, "l-4 -7h8z", markup)
         } else {
             let tip = bar + tip_distance(lane);
-            draw_arrow(alloc, from, tip + 5, tip, "l-4 7h8z", markup)
+            draw_arrow(from, tip + 5, tip, "l-4 7h8z", markup)
         }
     }
 }
@@ -81,7 +80,6 @@ fn tip_distance(lane: Lane) -> u32
 
 /// Draws an arrow: its line down or up to a place, and its head from its tip on.
 fn draw_arrow(
-    alloc: Global,
     from: Point,
     end: u32,
     tip: u32,
@@ -91,8 +89,6 @@ fn draw_arrow(
     ensures draws { Draws result markup.old markup.new (arrow_by from end tip head.now) }
     ensures read { OnOk result (reading markup.new ≡ reading markup.old) }
 {
-    let x = from.x;
-    let line = format!(in alloc; "L{x} {end}")?;
-    markup.path("frees", from, line.as_str())?;
-    markup.path("tip", Point::at(x, tip), head)
+    markup.line("frees", from, Point::at(from.x, end))?;
+    markup.path("tip", Point::at(from.x, tip), head)
 }

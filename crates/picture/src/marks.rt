@@ -1,9 +1,10 @@
 //! The marks of a band: for each line of the run a group that has the line as its title.
 ghost use Rattle.std.specs.Prelude.{◌≡◌, [], ◌∷◌, flat_map, IfOk, OnOk, string_bytes};
-ghost use Rattle.picture.specs.Adding.{AddsSaid, Draws, TellsLines};
+ghost use Rattle.picture.specs.Adding.{Draws, TellsLines};
+ghost use Rattle.markup.specs.Figures.{Mark};
 ghost use Rattle.markup.specs.Readings.{reading, with_mark};
 ghost use Rattle.columns.specs.Columns.{seen};
-ghost use Rattle.picture.specs.Drawings.{column_shapes, foot_shapes, head_shapes, line_shapes, lines_shapes, mark_shape, note_shapes, number_words, pair_words, place_of_row, queue_said, right_by, rows_of_line, rows_place, seen_band, store_said};
+ghost use Rattle.picture.specs.Drawings.{column_shapes, foot_shapes, head_shapes, line_shapes, lines_shapes, mark_said, mark_shape, note_shapes, number_words, pair_words, place_of_row, right_by, rows_of_line, rows_place, seen_band};
 ghost use Rattle.columns.specs.Told.{change_told, text_of, texts};
 ghost use Rattle.picture.specs.Words.{queue_text, row_class};
 
@@ -12,7 +13,7 @@ use crate::reads::draw_read;
 use crate::signs::{below, draw_sign, moved};
 use crate::words::listed;
 use columns::{Column, RunLine, TextRow};
-use markup::{Attribute, Key, Markup, Point, number, words};
+use markup::{Key, Markup, Point, number, words};
 use std::alloc::{AllocError, Global};
 
 impl Band {
@@ -198,37 +199,44 @@ fn begin_mark(
     ensures read { OnOk result (reading markup.new ≡ with_mark (text_of line.now) (reading markup.old)) }
 {
     let queue = numbers(alloc, column)?;
-    let mut attributes = Vec::new(alloc);
-    attributes.push(number(Key::Place, u64::from(column.x)))?;
-    attributes.push(number(Key::Source, line.source))?;
-    push_store(&mut attributes, line)?;
-    push_queue(&mut attributes, queue.as_bytes(), is_last)?;
     let text = line.text(alloc)?;
-    markup.mark(attributes.as_slice(), text.as_slice())
+    mark_line(
+        column.x,
+        line,
+        is_last,
+        queue.as_bytes(),
+        text.as_slice(),
+        markup,
+    )
 }
 
-/// Says the store behind a line, if its command changed it.
-fn push_store<'a>(attributes: &mut Vec<Attribute<'a>>, line: &'a RunLine) -> Result<(), AllocError>
-    ensures { AddsSaid result attributes.old.items attributes.new.items (store_said (change_told line.now.saying)) }
-{
-    match line.change() {
-        Some(change) => Ok(attributes.push(words(Key::Store, change.store.as_slice()))?),
-        None => Ok(()),
-    }
-}
-
-/// Says who stands in line, behind the last line of a column.
-fn push_queue<'a>(
-    attributes: &mut Vec<Attribute<'a>>,
-    queue: &'a [u8],
+/// Begins the mark of a line by its place, its title, and who stands in line behind it.
+fn mark_line(
+    x: u16,
+    line: &RunLine,
     is_last: bool,
+    queue: &[u8],
+    title: &[u8],
+    markup: &mut Markup,
 ) -> Result<(), AllocError>
-    ensures { AddsSaid result attributes.old.items attributes.new.items (queue_said is_last queue.now) }
+    ensures draws { Draws result markup.old markup.new (Mark (mark_said x line.now is_last queue.now) title.now ∷ []) }
+    ensures read { OnOk result (reading markup.new ≡ with_mark title.now (reading markup.old)) }
 {
-    if is_last {
-        attributes.push(words(Key::Queue, queue))?;
+    let place = number(Key::Place, u64::from(x));
+    let source = number(Key::Source, line.source);
+    let queue = words(Key::Queue, queue);
+    match line.change() {
+        Some(change) => {
+            let store = words(Key::Store, change.store.as_slice());
+            if is_last {
+                markup.mark(&[place, source, store, queue], title)
+            } else {
+                markup.mark(&[place, source, store], title)
+            }
+        }
+        None if is_last => markup.mark(&[place, source, queue], title),
+        None => markup.mark(&[place, source], title),
     }
-    Ok(())
 }
 
 /// Who stands in line after a column, with single spaces.

@@ -11,6 +11,7 @@ ghost use Rattle.columns.specs.Stages.{nothing_told, stages_told};
 ghost use Rattle.columns.specs.Told.{text_of, told_in};
 
 use crate::bands::Band;
+use crate::sheets::view;
 use columns::{Column, Layout, OverlappedRead, Placing, RunLine, State, cut, stretch};
 use markup::{Key, Markup, Tag, class, words};
 use std::alloc::{AllocError, Global};
@@ -158,7 +159,6 @@ impl Page {
     }
 
     /// Puts a column behind the others of the band.
-    #[tactic(auto, using(crate::proofs::Held::put_last))]
     fn put(&mut self, column: Column) -> Result<(), AllocError>
         ensures page { OnOk result (Puts (seen column) (seen_page self.old) (seen_page self.new)) }
         ensures pending { OnOk result (self.new.pending ≡ self.old.pending) }
@@ -248,7 +248,7 @@ fn enter_band(number: u64, height: u16, markup: &mut Markup) -> Result<(), Alloc
     ensures draws { OnOk result (markup.new ≡ markup.old ++ band_tag number height) }
     ensures read { Begins result markup.old markup.new (codes "svg") }
 {
-    let view = format!(in markup.alloc(); "0 0 1200 {height}")?;
+    let view = view(markup.alloc(), u64::from(height))?;
     let label = format!(in markup.alloc(); "Part {number} of the run")?;
     markup.enter(
         Tag::Svg,

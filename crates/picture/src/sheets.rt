@@ -6,7 +6,8 @@ ghost use Rattle.markup.specs.Elements.{opens_in};
 ghost use Rattle.markup.specs.Readings.{reading};
 ghost use Rattle.markup.specs.Titles.{lines_in};
 ghost use Rattle.picture.specs.Pages.{page_names, picture_names};
-ghost use Rattle.picture.specs.Sheets.{description_tag, ground_of, ground_tag, heading_of, heading_tag, height_of_legend, legend_front, legend_of, legend_tag, list_of, page_back, page_front, paper_of, picture_back, picture_front, plural_of, slider_of, svg_front, svg_tag, title_tag, titles_of};
+ghost use Rattle.picture.specs.declared.constants.TheConstants.{PATTERNS, STYLE};
+ghost use Rattle.picture.specs.Sheets.{body_front, ground_of, heading_of, height_of_legend, item_of, legend_front, legend_of, legend_tag, list_of, page_back, page_begun, page_front, paper_of, picture_back, picture_front, plural_of, slider_of, styles_of, svg_front, svg_tag, titles_of, view_of};
 
 use crate::constants::{LEGEND, PAGE_STYLE, PATTERNS, READS_LEGEND, SCRIPT, STYLE};
 use crate::reads::Reads;
@@ -50,25 +51,71 @@ fn add_page_front(
     ensures lines { OnOk result (lines_in markup.new ≡ []) }
     ensures elements { OnOk result (opens_in markup.new (Some []) ≡ Some page_names) }
 {
-    markup.frame("<!doctype html>\n<html lang=\"en\"><head><meta charset=\"utf-8\">\n")?;
-    markup.constant("<meta name=\"viewport\" content=\"width=device-width\">\n")?;
+    begin_page(setup.processes, heading, markup)?;
+    begin_body(heading, printed, reads, markup)
+}
+
+/// Adds what a page has before its body to fresh markup, and begins the body.
+fn begin_page(processes: u8, heading: &[u8], markup: &mut Markup) -> Result<(), AllocError>
+    requires fresh { markup.old ≡ [] }
+    ensures draws { OnOk result (markup.new ≡ page_begun processes heading.now) }
+    ensures lines { OnOk result (lines_in markup.new ≡ []) }
+    ensures elements { OnOk result (opens_in markup.new (Some []) ≡ Some page_names) }
+{
+    markup.frame(
+        "<!doctype html>\n<html lang=\"en\"><head><meta charset=\"utf-8\">\n<meta name=\"viewport\" content=\"width=device-width\">\n",
+    )?;
     markup.tell(Tag::Title, &[], heading)?;
     markup.frame("\n<style>\n")?;
-    markup.constant(STYLE)?;
-    markup.constant("\n")?;
-    markup.constant(PAGE_STYLE)?;
-    add_paper(setup.processes, markup)?;
-    markup.frame("</style></head><body>\n")?;
+    add_styles(processes, markup)?;
+    markup.frame("</style></head><body>\n")
+}
+
+/// Adds what the body of a page has before its bands.
+fn begin_body(
+    heading: &[u8],
+    printed: &[u8],
+    reads: Reads,
+    markup: &mut Markup,
+) -> Result<(), AllocError>
+    ensures draws { OnOk result (markup.new ≡ markup.old ++ body_front heading.now printed.now reads) }
+    ensures lines { OnOk result (lines_in markup.new ≡ lines_in markup.old) }
+    ensures elements { OnOk result (opens_in markup.old (Some []) ≡ Some page_names
+        → opens_in markup.new (Some []) ≡ Some page_names) }
+{
     markup.tell(Tag::Heading, &[], heading)?;
     begin_legend(reads, markup)?;
-    markup.constant(PATTERNS)?;
-    markup.constant("\n")?;
-    add_legend(reads, markup)?;
-    markup.constant("\n")?;
-    markup.frame("</svg>\n<details open><summary>The scenario</summary><ol>\n")?;
+    markup.frame("\n</svg>\n<details open><summary>The scenario</summary><ol>\n")?;
     list_lines(printed, markup)?;
-    markup.frame("</ol></details>\n")?;
-    Ok(())
+    markup.frame("</ol></details>\n")
+}
+
+/// The styles of a page, and how it lies where it is printed.
+fn add_styles(processes: u8, markup: &mut Markup) -> Result<(), AllocError>
+    ensures draws { OnOk result (markup.new ≡ markup.old ++ styles_of processes) }
+    ensures read { OnOk result (reading markup.new ≡ reading markup.old) }
+{
+    add_style(markup)?;
+    markup.constant("\n")?;
+    markup.constant(PAGE_STYLE)?;
+    add_paper(processes, markup)
+}
+
+/// The style of all pictures.
+fn add_style(markup: &mut Markup) -> Result<(), AllocError>
+    ensures draws { OnOk result (markup.new ≡ markup.old ++ STYLE.now) }
+    ensures read { OnOk result (reading markup.new ≡ reading markup.old) }
+{
+    markup.constant(STYLE)
+}
+
+/// The patterns of all pictures.
+fn add_patterns(markup: &mut Markup) -> Result<(), AllocError>
+    ensures draws { OnOk result (markup.new ≡ markup.old ++ (PATTERNS.now ++ codes "\n")) }
+    ensures read { OnOk result (reading markup.new ≡ reading markup.old) }
+{
+    markup.constant(PATTERNS)?;
+    markup.constant("\n")
 }
 
 /// How the page lies where it is printed.
@@ -83,14 +130,16 @@ fn add_paper(processes: u8, markup: &mut Markup) -> Result<(), AllocError>
     }
 }
 
-/// Begins the picture of the legend in a page.
+/// Begins the picture of the legend in a page: what it shows, without its end.
 fn begin_legend(reads: Reads, markup: &mut Markup) -> Result<(), AllocError>
     ensures draws { OnOk result (markup.new ≡ markup.old ++ legend_front reads) }
     ensures read { Begins result markup.old markup.new (codes "svg") }
 {
     markup.constant("\n")?;
     enter_legend(reads, markup)?;
-    markup.constant("\n")
+    markup.constant("\n")?;
+    add_patterns(markup)?;
+    add_legend(reads, markup)
 }
 
 /// The tag of that picture.
@@ -98,8 +147,7 @@ fn enter_legend(reads: Reads, markup: &mut Markup) -> Result<(), AllocError>
     ensures draws { OnOk result (markup.new ≡ markup.old ++ legend_tag reads) }
     ensures read { Begins result markup.old markup.new (codes "svg") }
 {
-    let height = legend_height(reads);
-    let view = format!(in markup.alloc(); "0 0 1200 {height}")?;
+    let view = view(markup.alloc(), legend_height(reads))?;
     markup.enter(
         Tag::Svg,
         &[
@@ -137,10 +185,16 @@ fn list_lines(printed: &[u8], markup: &mut Markup) -> Result<(), AllocError>
     ensures read { OnOk result (reading markup.new ≡ reading markup.old) }
 {
     for line in printed.lines() {
-        markup.tell(Tag::Item, &[], line)?;
-        markup.constant("\n")?;
+        list_line(line, markup)?;
     }
-    markup.tell(Tag::Item, &[], b"(end)")?;
+    list_line(b"(end)", markup)
+}
+
+fn list_line(line: &[u8], markup: &mut Markup) -> Result<(), AllocError>
+    ensures draws { OnOk result (markup.new ≡ markup.old ++ item_of line.now) }
+    ensures read { OnOk result (reading markup.new ≡ reading markup.old) }
+{
+    markup.tell(Tag::Item, &[], line)?;
     markup.constant("\n")
 }
 
@@ -210,12 +264,10 @@ fn add_picture_front(
     begin_picture(height, markup)?;
     add_titles(heading, markup)?;
     markup.frame("\n<style>\n")?;
-    markup.constant(STYLE)?;
+    add_style(markup)?;
     markup.frame("\n</style>\n")?;
-    markup.constant(PATTERNS)?;
-    markup.constant("\n")?;
-    add_ground(height, heading, markup)?;
-    Ok(())
+    add_patterns(markup)?;
+    add_ground(height, heading, markup)
 }
 
 /// Begins one picture of this height.
@@ -228,12 +280,19 @@ fn begin_picture(height: u64, markup: &mut Markup) -> Result<(), AllocError>
     markup.constant("\n")
 }
 
+/// The part of a picture's plane that is seen, down to this height.
+pub(crate) fn view(alloc: Global, height: u64) -> Result<String, AllocError>
+    ensures { IfOk result (λ view. string_bytes view ≡ view_of height) }
+{
+    format!(in alloc; "0 0 1200 {height}")
+}
+
 /// The tag of one picture.
 fn enter_picture(height: u64, markup: &mut Markup) -> Result<(), AllocError>
     ensures draws { OnOk result (markup.new ≡ markup.old ++ svg_tag height) }
     ensures read { Begins result markup.old markup.new (codes "svg") }
 {
-    let view = format!(in markup.alloc(); "0 0 1200 {height}")?;
+    let view = view(markup.alloc(), height)?;
     markup.enter(
         Tag::Svg,
         &[
@@ -252,37 +311,14 @@ fn add_titles(heading: &[u8], markup: &mut Markup) -> Result<(), AllocError>
     ensures draws { OnOk result (markup.new ≡ markup.old ++ titles_of heading.now) }
     ensures read { OnOk result (reading markup.new ≡ reading markup.old) }
 {
-    tell_title(heading, markup)?;
+    markup.tell(Tag::Title, &[words(Key::Id, b"t")], heading)?;
     markup.constant("\n")?;
-    describe(markup)
-}
-
-fn tell_title(heading: &[u8], markup: &mut Markup) -> Result<(), AllocError>
-    ensures draws { OnOk result (markup.new ≡ markup.old ++ title_tag heading.now) }
-    ensures read { OnOk result (reading markup.new ≡ reading markup.old) }
-{
-    markup.tell(Tag::Title, &[words(Key::Id, b"t")], heading)
-}
-
-fn describe(markup: &mut Markup) -> Result<(), AllocError>
-    ensures draws { OnOk result (markup.new ≡ markup.old ++ description_tag) }
-    ensures read { OnOk result (reading markup.new ≡ reading markup.old) }
-{
     markup.tell(Tag::Desc, &[words(Key::Id, b"d")], DESCRIPTION)
 }
 
 /// The ground of one picture of this height, and its heading.
 fn add_ground(height: u64, heading: &[u8], markup: &mut Markup) -> Result<(), AllocError>
     ensures draws { OnOk result (markup.new ≡ markup.old ++ ground_of height heading.now) }
-    ensures read { OnOk result (reading markup.new ≡ reading markup.old) }
-{
-    fill_ground(height, markup)?;
-    head_picture(heading, markup)?;
-    markup.constant("\n")
-}
-
-fn fill_ground(height: u64, markup: &mut Markup) -> Result<(), AllocError>
-    ensures draws { OnOk result (markup.new ≡ markup.old ++ ground_tag height) }
     ensures read { OnOk result (reading markup.new ≡ reading markup.old) }
 {
     markup.stand(
@@ -292,18 +328,13 @@ fn fill_ground(height: u64, markup: &mut Markup) -> Result<(), AllocError>
             number(Key::Height, height),
             words(Key::Fill, b"#fff"),
         ],
-    )
-}
-
-fn head_picture(heading: &[u8], markup: &mut Markup) -> Result<(), AllocError>
-    ensures draws { OnOk result (markup.new ≡ markup.old ++ heading_tag heading.now) }
-    ensures read { OnOk result (reading markup.new ≡ reading markup.old) }
-{
+    )?;
     markup.tell(
         Tag::Text,
         &[number(Key::X, 8), number(Key::Y, 20), class("lane")],
         heading,
-    )
+    )?;
+    markup.constant("\n")
 }
 
 /// What a picture shows.
@@ -320,8 +351,7 @@ pub fn picture_end(alloc: Global, bands: u64, reads: Reads) -> Result<Markup, Al
     let mut markup = Markup::new(alloc);
     markup.lower(y)?;
     add_legend(reads, &mut markup)?;
-    markup.constant("\n")?;
-    markup.frame("</g></svg>\n")?;
+    markup.frame("\n</g></svg>\n")?;
     Ok(markup)
 }
 

@@ -3,24 +3,25 @@ use Rattle.markup.specs.Elements.{opens_in}
 use Rattle.markup.specs.Readings.{reading, with_tags}
 use Rattle.picture.specs.Sheets.{ground_of, held_in_64, picture_height, svg_front, titles_of}
 use Rattle.picture.proofs.Sheetings.{adds, adds_same}
-use Rattle.picture.proofs.Framing.{picture_head_read, style_text, style_end_text}
+use Rattle.picture.proofs.Framing.{on_ok, picture_head_read, style_text, style_end_text}
 use Rattle.picture.proofs.sheets.add_picture_front.Goals as goal
 
 pub returns-clause-lines : goal.returns-clause-lines
-returns-clause-lines c = (picture_head_read _ _ _ _ (ap reading c.requires.fresh) c.in_ok-begin_picture.ensures.read
+returns-clause-lines c = on_ok c.add_ground.result (λ is. (picture_head_read _ _ _ _ (ap reading c.requires.fresh) c.in_ok-begin_picture.ensures.read
     (c.in_ok-frame.ensures.read ∙ ap (with_tags (opens_in style_text)) c.in_ok-add_titles.ensures.read)
-    (c.in_ok-add_ground.ensures.read ∙ c.in_ok-constant-3.ensures.read ∙ c.in_ok-constant-2.ensures.read ∙ c.in_ok-frame-2.ensures.read ∙ ap (with_tags (opens_in style_end_text)) c.in_ok-constant.ensures.read)).0
+    (is ∙ c.in_ok-add_patterns.ensures.read ∙ c.in_ok-frame-2.ensures.read ∙ ap (with_tags (opens_in style_end_text)) c.in_ok-add_style.ensures.read)).0) c.add_ground.ensures.read
 
 pub returns-clause-elements : goal.returns-clause-elements
-returns-clause-elements c = (picture_head_read _ _ _ _ (ap reading c.requires.fresh) c.in_ok-begin_picture.ensures.read
+returns-clause-elements c = on_ok c.add_ground.result (λ is. (picture_head_read _ _ _ _ (ap reading c.requires.fresh) c.in_ok-begin_picture.ensures.read
     (c.in_ok-frame.ensures.read ∙ ap (with_tags (opens_in style_text)) c.in_ok-add_titles.ensures.read)
-    (c.in_ok-add_ground.ensures.read ∙ c.in_ok-constant-3.ensures.read ∙ c.in_ok-constant-2.ensures.read ∙ c.in_ok-frame-2.ensures.read ∙ ap (with_tags (opens_in style_end_text)) c.in_ok-constant.ensures.read)).1
+    (is ∙ c.in_ok-add_patterns.ensures.read ∙ c.in_ok-frame-2.ensures.read ∙ ap (with_tags (opens_in style_end_text)) c.in_ok-add_style.ensures.read)).1) c.add_ground.ensures.read
 
 pub returns-clause-draws : goal.returns-clause-draws
-returns-clause-draws c setup told =
-    adds_same _ _ _ _ _ c.in_ok-add_ground.ensures.draws (λ i. ground_of (high i) (told i)) (adds _ _ _ _ c.in_ok-constant-3.ensures.draws (adds _ _ _ _ c.in_ok-constant-2.ensures.draws (adds _ _ _ _ c.in_ok-frame-2.ensures.draws
-    (adds _ _ _ _ c.in_ok-constant.ensures.draws (adds _ _ _ _ c.in_ok-frame.ensures.draws (adds_same _ _ _ _ _ c.in_ok-add_titles.ensures.draws (ap titles_of told)
+returns-clause-draws c =
+    on_ok c.add_ground.result (λ is setup told. adds_same _ _ _ _ _ is (λ i. ground_of (high i) (told i)) (adds _ _ _ _ c.in_ok-add_patterns.ensures.draws (adds _ _ _ _ c.in_ok-frame-2.ensures.draws
+    (adds _ _ _ _ c.in_ok-add_style.ensures.draws (adds _ _ _ _ c.in_ok-frame.ensures.draws (adds_same _ _ _ _ _ c.in_ok-add_titles.ensures.draws (ap titles_of told)
     (adds_same _ _ _ _ _ c.in_ok-begin_picture.ensures.draws (ap svg_front high) c.requires.fresh)))))))
+    c.add_ground.ensures.draws
   where
     high : c.saturating_add-height.result ≡ picture_height c.args.bands c.args.reads
     high = c.saturating_add-height.ensures ∙ ap (λ (n : ℕ). held_in_64 (n + 42)) (c.saturating_add.ensures ∙ ap (λ (n : ℕ). held_in_64 (c.args.bands + n)) c.legend_height.ensures)

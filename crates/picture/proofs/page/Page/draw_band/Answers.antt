@@ -1,4 +1,4 @@
-use Rattle.std.proofs.Common.{◌≡◌, ℕ, ◌+◌, List, [], ◌++◌, ap, drop, length, map, sym, take, ◌∙◌}
+use Rattle.std.proofs.Common.{◌≡◌, ℕ, ◌+◌, List, [], ◌++◌, ap, drop, flat_map, length, map, sym, take, ◌∙◌}
 use Rattle.std.specs.declared.alloc.Global.{Global}
 use Rattle.std.specs.declared.vec.Vec.{Vec}
 use Rattle.markup.specs.Figures.{drawings}
@@ -8,6 +8,7 @@ use Rattle.picture.specs.Drawings.{band_shapes}
 use Rattle.columns.specs.Layouts.{layout_of}
 use Rattle.picture.specs.Pages.{seen_page}
 use Rattle.columns.specs.Placings.{stretched_all}
+use Rattle.columns.specs.Told.{told_in}
 use Rattle.picture.specs.Sheets.{held_in_64}
 use Rattle.columns.specs.declared.columns.Column.{Column}
 use Rattle.picture.proofs.Pagings.{draws_parts, stretched_within}
@@ -42,3 +43,7 @@ returns-clause-page c =
 
     within : take c.replace-columns.result.len (c.stretch.new.columns ++ drop (length c.stretch.new.columns) c.replace-columns.result.items) ≡ c.stretch.new.columns
     within = stretched_within c.replace-columns.result.len c.replace-columns.result.items c.stretch.new.columns (ap length (sym c.as_mut_slice.ensures.value) ∙ c.as_mut_slice.ensures.len) apart
+
+pub returns-clause-lines : goal.returns-clause-lines
+returns-clause-lines c = c.in_ok-markup.ensures.lines ∙ ap (flat_map told_in) (stretched_within c.replace-columns.result.len c.replace-columns.result.items c.stretch.new.columns (ap length (sym c.as_mut_slice.ensures.value) ∙ c.as_mut_slice.ensures.len) (c.in_ok-stretch.ensures.apart ∙ ap (λ (l : List Column). stretched_all (map seen l)) c.as_mut_slice.ensures.value))
+    ∙ c.in_ok-stretch.ensures.told ∙ ap (flat_map told_in) (c.as_mut_slice.ensures.value ∙ ap (λ (v : Vec Column Global). v.items) c.replace-columns.ensures.value)

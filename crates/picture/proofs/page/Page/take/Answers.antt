@@ -1,8 +1,12 @@
-use Rattle.std.proofs.Common.{◌≡◌, ap, option_map, ◌∙◌, sym}
-use Rattle.columns.specs.Columns.{seen}
-use Rattle.picture.specs.Pages.{SeenPage, seen_page}
+use Rattle.std.proofs.Common.{◌≡◌, Some, ap, option_map, refl, ◌∙◌, sym}
+use Rattle.columns.specs.Columns.{joined, seen}
+use Rattle.columns.specs.Told.{text_of}
+use Rattle.picture.specs.Pages.{SeenPage, held, lines_of, seen_page}
 use Rattle.columns.specs.declared.state.State.{State}
+use Rattle.picture.specs.declared.page.Page.{Page}
+use Rattle.picture.proofs.Held.{alone_pending, joins_pending}
 use Rattle.picture.proofs.Pagings.{begins_alone, begun_is, does_not_join, none_to_join, told_page}
+use Rattle.picture.proofs.Pagings as pagings
 use Rattle.picture.proofs.page.Page.take.Goals.{in-Some+else-has_room_for, in_default}
 use Rattle.picture.proofs.page.Page.take.Goals as goal
 
@@ -22,3 +26,46 @@ returns-clause-page c =
       | in-Some+else-has_room_for w ↦ ap seen_page w.self-is ∙ (λ i. record (seen_page c.args.self.now) { state = c.in_ok-frees.ensures.whole i; pending = option_map seen (sym w.in-Some.is i) })
       | in_default w ↦ ap seen_page w.self-is ∙ ap (λ (s : State). record (seen_page c.args.self.now) { state = s }) c.in_ok-frees.ensures.whole
     ]
+
+pub returns-clause-lines : goal.returns-clause-lines
+returns-clause-lines c =
+    alone_pending c.place_pending.new.self.columns.items _ (held c.args.self.now) c.in_ok-new.field-0 (text_of c.args.line)
+    (c.in_ok-full.ensures.lines
+    ∙ elim c.match-self.branch [
+      | in-Some+else-has_room_for w ↦ ap held w.self-is ∙ ap (lines_of c.args.self.now.columns.items) (sym w.in-Some.is)
+      | in_default w ↦ ap held w.self-is
+    ])
+    c.in_ok-new.ensures.told
+
+pub returns-clause-stages : goal.returns-clause-stages
+returns-clause-stages c =
+    ap (λ (s : State). s.stages) c.in_ok-full.ensures.state
+    ∙ elim c.match-self.branch [
+      | in-Some+else-has_room_for w ↦ ap (λ (p : Page). p.state.stages) w.self-is
+      | in_default w ↦ ap (λ (p : Page). p.state.stages) w.self-is
+    ]
+    ∙ c.in_ok-frees.ensures.stages
+
+pub returns-clause-processes : goal.returns-clause-processes
+returns-clause-processes c =
+    ap (λ (s : State). s.processes) c.in_ok-full.ensures.state
+    ∙ elim c.match-self.branch [
+      | in-Some+else-has_room_for w ↦ ap (λ (p : Page). p.state.processes) w.self-is
+      | in_default w ↦ ap (λ (p : Page). p.state.processes) w.self-is
+    ]
+    ∙ c.in_ok-frees.ensures.processes
+
+pub returns-then-has_room_for-clause-page : goal.returns-then-has_room_for-clause-page
+returns-then-has_room_for-clause-page c =
+    pagings.joins_pending c.args.line (seen c.in-Some.column) (seen_page c.args.self.now) _ (ap (option_map seen) c.in-Some.is) (sym c.has_room_for.ensures ∙ c.if-has_room_for.true)
+    (λ i. record (seen_page c.args.self.now) {
+      state = c.in_ok-frees.ensures.whole i;
+      pending = Some ((c.in_ok-join.ensures.whole ∙ (λ j. joined (seen c.in-Some.column) c.args.line (c.in_ok-frees.ensures.frees j) (c.in_ok-frees.ensures.whole j))) i);
+    })
+
+pub returns-then-has_room_for-clause-lines : goal.returns-then-has_room_for-clause-lines
+returns-then-has_room_for-clause-lines c =
+    joins_pending c.args.self.now.columns.items c.args.self.now.pending (Some c.join.new.self) c.in-Some.column c.join.new.self (text_of c.args.line) c.in-Some.is refl c.in_ok-join.ensures.told
+
+pub returns-then-has_room_for-clause-stages : goal.returns-then-has_room_for-clause-stages
+returns-then-has_room_for-clause-stages c = c.in_ok-frees.ensures.stages
