@@ -1,3 +1,5 @@
 mod AnyFile
 mod Faultless
+mod Parsed
+mod Simple
 mod Tables

@@ -1,7 +1,7 @@
 //! The program's command line, as `clap` reads it. Its help texts are names of pages, which `Notice` prints.
 ghost use Rattle.std.specs.Prelude.{◌≡◌, IfErr, IfOk, [], false, fold, map, true};
 ghost use Rattle.clap.specs.declared.builder.command.Command.TheViews.{out-Command};
-ghost use Rattle.clap.specs.Words.{HasKind, app_of, fault_of, found_of, kind_of, matches_of, subcommand_of, rows_of, rule_of, subcommand_rows_of, takes, with_subcommand};
+ghost use Rattle.clap.specs.Words.{HasKind, app_of, fault_of, found_of, kind_of, matches_of, new_app, subcommand_of, rows_of, rule_of, subcommand_rows_of, takes, with_rule, with_subcommand};
 ghost use Rattle.std.specs.String.{string_bytes};
 ghost use Rattle.command_line.specs.Meaning.{bakery, bare_app, command_app, flag_rule, help_app, option_rule, plain_app, says, with_option, with_row};
 
@@ -97,10 +97,22 @@ fn plain_command<'a>(alloc: Global, name: &'static str) -> Result<Command<'a>, A
     ensures shape { IfOk result (λ c. app_of c ≡ plain_app name.now) }
     ensures local { IfOk result (λ c. (out-Command c).has_globals ≡ false) }
 {
-    let command = Command::new(alloc, name)
-        .override_help(name)
-        .arg(Arg::new(alloc, "FILE").required(true))?;
-    with_options(alloc, command, &["quiet", "explain"])
+    let file = Arg::new(alloc, "FILE").required(true);
+    with_options(alloc, taking(alloc, name, file)?, &["quiet", "explain"])
+}
+
+/// A command that takes an argument, and whose help is the page of its name.
+fn taking<'a>(
+    alloc: Global,
+    name: &'static str,
+    argument: Arg<'a>,
+) -> Result<Command<'a>, AllocError>
+    requires local { argument.global ≡ false }
+    ensures shape { IfOk result (λ c. app_of c
+        ≡ with_rule (new_app name.now) (rule_of argument.entry)) }
+    ensures local { IfOk result (λ c. (out-Command c).has_globals ≡ false) }
+{
+    Command::new(alloc, name).override_help(name).arg(argument)
 }
 
 /// A command with these options.
@@ -127,10 +139,8 @@ fn help<'a>(alloc: Global) -> Result<Command<'a>, AllocError>
     ensures shape { IfOk result (λ c. app_of c ≡ help_app) }
     ensures local { IfOk result (λ c. (out-Command c).has_globals ≡ false) }
 {
-    Command::new(alloc, "help")
-        .override_help("help")
-        .arg(Arg::new(alloc, "PAGE"))?
-        .arg(flag(alloc, "quiet"))
+    let command = taking(alloc, "help", Arg::new(alloc, "PAGE"))?;
+    with_options(alloc, command, &["quiet"])
 }
 
 /// An option of a command: `at` has a value.
