@@ -1,6 +1,6 @@
 //! A run told line by line to a picture, whose bands are written as they are full.
 ghost use Rattle.std.specs.Prelude.{◌≡◌, ◌+◌, ◌-◌, ◌^◌, ◌<◌, ℕ, List, [], ◌∷◌, ◌++◌, codes, flat_map, length, map, IfErr, IfOk, Ok, OnOk};
-ghost use Rattle.plain_store.specs.Setups.{checked};
+ghost use Rattle.plain_store.specs.Setups.{checked, opening_store as store_at_first};
 ghost use Rattle.plain_store.specs.declared.setups.Setup.{Setup as Given};
 ghost use Rattle.record.specs.Entries.{Past};
 ghost use Rattle.companions.specs.picture.columns.declared.reads.OverlappedRead.{OverlappedRead as Ended};
@@ -34,7 +34,7 @@ use listening::draw_line;
 use plain_store::{NestedTypes, Setup};
 use record::Mark;
 use scenario::{Fault, Scenario, Sink};
-use std::alloc::Global;
+use std::alloc::{AllocError, Global};
 
 /// The picture of a run, on its way.
 #[derive(Drop)]
@@ -82,6 +82,21 @@ pub(crate) fn draw_bands<W: Sink, L: Onlooker>(
     Ok((drawing.summary, drawing.page.height()))
 }
 
+/// The page before the first line, where nothing is changed.
+fn first_page(
+    alloc: Global,
+    form: Form,
+    setup: &Setup,
+    changes: &Changes,
+) -> Result<Page, AllocError>
+    ensures held { IfOk result (λ page. held page ≡ []) }
+    ensures page { changes.now.store ≡ store_at_first setup.now
+        → IfOk result (λ page. seen_page page ≡ page_of (plan_of form setup.now) []) }
+{
+    let opening = changes.words_by_pairs()?;
+    Page::new(alloc, form, setup.processes, opening.as_slice())
+}
+
 impl Drawing {
     fn new(alloc: Global, setup: &Setup, form: Form, reads: Reads) -> Result<Drawing, Fault>
         requires { checked setup.now ≡ Ok tt }
@@ -94,8 +109,7 @@ impl Drawing {
         ensures failures { failed_write result ≡ 0 }
     {
         let changes = Changes::new(alloc, setup)?;
-        let opening = changes.words_by_pairs()?;
-        let page = Page::new(alloc, form, setup.processes, opening.as_slice())?;
+        let page = first_page(alloc, form, setup, &changes)?;
         let overlaps = OverlapsHeard::new(alloc, setup, reads)?;
         Ok(Drawing {
             alloc,

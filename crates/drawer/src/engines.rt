@@ -1,5 +1,11 @@
 //! The two engines.
-ghost use Rattle.std.specs.Prelude.{◌≡◌, ◌+◌, ◌-◌, ◌^◌, ◌<◌, IfErr, IfOk, Ok, OnOk};
+ghost use Rattle.std.specs.Prelude.{◌≡◌, ◌+◌, ◌-◌, ◌^◌, ◌<◌, [], IfErr, IfOk, Ok, OnOk, Some};
+ghost use Rattle.plain_store.specs.Setups.{checked, opening_store};
+ghost use Rattle.companions.specs.StoreChanges.{store_words as store_words_of};
+ghost use Rattle.companions.specs.picture.Pages.{page_names};
+ghost use Rattle.companions.specs.picture.Sheets.{page_back};
+ghost use Rattle.companions.specs.picture.markup.Elements.{opens_in};
+ghost use Rattle.companions.specs.picture.markup.Titles.{lines_in};
 ghost use Rattle.files.specs.Engines.{streams};
 ghost use Rattle.files.specs.Streams.{ReadsFront};
 ghost use Rattle.scenario.specs.Reads.{script};
@@ -14,11 +20,12 @@ use crate::changes::Changes;
 use crate::drawing::draw_bands;
 use crate::nowhere::Nowhere;
 use crate::writing::write_markup;
-use companions::{FIRST_BAND, Form, Reads, page_end, page_head, picture_end, picture_head};
+use companions::{FIRST_BAND, Form, Markup, Reads, page_end, page_head, picture_end, picture_head};
 use course::Summary;
 use files::progress::{Again, Onlooker};
+use plain_store::Setup;
 use scenario::{Fault, Scenario, Sink, Source, read_input, read_scenario};
-use std::alloc::Global;
+use std::alloc::{AllocError, Global};
 
 /// Reads a whole file, and writes the page of its run: a picture in bands, each written when it is full. Where it ends
 /// well, what was written is the page of what the run gives, item by item, and nothing else: of its lines, each with the
@@ -60,13 +67,23 @@ fn draw_page<W: Sink, L: Onlooker>(
     ensures fault { IfErr result IsWriteFault }
     ensures failures { W.failures output.new ≡ W.failures output.old + failed_write result }
 {
-    let opening = Changes::new(alloc, &scenario.setup)?.store_words()?;
     let head = page_head(alloc, &scenario.setup, file, reads)?;
-    let end = page_end(alloc, opening.as_slice())?;
+    let end = end_of_page(alloc, &scenario.setup)?;
     write_markup(&head, output)?;
     let (summary, _) = draw_bands(alloc, file, scenario, Form::Page, reads, output, onlooker)?;
     write_markup(&end, output)?;
     Ok(summary)
+}
+
+/// What the page has behind its bands: a slider, which shows the opening store at first.
+fn end_of_page(alloc: Global, setup: &Setup) -> Result<Markup, AllocError>
+    requires { checked setup.now ≡ Ok tt }
+    ensures draws { IfOk result (λ markup. markup ≡ page_back (store_words_of (opening_store setup.now))) }
+    ensures lines { IfOk result (λ markup. lines_in markup ≡ []) }
+    ensures elements { IfOk result (λ markup. opens_in markup (Some page_names) ≡ Some []) }
+{
+    let opening = Changes::new(alloc, setup)?.store_words()?;
+    page_end(alloc, opening.as_slice())
 }
 
 /// Reads a whole file, and writes one picture of its run, which tells the same. The run is made twice, since a picture
