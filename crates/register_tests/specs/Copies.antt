@@ -1,7 +1,7 @@
 -- Copies of bits in the states that several tests share.
 use Rattle.std.specs.Prelude.{◌≡◌, ℕ, true, false, List, [], ◌∷◌}
 use Rattle.reader_copies.specs.safe_bit.Cell.{Cell, cell_of}
-use Rattle.record.specs.safe_bit.declared.Move.TheVariants.{BeginWrite, EndWrite, BeginRead}
+use Rattle.record.specs.safe_bit.declared.Move.TheVariants.{BeginWrite, EndWrite, BeginRead, EndRead}
 use Rattle.reader_copies.specs.declared.runs.Made.{Made}
 use Rattle.reader_copies.specs.Row.{cell_at, new_row, row_after}
 
@@ -29,6 +29,10 @@ last_made = record { reader = 1; how = EndWrite }
 -- a row in which 1 was written to the copies of bit 64
 abbrev pub with_last_written : List (List Cell) → List (List Cell)
 with_last_written row = row_after (row_after (row_after (row_after row 64 first_made) 64 second_made) 64 third_made) 64 last_made
+
+-- the row once the open read and the open write have ended too
+abbrev pub last_row : List (List Cell)
+last_row = row_after (row_after (with_last_written open_row) 63 (record { reader = 1; how = EndRead false })) 0 (record { reader = 0; how = EndWrite })
 
 -- in whatever state the accesses of the other bits are, that write leaves their copies as they are
 abbrev pub OthersStay : Type 0

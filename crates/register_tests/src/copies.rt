@@ -1,64 +1,70 @@
-ghost use Rattle.std.specs.Prelude.{◌≡◌, true, false, [], ◌∷◌, replicate, None, IfOk};
-ghost use Rattle.register_tests.specs.Copies.{OthersStay, written_copy, open_row, with_last_written};
+ghost use Rattle.std.specs.Prelude.{◌≡◌, true, false, [], ◌∷◌, replicate, None};
+ghost use Rattle.reader_copies.specs.Row.{new_bit, new_row};
+ghost use Rattle.register_tests.specs.Copies.{OthersStay, written_copy, open_row, last_row, with_last_written};
 
 use reader_copies::{CopiedBit, CopiedRow, CopyRead, CopyWrite, Made, Progress};
 use record::Move;
-use std::alloc::{AllocError, Global};
-use std::process::Abort;
 use std::test::Fail;
 
-/// Checks what a step of a write tells: the copy of which reader, the move, and what remains.
-fn tells(rt: &impl Abort, step: (Made, Progress), want: (u8, Move, Progress)) {
-    let ((made, progress), (reader, how, remains)) = (step, want);
-    assert!(rt; made == Made { reader, how });
-    assert!(rt; progress == remains);
+/// Whether a step tells this: the copy of which reader, the move, and what remains.
+fn tells(step: (Made, Progress), reader: u8, how: Move, remains: Progress) -> bool {
+    step.0 == Made { reader, how } && step.1 == remains
 }
 
-/// A bit with two copies in which 1 was written, which takes four accesses.
-fn written(rt: &(impl Abort + AllocGlobal)) -> Result<CopiedBit, AllocError>
-    ensures { IfOk result (λ bit. bit ≡ replicate 2 (written_copy ∷ [])) }
+/// The four steps that write 1 to a bit with two copies.
+fn written(bit: &mut CopiedBit) -> [(Made, Progress); 4]
+    requires { bit.old ≡ new_bit 2 false }
+    ensures { bit.new ≡ replicate 2 (written_copy ∷ []) }
 {
-    let mut bit = CopiedBit::new(rt.alloc(), 2, false)?;
     let mut run = CopyWrite::new(true);
-    let step = bit.write_step(&mut run);
-    tells(rt, step, (0, Move::BeginWrite(true), Progress::Going));
-    let step = bit.write_step(&mut run);
-    tells(rt, step, (0, Move::EndWrite, Progress::Going));
-    let step = bit.write_step(&mut run);
-    tells(rt, step, (1, Move::BeginWrite(true), Progress::Going));
-    let step = bit.write_step(&mut run);
-    tells(rt, step, (1, Move::EndWrite, Progress::Done));
-    Ok(bit)
+    let one = bit.write_step(&mut run);
+    let two = bit.write_step(&mut run);
+    let three = bit.write_step(&mut run);
+    let four = bit.write_step(&mut run);
+    [one, two, three, four]
 }
 
-// A write of two copies takes four accesses, and each reader then reads the value.
-#[test]
-fn writes_both_copies(rt: HostRuntime) -> Result<(), Fail> {
-    let mut bit = written(&rt)?;
+/// The end of a read of such a bit by reader 1, and what was read.
+fn read(bit: &mut CopiedBit) -> ((Made, Progress), Option<bool>)
+    requires { bit.old ≡ replicate 2 (written_copy ∷ []) }
+{
     let mut read = CopyRead::new();
     let (_, _) = bit.read_step(1, &mut read, false);
-    let step = bit.read_step(1, &mut read, false);
-    tells(&rt, step, (1, Move::EndRead(true), Progress::Done));
-    assert!(rt; read.value() == Some(true));
+    let end = bit.read_step(1, &mut read, false);
+    (end, read.value())
+}
+
+/// A write of two copies takes four accesses, and each reader then reads the value.
+#[test]
+fn writes_both_copies(rt: HostRuntime) -> Result<(), Fail> {
+    let mut bit = CopiedBit::new(rt.alloc(), 2, false)?;
+    let [one, two, three, four] = written(&mut bit);
+    let (end, value) = read(&mut bit);
+    let first = tells(one, 0, Move::BeginWrite(true), Progress::Going)
+        && tells(two, 0, Move::EndWrite, Progress::Going);
+    let second = tells(three, 1, Move::BeginWrite(true), Progress::Going)
+        && tells(four, 1, Move::EndWrite, Progress::Done);
+    assert!(rt; first && second);
+    assert!(rt; tells(end, 1, Move::EndRead(true), Progress::Done) && value == Some(true));
     Ok(())
 }
 
-/// A row of 65 bits for 2 readers, with a write of bit 0 and a read of bit 63 by reader 1 that are open.
-fn with_open_bits(alloc: Global) -> Result<(CopiedRow, CopyWrite, CopyRead), AllocError>
-    ensures row { IfOk result (λ all. all.0 ≡ open_row) }
-    ensures write { IfOk result (λ all. all.1 ≡ record { value = true; made = 1; ended = false }) }
-    ensures read { IfOk result (λ all. all.2 ≡ record { begun = true; value = None }) }
+/// Begins a write of bit 0 and a read of bit 63 by reader 1, in a row of 65 bits for 2 readers.
+fn open_both(row: &mut CopiedRow) -> (CopyWrite, CopyRead)
+    requires { row.old ≡ new_row 65 2 }
+    ensures row { row.new ≡ open_row }
+    ensures write { result.0 ≡ record { value = true; made = 1; ended = false } }
+    ensures read { result.1 ≡ record { begun = true; value = None } }
 {
-    let mut row = CopiedRow::new(alloc, 65, 2)?;
     let mut write = CopyWrite::new(true);
     let (_, _) = row.write_step(0, &mut write);
     let mut read = CopyRead::new();
     let (_, _) = row.read_step(63, 1, &mut read, true);
-    Ok((row, write, read))
+    (write, read)
 }
 
-/// Writes 1 to the last bit of such a row, which takes four steps.
-fn write_last(rt: &impl Abort, row: &mut CopiedRow)
+/// Writes 1 to the last bit of such a row in four steps, and tells what remains.
+fn write_last(row: &mut CopiedRow) -> Progress
     requires { row.old ≡ open_row }
     ensures { row.new ≡ with_last_written open_row }
 {
@@ -67,7 +73,7 @@ fn write_last(rt: &impl Abort, row: &mut CopiedRow)
     let (_, _) = row.write_step(64, &mut run);
     let (_, _) = row.write_step(64, &mut run);
     let (_, progress) = row.write_step(64, &mut run);
-    assert!(rt; progress == Progress::Done);
+    progress
 }
 
 /// Such a write leaves the other bits as they are, in every state of their accesses.
@@ -75,20 +81,42 @@ fn other_bits_stay()
     ensures { OthersStay }
 {}
 
-// A write of bit 64 of a row takes four steps and changes no other bit: not bit 0, where an index that
-// wraps would end up, of which a write is open meanwhile, and not bit 63, of which a read is open.
+/// Ends that read and the write of the copy of reader 0, and tells both accesses.
+fn end_both(row: &mut CopiedRow, write: CopyWrite, read: CopyRead) -> (Made, Made)
+    requires row { row.old ≡ with_last_written open_row }
+    requires write { write ≡ record { value = true; made = 1; ended = false } }
+    requires read { read ≡ record { begun = true; value = None } }
+    ensures { row.new ≡ last_row }
+{
+    let (mut write, mut read) = (write, read);
+    let (read_end, _) = row.read_step(63, 1, &mut read, true);
+    let (write_end, _) = row.write_step(0, &mut write);
+    (read_end, write_end)
+}
+
+/// Both copies of the bits 0, 63 and 64.
+fn values(row: &CopiedRow) -> [[bool; 2]; 3]
+    requires { row.now ≡ last_row }
+{
+    [
+        [row.value(0, 0), row.value(0, 1)],
+        [row.value(63, 0), row.value(63, 1)],
+        [row.value(64, 0), row.value(64, 1)],
+    ]
+}
+
+/// A write of bit 64 of a row takes four steps and changes no other bit: not bit 0, where an index that
+/// wraps would end up, of which a write is open meanwhile, and not bit 63, of which a read is open.
 #[test]
 fn a_row_of_sixty_five_bits(rt: HostRuntime) -> Result<(), Fail> {
-    let (mut row, mut write, mut read) = with_open_bits(rt.alloc())?;
-    write_last(&rt, &mut row);
+    let mut row = CopiedRow::new(rt.alloc(), 65, 2)?;
+    let (write, read) = open_both(&mut row);
+    let progress = write_last(&mut row);
     other_bits_stay();
-    let (made, _) = row.read_step(63, 1, &mut read, true);
-    assert!(rt; made.how == Move::EndRead(false));
-    let (made, _) = row.write_step(0, &mut write);
-    assert!(rt; made.how == Move::EndWrite);
-    for (bit, values) in [(0, [true, false]), (63, [false, false]), (64, [true, true])] {
-        let copies = [row.value(bit, 0), row.value(bit, 1)];
-        assert!(rt; copies == values, "bit {bit}");
-    }
+    let (read_end, write_end) = end_both(&mut row, write, read);
+    let values = values(&row);
+    assert!(rt; progress == Progress::Done);
+    assert!(rt; read_end.how == Move::EndRead(false) && write_end.how == Move::EndWrite);
+    assert!(rt; values == [[true, false], [false, false], [true, true]]);
     Ok(())
 }
