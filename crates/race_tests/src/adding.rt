@@ -2,13 +2,9 @@
 use crate::plans::{add, answer, raced};
 use plain_store::{Answer, Command, Name, Reply, Store, Value};
 use race::{Closing, Gate, Moment, Pass};
-use std::alloc::Global;
-use std::process::Abort;
-use std::sync::Wait;
 use std::sync::atomic::AtomicU32;
 use std::sync::atomic::Ordering::SeqCst;
 use std::test::Fail;
-use std::thread::Threads;
 
 /// Holds port 1 at its begin until port 0 has begun its second call.
 #[derive(Drop)]
@@ -48,31 +44,30 @@ fn counted(closing: &Closing) -> Option<i64> {
     }
 }
 
-/// A race in which port 0 writes a 0 and both ports add three times: whether the write was done and the count is that of the
-/// sums, and how many sums there are.
-fn added<R: Threads + Wait + Abort + Sync>(rt: &R, alloc: Global) -> Result<(bool, i64), Fail> {
-    let (write, add) = (Command::Write(Name::new(b"a")?, Value::Count(0)), add()?);
-    let gate = AfterTheFirst {
-        begun: AtomicU32::new(0),
-    };
-    let calls = ([write, add, add, add], [add, add, add]);
-    let closing = raced(rt, alloc, 4, [&calls.0, &calls.1], &gate)?;
-    let written = matches!(answer(&closing, 0, 0), Some(Answer::Reply(Reply::Done)));
-    let sums = sums(&closing, 0, 4).saturating_add(sums(&closing, 1, 3));
-    Ok((written && counted(&closing) == Some(sums), sums))
-}
-
 /// So often the race is run anew where a call found the tickets full.
 const RACES: u32 = 1000;
 
-/// A flick may show a ticket with all bits set, and then a call finds the tickets full. So each race is held against the
-/// calls that it answered with a sum, and it is run anew until all six were.
+// A flick may show a ticket with all bits set, and then a call finds the tickets full. So each race is held against the
+// calls that it answered with a sum, and it is run anew until all six were.
 #[test]
 fn two_threads_add(rt: HostRuntime) -> Result<(), Fail> {
+    let name = Name::new(b"a")?;
+    let first = [
+        Command::Write(name, Value::Count(0)),
+        add()?,
+        add()?,
+        add()?,
+    ];
+    let second = [add()?, add()?, add()?];
     for _ in 0..RACES {
-        let (is_right, sums) = added(&rt, rt.alloc())?;
-        assert!(&rt; is_right);
-        if sums == 6 {
+        let gate = AfterTheFirst {
+            begun: AtomicU32::new(0),
+        };
+        let closing = raced(&rt, rt.alloc(), 4, [&first, &second], &gate)?;
+        let added = sums(&closing, 0, 4).saturating_add(sums(&closing, 1, 3));
+        assert!(&rt; matches!(answer(&closing, 0, 0), Some(Answer::Reply(Reply::Done))));
+        assert!(&rt; counted(&closing) == Some(added));
+        if added == 6 {
             return Ok(());
         }
     }

@@ -1,9 +1,8 @@
 //! Gates that a race on one thread does not pass, and one that asks for patience.
-use crate::plans::{add, adds_are_answered, answer, fault_of_two, raced};
+use crate::plans::{add, answer, is_no_name_or_full, race_of_two, raced};
 use plain_store::{Answer, NestedTypes, Setup};
 use race::{Gate, Moment, Pass, RaceFault, race};
 use std::alloc::Global;
-use std::process::Abort;
 use std::sync::Wait;
 use std::sync::atomic::Ordering::SeqCst;
 use std::sync::atomic::{AtomicBool, AtomicU32};
@@ -49,18 +48,11 @@ impl Gate for UntilBegun {
     }
 }
 
-/// Whether a port came, and found the other one.
-#[derive(Drop)]
-struct Met {
-    came: AtomicBool,
-    found: AtomicBool,
-}
-
 /// Two ports meet: each, at its begin, looks for the other.
 #[derive(Drop)]
 struct Meeting {
-    first: Met,
-    second: Met,
+    came: [AtomicBool; 2],
+    found: [AtomicBool; 2],
 }
 
 impl Gate for Meeting {
@@ -68,13 +60,9 @@ impl Gate for Meeting {
         if moment == Moment::Inside || port > 1 {
             return Pass::On;
         }
-        let (own, other) = if port == 0 {
-            (&self.first, &self.second)
-        } else {
-            (&self.second, &self.first)
-        };
-        own.came.store(true, SeqCst);
-        own.found.store(sees(&other.came, 100_000_000), SeqCst);
+        let (own, other) = if port == 0 { (0, 1) } else { (1, 0) };
+        self.came[own].store(true, SeqCst);
+        self.found[own].store(sees(&self.came[other], 100_000_000), SeqCst);
         Pass::On
     }
 }
@@ -152,62 +140,48 @@ impl Gate for Patient {
 /// Two ports add once each, and the gate holds one of them inside until the other has begun.
 #[test]
 fn one_waits_inside_for_the_other_to_begin(rt: HostRuntime) -> Result<(), Fail> {
+    let adds = [add()?];
     for held in [0, 1] {
         let gate = UntilBegun {
             held,
             begun: AtomicBool::new(false),
         };
-        assert!(&rt; adds_are_answered(&rt, rt.alloc(), &gate)?);
+        let closing = raced(&rt, rt.alloc(), 4, [&adds, &adds], &gate)?;
+        assert!(&rt; is_no_name_or_full(answer(&closing, 0, 0)));
+        assert!(&rt; is_no_name_or_full(answer(&closing, 1, 0)));
     }
     Ok(())
 }
 
-/// A meeting to which no port has come yet.
-fn new_meeting() -> Meeting {
-    Meeting {
-        first: Met {
-            came: AtomicBool::new(false),
-            found: AtomicBool::new(false),
-        },
-        second: Met {
-            came: AtomicBool::new(false),
-            found: AtomicBool::new(false),
-        },
-    }
-}
-
-/// Within one ask each looks for the other, so that no body that serves the ports in turns lets them meet.
+// Within one ask each looks for the other, so that no body that serves the ports in turns lets them meet.
 #[test]
 fn two_ports_meet(rt: HostRuntime) -> Result<(), Fail> {
-    let gate = new_meeting();
-    let answered = adds_are_answered(&rt, rt.alloc(), &gate)?;
-    let met = gate.first.found.load(SeqCst) && gate.second.found.load(SeqCst);
-    assert!(&rt; answered && met);
+    let adds = [add()?];
+    let gate = Meeting {
+        came: [AtomicBool::new(false), AtomicBool::new(false)],
+        found: [AtomicBool::new(false), AtomicBool::new(false)],
+    };
+    raced(&rt, rt.alloc(), 4, [&adds, &adds], &gate)?;
+    assert!(&rt; gate.found[0].load(SeqCst) && gate.found[1].load(SeqCst));
     Ok(())
 }
 
-/// Whether port 1 finds the tickets full at its first of two calls, with one ticket bit and that gate.
-fn passes_a_full_door<R: Threads + Wait + Abort + Sync>(
-    rt: &R,
-    alloc: Global,
-) -> Result<bool, Fail> {
-    let add = add()?;
+// One ticket bit: while port 0 is inside, port 1 finds the tickets full, and calls again.
+#[test]
+fn one_passes_a_full_door_while_the_other_is_inside(rt: HostRuntime) -> Result<(), Fail> {
+    let (one, two) = ([add()?], [add()?, add()?]);
     let gate = Passing {
         inside: AtomicBool::new(false),
         let_on: AtomicBool::new(false),
         begun_again: AtomicBool::new(false),
     };
-    let closing = raced(rt, alloc, 1, [&[add], &[add, add]], &gate)?;
-    Ok(matches!(
-        answer(&closing, 1, 0),
-        Some(Answer::TicketsFull { process: 0 })
-    ))
-}
-
-/// One ticket bit: while port 0 is inside, port 1 finds the tickets full, and calls again.
-#[test]
-fn one_passes_a_full_door_while_the_other_is_inside(rt: HostRuntime) -> Result<(), Fail> {
-    assert!(&rt; passes_a_full_door(&rt, rt.alloc())?);
+    let closing = raced(&rt, rt.alloc(), 1, [&one, &two], &gate)?;
+    assert!(&rt;
+        matches!(
+            answer(&closing, 1, 0),
+            Some(Answer::TicketsFull { process: 0 })
+        )
+    );
     Ok(())
 }
 
@@ -228,48 +202,46 @@ fn asked(
     Ok((fault, gate.asked.load(SeqCst)))
 }
 
-/// The gate is asked once more when the port is inside.
+// The gate is asked once more when the port is inside.
 #[test]
 fn a_gate_is_asked_ten_million_times(rt: HostRuntime) -> Result<(), Fail> {
-    let (none, patient) = asked(&rt, rt.alloc(), 9_999_999)?;
-    let (held, most) = asked(&rt, rt.alloc(), u32::MAX)?;
-    assert!(&rt; none.is_none() && matches!(held, Some(RaceFault::Held(0))));
-    assert!(&rt; patient == 10_000_001 && most == 10_000_000);
+    let (fault, times) = asked(&rt, rt.alloc(), 9_999_999)?;
+    assert!(&rt; fault.is_none() && times == 10_000_001, "{fault:?}");
+    let (fault, times) = asked(&rt, rt.alloc(), u32::MAX)?;
+    assert!(&rt; matches!(fault, Some(RaceFault::Held(0))), "{fault:?}");
+    assert!(&rt; times == 10_000_000);
     Ok(())
 }
 
-/// A port that is held inside fails and is driven down, so that the other one comes inside. With a body that keeps the section the
-/// other one waits at the door, and the race has no end.
+// A port that is held inside fails and is driven down, so that the other one comes inside. With a body that keeps the section the
+// other one waits at the door, and the race has no end.
 #[test]
 fn a_port_held_inside_lets_the_other_in(rt: HostRuntime) -> Result<(), Fail> {
+    let adds = [add()?];
     let gate = Keeping {
         kept: AtomicBool::new(false),
         followed: AtomicBool::new(false),
     };
-    let fault = fault_of_two(&rt, rt.alloc(), &gate)?;
-    assert!(&rt; matches!(fault, Some(RaceFault::Held(0))) && gate.followed.load(SeqCst));
+    let fault = race_of_two(&rt, rt.alloc(), 4, [&adds, &adds], &gate)?.err();
+    assert!(&rt; matches!(fault, Some(RaceFault::Held(0))), "{fault:?}");
+    assert!(&rt; gate.followed.load(SeqCst), "{fault:?}");
     Ok(())
 }
 
-/// The fault of a race of which the gate holds both ports for good, as it is told; nothing if there is no fault.
-fn told_of_both_held<R: Threads + Wait + Sync>(
-    rt: &R,
-    alloc: Global,
-) -> Result<Option<String>, Fail> {
+// Both ports are held for good: the lower one is told.
+#[test]
+fn the_lowest_held_port_is_told(rt: HostRuntime) -> Result<(), Fail> {
+    let adds = [add()?];
     let gate = Patient {
         asked: AtomicU32::new(0),
         refused: u32::MAX,
     };
-    match fault_of_two(rt, alloc, &gate)? {
-        Some(fault) => Ok(Some(format!(in alloc; "{fault}")?)),
-        None => Ok(None),
-    }
-}
-
-/// Both ports are held for good: the lower one is told.
-#[test]
-fn the_lowest_held_port_is_told(rt: HostRuntime) -> Result<(), Fail> {
-    let told = told_of_both_held(&rt, rt.alloc())?;
-    assert!(&rt; matches!(told.as_deref(), Some("held 0")));
+    let Err(fault) = race_of_two(&rt, rt.alloc(), 4, [&adds, &adds], &gate)? else {
+        panic!(&rt; "both ports are held");
+    };
+    assert!(&rt;
+        format!(in rt.alloc(); "{fault}")?.as_str() == "held 0",
+        "{fault:?}"
+    );
     Ok(())
 }

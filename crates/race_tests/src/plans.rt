@@ -1,5 +1,5 @@
 //! What the tests race: two processes with their calls, and what is expected of each race.
-ghost use Rattle.std.specs.Prelude.{◌≡◌, Ok, IfOk, length};
+ghost use Rattle.std.specs.Prelude.{◌≡◌, Ok};
 ghost use Rattle.plain_store.specs.Setups.{checked};
 
 use call_check::{Weighed, weigh};
@@ -16,17 +16,6 @@ pub fn add() -> Result<Command, Fail> {
     Ok(Command::Add(Name::new(b"a")?, 1))
 }
 
-/// The lists of the calls of two processes.
-fn plans_of(alloc: Global, calls: [&[Command]; 2]) -> Result<Vec<Vec<Command>>, AllocError>
-    ensures { IfOk result (λ plans. length plans.items ≡ 2) }
-{
-    let [first, second] = calls;
-    Ok(vec![in alloc;
-        Vec::from_slice(alloc, first)?,
-        Vec::from_slice(alloc, second)?,
-    ]?)
-}
-
 /// A race of two processes of version 1 with so many ticket bits, of which each makes its calls.
 pub fn race_of_two<R: Threads + Wait + Sync, G: Gate + Sync>(
     rt: &R,
@@ -38,7 +27,11 @@ pub fn race_of_two<R: Threads + Wait + Sync, G: Gate + Sync>(
     let _nested: NestedTypes = None;
     let setup = Setup::one(2, tickets, 4, 1);
     setup.check()?;
-    let plans = plans_of(alloc, calls)?;
+    let [first, second] = calls;
+    let plans = vec![in alloc;
+        Vec::from_slice(alloc, first)?,
+        Vec::from_slice(alloc, second)?,
+    ]?;
     Ok(race(rt, alloc, &setup, plans.as_slice(), gate))
 }
 
@@ -71,33 +64,8 @@ pub fn answer(closing: &Closing, port: usize, call: usize) -> Option<Answer> {
     closing.answers.get(port)?.get(call)?.answer
 }
 
-/// The fault of a race of two ports with 4 ticket bits that add once each, if it has one.
-pub fn fault_of_two<R: Threads + Wait + Sync, G: Gate + Sync>(
-    rt: &R,
-    alloc: Global,
-    gate: &G,
-) -> Result<Option<RaceFault>, Fail> {
-    let adds = [add()?];
-    match race_of_two(rt, alloc, 4, [&adds, &adds], gate)? {
-        Ok(_) => Ok(None),
-        Err(fault) => Ok(Some(fault)),
-    }
-}
-
-/// Whether two ports that add once each, with 4 ticket bits, each find that there is no such name, or the tickets full.
-pub fn adds_are_answered<R: Threads + Wait + Abort + Sync, G: Gate + Sync>(
-    rt: &R,
-    alloc: Global,
-    gate: &G,
-) -> Result<bool, Fail> {
-    let adds = [add()?];
-    let closing = raced(rt, alloc, 4, [&adds, &adds], gate)?;
-    let (first, second) = (answer(&closing, 0, 0), answer(&closing, 1, 0));
-    Ok(is_no_name_or_full(first) && is_no_name_or_full(second))
-}
-
 /// The answer is that there is no such name, or that the tickets are full.
-fn is_no_name_or_full(answer: Option<Answer>) -> bool {
+pub fn is_no_name_or_full(answer: Option<Answer>) -> bool {
     matches!(
         answer,
         Some(Answer::Reply(Reply::NoName) | Answer::TicketsFull { .. })

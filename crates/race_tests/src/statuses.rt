@@ -2,8 +2,6 @@
 use race::{RaceFault, Weighed, race_status};
 use std::test::Fail;
 
-/// A race whose lists stand in one history has the status 0, one whose lists do not or whose port was held 3, and one that had no
-/// memory or no thread 4.
 #[test]
 fn gives_the_status_of_a_race(rt: HostRuntime) -> Result<(), Fail> {
     for (raced, status) in [
