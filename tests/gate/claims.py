@@ -150,10 +150,9 @@ def check_claims(counter):
 
 
 def check_edits(counter):
-    """Whether docs/PLANTS.md names each must-fail edit, each that is tried by hand, and no other."""
+    """Whether docs/PLANTS.md names each must-fail edit, and no other."""
     named = set(EDIT.findall((TOP / "docs" / "PLANTS.md").read_text()))
     there = {(path.parent.parent.name, path.stem) for path in FOLDER.glob("*/must-fail/*.edit")}
-    there |= {(path.parent.name, path.stem) for path in (TOP / "tests" / "byhand" / "edits").glob("*/*.edit")}
     counter.count(named == there, f"PLANTS.md and the must-fail edits differ in {sorted(named ^ there)}")
 
 
