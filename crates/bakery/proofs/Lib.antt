@@ -4,3 +4,14 @@ pub mod AtDoor
 pub mod Cells
 pub mod Clearing
 pub mod DoorSteps
+-- A step of a section
+pub mod SectionSteps
+-- What the registers hold, and the newest version in them
+pub mod Committed
+pub mod Holdings
+pub mod NewestSteps
+pub mod Opening
+pub mod Widths
+-- What a memory unit makes of its registers
+mod UnitRegisters
+pub mod UnitSteps

@@ -19,8 +19,8 @@ use Rattle.process.specs.laws.Steps.{reads_of}
 use Rattle.process.specs.Alone.{full_of, ticket_of}
 use Rattle.process.specs.Places.{ProcessState, stage_doing}
 use Rattle.process.specs.Serving.{next_at}
-use Rattle.bakery.specs.declared.progress.DoorProgress.{DoorProgress}
-use Rattle.bakery.specs.declared.progress.DoorProgress.TheVariants as told
+use Rattle.bakery.specs.declared.door_progress.DoorProgress.{DoorProgress}
+use Rattle.bakery.specs.declared.door_progress.DoorProgress.TheVariants as told
 use Rattle.bakery.specs.Locks.{LockRows, CanAccess, answered, lock_of, locks_without_reads, row_in}
 
 -- the process is in its doorway, or waits

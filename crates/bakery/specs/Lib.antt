@@ -3,3 +3,8 @@ pub mod Doors
 pub mod Leavings
 pub mod Lending
 pub mod Locks
+pub mod Memory
+pub mod Newest
+pub mod Registers
+pub mod Sections
+pub mod Units

@@ -9,8 +9,8 @@ ghost use Rattle.process.specs.Serving.{next_at};
 ghost use Rattle.bakery.specs.Doors.{BeginsCalls, CallGoesOn, CallTears, IsInTurn, IsNextOfCall, MarksOfCall, MayDrop, dropped, goes_on, is_going, is_waiting, marks_told, progress_on, tells_wait};
 ghost use Rattle.bakery.specs.Locks.{answered, locks_after};
 
+use crate::door_progress::DoorProgress;
 use crate::lock::Locks;
-use crate::progress::DoorProgress;
 use plain_store::{Command, Setup};
 use process::{Process, given};
 use record::{Access, TornBit};

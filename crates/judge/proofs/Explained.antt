@@ -7,11 +7,11 @@ use Rattle.auditor.specs.Verdicts.{AllKeep, IsBadAt, IsVerdict, KeepsAll}
 use Rattle.auditor.specs.declared.verdicts.Verdict.{Verdict}
 use Rattle.auditor.specs.declared.verdicts.Verdict.TheVariants.{Good, Bad}
 use Rattle.auditor.proofs.Unique.{one_verdict}
-use Rattle.trial.proofs.LinesAt.{counted_on, lines_of_newest, lines_stay}
+use Rattle.judge.proofs.LinesAt.{counted_on, lines_of_newest, lines_stay}
 use Rattle.judge.specs.Explanations.{AreLinesOf, AreReasons, HasExplained, HasReasons, ReasonsGoOn, Writes, reason_lines}
 use Rattle.judge.specs.Following.{FollowerState, HasFollowed}
 use Rattle.judge.specs.Judging.{HasJudged, JudgeState}
-use Rattle.judge.proofs.Judged.{newest_first, stays_bad}
+use Rattle.judge.proofs.JudgedRecords.{newest_first, stays_bad}
 
 -- where each entry keeps all laws, one of them does
 one_keeps : (s : Setup) (later past : Past) (e : Entry) → AllKeep s (later ++ e ∷ past) → KeepsAll s past e

@@ -10,8 +10,8 @@ use Rattle.record.specs.Calls.{last_call}
 use Rattle.record.specs.Entries.{Entry, Past, own}
 use Rattle.record.specs.Histories.{history, reply_taken}
 use Rattle.record.specs.Records.{added, entry_of, past_of, refused}
-use Rattle.world.specs.Cores.{CoreState, with_history}
-use Rattle.world.specs.Shows.{Shows}
+use Rattle.auditor.specs.world.Cores.{CoreState, with_history}
+use Rattle.auditor.specs.world.Shows.{Shows}
 use Rattle.auditor.specs.Hearing.{AuditorState, BreaksNext, HasHeard, IsCount, IsHeard}
 use Rattle.auditor.specs.Verdicts.{KeepsAll}
 use Rattle.auditor.specs.declared.verdicts.Law.{Law}

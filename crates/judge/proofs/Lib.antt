@@ -1,15 +1,43 @@
+pub use Rattle.any_lock.proofs as any_lock
 pub use Rattle.auditor.proofs as auditor
-pub use Rattle.trial.proofs as trial
-pub use Rattle.record_file.proofs as record_file
 pub use Rattle.auditor.proofs.read_law as read_law
-pub use Rattle.world.proofs.history_laws_proofs as history_laws
--- Texts of lines
+pub use Rattle.auditor.proofs.world.history_laws_proofs as history_laws
+pub use Rattle.record_file.proofs as record_file
+-- A file, line by line
 pub mod Lines
+pub mod Trials
+-- The engine
+pub mod Ends
+pub mod EngineEnds
+-- Texts
+pub mod Texts
+pub mod VerdictLines
+-- Reasons
+pub mod LinesAt
 -- A judge
-pub mod Judged
+pub mod JudgedRecords
 -- What is told
 pub mod Tells
 -- What goes along, and reasons
 pub mod Followed
 pub mod Explained
 pub mod Mays
+pub mod AnyExplained
+-- What a process has open, and what of it is torn
+pub mod StepMarks
+pub mod Opened
+pub mod OpenDoings
+pub mod LastWrites
+pub mod Torn
+pub mod TornDoings
+-- What is good for this project's lock is good for any lock
+pub mod NoneBelow
+pub mod SameReply
+pub mod OneDoorway
+pub mod Accesses
+pub mod Withdrawals
+pub mod PlainMarks
+pub mod PlaceMarks
+pub mod MarksKept
+pub mod Good
+pub mod GoodIsGood

@@ -10,12 +10,12 @@ use Rattle.record.specs.declared.stages.Stage.{Stage}
 use Rattle.record.specs.Entries.{Entry, Past, has}
 use Rattle.record.specs.Records.{entry_of, refused}
 use Rattle.record.specs.Shown.{refusal_text}
-use Rattle.world.specs.Events.{stage_in}
+use Rattle.auditor.specs.world.Events.{stage_in}
 use Rattle.auditor.specs.Hearing.{event_in}
 use Rattle.auditor.specs.Verdicts.{IsVerdict, tells_event}
 use Rattle.auditor.specs.declared.verdicts.Verdict.{Verdict}
 use Rattle.auditor.specs.declared.verdicts.Verdict.TheVariants.{Good, Bad}
-use Rattle.trial.specs.ReasonLines.{AreLinesAt, bad_lines, named_entry, stage_line, word_line}
+use Rattle.judge.specs.ReasonLines.{AreLinesAt, bad_lines, named_entry, stage_line, word_line}
 use Rattle.judge.specs.Following.{FollowerState, HasFollowed}
 use Rattle.judge.specs.Judging.{HasJudged, JudgeState}
 

@@ -2,20 +2,20 @@
 ghost use Rattle.std.specs.Prelude.{◌≡◌, ◌↔◌, ◌++◌, IfOk, IsTrue, OnOk, codes};
 ghost use Rattle.record.specs.Shown.{refusal_text as text_of_refusal};
 ghost use Rattle.auditor.specs.declared.verdicts.Verdict.TheVariants.{Good};
-ghost use Rattle.judge.specs.trial.files.Texts.{GivesText};
-ghost use Rattle.trial.specs.ReasonLines.{word_line};
+ghost use Rattle.judge.specs.files.Texts.{GivesText};
+ghost use Rattle.judge.specs.ReasonLines.{word_line};
 ghost use Rattle.judge.specs.Explanations.{HasExplained, ReasonsGoOn, Writes, event_or_step, is_crowded, may_line as line_of_may, may_lines, reason_lines, refusal_line, refused_line, without_twin};
 ghost use Rattle.judge.specs.Judgements.{TellsReasons};
 
 use crate::follower::Follower;
+use crate::hearers::{Hearer, Telling, step_entry};
 use crate::judge::RecordJudge;
+use crate::reason_lines::{push_bad, push_entry, push_stage, push_word};
 use crate::verdicts::{status_of, verdict_line};
 use auditor::{Verdict, event_in, tells_event};
 use plain_store::{NestedTypes, Setup};
 use record::{Access, Act, Entry, Event, Refusal, Stage};
 use std::alloc::{AllocError, Global};
-use trial::reason_lines::{push_bad, push_entry, push_stage, push_word};
-use trial::{Hearer, Telling, step_entry};
 
 /// A judge, what goes along with the entries so far, and the lines of the reasons once the verdict is bad.
 #[derive(Drop)]

@@ -3,7 +3,7 @@ ghost use Rattle.judge.specs.Judging.{is_good};
 ghost use Rattle.judge.specs.KeepingLaws.{KeepsLaws, found_bad, found_good};
 
 use crate::explaining::Explaining;
-use trial::Judging;
+use crate::hearers::Judging;
 
 impl Judging for Explaining {
     ghost Keeps = { KeepsLaws };

@@ -2,15 +2,14 @@
 ghost use Rattle.std.specs.Prelude.{◌≡◌, ◌<◌, [], IfOk, Ok};
 ghost use Rattle.plain_store.specs.Setups.{checked};
 ghost use Rattle.record.specs.Records.{refused};
-ghost use Rattle.world.specs.Events.{stage_in};
+ghost use Rattle.auditor.specs.world.Events.{stage_in};
 ghost use Rattle.judge.specs.Following.{FollowsOneMore, HasFollowed, IsAddedByStep, OfFollowed};
 
-use auditor::Auditor;
+use auditor::{Auditor, Core, StepTold};
 use plain_store::{NestedTypes, Setup};
 use record::{Act, Entry, Event, Refusal, Stage};
 use std::alloc::{AllocError, Global};
 use std::marker::Model;
-use world::{Core, StepTold};
 
 /// An auditor who has heard the entries of a good record, and room for one step that is tried. Behind an entry that broke
 /// a law it is lost, and nothing is known of it.

@@ -2,12 +2,12 @@
 ghost use Rattle.judge.specs.Judgements.{TellsVerdict};
 ghost use Rattle.judge.specs.Judging.{HasJudged};
 
+use crate::hearers::{Hearer, Telling};
 use crate::judge::RecordJudge;
 use crate::verdicts::{status_of, verdict_line};
 use plain_store::Setup;
 use record::{Access, Entry};
 use std::alloc::{AllocError, Global};
-use trial::{Hearer, Telling};
 
 impl Hearer for RecordJudge {
     ghost HasHeard = { λ judge s entries numbers. HasJudged judge s entries };

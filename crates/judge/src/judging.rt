@@ -1,12 +1,13 @@
 //! The engine `judge`: the verdict on the record that a file says, which is read line by line.
 ghost use Rattle.std.specs.Prelude.{◌-◌, ◌^◌, ◌<◌};
 ghost use Rattle.judge.specs.Judgements.{JudgeEnds};
-ghost use Rattle.judge.specs.trial.files.Engines.{streams};
+ghost use Rattle.judge.specs.files.Engines.{streams};
 
+use crate::engine::run_trial;
 use crate::explaining::Explaining;
 use crate::judge::RecordJudge;
+use files::{Fault, Sink, Source};
 use std::alloc::Global;
-use trial::{Fault, Sink, Source, run_trial};
 
 /// Reads a whole record file, line by line, and then writes the verdict on the record that it says, on one line, and
 /// behind a bad one its reasons, if they are asked for; answers the exit status. It holds a line, a block and the reasons,

@@ -1,27 +1,46 @@
-//! Judging records: a judge hears the entries of a record one by one, and tells the verdict on them. The engine here judges a
-//! record file, whoever wrote it, line by line. No record is held.
+//! Judging records. A record file is heard line by line, whoever wrote it, by a judge of this project's lock or by one of any
+//! lock on safe bits; the reading, its faults and limits, and how such an engine ends stand here once. No record is held.
+//! Behind a bad verdict stand its reasons, if they are asked for.
 //!
 //! ```rust
 //! Engine::Judge => run_judge(alloc, input, output, wanted.why),
 //! ```
 #![tactic(auto)]
 
+mod any_explaining;
+mod any_hearing;
+mod any_judging;
+mod any_reasons;
+mod any_verdicts;
+mod common_laws;
+mod engine;
 mod explaining;
 mod finding;
 mod follower;
+mod hearers;
 mod hearing;
 mod judge;
 mod judging;
 mod laws_of_reasons;
+mod reason_lines;
+mod trial;
 mod verdicts;
 
+pub use any_explaining::ExplainingAnyLock;
+pub use any_judging::judge_any_lock;
+pub use any_lock::{AnyLockLaw, AnyLockVerdict, Judge, Judged};
 pub use auditor::{
     Audited, Auditor, Law, Verdict, Watch, audit, good_records_are_of_events,
     records_have_one_verdict, records_of_events_are_good,
 };
+pub use common_laws::good_records_keep_laws_of_any_lock;
+pub use engine::run_trial;
 pub use explaining::Explaining;
+pub use files::{DONE, Fault, Sink, Source};
+pub use hearers::{Hearer, Judging, Telling, step_entry};
 pub use judge::RecordJudge;
 pub use judging::run_judge;
 pub use laws_of_reasons::only_steps_keep_all_laws;
 pub use record_file::{StepLine, print_entry, print_setup};
+pub use trial::Trial;
 pub use verdicts::{status_of, verdict_line};

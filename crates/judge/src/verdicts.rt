@@ -1,14 +1,14 @@
 //! What engines write and answer for verdicts.
 ghost use Rattle.std.specs.Prelude.{◌≡◌};
-ghost use Rattle.judge.specs.trial.files.Texts.{GivesText};
+ghost use Rattle.judge.specs.files.Texts.{GivesText};
 ghost use Rattle.judge.specs.Judgements.{status_of_verdict, verdict_line as line_of_verdict};
 
 use auditor::{Audited, Verdict};
+use files::DONE;
 use std::alloc::{AllocError, Global};
-use trial::DONE;
 
-/// The exit status where an audit finds a law broken.
-const BAD: u8 = 3;
+/// The exit status where a law is broken.
+pub(crate) const BAD: u8 = 3;
 
 /// The exit status that a verdict stands for: 0 for a good one, 3 for a bad one.
 pub fn status_of(verdict: &Verdict) -> u8
@@ -21,7 +21,7 @@ pub fn status_of(verdict: &Verdict) -> u8
 }
 
 /// The line of a verdict.
-#[tactic(auto, using(crate::proofs::Lines::verdict_line_is))]
+#[tactic(auto, using(crate::proofs::VerdictLines::verdict_line_is))]
 pub fn verdict_line(alloc: Global, audited: &Audited) -> Result<String, AllocError>
     ensures { GivesText result (line_of_verdict audited.now.entries audited.now.verdict) }
 {

@@ -19,9 +19,9 @@ use Rattle.record_drawer.specs.Sheets.{DrawsAllBands, DrawsAt, EndsAt, GoesOn, I
 use Rattle.record_drawer.specs.declared.drawing.RecordDrawing.{RecordDrawing}
 use Rattle.record_drawer.specs.declared.sheet.DrawnEntry.{DrawnEntry}
 use Rattle.record_drawer.specs.declared.sheet.Sheet.{Sheet}
-use Rattle.any_judge.proofs.trial.Ends.{at_end, line_fault, line_then, of_input, told_on}
-use Rattle.any_judge.proofs.trial.Lines.{few_in, long_read}
-use Rattle.any_judge.proofs.trial.Trials.{unless_then}
+use Rattle.judge.proofs.Ends.{at_end, line_fault, line_then, of_input, told_on}
+use Rattle.judge.proofs.Lines.{few_in, long_read}
+use Rattle.judge.proofs.Trials.{unless_then}
 use Rattle.record_drawer.proofs.Lines.{reverse_in}
 
 -- All lines so far.

@@ -16,14 +16,14 @@ use Rattle.files.specs.declared.faults.FaultKind.TheVariants.{TooLong}
 use Rattle.record.specs.Entries.{Entry, Past}
 use Rattle.record_file.specs.RecordFiles.{Progress, cleared, entry_in, line_read, record_grammar, record_of}
 use Rattle.record_file.specs.scenario.Reading.{Progress as Head}
-use Rattle.any_judge.specs.trial.Numbers.{number_in, say_entry}
-use Rattle.any_judge.specs.trial.Trials.{HearsAt, good_in}
-use Rattle.any_judge.specs.trial.Trials.{GoesOn as HearsOn}
-use Rattle.any_judge.specs.trial.Trials.{Stands as HearerStands}
-use Rattle.any_judge.specs.trial.Ends.{IsInputFault}
-use Rattle.any_judge.proofs.trial.Ends.{Onwards, goes_on_at_first, onwards_fault, onwards_on}
-use Rattle.any_judge.proofs.trial.Trials.{unless_then}
-use Rattle.any_judge.proofs.trial.Lines.{later_left}
+use Rattle.judge.specs.Numbers.{number_in, say_entry}
+use Rattle.judge.specs.Trials.{HearsAt, good_in}
+use Rattle.judge.specs.Trials.{GoesOn as HearsOn}
+use Rattle.judge.specs.Trials.{Stands as HearerStands}
+use Rattle.judge.specs.Ends.{IsInputFault}
+use Rattle.judge.proofs.Ends.{Onwards, goes_on_at_first, onwards_fault, onwards_on}
+use Rattle.judge.proofs.Trials.{unless_then}
+use Rattle.judge.proofs.Lines.{later_left}
 use Rattle.record_drawer.specs.Sheets.{All, DrawsBandsOf, EndsAt, GoesOn, IsDrawFault, IsJudged, LineStops, Stands, UpTo, entries_of}
 use Rattle.record_drawer.specs.Writing.{IsWriteFault, failed_write}
 use Rattle.record_drawer.specs.declared.sheet.DrawnEntry.{DrawnEntry}

@@ -15,8 +15,8 @@ use Rattle.record_file.specs.RecordFiles.{Progress, cleared, entry_in, line_read
 use Rattle.record_file.specs.scenario.Printing.{spaced}
 use Rattle.record_file.specs.scenario.Reading.{Progress as Head}
 use Rattle.record_file.proofs.EntryLines.{entry_of_line}
-use Rattle.any_judge.specs.trial.Numbers.{say_entry}
-use Rattle.any_judge.proofs.trial.Lines.{Left, clear_twice, empty, first_left, later_left, short_read}
+use Rattle.judge.specs.Numbers.{say_entry}
+use Rattle.judge.proofs.Lines.{Left, clear_twice, empty, first_left, later_left, short_read}
 use Rattle.record_drawer.specs.Sheets.{Draws, DrawsAt, GoesOn, IsDrawn, Stands}
 use Rattle.record_drawer.specs.declared.drawing.RecordDrawing.{RecordDrawing}
 use Rattle.record_drawer.specs.declared.sheet.Sheet.{Sheet}

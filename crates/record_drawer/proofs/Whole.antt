@@ -10,8 +10,8 @@ use Rattle.plain_store.specs.Setups.{opening_store}
 use Rattle.plain_store.specs.declared.setups.Setup.{Setup}
 use Rattle.record.specs.Entries.{Entry}
 use Rattle.record_file.specs.RecordFiles.{Said}
-use Rattle.any_judge.specs.trial.Ends.{IsOfRecord}
-use Rattle.any_judge.specs.trial.Numbers.{numbers_of}
+use Rattle.judge.specs.Ends.{IsOfRecord}
+use Rattle.judge.specs.Numbers.{numbers_of}
 use Rattle.companions.specs.picture.Bandings.{bands_told}
 use Rattle.companions.specs.picture.Pages.{page_names, picture_names}
 use Rattle.companions.specs.picture.Sheets.{page_back, picture_back, picture_front}

@@ -12,7 +12,7 @@ use Rattle.record.specs.Entries.{Entry, Past}
 use Rattle.record_file.specs.Printing.{head_words}
 use Rattle.record_file.specs.scenario.Printing.{printed_line}
 use Rattle.record_file.specs.RecordFiles.{Progress, Said, cleared, entry_in, record_of}
-use Rattle.any_judge.specs.trial.Ends.{IsOfRecord}
+use Rattle.judge.specs.Ends.{IsOfRecord}
 use Rattle.companions.specs.picture.Bandings.{Item, bands_told, heights_told}
 use Rattle.companions.specs.picture.Pages.{page_names}
 use Rattle.companions.specs.picture.Sheets.{page_back, page_front, picture_back, picture_front}

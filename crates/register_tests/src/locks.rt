@@ -1,5 +1,5 @@
 //! Steps on real registers.
-use memory_unit::{Door, DoorProgress, Leaving, Locks};
+use bakery::{Door, DoorProgress, Leaving, Locks};
 use plain_store::Setup;
 use reader_copies::{Made, Progress};
 use record::{Field, Move};

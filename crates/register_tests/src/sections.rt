@@ -1,10 +1,10 @@
 //! The section of a process alone, driven by hand: its cursor over a plain memory.
 ghost use Rattle.std.specs.Prelude.{◌≡◌, true, Ok};
 ghost use Rattle.plain_store.specs.Setups.{checked};
-ghost use Rattle.memory_unit.specs.section.Sections.{is_going, goes_on};
+ghost use Rattle.bakery.specs.Sections.{is_going, goes_on};
 
 use super::memory::Memory;
-use memory_unit::{Section, SectionProgress};
+use bakery::{Section, SectionProgress};
 use plain_store::{Command, Name, NestedTypes, Reply, Setup, Value};
 use record::{Access, Field, Move};
 use std::test::Fail;

@@ -1,5 +1,5 @@
 //! The memory unit on registers.
-use memory_unit::{DataRow, Locks, Unit, UnitProgress};
+use bakery::{DataRow, Locks, Unit, UnitProgress};
 use plain_store::Setup;
 use record::{Access, Field, Move};
 use std::test::Fail;

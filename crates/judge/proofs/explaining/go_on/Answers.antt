@@ -1,5 +1,5 @@
 use Rattle.std.proofs.Common.{true≢false, sym, ◌∙◌}
-use Rattle.trial.proofs.LinesAt.{ok_then}
+use Rattle.judge.proofs.LinesAt.{ok_then}
 use Rattle.judge.proofs.Explained.{gets_bad, still_bad, still_good}
 use Rattle.judge.proofs.explaining.go_on.Goals as goal
 

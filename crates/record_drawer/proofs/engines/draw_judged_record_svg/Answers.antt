@@ -1,5 +1,5 @@
 use Rattle.std.proofs.Common.{List, ℕ, [], Some, IfSome, subst, sym}
-use Rattle.any_judge.specs.trial.Ends.{IsOfRecord}
+use Rattle.judge.specs.Ends.{IsOfRecord}
 use Rattle.companions.specs.picture.declared.page.Form.TheVariants as form
 use Rattle.record_drawer.specs.Sheets.{DrawsBandsOf, DrawsSaid, IsJudged}
 use Rattle.record_drawer.proofs.Whole.{judged_all}

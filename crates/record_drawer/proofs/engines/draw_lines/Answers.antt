@@ -9,7 +9,7 @@ use Rattle.record.specs.Entries.{Past}
 use Rattle.record_file.specs.RecordFiles.{Progress, line_read}
 use Rattle.record_drawer.specs.Sheets.{DrawsAllBands, EndsAt, GoesOn, IsDrawFault, LineStops, Stands}
 use Rattle.record_drawer.specs.declared.sheet.DrawnEntry.{DrawnEntry}
-use Rattle.any_judge.proofs.trial.Ends.{none_told}
+use Rattle.judge.proofs.Ends.{none_told}
 use Rattle.record_drawer.proofs.Ends.{fault_on, onwards_drawn, onwards_fault, onwards_none, onwards_on, onwards_start, onwards_stop, reading_same, read_some}
 use Rattle.record_drawer.proofs.engines.draw_lines.Goals as goal
 

@@ -6,9 +6,9 @@ use Rattle.files.specs.declared.faults.Fault.TheVariants.{Line}
 use Rattle.files.specs.declared.faults.FaultKind.TheVariants.{NotFirst}
 use Rattle.record.specs.Entries.{Past}
 use Rattle.record_file.specs.RecordFiles.{Progress, line_read}
-use Rattle.any_judge.specs.trial.Trials.{GoesOn as HearsOn, IsHeard}
-use Rattle.any_judge.specs.trial.Ends.{IsOfRecord}
-use Rattle.any_judge.proofs.trial.Ends.{next_fault, none_told, onwards_all, onwards_fault, onwards_few, onwards_none}
+use Rattle.judge.specs.Trials.{GoesOn as HearsOn, IsHeard}
+use Rattle.judge.specs.Ends.{IsOfRecord}
+use Rattle.judge.proofs.Ends.{next_fault, none_told, onwards_all, onwards_fault, onwards_few, onwards_none}
 use Rattle.companions.specs.picture.declared.page.Form.{Form}
 use Rattle.companions.specs.picture.declared.reads.Reads.{Reads as Mode}
 use Rattle.record_drawer.specs.Sheets.{DrawsBandsOf, EndsAt, GoesOn, IsDrawFault, IsJudged, LineStops, Stands}

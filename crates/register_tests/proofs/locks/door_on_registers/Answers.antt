@@ -2,9 +2,9 @@ use Rattle.std.proofs.Common.{Bool, true, List, [], sym, ap, subst, refl, ◌∙
 use Rattle.plain_store.specs.declared.Command.TheVariants.{Ask}
 use Rattle.plain_store.specs.declared.Setup.{Setup}
 use Rattle.record.specs.Places.{value_of}
-use Rattle.memory_unit.specs.bakery.Doors.{IsInTurn, MayDrop}
-use Rattle.memory_unit.specs.bakery.Locks.{LockRows, new_locks}
-use Rattle.memory_unit.specs.process.Places.{ProcessState, called, process_after, stepped}
+use Rattle.bakery.specs.Doors.{IsInTurn, MayDrop}
+use Rattle.bakery.specs.Locks.{LockRows, new_locks}
+use Rattle.bakery.specs.process.Places.{ProcessState, called, process_after, stepped}
 use Rattle.register_tests.proofs.locks.door_on_registers.Goals as goal
 
 -- a door of process 0 that has started

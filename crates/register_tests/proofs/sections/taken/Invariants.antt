@@ -1,5 +1,5 @@
 use Rattle.std.proofs.Common.{◌≡◌, true}
-use Rattle.memory_unit.specs.section.Sections.{is_going}
+use Rattle.bakery.specs.Sections.{is_going}
 use Rattle.register_tests.proofs.sections.taken.Given as goal
 
 abbrev pub invariant-loop-made : goal.invariant-loop-made

@@ -1,11 +1,11 @@
 use Rattle.std.proofs.Common.{true, None, List, [], sym, ap, ◌∙◌, subst, refl, arith}
 use Rattle.plain_store.specs.declared.Setup.{Setup}
-use Rattle.memory_unit.specs.bakery.Locks.{LockRows, lock_of, new_locks}
-use Rattle.memory_unit.specs.section.Registers.{Data}
-use Rattle.memory_unit.specs.Memory.{CanAccess}
-use Rattle.memory_unit.specs.process.Alone.{settling_with}
-use Rattle.memory_unit.specs.process.Places.{ProcessState, process_after}
-use Rattle.memory_unit.specs.process.Serving.{next_at}
+use Rattle.bakery.specs.Locks.{LockRows, lock_of, new_locks}
+use Rattle.bakery.specs.Registers.{Data}
+use Rattle.bakery.specs.Memory.{CanAccess}
+use Rattle.bakery.specs.process.Alone.{settling_with}
+use Rattle.bakery.specs.process.Places.{ProcessState, process_after}
+use Rattle.bakery.specs.process.Serving.{next_at}
 use Rattle.register_tests.proofs.units.clears_the_registers.Goals as goal
 
 -- the first access of a unit that has nothing to settle may be made on new locks

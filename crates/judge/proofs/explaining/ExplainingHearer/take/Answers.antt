@@ -1,5 +1,5 @@
 use Rattle.std.proofs.Common.{arith}
-use Rattle.trial.proofs.LinesAt.{ok_then}
+use Rattle.judge.proofs.LinesAt.{ok_then}
 use Rattle.judge.proofs.Explained.{explained_on}
 use Rattle.judge.proofs.explaining.ExplainingHearer.take.Goals as goal
 

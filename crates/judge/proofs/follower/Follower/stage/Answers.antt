@@ -2,7 +2,7 @@ use Rattle.std.proofs.Common.{◌≡◌, List, ap, ◌∙◌}
 use Rattle.plain_store.specs.declared.setups.Setup.{Setup}
 use Rattle.record.specs.declared.history.Taken.{Taken}
 use Rattle.record.specs.Entries.{Past}
-use Rattle.world.specs.Events.{stage_in}
+use Rattle.auditor.specs.world.Events.{stage_in}
 use Rattle.judge.specs.Following.{FollowerState}
 use Rattle.judge.proofs.Followed.{followed}
 use Rattle.judge.proofs.follower.Follower.stage.Goals as goal

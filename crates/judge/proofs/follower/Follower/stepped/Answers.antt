@@ -5,9 +5,9 @@ use Rattle.record.specs.declared.history.Taken.{Taken}
 use Rattle.record.specs.Entries.{Past}
 use Rattle.record.specs.Histories.{history}
 use Rattle.record.specs.Records.{entry_of, placed, refused}
-use Rattle.world.specs.Events.{entry_with}
-use Rattle.world.specs.process.Telling.{act_of, marks_told}
-use Rattle.world.specs.process.declared.told.Effect.TheVariants.{Steps}
+use Rattle.auditor.specs.world.Events.{entry_with}
+use Rattle.auditor.specs.world.process.Telling.{act_of, marks_told}
+use Rattle.auditor.specs.world.process.declared.told.Effect.TheVariants.{Steps}
 use Rattle.judge.specs.Following.{FollowerState}
 use Rattle.judge.proofs.Followed.{followed, none_of_refused, taken_is}
 use Rattle.judge.proofs.follower.Follower.stepped.Goals as goal

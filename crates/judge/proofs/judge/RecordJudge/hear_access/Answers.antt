@@ -3,7 +3,7 @@ use Rattle.record.specs.Entries.{Entry}
 use Rattle.auditor.specs.declared.verdicts.Verdict.TheVariants.{Good}
 use Rattle.record_file.specs.Printing.{step_entry}
 use Rattle.judge.specs.Judging.{JudgeState}
-use Rattle.judge.proofs.Judged.{HearsOn, hears_bad, hears_good}
+use Rattle.judge.proofs.JudgedRecords.{HearsOn, hears_bad, hears_good}
 use Rattle.judge.proofs.judge.RecordJudge.hear_access.Goals as goal
 use Rattle.judge.proofs.judge.RecordJudge.hear_access.Goals.{then-eq, else-eq}
 

@@ -5,7 +5,7 @@ use Rattle.auditor.specs.Verdicts.{IsVerdict}
 use Rattle.auditor.specs.declared.verdicts.Verdict.{Verdict}
 use Rattle.auditor.specs.declared.verdicts.Verdict.TheVariants.{Good}
 use Rattle.judge.specs.Judging.{BothHeard, HasJudged, JudgeState}
-use Rattle.judge.proofs.Judged.{AreTold, told_goes_on, told_verdict}
+use Rattle.judge.proofs.JudgedRecords.{AreTold, told_goes_on, told_verdict}
 use Rattle.judge.proofs.judge.RecordJudge.verdict_with.Goals as goal
 
 pub returns-clause-heard : goal.returns-clause-heard

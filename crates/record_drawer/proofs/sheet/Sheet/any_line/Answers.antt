@@ -7,7 +7,7 @@ use Rattle.record.specs.Entries.{Entry, Past}
 use Rattle.record_file.specs.RecordFiles.{Progress, cleared, entry_in, record_grammar}
 use Rattle.record_drawer.specs.Sheets.{Draws}
 use Rattle.record_drawer.specs.declared.sheet.Sheet.{Sheet}
-use Rattle.any_judge.proofs.trial.Lines.{quiet_is_cleared}
+use Rattle.judge.proofs.Lines.{quiet_is_cleared}
 use Rattle.record_drawer.proofs.Lines.{ends_drawn, ends_quiet}
 use Rattle.record_drawer.proofs.sheet.Sheet.any_line.Goals as goal
 

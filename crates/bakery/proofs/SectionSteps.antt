@@ -1,0 +1,171 @@
+-- What an access of a section leads to, and its marks.
+use Rattle.std.proofs.Common.{◌≡◌, ℕ, ◌==◌, Bool, true, false, cond, List, [], ◌∷◌, ◌++◌, Option, is_some, refl, sym, ap, subst, ◌∙◌}
+use Rattle.plain_store.specs.declared.Answer.{Answer}
+use Rattle.plain_store.specs.declared.Answer.TheVariants as answer
+use Rattle.plain_store.specs.declared.Setup.{Setup}
+use Rattle.plain_store.specs.Store.{Contents, changes}
+use Rattle.record.specs.declared.access.Access.{Access}
+use Rattle.record.specs.declared.access.Field.{Field}
+use Rattle.record.specs.declared.marks.Mark.{Mark}
+use Rattle.record.specs.declared.marks.Mark.TheVariants as mark
+use Rattle.record.specs.Cuts.{pending_at}
+use Rattle.record.specs.Parts.{Part, Raises, Asks, TakesTicket, Lowers, Refuses, Waits, AsksCommit, AsksStamp, AsksImage, WritesImage, WritesStamp, WritesCommit, Clears, Over, first_marks, is_over, last_marks, part_after, to_e, to_g}
+use Rattle.record.specs.Places.{Place, bits_with, enter, is_fresh, is_last, marks_of, place_after, run_after}
+use Rattle.record.specs.Program.{Version, image_field, max_of, newest_stamp, reply, stamp_field, store_read}
+use Rattle.record.specs.Scripts.{Call}
+use Rattle.process.specs.laws.Doings.{Doing, Rests, Lies, Runs, Closes, call, runs}
+use Rattle.process.specs.laws.Held.{IsThere}
+use Rattle.process.specs.Alone.{IsOfRegister, answer_at, answer_of, change_of, register_at}
+use Rattle.process.specs.Places.{ProcessState, changes_at, changes_read, marks_on, may_step, stepped}
+use Rattle.bakery.specs.declared.section_progress.SectionProgress.{SectionProgress}
+use Rattle.bakery.specs.Registers.{is_data}
+use Rattle.bakery.specs.Sections.{goes, goes_on, is_going, is_of_data, marks_told, progress_on, told_at, IsInRange}
+
+-- a part from E to G
+data OfData : Part → Type 0 where
+  commit : (k : ℕ) (ks : List ℕ) (vs : List Version) → OfData (AsksCommit k ks vs)
+  stamp : (k : ℕ) (ks : List ℕ) (vs : List Version) (b : Bool) → OfData (AsksStamp k ks vs b)
+  image : (vs : List Version) → OfData (AsksImage vs)
+  new_image : (vs : List Version) (st : Contents) → OfData (WritesImage vs st)
+  new_stamp : (vs : List Version) (st : Contents) → OfData (WritesStamp vs st)
+  new_commit : (vs : List Version) (st : Contents) → OfData (WritesCommit vs st)
+
+of-data : (part : Part) → is_of_data part ≡ true → OfData part
+of-data Raises is = absurd (cc)
+of-data (Asks j js ts) is = absurd (cc)
+of-data (TakesTicket t) is = absurd (cc)
+of-data (Lowers t) is = absurd (cc)
+of-data (Refuses full) is = absurd (cc)
+of-data (Waits t w ws) is = absurd (cc)
+of-data (AsksCommit k ks vs) is = commit k ks vs
+of-data (AsksStamp k ks vs b) is = stamp k ks vs b
+of-data (AsksImage vs) is = image vs
+of-data (WritesImage vs st) is = new_image vs st
+of-data (WritesStamp vs st) is = new_stamp vs st
+of-data (WritesCommit vs st) is = new_commit vs st
+of-data (Clears a) is = absurd (cc)
+of-data Over is = absurd (cc)
+
+-- what an access tells that leads from a part to this one
+abbrev told_to : Call → (part next : Part) → SectionProgress
+told_to c part next = told_at (changes_at part) (answer_at next) (is_some (pending_at c next))
+
+record IsSaid (c : Call) (part next : Part) (made : List Mark) : Type 0 where
+  going : is_of_data next ≡ goes_on (told_to c part next)
+  marks : marks_told (told_to c part next) ≡ made
+  live : is_over next ≡ false
+
+-- within a number access
+said-within : (c : Call) (part : Part) → OfData part → IsSaid c part part []
+said-within c part (commit k ks vs) = record { going = refl; marks = refl; live = refl }
+said-within c part (stamp k ks vs b) = record { going = refl; marks = refl; live = refl }
+said-within c part (image vs) = record { going = refl; marks = refl; live = refl }
+said-within c part (new_image vs st) = record { going = refl; marks = refl; live = refl }
+said-within c part (new_stamp vs st) = record { going = refl; marks = refl; live = refl }
+said-within c part (new_commit vs st) = record { going = refl; marks = refl; live = refl }
+
+said-stamp : (c : Call) (part : Part) (ks : List ℕ) (vs : List Version) → changes_at part ≡ 0 → IsSaid c part (to_e ks vs) []
+said-stamp c part [] vs none = record { going = refl; marks = refl; live = refl }
+said-stamp c part (k ∷ ks) vs none = record { going = refl; marks = refl; live = refl }
+
+said-image : (c : Call) (vs : List Version) (st : Contents) → IsSaid c (AsksImage vs) (to_g c vs st) (cond (changes st c.command) [] (mark.Taken 0 (reply c st) ∷ []))
+said-image c vs st = by (changes st c.command) (newest_stamp vs == max_of c.setup.stamp_bits)
+  where
+    by : (b full : Bool) → IsSaid c (AsksImage vs) (elim b as (λ _. Part) [
+      | false ↦ Clears (answer.Reply (reply c st))
+      | true ↦ elim full as (λ _. Part) [ true ↦ Clears answer.StampsFull | false ↦ WritesImage vs st ]
+    ]) (cond b [] (mark.Taken 0 (reply c st) ∷ []))
+    by false full = record { going = refl; marks = refl; live = refl }
+    by true true = record { going = refl; marks = refl; live = refl }
+    by true false = record { going = refl; marks = refl; live = refl }
+
+-- at the end of one
+said-over : (c : Call) (part : Part) → OfData part → (bits : List Bool) → IsSaid c part (part_after c part bits) (last_marks c part bits)
+said-over c part (commit k ks vs) bits = record { going = refl; marks = refl; live = refl }
+said-over c part (stamp k ks vs b) bits = said-stamp c (AsksStamp k ks vs b) ks _ refl
+said-over c part (image vs) bits = said-image c vs (store_read c bits)
+said-over c part (new_image vs st) bits = record { going = refl; marks = refl; live = refl }
+said-over c part (new_stamp vs st) bits = record { going = refl; marks = refl; live = refl }
+said-over c part (new_commit vs st) bits = record { going = refl; marks = refl; live = refl }
+
+unmarked : (part : Part) → OfData part → (fresh : Bool) → cond fresh (first_marks part) [] ≡ []
+unmarked part (commit k ks vs) true = refl
+unmarked part (stamp k ks vs b) true = refl
+unmarked part (image vs) true = refl
+unmarked part (new_image vs st) true = refl
+unmarked part (new_stamp vs st) true = refl
+unmarked part (new_commit vs st) true = refl
+unmarked part is false = refl
+
+said : (c : Call) (at : Place) (v : Bool) → OfData at.part → IsSaid c at.part (place_after c at v).part (marks_of c at v)
+said c at v is =
+    subst (IsSaid c at.part (place_after c at v).part) (sym (ap (λ (first : List Mark). first ++ cond (is_last c at.part at.run) (last_marks c at.part (bits_with at.run v)) []) (unmarked at.part is (is_fresh at.run)))) (by is (is_last c at.part at.run))
+  where
+    by : OfData at.part → (b : Bool) →
+        let next : Place = cond b (enter c (part_after c at.part (bits_with at.run v))) (record { part = at.part; run = run_after c at.part at.run v }) in
+        IsSaid c at.part next.part (cond b (last_marks c at.part (bits_with at.run v)) [])
+    by is true = said-over c at.part is (bits_with at.run v)
+    by is false = said-within c at.part is
+
+-- a section that goes is a process that does
+going-by : (d : Doing) → goes d ≡ true → may_step d ≡ true
+going-by Rests going = absurd (cc)
+going-by Lies going = absurd (cc)
+going-by (Runs command number at) going = refl
+going-by (Closes command number at) going = absurd (cc)
+
+-- what is told of its step
+pub record IsTold (now : ProcessState) (flick v : Bool) : Type 0 where
+  pub going : is_going (stepped now flick v) ≡ goes_on (progress_on now (stepped now flick v))
+  pub marks : marks_told (progress_on now (stepped now flick v)) ≡ marks_on now flick v
+
+told-by : (now : ProcessState) (d : Doing) (flick v : Bool) → goes d ≡ true → IsTold (record now { doing = d }) flick v
+told-by now Rests flick v going = absurd (cc)
+told-by now Lies flick v going = absurd (cc)
+told-by now (Closes command number at) flick v going = absurd (cc)
+told-by now (Runs command number at) flick v going =
+    let c : Call = call now.setup now.process command number in
+    let s = said c at v (of-data at.part going) in
+    let runs-on : runs command number (place_after c at v) ≡ Runs command number (place_after c at v) = ap (λ b. cond b Rests (Runs command number (place_after c at v))) s.live in
+    let before : ProcessState = record now { doing = Runs command number at } in
+    record {
+      going = subst (λ d. goes d ≡ goes_on (progress_on before (record now { doing = d }))) (sym runs-on) s.going;
+      marks = subst (λ d. marks_told (progress_on before (record now { doing = d })) ≡ marks_of c at v) (sym runs-on) s.marks;
+    }
+
+pub told : (now : ProcessState) (flick v : Bool) → is_going now ≡ true → IsTold now flick v
+told now flick v going = told-by now now.doing flick v going
+
+-- as the code finds it
+pub told-is : {changes : ℕ} {a : Option Answer} {writes : Bool} (now place then : ProcessState) (flick v : Bool) → place ≡ now → then ≡ stepped now flick v → changes ≡ changes_read place.doing → a ≡ answer_of then.doing → writes ≡ is_some (change_of then.setup then.process then.doing) →
+    told_at changes a writes ≡ progress_on now (stepped now flick v)
+told-is now place then flick v same goes changes a writes =
+    (λ i. told_at (changes i) (a i) (writes i))
+    ∙ (λ i. told_at (changes_read (same i).doing) (answer_of (goes i).doing) (is_some (change_of (goes i).setup (goes i).process (goes i).doing)))
+
+-- ITS ACCESSES ARE TO DATA
+
+stamp-data : (b : Bool) → is_data (stamp_field b) ≡ true
+stamp-data true = refl
+stamp-data false = refl
+
+image-data : (b : Bool) → is_data (image_field b) ≡ true
+image-data true = refl
+image-data false = refl
+
+register-data : (c : Call) (part : Part) → OfData part → is_data (register_at c part).1 ≡ true
+register-data c part (commit k ks vs) = refl
+register-data c part (stamp k ks vs b) = stamp-data b
+register-data c part (image vs) = image-data _
+register-data c part (new_image vs st) = image-data _
+register-data c part (new_stamp vs st) = stamp-data _
+register-data c part (new_commit vs st) = refl
+
+data-by : (s : Setup) (p : ℕ) (d : Doing) (a : Access) → goes d ≡ true → IsOfRegister s p d a → is_data a.field ≡ true
+data-by s p Rests a going of = absurd (cc)
+data-by s p Lies a going of = absurd (cc)
+data-by s p (Closes command number at) a going of = absurd (cc)
+data-by s p (Runs command number at) a going of = ap (λ (register : ℕ × Field). is_data register.1) of ∙ register-data (call s p command number) at.part (of-data at.part going)
+
+pub in-range : (now : ProcessState) (a : Access) → is_going now ≡ true → IsThere now.setup a → IsOfRegister now.setup now.process now.doing a → IsInRange now.setup a
+in-range now a going there of = record { owner = there.owner; field = data-by now.setup now.process now.doing a going of; bit = there.bit; reader = there.reader }

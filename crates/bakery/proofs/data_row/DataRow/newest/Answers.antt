@@ -1,0 +1,105 @@
+use Rattle.std.proofs.Common.{◌≡◌, ℕ, ◌*◌, ◌<◌, refl, List, [], ◌∷◌, ◌++◌, length, map, take, sym, ap, ◌∙◌, subst, arith}
+use Rattle.std.specs.List.{range_with_len}
+use Rattle.store_image.specs.Reading.{store_in}
+use Rattle.plain_store.specs.Setups.{callers_of}
+use Rattle.plain_store.specs.Store.{Contents}
+use Rattle.record.specs.Program.{Version, image_field}
+use Rattle.record.specs.Registers.{image_bytes, bytes_of_bits}
+use Rattle.record.specs.declared.access.Field.TheVariants.{Commit, Stamp0, Stamp1, Image0, Image1}
+use Rattle.bakery.specs.Newest.{IsReadable, values_of, version_in, version_held, newest_of}
+use Rattle.bakery.specs.Registers.{Data, DataRow, data_of, register_of}
+use Rattle.bakery.specs.declared.newest.Newest.{Newest}
+use Rattle.bakery.proofs.Committed.{part-is, readable, values-wide, versions-more, many-versions, newest-inside}
+use Rattle.bakery.proofs.Widths.{ranges}
+use Rattle.bakery.proofs.data_row.DataRow.newest.Goals as goal
+
+pub version-commit-requires-clause-commit : goal.version-commit-requires-clause-commit
+version-commit-requires-clause-commit c =
+    let row : DataRow = c.args.self.now in
+    let inside : c.loop-process.process < row.setup.processes = omega (arith, c.loop-process-test.true, ap (λ (r : DataRow). r.setup.processes) c.self.view_is) in
+    let part = part-is row c.self.inside.setup c.self.inside.parts.items c.index.result.now c.from.result c.loop-process.process c.self.view_is c.index.ensures c.from.ensures (omega (arith, inside, c.requires.fits.parts)) in
+    subst (λ (d : Data). IsReadable d.commit 1) (sym part) (readable row.setup row c.loop-process.process Commit c.requires.fits c.requires.quiet inside refl)
+
+pub version-commit-requires-clause-stamp0 : goal.version-commit-requires-clause-stamp0
+version-commit-requires-clause-stamp0 c =
+    let row : DataRow = c.args.self.now in
+    let inside : c.loop-process.process < row.setup.processes = omega (arith, c.loop-process-test.true, ap (λ (r : DataRow). r.setup.processes) c.self.view_is) in
+    let part = part-is row c.self.inside.setup c.self.inside.parts.items c.index.result.now c.from.result c.loop-process.process c.self.view_is c.index.ensures c.from.ensures (omega (arith, inside, c.requires.fits.parts)) in
+    subst (λ n. IsReadable c.index.result.now.stamp0 n) (ap (λ (r : DataRow). r.setup.stamp_bits) (sym c.self.view_is)) (subst (λ (d : Data). IsReadable d.stamp0 row.setup.stamp_bits) (sym part) (readable row.setup row c.loop-process.process Stamp0 c.requires.fits c.requires.quiet inside refl))
+
+pub version-commit-requires-clause-stamp1 : goal.version-commit-requires-clause-stamp1
+version-commit-requires-clause-stamp1 c =
+    let row : DataRow = c.args.self.now in
+    let inside : c.loop-process.process < row.setup.processes = omega (arith, c.loop-process-test.true, ap (λ (r : DataRow). r.setup.processes) c.self.view_is) in
+    let part = part-is row c.self.inside.setup c.self.inside.parts.items c.index.result.now c.from.result c.loop-process.process c.self.view_is c.index.ensures c.from.ensures (omega (arith, inside, c.requires.fits.parts)) in
+    subst (λ n. IsReadable c.index.result.now.stamp1 n) (ap (λ (r : DataRow). r.setup.stamp_bits) (sym c.self.view_is)) (subst (λ (d : Data). IsReadable d.stamp1 row.setup.stamp_bits) (sym part) (readable row.setup row c.loop-process.process Stamp1 c.requires.fits c.requires.quiet inside refl))
+
+pub version-commit-requires-clause-width0 : goal.version-commit-requires-clause-width0
+version-commit-requires-clause-width0 c =
+    let row : DataRow = c.args.self.now in
+    let inside : c.loop-process.process < row.setup.processes = omega (arith, c.loop-process-test.true, ap (λ (r : DataRow). r.setup.processes) c.self.view_is) in
+    let part = part-is row c.self.inside.setup c.self.inside.parts.items c.index.result.now c.from.result c.loop-process.process c.self.view_is c.index.ensures c.from.ensures (omega (arith, inside, c.requires.fits.parts)) in
+    ap (λ (d : Data). length (values_of d.stamp0)) part ∙ values-wide row.setup row c.loop-process.process Stamp0 c.requires.fits inside refl ∙ ap (λ (r : DataRow). r.setup.stamp_bits) (sym c.self.view_is)
+
+pub version-commit-requires-clause-width1 : goal.version-commit-requires-clause-width1
+version-commit-requires-clause-width1 c =
+    let row : DataRow = c.args.self.now in
+    let inside : c.loop-process.process < row.setup.processes = omega (arith, c.loop-process-test.true, ap (λ (r : DataRow). r.setup.processes) c.self.view_is) in
+    let part = part-is row c.self.inside.setup c.self.inside.parts.items c.index.result.now c.from.result c.loop-process.process c.self.view_is c.index.ensures c.from.ensures (omega (arith, inside, c.requires.fits.parts)) in
+    ap (λ (d : Data). length (values_of d.stamp1)) part ∙ values-wide row.setup row c.loop-process.process Stamp1 c.requires.fits inside refl ∙ ap (λ (r : DataRow). r.setup.stamp_bits) (sym c.self.view_is)
+
+pub loop-process-preserved : goal.loop-process-preserved
+loop-process-preserved c =
+    let row : DataRow = c.args.self.now in
+    let p : ℕ = c.loop-process.process in
+    let inside : p < row.setup.processes = omega (arith, c.loop-process-test.true, ap (λ (r : DataRow). r.setup.processes) c.self.view_is) in
+    let part = part-is row c.self.inside.setup c.self.inside.parts.items c.index.result.now c.from.result p c.self.view_is c.index.ensures c.from.ensures (omega (arith, inside, c.requires.fits.parts)) in
+    let versions : List Version = map (version_in row) (range_with_len 0 p) in
+    c.with-newest.ensures.newest versions (many-versions row p) c.loop-process.invariant
+    ∙ ap (λ (v : Version). newest_of (versions ++ v ∷ [])) (c.version-commit.ensures ∙ ap version_held part)
+    ∙ ap newest_of (sym (versions-more row p))
+
+pub index-requires-2 : goal.index-requires-2
+index-requires-2 c =
+    let row : DataRow = c.args.self.now in
+    let all : c.loop-process.process ≡ row.setup.processes = omega (arith, c.loop-process-test.false, c.loop-process.auto.process-end, ap (λ (r : DataRow). r.setup.processes) c.self.view_is) in
+    let some = (ranges c.self.inside.setup c.self.invariant).some_processes in
+    omega (arith, newest-inside row c.loop-process.process (omega (arith, c.loop-process-test.false, some)), ap (λ (n : Newest). n.process) c.loop-process.invariant, c.from-2.ensures, all, c.requires.fits.parts, ap (λ (r : DataRow). length r.parts) c.self.view_is, c.self.inside.parts.ok.0)
+
+pub image-bytes-requires-clause-image0 : goal.image-bytes-requires-clause-image0
+image-bytes-requires-clause-image0 c =
+    let row : DataRow = c.args.self.now in
+    let q : ℕ = c.loop-process.newest.process in
+    let all : c.loop-process.process ≡ row.setup.processes = omega (arith, c.loop-process-test.false, c.loop-process.auto.process-end, ap (λ (r : DataRow). r.setup.processes) c.self.view_is) in
+    let some = (ranges c.self.inside.setup c.self.invariant).some_processes in
+    let inside : q < row.setup.processes = omega (arith, newest-inside row c.loop-process.process (omega (arith, c.loop-process-test.false, some)), ap (λ (n : Newest). n.process) c.loop-process.invariant, all) in
+    let part = part-is row c.self.inside.setup c.self.inside.parts.items c.index-2.result.now c.from-2.result q c.self.view_is c.index-2.ensures c.from-2.ensures (omega (arith, inside, c.requires.fits.parts)) in
+    let count : c.image_bytes-count.result ≡ image_bytes row.setup = c.image_bytes-count.ensures.bytes ∙ ap (λ (r : DataRow). image_bytes r.setup) c.self.view_is in
+    subst (λ n. IsReadable c.index-2.result.now.image0 (8 * n)) (sym count) (subst (λ (d : Data). IsReadable d.image0 (8 * image_bytes row.setup)) (sym part) (readable row.setup row q Image0 c.requires.fits c.requires.quiet inside refl))
+
+pub image-bytes-requires-clause-image1 : goal.image-bytes-requires-clause-image1
+image-bytes-requires-clause-image1 c =
+    let row : DataRow = c.args.self.now in
+    let q : ℕ = c.loop-process.newest.process in
+    let all : c.loop-process.process ≡ row.setup.processes = omega (arith, c.loop-process-test.false, c.loop-process.auto.process-end, ap (λ (r : DataRow). r.setup.processes) c.self.view_is) in
+    let some = (ranges c.self.inside.setup c.self.invariant).some_processes in
+    let inside : q < row.setup.processes = omega (arith, newest-inside row c.loop-process.process (omega (arith, c.loop-process-test.false, some)), ap (λ (n : Newest). n.process) c.loop-process.invariant, all) in
+    let part = part-is row c.self.inside.setup c.self.inside.parts.items c.index-2.result.now c.from-2.result q c.self.view_is c.index-2.ensures c.from-2.ensures (omega (arith, inside, c.requires.fits.parts)) in
+    let count : c.image_bytes-count.result ≡ image_bytes row.setup = c.image_bytes-count.ensures.bytes ∙ ap (λ (r : DataRow). image_bytes r.setup) c.self.view_is in
+    subst (λ n. IsReadable c.index-2.result.now.image1 (8 * n)) (sym count) (subst (λ (d : Data). IsReadable d.image1 (8 * image_bytes row.setup)) (sym part) (readable row.setup row q Image1 c.requires.fits c.requires.quiet inside refl))
+
+pub returns : goal.returns
+returns c =
+    let row : DataRow = c.args.self.now in
+    let q : ℕ = c.loop-process.newest.process in
+    let all : c.loop-process.process ≡ row.setup.processes = omega (arith, c.loop-process-test.false, c.loop-process.auto.process-end, ap (λ (r : DataRow). r.setup.processes) c.self.view_is) in
+    let some = (ranges c.self.inside.setup c.self.invariant).some_processes in
+    let inside : q < row.setup.processes = omega (arith, newest-inside row c.loop-process.process (omega (arith, c.loop-process-test.false, some)), ap (λ (n : Newest). n.process) c.loop-process.invariant, all) in
+    let part = part-is row c.self.inside.setup c.self.inside.parts.items c.index-2.result.now c.from-2.result q c.self.view_is c.index-2.ensures c.from-2.ensures (omega (arith, inside, c.requires.fits.parts)) in
+    let count : c.image_bytes-count.result ≡ image_bytes row.setup = c.image_bytes-count.ensures.bytes ∙ ap (λ (r : DataRow). image_bytes r.setup) c.self.view_is in
+    let newest = c.loop-process.invariant ∙ ap (λ n. newest_of (map (version_in row) (range_with_len 0 n))) all in
+    let store : List ℕ → Contents = store_in row.setup.slots (callers_of row.setup) in
+    c.image_in.ensures.store
+    ∙ (λ i. store_in (c.self.view_is i).setup.slots (callers_of (c.self.view_is i).setup) (take (c.from-3.ensures i) c.image-bytes.result))
+    ∙ ap store (c.image-bytes.ensures.bytes ∙ (λ i. bytes_of_bits (count i) (values_of (register_of (part i) (image_field c.loop-process.newest.commit)))))
+    ∙ ap (λ (n : Newest). store (bytes_of_bits (image_bytes row.setup) (values_of (register_of (data_of row n.process) (image_field n.commit))))) newest

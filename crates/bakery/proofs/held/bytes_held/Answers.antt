@@ -1,0 +1,22 @@
+use Rattle.std.proofs.Common.{ℕ, ◌+◌, ◌*◌, ◌++◌, ◌∷◌, [], take, drop, set, sym, ap, ◌∙◌, arith}
+use Rattle.std.proofs.lemmas.List.{take_more_set, length-set}
+use Rattle.record.specs.Registers.{bytes_of_bits}
+use Rattle.bakery.specs.Newest.{values_of}
+use Rattle.bakery.proofs.Holdings.{bytes-more, number-below}
+use Rattle.bakery.proofs.held.bytes_held.Goals as goal
+
+pub overflow_cast-bytes : goal.overflow_cast-bytes
+overflow_cast-bytes c = omega (arith, c.number_held.ensures, number-below (drop (8 * c.loop-k.k) (values_of c.args.register.now)) 8)
+
+pub loop-k-preserved : goal.loop-k-preserved
+loop-k-preserved c =
+    let l = c.loop-k in
+    let values = values_of c.args.register.now in
+    let byte : ℕ = c.number_held.result in (
+      ap (λ i. take (l.k + 1) (set l.bytes i byte)) c.from.ensures
+          ∙ take_more_set l.bytes l.k byte (omega (arith, l.invariant.1, c.loop-k-test.true, c.requires.few))
+          ∙ ap (λ xs. xs ++ byte ∷ []) l.invariant.0
+          ∙ ap (λ b. bytes_of_bits l.k values ++ b ∷ []) c.number_held.ensures
+          ∙ sym (bytes-more l.k values),
+      omega (arith, length-set {A = ℕ}, l.invariant.1),
+    )

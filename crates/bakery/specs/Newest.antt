@@ -1,0 +1,73 @@
+-- The committed store with the greatest stamp, off the registers.
+use Rattle.std.specs.Prelude.{◌≡◌, ℕ, ◌*◌, ◌<◌, ◌≤◌, Bool, false, List, [], ◌∷◌, ◌++◌, length, map, slice_index_or}
+use Rattle.reader_copies.specs.safe_bit.Cell.{Cell}
+use Rattle.reader_copies.specs.Row.{cell_at, HasCell}
+use Rattle.record.specs.declared.access.Field.{Field}
+use Rattle.safe_number.specs.Bytes.{IsBytesOf, number_of_bits}
+use Rattle.store_image.specs.Reading.{store_in}
+use Rattle.plain_store.specs.Setups.{callers_of}
+use Rattle.plain_store.specs.declared.Setup.{Setup}
+use Rattle.plain_store.specs.Store.{Contents}
+use Rattle.record.specs.Program.{Version, newest_stamp, newest_process, version_of, stamp_field, image_field}
+use Rattle.record.specs.Registers.{processes, image_bytes, bytes_of_bits}
+use Rattle.bakery.specs.declared.newest.Newest.{Newest}
+use Rattle.bakery.specs.Registers.{Data, DataRow, data_of, register_of, register_at}
+
+-- the store of the bits of an image; the empty one, if they are none
+abbrev pub store_of_bits : Setup → List Bool → Contents
+store_of_bits s bits = store_in s.slots (callers_of s) (bytes_of_bits (image_bytes s) bits)
+
+-- the store of all bits of an image whose bytes these are
+abbrev pub IsStoreOf : Setup → List ℕ → Contents → Type 0
+IsStoreOf s bytes store = (bits : List Bool) → length bits ≡ 8 * image_bytes s → IsBytesOf bits bytes → store ≡ store_of_bits s bits
+
+-- the newest of some versions: the greatest stamp, the lowest process that has it, and that process's commit bit
+abbrev pub newest_of : List Version → Newest
+newest_of versions = record { stamp = newest_stamp versions; process = newest_process versions; commit = version_of versions (newest_process versions) }
+
+-- the newest once the version of the next process is among them
+abbrev pub IsNewestWith : Newest → ℕ → Version → Newest → Type 0
+IsNewestWith newest process version then = (versions : List Version) → length versions ≡ process → newest ≡ newest_of versions → then ≡ newest_of (versions ++ version ∷ [])
+
+-- the bits of a register, by the copies of reader 0
+abbrev pub values_of : List (List Cell) → List Bool
+values_of register = map (λ c. c.value) (slice_index_or register 0 [])
+
+-- the bytes of the image that a commit bit chooses
+abbrev pub image_held : Data → Bool → ℕ → List ℕ
+image_held d commit count = bytes_of_bits count (values_of (register_of d (image_field commit)))
+
+-- the version that the registers of a process hold as committed
+abbrev pub version_held : Data → Version
+version_held d =
+    let commit = slice_index_or (values_of d.commit) 0 false in
+    (commit, number_of_bits (values_of (register_of d (stamp_field commit))))
+
+-- the version that a process has committed
+abbrev pub version_in : DataRow → ℕ → Version
+version_in row p = version_held (data_of row p)
+
+-- the versions of all processes
+abbrev pub versions_in : DataRow → List Version
+versions_in row = map (version_in row) (processes row.setup)
+
+-- the bits of the committed image with the greatest stamp, of the lowest process on a tie
+abbrev pub newest_bits : DataRow → List Bool
+newest_bits row =
+    let versions = versions_in row in
+    let newest = newest_process versions in
+    values_of (register_at row newest (image_field (version_of versions newest)))
+
+-- the store whose image it is; the empty one, if it is none
+abbrev pub newest_store : DataRow → Contents
+newest_store row = store_of_bits row.setup (newest_bits row)
+
+-- no write of a copy of reader 0 is open
+pub record IsQuiet (row : DataRow) : Type 0 where
+  pub closed : (p : ℕ) (field : Field) (bit : ℕ) → HasCell (register_at row p field) bit 0 → (cell_at (register_at row p field) bit 0).writing ≡ false
+
+-- reader 0 has so many bits of the register at least, and no write of its copies is open
+pub record IsReadable (register : List (List Cell)) (n : ℕ) : Type 0 where
+  pub reader : 0 < length register
+  pub wide : n ≤ length (slice_index_or register 0 [])
+  pub closed : (k : ℕ) → HasCell register k 0 → (cell_at register k 0).writing ≡ false

@@ -1,0 +1,72 @@
+-- A process inside the critical section: parts E to G of its call, and what is told of each access.
+use Rattle.std.specs.Prelude.{◌≡◌, ◌<◌, ℕ, Bool, true, false, cond, List, [], ◌∷◌, Option, None, Some, is_some}
+use Rattle.plain_store.specs.declared.Answer.{Answer}
+use Rattle.plain_store.specs.declared.Answer.TheVariants as answer
+use Rattle.plain_store.specs.declared.Setup.{Setup}
+use Rattle.record.specs.declared.access.Access.{Access}
+use Rattle.record.specs.declared.marks.Mark.{Mark}
+use Rattle.record.specs.declared.marks.Mark.TheVariants as mark
+use Rattle.record.specs.Parts.{Part, AsksCommit, AsksStamp, AsksImage, WritesImage, WritesStamp, WritesCommit}
+use Rattle.record.specs.Registers.{width}
+use Rattle.process.specs.laws.Doings.{Doing, Runs}
+use Rattle.process.specs.laws.Steps.{reads_of}
+use Rattle.process.specs.Alone.{answer_of, change_of}
+use Rattle.process.specs.Places.{ProcessState, changes_read}
+use Rattle.bakery.specs.declared.section_progress.SectionProgress.{SectionProgress}
+use Rattle.bakery.specs.declared.section_progress.SectionProgress.TheVariants as told
+use Rattle.bakery.specs.Registers.{DataRow, is_data, without_reads_at}
+
+-- a part from E to G
+abbrev pub is_of_data : Part → Bool
+is_of_data (AsksCommit k ks vs) = true
+is_of_data (AsksStamp k ks vs b) = true
+is_of_data (AsksImage vs) = true
+is_of_data (WritesImage vs st) = true
+is_of_data (WritesStamp vs st) = true
+is_of_data (WritesCommit vs st) = true
+is_of_data _ = false
+
+-- an access is left to be made
+abbrev pub goes : Doing → Bool
+goes (Runs command number at) = is_of_data at.part
+goes _ = false
+
+abbrev pub is_going : ProcessState → Bool
+is_going section = goes section.doing
+
+-- an access of a process to the registers of a setup
+pub record IsInRange (s : Setup) (a : Access) : Type 0 where
+  pub owner : a.owner < s.processes
+  pub field : is_data a.field ≡ true
+  pub bit : a.bit < width s a.field
+  pub reader : a.reader < s.processes
+
+-- the row without the section's open read, if it has one
+abbrev pub dropped : ProcessState → DataRow → DataRow
+dropped section row = elim (reads_of section.setup section.process section.doing) [
+  | None ↦ row
+  | Some register ↦ cond (is_data register.1) (without_reads_at row register.0 register.1 section.process) row
+]
+
+-- WHAT AN ACCESS LEADS TO
+
+-- by the answer that the call has come to, and by whether it writes a change; before the access so many changes were read
+abbrev pub told_at : (changes : ℕ) → Option Answer → (writes : Bool) → SectionProgress
+told_at changes None true = told.Writing
+told_at changes None false = told.Reading
+told_at changes (Some (answer.Reply reply)) writes = told.Taken reply changes
+told_at changes (Some _) writes = told.NoStamp
+
+abbrev pub progress_on : ProcessState → ProcessState → SectionProgress
+progress_on section then = told_at (changes_read section.doing) (answer_of then.doing) (is_some (change_of then.setup then.process then.doing))
+
+-- an access is left after this was told
+abbrev pub goes_on : SectionProgress → Bool
+goes_on told.Reading = true
+goes_on told.Writing = true
+goes_on _ = false
+
+-- the marks of an access with which this is told; the place in the history is left open here, as 0
+abbrev pub marks_told : SectionProgress → List Mark
+marks_told (told.Taken reply changes) = mark.Taken 0 reply ∷ []
+marks_told _ = []

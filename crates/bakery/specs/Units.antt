@@ -1,0 +1,63 @@
+-- The memory unit: what remains of its work; and that its accesses are those of any closing of the failure rule.
+use Rattle.std.specs.Prelude.{◌≡◌, ℕ, Bool, false, cond, List, [], ◌∷◌, Option, None, Some, option_map}
+use Rattle.reader_copies.specs.Runs.{settled_at}
+use Rattle.record.specs.declared.access.Access.{Access}
+use Rattle.record.specs.declared.access.TornBit.{TornBit}
+use Rattle.plain_store.specs.declared.Command.TheVariants.{Ask}
+use Rattle.plain_store.specs.declared.Setup.{Setup}
+use Rattle.record.specs.declared.Mark.{Mark}
+use Rattle.record.specs.declared.Mark.TheVariants as mark
+use Rattle.record.specs.Closings.{Closing, Settles, Frees, Lowers, closing_next, closing_after, settled_marks}
+use Rattle.record.specs.Cuts.{Change}
+use Rattle.record.specs.Failures.{cut}
+use Rattle.record.specs.Scripts.{Call, Next}
+use Rattle.process.specs.laws.Doings.{Doing, Closes, Lies, is_inside_closing}
+use Rattle.process.specs.Alone.{settles}
+use Rattle.process.specs.Places.{ProcessState, may_step}
+use Rattle.bakery.specs.declared.unit_progress.UnitProgress.{UnitProgress}
+use Rattle.bakery.specs.declared.unit_progress.UnitProgress.TheVariants as progress
+
+-- what remains
+abbrev pub remains : Doing → UnitProgress
+remains d = cond (settles d) progress.Settling (cond (may_step d) progress.Clearing progress.Down)
+
+-- ANY CLOSING
+
+-- what the unit does at a closing: whether its process is inside, and which command is taken, makes no difference here
+abbrev pub work_at : Closing → Doing
+work_at (Settles field bit begun taken inside t) = Closes Ask 0 (Settles field bit false None false t)
+work_at (Frees inside w) = Closes Ask 0 (Frees false w)
+work_at (Lowers w) = Closes Ask 0 (Lowers w)
+work_at _ = Lies
+
+-- the unit at a closing of this call
+abbrev pub unit_at : Call → Closing → ProcessState
+unit_at c at = record { setup = c.setup; process = c.process; doing = work_at at; command = Ask; number = 0 }
+
+-- the closing of each call of the process that was cut with this torn bit begins there
+abbrev pub BeginsClosings : Setup → ℕ → Option TornBit → ProcessState → Type 0
+BeginsClosings s p torn u = (c : Call) (begun : Bool) (pending : Option Change) (inside : Bool) → c.setup ≡ s → c.process ≡ p → u ≡ unit_at c (cut c torn begun pending inside)
+
+-- the next access at a flick
+abbrev pub IsNextOfClosing : ProcessState → Bool → Access → Type 0
+IsNextOfClosing u flick access = (c : Call) (at : Closing) → u ≡ unit_at c at → option_map (λ (n : Next). n.access) (closing_next c at flick) ≡ Some access
+
+-- the closing goes on by it
+abbrev pub ClosingGoesOn : ProcessState → Bool → ProcessState → Type 0
+ClosingGoesOn u flick then = (c : Call) (at : Closing) → u ≡ unit_at c at → then ≡ unit_at c (closing_after c at flick)
+
+-- the marks on the last access of a settling
+abbrev pub settled_by : Closing → Bool → List Mark
+settled_by (Settles field bit begun taken inside t) flick = settled_marks begun taken (settled_at t flick)
+settled_by _ flick = []
+
+-- the marks of an access, by what remained before it and what remains after it
+abbrev pub marks_told : Closing → Bool → UnitProgress → UnitProgress → List Mark
+marks_told at flick progress.Settling progress.Clearing = settled_by at flick
+marks_told at flick progress.Clearing progress.Clearing = cond (is_inside_closing at) (mark.Left ∷ []) []
+marks_told at flick progress.Clearing progress.Down = mark.Down ∷ []
+marks_told at flick _ _ = []
+
+-- what remains after it tells its marks
+abbrev pub MarksOfClosing : ProcessState → Bool → UnitProgress → Type 0
+MarksOfClosing u flick then = (c : Call) (at : Closing) → u ≡ unit_at c at → option_map (λ (n : Next). n.marks) (closing_next c at flick) ≡ Some (marks_told at flick (remains u.doing) then)

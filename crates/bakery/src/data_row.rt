@@ -1,0 +1,122 @@
+ghost use Rattle.std.specs.Prelude.{◌≡◌, ◌<◌, IfOk, Ok, length};
+ghost use Rattle.plain_store.specs.Setups.{checked};
+ghost use Rattle.bakery.specs.Newest.{newest_store, IsQuiet};
+ghost use Rattle.bakery.specs.Registers.{data_of, register_at, row_from, opening_cell, after_access, answered, without_reads_at, HasCopy, MayMake, FitsSetup};
+
+use crate::data::Data;
+use crate::newest::Newest;
+use crate::{held, image};
+use plain_store::Setup;
+use reader_copies::{Made, Move};
+use record::{Access, Field};
+use std::alloc::{AllocError, Global};
+use std::marker::Model;
+use store_image::Image;
+
+/// The registers of the store's versions, of all processes of a setup.
+#[derive(Drop)]
+pub struct DataRow {
+    setup: Setup,
+    parts: Vec<Data>,
+}
+
+impl Model for DataRow {
+    ghost use Rattle.std.specs.Prelude.{◌≡◌, Ok};
+    ghost use Rattle.plain_store.specs.Setups.{checked};
+    ghost use Rattle.bakery.specs.Registers.{DataRow as Seen};
+
+    ghost Value = { Seen };
+
+    ghost view = { λ r. record { setup = r.setup; parts = r.parts.items } };
+
+    ghost invariant = { λ r. checked r.setup ≡ Ok tt };
+}
+
+impl DataRow {
+    ghost use Rattle.std.specs.Borrow.{sem};
+    ghost use Rattle.bakery.specs.Lending.{LendsPart};
+
+    /// The registers as they open: the first image of process 0 has the image of the opening store, and all
+    /// else is 0. The one fault is want of memory.
+    pub fn new(alloc: Global, setup: &Setup) -> Result<DataRow, AllocError>
+        requires { checked setup.now ≡ Ok tt }
+        ensures { IfOk result (λ row. row ≡ row_from (opening_cell setup.now) setup.now) }
+    {
+        let mut parts = Vec::new(alloc);
+        for process in 0..setup.processes {
+            parts.push(Data::open(alloc, setup, process)?)?;
+        }
+        Ok(DataRow {
+            setup: *setup,
+            parts,
+        })
+    }
+
+    /// The part of one process. The parts of the others stay as they are.
+    pub fn own(&mut self, process: u8) -> &mut Data
+        requires { process < length self.old.parts }
+        ensures part { result.now ≡ data_of self.old process }
+        ensures* lent { sem 𝓛 (LendsPart self.entry process result) }
+    {
+        &mut self.parts[usize::from(process)]
+    }
+
+    /// The store whose image the registers hold as committed, with the greatest stamp, of the lowest process
+    /// on a tie. They are read off as reader 0 has them, and no access is made. The empty store stands in
+    /// place of bytes that are no image.
+    pub fn newest(&self) -> Image
+        requires fits { FitsSetup self.now.setup self.now }
+        requires quiet { IsQuiet self.now }
+        ensures { result ≡ newest_store self.now }
+    {
+        let mut newest = Newest::none();
+        for process in 0..self.setup.processes {
+            let (commit, stamp) = self.parts[usize::from(process)].version(self.setup.stamp_bits);
+            newest = newest.with(process, commit, stamp);
+        }
+        let count = image::image_bytes(&self.setup);
+        let bytes = self.parts[usize::from(newest.process)].image(newest.commit, count);
+        image::image_in(&self.setup, &bytes[..usize::from(count)])
+    }
+
+    /// The access, a read's end with what the reader's copy answers.
+    #[inline(always)]
+    pub fn answered(&self, access: Access, flick: bool) -> Access
+        requires { HasCopy self.now access }
+        ensures { result ≡ answered self.now flick access }
+    {
+        match access.how {
+            Move::EndRead(_) => {
+                let part = &self.parts[usize::from(access.owner)];
+                let value = part.answer(access.field, access.bit, access.reader, flick);
+                Access {
+                    how: Move::EndRead(value),
+                    ..access
+                }
+            }
+            _ => access,
+        }
+    }
+
+    /// Makes one access, in its turn.
+    #[inline(always)]
+    pub fn apply(&mut self, access: Access)
+        requires { MayMake self.old access }
+        ensures { self.new ≡ after_access self.old access }
+    {
+        let made = Made {
+            reader: access.reader,
+            how: access.how,
+        };
+        self.parts[usize::from(access.owner)].apply(access.field, access.bit, made);
+    }
+
+    /// Drops the open read that a reader has of a register of a process.
+    pub fn drop_read(&mut self, owner: u8, field: Field, reader: u8)
+        requires owner { owner < length self.old.parts }
+        requires reader { reader < length (register_at self.old owner field) }
+        ensures { self.new ≡ without_reads_at self.old owner field reader }
+    {
+        self.own(owner).register(field).drop_read(reader);
+    }
+}

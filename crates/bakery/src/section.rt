@@ -1,0 +1,153 @@
+ghost use Rattle.std.specs.Prelude.{◌≡◌, ◌<◌, IfOk, IfSome, IsOk, Ok, [], false, true};
+ghost use Rattle.plain_store.specs.Setups.{checked};
+ghost use Rattle.record.specs.Cuts.{IsTornOf};
+ghost use Rattle.record.specs.Moves.{ended_with};
+ghost use Rattle.record.specs.Places.{value_of};
+ghost use Rattle.process.specs.Alone.{called_inside, change_of, torn_of};
+ghost use Rattle.process.specs.Places.{marks_on, process_after, restarted, stepped};
+ghost use Rattle.process.specs.Serving.{next_at};
+ghost use Rattle.bakery.specs.Registers.{after_access, answered, is_data, FitsSetup, MayMake};
+ghost use Rattle.bakery.specs.Sections.{dropped, goes_on, is_going, marks_told, progress_on, IsInRange};
+
+use crate::data_row::DataRow;
+use crate::section_progress::SectionProgress;
+use plain_store::{Command, Reply, Setup};
+use process::{Process, given};
+use record::{Access, Field, Move, TornBit};
+use std::alloc::{AllocError, Global};
+use std::marker::Model;
+
+/// A process inside the critical section.
+///
+/// It reads each process's commit bit and the stamp that it chooses, then the image with the greatest stamp,
+/// of the lowest process on a tie. A command that changes the store that was read writes the store after it
+/// over the version that its process has not committed: the image, the stamp after the greatest one, and at
+/// last the commit bit.
+///
+/// It is a process whose call has come inside. It takes no memory.
+#[derive(Drop)]
+pub struct Section {
+    place: Process,
+}
+
+impl Model for Section {
+    ghost use Rattle.process.specs.Places.{ProcessState};
+
+    ghost Value = { ProcessState };
+
+    ghost view = { λ s. s.place };
+}
+
+impl Section {
+    /// The section of a process, which has not started. It takes no memory.
+    pub fn new(_alloc: Global, process: u8, setup: &Setup) -> Result<Section, AllocError>
+        requires good { checked setup.now ≡ Ok tt }
+        requires process { process < setup.now.processes }
+        ensures section { IfOk result (λ section. section ≡ process_after setup.now [] process) }
+        ensures never { IsOk result }
+    {
+        Ok(Section {
+            place: Process::new(process, setup),
+        })
+    }
+
+    /// Begins with a command of a call of this number, once its process is inside. The number is 0 in
+    /// version 1.
+    pub fn start(&mut self, command: Command, number: u16)
+        ensures section { self.new ≡ called_inside self.old command number }
+        ensures going { is_going self.new ≡ true }
+    {
+        self.place.call_inside(command, number);
+    }
+
+    /// The next access: the process's local program, parts E to G. The end of a read gives `value`.
+    #[inline]
+    pub fn next(&self, value: bool) -> Access
+        requires going { is_going self.now ≡ true }
+        ensures access { result ≡ ended_with value (next_at self.now false) }
+        ensures in_range { IsInRange self.now.setup result }
+    {
+        let access = self.place.next(false);
+        match access.how {
+            Move::EndRead(_) => Access {
+                how: Move::EndRead(value),
+                ..access
+            },
+            _ => access,
+        }
+    }
+
+    /// Goes on by that access. The end of a read keeps `value`; with any other access it is not looked at.
+    #[inline]
+    pub fn advance(&mut self, value: bool) -> SectionProgress
+        requires going { is_going self.old ≡ true }
+        ensures section { self.new ≡ stepped self.old false value }
+        ensures progress { result ≡ progress_on self.old self.new }
+        ensures marks { marks_told result ≡ marks_on self.old false value }
+        ensures going { is_going self.new ≡ goes_on result }
+    {
+        let changes = self.place.changes_read();
+        let _told = self.place.advance(false, value);
+        SectionProgress::at(changes, self.place.answer(), self.place.pending().is_some())
+    }
+
+    /// Makes the next access on the registers, and goes on by it. The end of a read gives `flick` if a write
+    /// of the copy was open at some time during it.
+    #[inline]
+    pub fn step(&mut self, row: &mut DataRow, flick: bool) -> (Access, SectionProgress)
+        requires going { is_going self.old ≡ true }
+        requires turn { MayMake row.old (answered row.old flick (next_at self.old false)) }
+        ensures access { result.0 ≡ answered row.old flick (next_at self.old false) }
+        ensures registers { row.new ≡ after_access row.old result.0 }
+        ensures section { self.new ≡ stepped self.old false (value_of result.0.how) }
+        ensures progress { result.1 ≡ progress_on self.old self.new }
+        ensures marks { marks_told result.1 ≡ marks_on self.old false (value_of result.0.how) }
+        ensures going { is_going self.new ≡ goes_on result.1 }
+    {
+        let access = row.answered(self.place.next(false), flick);
+        row.apply(access);
+        (access, self.advance(given(access.how)))
+    }
+
+    /// While a change is written: the reply, the greatest stamp that was read, and the new value of the commit
+    /// bit.
+    pub fn pending(&self) -> Option<(Reply, u32, bool)>
+        ensures { result ≡ change_of self.now.setup self.now.process self.now.doing }
+    {
+        self.place.pending()
+    }
+
+    /// The process has failed: its open read is dropped, and the bit whose write was cut is told, if there is
+    /// one. The section does nothing until it starts anew.
+    pub fn fail(&mut self, row: &mut DataRow) -> Option<TornBit>
+        requires { FitsSetup self.old.setup row.old }
+        ensures torn { result ≡ torn_of self.old.setup self.old.process self.old.doing }
+        ensures known { IfSome result (IsTornOf self.old.setup) }
+        ensures registers { row.new ≡ dropped self.old row.old }
+        ensures section { self.new ≡ restarted self.old }
+    {
+        let torn = self.place.torn();
+        self.drop_read(row);
+        self.place.restart();
+        torn
+    }
+
+    /// Drops its open read.
+    fn drop_read(&self, row: &mut DataRow)
+        requires { FitsSetup self.now.setup row.old }
+        ensures { row.new ≡ dropped self.now row.old }
+    {
+        if let Some((owner, field)) = self.place.reads() {
+            if is_data(field) {
+                row.drop_read(owner, field, self.place.process());
+            }
+        }
+    }
+}
+
+/// Whether a register is one of the store's versions.
+fn is_data(field: Field) -> bool
+    ensures { result ≡ is_data field }
+{
+    !matches!(field, Field::Choosing | Field::Ticket)
+}

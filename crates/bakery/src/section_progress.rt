@@ -1,0 +1,38 @@
+ghost use Rattle.std.specs.Prelude.{◌≡◌};
+ghost use Rattle.bakery.specs.Sections.{told_at};
+
+use plain_store::{Answer, Reply};
+
+/// What a section does next, told with each access.
+#[derive(Clone, Copy, Debug, PartialEq, Eq)]
+pub enum SectionProgress {
+    /// It reads the versions, or the newest image.
+    Reading,
+    /// It writes the change as its own version.
+    Writing,
+    /// It is over, and the command was taken with this access.
+    Taken {
+        /// The store's reply.
+        reply: Reply,
+        /// The greatest stamp that was read: how many changes were taken before the command.
+        changes: u32,
+    },
+    /// It is over: the command would change the store, and no greater stamp fits the stamp bits. Nothing was
+    /// written.
+    NoStamp,
+}
+
+impl SectionProgress {
+    /// What an access leads to, by the answer that the call has come to, and by whether it writes a change. Before the
+    /// access so many changes were read.
+    pub(crate) fn at(changes: u32, answer: Option<Answer>, writes: bool) -> SectionProgress
+        ensures { result ≡ told_at changes answer writes }
+    {
+        match answer {
+            Some(Answer::Reply(reply)) => SectionProgress::Taken { reply, changes },
+            Some(_) => SectionProgress::NoStamp,
+            None if writes => SectionProgress::Writing,
+            None => SectionProgress::Reading,
+        }
+    }
+}

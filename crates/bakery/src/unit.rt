@@ -1,0 +1,89 @@
+ghost use Rattle.std.specs.Prelude.{◌≡◌, ◌<◌, [], false, true, Ok, IfSome};
+ghost use Rattle.plain_store.specs.Setups.{checked};
+ghost use Rattle.record.specs.Cuts.{IsTornOf};
+ghost use Rattle.process.specs.Alone.{settling_with};
+ghost use Rattle.process.specs.Places.{may_step, process_after, stepped};
+ghost use Rattle.process.specs.Serving.{next_at};
+ghost use Rattle.bakery.specs.Locks.{lock_after};
+ghost use Rattle.bakery.specs.Memory.{CanAccess, versions_after};
+ghost use Rattle.bakery.specs.Units.{BeginsClosings, ClosingGoesOn, IsNextOfClosing, MarksOfClosing, remains};
+
+use crate::data::Data;
+use crate::lock::Lock;
+use crate::unit_progress::UnitProgress;
+use plain_store::Setup;
+use process::Process;
+use reader_copies::Made;
+use record::{Access, Field, TornBit};
+use std::marker::Model;
+
+/// The memory unit of a failed process. It settles the torn bit, if there is one: on each copy by begin and
+/// end of a write, and by a single `Settle` where the write was open, all at the flick of its first access.
+/// Then it writes 0 to the ticket, and at last 0 to the choosing bit; with that the process is down.
+///
+/// It is a process whose unit works. Whether the process was inside, and which command the settling may take, makes no
+/// difference there: contracts say of each step what it is in each closing of the failure rule at the same place.
+#[derive(Drop)]
+pub struct Unit {
+    place: Process,
+}
+
+impl Model for Unit {
+    ghost use Rattle.process.specs.Places.{ProcessState};
+
+    ghost Value = { ProcessState };
+
+    ghost view = { λ u. u.place };
+}
+
+impl Unit {
+    /// The unit of process `p`, of whose work nothing is made. `torn` is the bit that the failure has torn,
+    /// as `fail` told it.
+    pub fn start(p: u8, setup: &Setup, torn: Option<TornBit>) -> Unit
+        requires setup { checked setup.now ≡ Ok tt }
+        requires process { p < setup.now.processes }
+        requires torn { IfSome torn (λ t. IsTornOf setup.now t) }
+        ensures going { may_step result.doing ≡ true }
+        ensures unit { result ≡ settling_with (process_after setup.now [] p) torn }
+        ensures closings { BeginsClosings setup.now p torn result }
+    {
+        let mut place = Process::new(p, setup);
+        place.begin_unit(torn);
+        Unit { place }
+    }
+
+    /// Makes the next access on the registers of the process, and goes on by it. Answers the access, and what
+    /// remains. All copies of the torn bit are settled at the flick of the first access; no other flick is looked at.
+    #[inline]
+    pub fn step(
+        &mut self,
+        lock: &mut Lock,
+        versions: &mut Data,
+        flick: bool,
+    ) -> (Access, UnitProgress)
+        requires going { may_step self.old.doing ≡ true }
+        requires can { CanAccess lock.old versions.old (next_at self.old flick) }
+        ensures access { result.0 ≡ next_at self.old flick }
+        ensures any_access { IsNextOfClosing self.old flick result.0 }
+        ensures lock { lock.new ≡ lock_after lock.old result.0 }
+        ensures versions { versions.new ≡ versions_after versions.old result.0 }
+        ensures unit { self.new ≡ stepped self.old flick false }
+        ensures any_unit { ClosingGoesOn self.old flick self.new }
+        ensures progress { result.1 ≡ remains self.new.doing }
+        ensures any_marks { MarksOfClosing self.old flick result.1 }
+    {
+        let access = self.place.next(flick);
+        match access.field {
+            Field::Choosing | Field::Ticket => lock.apply(access),
+            field => {
+                let made = Made {
+                    reader: access.reader,
+                    how: access.how,
+                };
+                versions.apply(field, access.bit, made);
+            }
+        }
+        let _told = self.place.advance(flick, false);
+        (access, UnitProgress::of(&self.place))
+    }
+}

@@ -1,0 +1,67 @@
+-- How the engine ends.
+use Rattle.std.proofs.Common.{◌≡◌, ◌+◌, ℕ, List, Option, Some, None, Result, Ok, Err, IfSome, IsErrAnd, sym, subst, ◌∙◌, arith}
+use Rattle.std.specs.Io.KnownBytes.{Appends, IsAtEnd, Keeps}
+use Rattle.plain_store.specs.declared.setups.Setup.{Setup}
+use Rattle.files.proofs.EngineEnds.{kept}
+use Rattle.files.specs.Engines.{Streams}
+use Rattle.files.specs.Streams.{WritesFront, failed_reading}
+use Rattle.files.specs.declared.faults.Fault.{Fault}
+use Rattle.files.specs.declared.faults.Fault.TheVariants as fault
+use Rattle.record.specs.Entries.{Entry}
+use Rattle.judge.specs.Ends.{IsInputFault, IsOfRecord, TellsAll, TellsFront, TrialEnds}
+
+-- what follows of the whole input, where it is told
+if_some : (o : Option (List ℕ)) (P Q : List ℕ → Type 0) → ((x : List ℕ) → P x → Q x) → IfSome o P → IfSome o Q
+if_some None P Q then is = tt
+if_some (Some x) P Q then is = then x is
+
+-- nothing was written
+keeps : (old new : Option (List ℕ)) → new ≡ old → Keeps old new
+keeps old new same = subst (λ n. Keeps old n) (sym same) (kept old)
+
+-- what a call that writes answers where it failed
+abbrev pub cut_by : Fault → Result (Unit {0}) Fault
+cut_by f = Err f
+
+-- what is told of the record that was heard
+abbrev pub Telling : {H : Type 0} → (H → Setup → List Entry → List ℕ → Type 0) → (Setup → List Entry → List ℕ → List ℕ → ℕ → Type 0) → H → List ℕ → ℕ → Type 0
+Telling HasHeard Tells h told status = (s : Setup) (entries : List Entry) (numbers : List ℕ) → HasHeard h s entries numbers → Tells s entries numbers told status
+
+module _ {H : Type 0} (HasHeard : H → Setup → List Entry → List ℕ → Type 0) (Tells : Setup → List Entry → List ℕ → List ℕ → ℕ → Type 0) where
+  -- the input has a fault, or could not be read
+  pub trial_fault : (A : Type 0) (r : Result ℕ Fault) (f : Fault) (old new : Streams) → IsErrAnd r (λ e. e ≡ f) → IsInputFault f old.to_come → new.taken ≡ old.taken → new.read_failures ≡ old.read_failures + failed_reading {A = A} (Err f) → TrialEnds Tells r old new
+  trial_fault A (Ok status) f old new is why same failures = absurd is
+  trial_fault A (Err e) f old new is why same failures = subst (λ e. TrialEnds Tells (Err e) old new) (sym is) (by f why failures)
+    where
+      by : (f : Fault) → IsInputFault f old.to_come → new.read_failures ≡ old.read_failures + failed_reading {A = A} (Err f) → TrialEnds Tells (Err f) old new
+      by (fault.Line f) why failures = (why, keeps old.taken new.taken same)
+      by fault.Read why failures = (omega (arith, failures), keeps old.taken new.taken same)
+      by fault.Memory why failures = keeps old.taken new.taken same
+      by fault.Write why failures = absurd why
+
+  -- what is told was written
+  pub trial_told : (h : H) (told : List ℕ) (status : ℕ) (old new : Streams) → IfSome old.to_come (IsOfRecord (HasHeard h)) → Telling HasHeard Tells h told status → IsAtEnd new.to_come → Appends old.taken new.taken told → TrialEnds Tells (Ok status) old new
+  trial_told h told status old new heard telling end written = (
+    if_some old.to_come (IsOfRecord (HasHeard h)) (λ text. TellsAll Tells text status old.taken new.taken) (λ text is. record {
+      told = told;
+      is = record { said = is.said; says = is.says; holds = telling is.said.setup is.said.entries _ is.holds };
+      written = written;
+    }) heard,
+    end,
+  )
+
+  -- a front of it was, before a call failed
+  pub trial_cut : (r : Result ℕ Fault) (f : Fault) (h : H) (told : List ℕ) (status : ℕ) (old new : Streams) → IsErrAnd r (λ e. e ≡ f) → cut_by f ≡ cut_by fault.Write → IfSome old.to_come (IsOfRecord (HasHeard h)) → Telling HasHeard Tells h told status → new.write_failures ≡ old.write_failures + 1 →
+      WritesFront old.taken new.taken told → TrialEnds Tells r old new
+  trial_cut (Ok s) f h told status old new is write heard telling failed front = absurd is
+  trial_cut (Err e) f h told status old new is write heard telling failed front =
+      let same : f ≡ fault.Write = cc in
+      subst (λ e. TrialEnds Tells (Err e) old new) (sym (is ∙ same)) (
+        omega (arith, failed),
+        if_some old.to_come (IsOfRecord (HasHeard h)) (λ text. TellsFront Tells text old.taken new.taken) (λ text is. record {
+          told = told;
+          status = status;
+          is = record { said = is.said; says = is.says; holds = telling is.said.setup is.said.entries _ is.holds };
+          front = front;
+        }) heard,
+      )

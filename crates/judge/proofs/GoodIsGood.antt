@@ -1,0 +1,100 @@
+-- The verdict of any lock's judge on what is good for this project's lock.
+use Rattle.std.proofs.Common.{◌≡◌, true, false, List, [], ◌∷◌, Some, None, Ok, length, reverse, refl, sym, ap, subst, ◌∙◌, true≢false}
+use Rattle.std.specs.Prelude.{if◌then◌else◌}
+use Rattle.plain_store.specs.declared.Setup.{Setup}
+use Rattle.plain_store.specs.Setups.{checked}
+use Rattle.record.specs.declared.events.Event.{Event}
+use Rattle.record.specs.Closings.{Withdraws, Settles, Frees, Lowers, Quit, Ended}
+use Rattle.record.specs.Doorways.{doorway_begin, number_in_call}
+use Rattle.record.specs.Entries.{Entry, Past}
+use Rattle.record.specs.Places.{is_running}
+use Rattle.record.specs.Records.{entry_of, past_of}
+use Rattle.record.specs.Stages.{stage}
+use Rattle.record.proofs.Width.{IsGood, is_good}
+use Rattle.any_lock.specs.read_law.laws.Doings.{Doing, Rests, Lies, Runs, Closes, doing}
+use Rattle.any_lock.proofs.read_law.laws.Doings as laws
+use Rattle.any_lock.proofs.read_law.laws.FrameInside.{stage-is}
+use Rattle.judge.specs.auditor.Verdicts.{IsOfEvent, KeepsAll}
+use Rattle.judge.specs.auditor.Verdicts as own
+use Rattle.judge.specs.auditor.declared.verdicts.Law.TheVariants as law
+use Rattle.judge.proofs.auditor.Recovers.{recovers}
+use Rattle.judge.proofs.auditor.Whole.{of_events}
+use Rattle.any_lock.specs.declared.verdicts.AnyLockLaw.TheVariants as any
+use Rattle.any_lock.specs.declared.verdicts.AnyLockVerdict.{AnyLockVerdict}
+use Rattle.any_lock.specs.declared.verdicts.AnyLockVerdict.TheVariants.{Good, Bad}
+use Rattle.any_lock.specs.Laws.{breaks_overtaken, breaks_safe, broken_later, first_broken}
+use Rattle.any_lock.specs.Refusals.{refusal_of_access, refusal_of_marks}
+use Rattle.any_lock.specs.Standings.{has_access}
+use Rattle.any_lock.specs.Verdicts.{verdict_after, verdict_with}
+use Rattle.any_lock.proofs.Alone.{AllKeep, Keeps}
+use Rattle.any_lock.proofs.Breaks.{at_inside, broken_by, inside_is}
+use Rattle.any_lock.proofs.Took.{CallTakes, all_take}
+use Rattle.judge.specs.Good.{DoorwaysAreOne, GoodIsGood}
+use Rattle.judge.proofs.Accesses.{keeps_access}
+use Rattle.judge.proofs.Good.{keeps_history, keeps_together}
+use Rattle.judge.proofs.MarksKept.{keeps_marks}
+use Rattle.judge.proofs.OneDoorway.{DoorwayOf, doorways, keeps_overtaken}
+
+-- An entry keeps all laws of any lock.
+entry_keeps : (s : Setup) → checked s ≡ Ok tt → (past : Past) (e : Entry) → own.KeepsAll s past e → own.AllKeep s past → AllKeep s past → Keeps s past e
+entry_keeps s good past e kept all before = record {
+  access = subst (λ l. refusal_of_access s l e ≡ None) from.1 (keeps_access s g from.0 here.0 e added);
+  marks = subst (λ l. refusal_of_marks s l e ≡ None) from.1 (keeps_marks s g from.0 here.0 e added (subst (CallTakes e.process) (sym from.1) (all_take s past before e.process)));
+  together = keeps_together s past e (kept law.Together);
+  overtaken = subst (λ l. breaks_overtaken s l e ≡ false) from.1 (keeps_overtaken s g from.0 here.0 e added (subst (λ l. own.Keeps law.Overtaken s l e) (sym from.1) (kept law.Overtaken)));
+  history = keeps_history s past e (kept law.History);
+}
+  where
+    g : IsGood s
+    g = is_good s good
+
+    from : (events : List Event) × (past_of s events ≡ past)
+    from = of_events s past all
+
+    here : IsOfEvent s past e
+    here = recovers s past e kept
+
+    added : entry_of s (past_of s from.0) here.0 ≡ Some e
+    added = ap (λ l. entry_of s l here.0) from.1 ∙ here.1
+
+all_keep : (s : Setup) → checked s ≡ Ok tt → (past : Past) → own.AllKeep s past → AllKeep s past
+all_keep s good [] all = tt
+all_keep s good (e ∷ past) all = let before : AllKeep s past = all_keep s good past all.1 in (entry_keeps s good past e all.0 all.1 before, before)
+
+-- so it breaks none
+breaks_none : (s : Setup) (past : Past) (e : Entry) → breaks_safe s past e ≡ false → Keeps s past e → first_broken s past e ≡ None
+breaks_none s past e safe kept =
+    ap (λ b. if b then Some any.Safe else broken_later s past e) safe ∙ at_inside s past e kept.access kept.marks ∙ inside_is s past e false false false kept.together kept.overtaken kept.history
+
+good_past : (s : Setup) → checked s ≡ Ok tt → (past : Past) → own.AllKeep s past → verdict_after s past ≡ Good
+good_past s good [] all = refl
+good_past s good (e ∷ past) all =
+    let kept : AllKeep s (e ∷ past) = all_keep s good (e ∷ past) all in
+    ap (λ v. elim v as (λ _. AnyLockVerdict) [ Good ↦ verdict_with (length past) (first_broken s past e) | Bad k l ↦ Bad k l ]) (good_past s good past all.1)
+    ∙ ap (verdict_with (length past)) (breaks_none s past e (broken_by s past e (all.0 law.Safe)) kept.0)
+
+pub good_is_good : GoodIsGood
+good_is_good s good entries kept = good_past s good (reverse entries) kept
+
+pub doorways_are_one : DoorwaysAreOne
+doorways_are_one s good past all p runs = subst (λ l. number_in_call p has_access l ≡ doorway_begin p l) from.1 (by (doing s p (past_of s from.0)) (doorways s g from.0 p) stands)
+  where
+    g : IsGood s
+    g = is_good s good
+
+    from : (events : List Event) × (past_of s events ≡ past)
+    from = of_events s past all
+
+    stands : is_running (laws.stage_of (doing s p (past_of s from.0))) ≡ true
+    stands = ap is_running (sym (stage-is s g from.0 p)) ∙ ap (λ l. is_running (stage p l)) from.1 ∙ runs
+
+    by : (d : Doing) → DoorwayOf (past_of s from.0) p d → is_running (laws.stage_of d) ≡ true → number_in_call p has_access (past_of s from.0) ≡ doorway_begin p (past_of s from.0)
+    by Rests h run = absurd (true≢false (sym run))
+    by Lies h run = absurd (true≢false (sym run))
+    by (Runs command number at) h run = h.same
+    by (Closes command number (Withdraws w)) h run = h.same
+    by (Closes command number (Settles f bit begun taken is t)) h run = absurd (true≢false (sym run))
+    by (Closes command number (Frees is w)) h run = absurd (true≢false (sym run))
+    by (Closes command number (Lowers w)) h run = absurd (true≢false (sym run))
+    by (Closes command number Quit) h run = absurd (true≢false (sym run))
+    by (Closes command number Ended) h run = absurd (true≢false (sym run))

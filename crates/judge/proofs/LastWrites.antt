@@ -1,0 +1,148 @@
+-- The write that a process has open, as any lock's look-back finds it, is its last one, and its last one is open, if that is a begin.
+use Rattle.std.proofs.Common.{◌≡◌, ℕ, ◌<◌, ◌+◌, ◌==◌, ◌&&◌, not, Bool, true, false, cond, [], ◌∷◌, Option, Some, None, length, refl, sym, ap, subst, ◌∙◌, true≢false}
+use Rattle.record.specs.safe_bit.declared.Move.{Move}
+use Rattle.record.specs.safe_bit.declared.Move.TheVariants.{BeginWrite, EndWrite, BeginRead, EndRead, Settle}
+use Rattle.record.specs.declared.access.Access.{Access}
+use Rattle.plain_store.specs.declared.Setup.{Setup}
+use Rattle.record.specs.declared.marks.Mark.{Mark}
+use Rattle.record.specs.declared.marks.Mark.TheVariants as mark
+use Rattle.record.specs.Closings.{Withdraws}
+use Rattle.record.specs.Entries.{Entry, Past, own}
+use Rattle.record.specs.Unit.{is_begin, last_write, unfinished}
+use Rattle.record.proofs.Opens.{last-none}
+use Rattle.record.proofs.Singles.{is_write}
+use Rattle.any_lock.specs.read_law.laws.Doings.{Doing, Runs, Closes}
+use Rattle.any_lock.proofs.read_law.laws.Frame.{own-own}
+use Rattle.any_lock.proofs.read_law.laws.FrameCells.{ByProcess}
+use Rattle.any_lock.proofs.read_law.laws.FrameCuts.{last-made}
+use Rattle.any_lock.specs.declared.standings.Begun.{Begun}
+use Rattle.any_lock.specs.Standings.{begins, left_open, opened, write_of}
+use Rattle.any_lock.proofs.Markings.{ArePlain}
+use Rattle.judge.proofs.OpenDoings.{opened_access, opened_marked}
+use Rattle.judge.proofs.Opened.{open_by}
+
+-- the last access of a write that p made, if it is a begin
+abbrev pub Unended : Option Access → Access → Type 0
+Unended last a = (last ≡ Some a) × (is_begin a.how ≡ true)
+
+-- a write that is open is of this process, on a copy that there is, and the last one
+pub record IsLast (s : Setup) (p : ℕ) (last : Option Access) (b : Begun) : Type 0 where
+  pub last_is : last ≡ Some b.access
+  pub begins : is_begin b.access.how ≡ true
+  pub owner : b.access.owner ≡ p
+  pub reader : b.access.reader < s.processes
+
+abbrev pub OpenIsLast : Setup → ℕ → Option Begun → Option Access → Type 0
+OpenIsLast s p o last = (b : Begun) → write_of o ≡ Some b → IsLast s p last b
+
+-- and the last one is open, if it is a begin
+abbrev pub LastIsOpen : Option Begun → Option Access → Type 0
+LastIsOpen o last = (a : Access) → Unended last a → write_of o ≡ None → ⊥
+
+abbrev pub LastIsOpenIn : Option Begun → Option Access → Doing → Type 0
+LastIsOpenIn o last (Runs command number at) = LastIsOpen o last
+LastIsOpenIn o last (Closes command number (Withdraws w)) = LastIsOpen o last
+LastIsOpenIn o last _ = Unit {0}
+
+-- where no bit is left unfinished the last one is no begin
+pub finished : (n : ℕ) (last : Option Access) (o : Option Begun) → unfinished n last ≡ None → LastIsOpen o last
+finished n last o none a unended closed =
+    let left_is : unfinished n last ≡ cond (not (is_begin a.how) && (a.reader + 1 == n)) None (Some a) = ap (unfinished n) unended.0 in
+    let begun : cond (not (is_begin a.how) && (a.reader + 1 == n)) None (Some a) ≡ Some a = ap (λ b. cond {A = Option Access} (not b && (a.reader + 1 == n)) None (Some a)) unended.1 in
+    let f : None ≡ Some a = sym none ∙ left_is ∙ begun in cc
+
+-- what of an access is an open write
+abbrev of_write : Begun → Move → Option Begun
+of_write b m = cond (begins m) (elim m as (λ _. Option Begun) [ BeginWrite v ↦ Some b | EndWrite ↦ None | BeginRead ↦ None | EndRead v ↦ None | Settle v ↦ None ]) None
+
+open_write : (entry : ℕ) (x : Access) → write_of (open_by entry x) ≡ of_write (record { entry = entry; access = x }) x.how
+open_write entry x = push (begins x.how)
+  where
+    b : Begun
+    b = record { entry = entry; access = x }
+
+    push : (c : Bool) → write_of (cond c (Some b) None) ≡ cond c (elim x.how as (λ _. Option Begun) [ BeginWrite v ↦ Some b | EndWrite ↦ None | BeginRead ↦ None | EndRead v ↦ None | Settle v ↦ None ]) None
+    push true = refl
+    push false = refl
+
+write_begun : (entry : ℕ) (x : Access) (b : Begun) → write_of (open_by entry x) ≡ Some b → (b.access ≡ x) × (is_begin x.how ≡ true)
+write_begun entry x b h = go x.how refl (sym (open_write entry x) ∙ h)
+  where
+    at : Begun
+    at = record { entry = entry; access = x }
+
+    go : (m : Move) → x.how ≡ m → of_write at m ≡ Some b → (b.access ≡ x) × (is_begin m ≡ true)
+    go (BeginWrite v) is same = let one : at ≡ b = cc in (ap (λ (y : Begun). y.access) (sym one), refl)
+    go EndWrite is same = cc
+    go BeginRead is same = cc
+    go (EndRead v) is same = cc
+    go (Settle v) is same = cc
+
+-- an access that begins a write has it open
+pub begun_open : (entry : ℕ) (x : Access) → is_begin x.how ≡ true → write_of (open_by entry x) ≡ None → ⊥
+begun_open entry x begun closed = go x.how begun (sym (open_write entry x) ∙ closed)
+  where
+    go : (m : Move) → is_begin m ≡ true → of_write (record { entry = entry; access = x }) m ≡ None → ⊥
+    go (BeginWrite v) h same = cc
+    go EndWrite h same = true≢false (sym h)
+    go BeginRead h same = true≢false (sym h)
+    go (EndRead v) h same = true≢false (sym h)
+    go (Settle v) h same = true≢false (sym h)
+
+begin_writes : (m : Move) → is_begin m ≡ true → is_write m ≡ true
+begin_writes (BeginWrite v) h = refl
+begin_writes EndWrite h = absurd (true≢false (sym h))
+begin_writes BeginRead h = absurd (true≢false (sym h))
+begin_writes (EndRead v) h = absurd (true≢false (sym h))
+begin_writes (Settle v) h = absurd (true≢false (sym h))
+
+-- an entry with an access
+pub access_last : (s : Setup) (past : Past) (e : Entry) (a : Access) → e.access ≡ Some a → ArePlain e.marks → ByProcess e.process a → a.reader < s.processes → OpenIsLast s e.process (opened e.process (e ∷ past)) (last_write (own e.process (e ∷ past)))
+access_last s past e a acc plain by below b is_open =
+    let one = write_begun (length past) a b (sym (ap write_of (opened_access past e a acc plain)) ∙ is_open) in
+    let writes : is_write a.how ≡ true = begin_writes a.how one.1 in
+    record {
+      last_is = ap last_write (own-own e.process e past refl) ∙ last-made e (own e.process past) a acc ∙ ap (λ b. cond b (Some a) (last_write (own e.process past))) writes ∙ ap Some (sym one.0);
+      begins = ap (λ (x : Access). is_begin x.how) one.0 ∙ one.1;
+      owner = ap (λ (x : Access). x.owner) one.0 ∙ by.writes writes;
+      reader = subst (λ (x : Access). x.reader < s.processes) (sym one.0) below;
+    }
+
+-- one that only marks
+pub marked_last : (s : Setup) (past : Past) (e : Entry) (m : Mark) → e.access ≡ None → e.marks ≡ m ∷ [] → OpenIsLast s e.process (opened e.process past) (last_write (own e.process past)) →
+    OpenIsLast s e.process (opened e.process (e ∷ past)) (last_write (own e.process (e ∷ past)))
+marked_last s past e m none marks before b is_open =
+    let was : IsLast s e.process (last_write (own e.process past)) b = before b (left_write (opened e.process past) m b (sym (ap write_of (opened_marked past e m none marks)) ∙ is_open)) in
+    record {
+      last_is = ap last_write (own-own e.process e past refl) ∙ last-none e (own e.process past) none ∙ was.last_is;
+      begins = was.begins;
+      owner = was.owner;
+      reader = was.reader;
+    }
+  where
+    twice : (o : Option Begun) → write_of (write_of o) ≡ write_of o
+    twice None = refl
+    twice (Some b) = go b.access.how refl
+      where
+        w : Move → Option Begun
+        w m = elim m as (λ _. Option Begun) [ BeginWrite v ↦ Some b | EndWrite ↦ None | BeginRead ↦ None | EndRead v ↦ None | Settle v ↦ None ]
+
+        go : (m : Move) → b.access.how ≡ m → write_of (w b.access.how) ≡ w b.access.how
+        go (BeginWrite v) is = let at : w b.access.how ≡ Some b = ap w is in ap write_of at ∙ refl
+        go EndWrite is = let at : w b.access.how ≡ None = ap w is in ap write_of at ∙ sym at
+        go BeginRead is = let at : w b.access.how ≡ None = ap w is in ap write_of at ∙ sym at
+        go (EndRead v) is = let at : w b.access.how ≡ None = ap w is in ap write_of at ∙ sym at
+        go (Settle v) is = let at : w b.access.how ≡ None = ap w is in ap write_of at ∙ sym at
+
+    left_write : (o : Option Begun) (m : Mark) (b : Begun) → write_of (left_open o m) ≡ Some b → write_of o ≡ Some b
+    left_write o mark.Failed b h = cc
+    left_write o mark.Withdrew b h = sym (twice o) ∙ h
+    left_write o (mark.Called c) b h = h
+    left_write o (mark.Waiting t) b h = h
+    left_write o mark.Entered b h = h
+    left_write o (mark.Taken n r) b h = h
+    left_write o mark.Left b h = h
+    left_write o (mark.Answered a) b h = h
+    left_write o (mark.Settled v) b h = h
+    left_write o mark.Down b h = h
+    left_write o mark.Restarted b h = h

@@ -1,0 +1,168 @@
+-- What a line of a record file leaves of what was heard before it.
+use Rattle.std.proofs.Common.{◌≡◌, ℕ, ◌≤◌, Bool, true, false, List, [], ◌∷◌, ◌++◌, length, IsErrAnd, IsSome, Option, Some, None, Result, Ok, Err, refl, ap, sym, subst, ◌∙◌, append-nil, arith}
+use Rattle.std.specs.Option.{is_some, option_to_list}
+use Rattle.plain_store.specs.declared.setups.Setup.{Setup}
+use Rattle.files.specs.Files.{words_read}
+use Rattle.files.specs.Reads.{UnlessMemory}
+use Rattle.files.specs.Words.{words_of}
+use Rattle.files.specs.declared.faults.FaultKind.{FaultKind}
+use Rattle.files.specs.declared.faults.FaultKind.TheVariants.{NotFirst, Unknown, Words, Number, BadName, BadValue, BadSetup, TooLong, Memory}
+use Rattle.record.specs.Entries.{Entry}
+use Rattle.record_file.specs.Given.{is_entry}
+use Rattle.record_file.specs.Printing.{entry_words, step_entry}
+use Rattle.record.specs.declared.access.Access.{Access}
+use Rattle.record_file.specs.scenario.Printing.{spaced}
+use Rattle.record_file.specs.scenario.Reading.{Progress as Head}
+use Rattle.record_file.proofs.EntryLines.{entry_of_line}
+use Rattle.record_file.specs.RecordFiles.{Progress, cleared, entry_in, line_read, record_grammar}
+use Rattle.judge.specs.Numbers.{number_in, say_entry}
+use Rattle.judge.specs.Trials.{GoesOn, Hears, HearsAt, LineEnds, Stands}
+use Rattle.judge.proofs.Lines.{Left, clear_twice, empty, first_left, later_left, number_of_none, number_of_some, short_read}
+
+-- what follows from a fact that is known unless memory ran out
+pub unless_then : (kind : FaultKind) {P Q : Type 0} → (P → Q) → UnlessMemory kind P → UnlessMemory kind Q
+unless_then NotFirst leads p = leads p
+unless_then Unknown leads p = leads p
+unless_then Words leads p = leads p
+unless_then Number leads p = leads p
+unless_then BadName leads p = leads p
+unless_then BadValue leads p = leads p
+unless_then BadSetup leads p = leads p
+unless_then TooLong leads p = leads p
+unless_then Memory leads p = p
+
+module _ {H : Type 0} (HasHeard : H → Setup → List Entry → List ℕ → Type 0) where
+  -- one that begins where there was none
+  pub hears_begun : (j k : Option H) (s : Setup) (entries : List Entry) (numbers : List ℕ) → is_some j ≡ false → Hears HasHeard j s entries numbers → Hears HasHeard k s [] [] → Hears HasHeard k s entries numbers
+  hears_begun None k s entries numbers none heard begun = subst (λ (l : List Entry). Hears HasHeard k s l numbers) (sym heard.0) (subst (λ (l : List ℕ). Hears HasHeard k s [] l) (sym heard.1) begun)
+  hears_begun (Some j) k s entries numbers none heard begun = absurd (cc)
+
+  -- who hears does so by the setup that was read
+  heard_at : (s t : Setup) (h : H) (entries : List Entry) (numbers : List ℕ) → s ≡ t → HasHeard h s entries numbers → HasHeard h t entries numbers
+  heard_at s t h entries numbers same heard = subst (λ s. HasHeard h s entries numbers) same heard
+
+  -- with nothing more
+  with_none : (h : Option H) (before : Option Progress) (entries : List Entry) (more : List Entry) (numbers : List ℕ) (at : List ℕ) → more ≡ [] → at ≡ [] → HearsAt HasHeard h before entries numbers → HearsAt HasHeard h before (entries ++ more) (numbers ++ at)
+  with_none h before entries more numbers at none zero heard =
+      subst (λ (l : List Entry). HearsAt HasHeard h before l (numbers ++ at)) (sym (ap (λ l. entries ++ l) none ∙ append-nil entries))
+      (subst (λ (l : List ℕ). HearsAt HasHeard h before entries l) (sym (ap (λ l. numbers ++ l) zero ∙ append-nil numbers)) heard)
+
+  -- behind a line that says no entry
+  still_at : (words : List (List ℕ)) (before now : Option Progress) (j : Option H) (entries : List Entry) (numbers : List ℕ) → words_read record_grammar words before ≡ Ok now → HearsAt HasHeard j before entries numbers → HearsAt HasHeard j (cleared now) entries numbers
+  still_at words before now None entries numbers read heard = heard
+  still_at words None now (Some j) entries numbers read heard = absurd heard
+  still_at words (Some p) now (Some j) entries numbers read heard = by (say_entry words) (later_left words p now read)
+    where
+      whole : (next : Progress) → (next.ended ≡ true) × (next.head ≡ p.head) → HearsAt HasHeard (Some j) (cleared (Some next)) entries numbers
+      whole next stays = (stays.0, heard_at p.head.setup next.head.setup j entries numbers (ap (λ (h : Head). h.setup) (sym stays.1)) heard.1)
+
+      stays : (b : Bool) (next : Progress) → Left b p next → (next.ended ≡ true) × (next.head ≡ p.head)
+      stays false next left = left.1 heard.0
+      stays true next left = (left.1, left.2)
+
+      by : (b : Bool) → (next : Progress) × (now ≡ Some next) × Left b p next → HearsAt HasHeard (Some j) (cleared now) entries numbers
+      by b next = subst (λ (o : Option Progress). HearsAt HasHeard (Some j) (cleared o) entries numbers) (sym next.1) (whole next.0 (stays b next.0 next.2))
+
+  heard_still : (n : ℕ) (line : List ℕ) (before now : Option Progress) (j : Option H) (entries : List Entry) (numbers : List ℕ) → words_read record_grammar (words_of line) before ≡ Ok now → cleared before ≡ before → entry_in now ≡ [] → HearsAt HasHeard j before entries numbers →
+      HearsAt HasHeard j (cleared now) (entries ++ entry_in now) (numbers ++ number_in n line)
+  heard_still n line before now j entries numbers read clear none heard =
+      with_none j (cleared now) entries (entry_in now) numbers (number_in n line) none (number_of_none n line before now read clear none) (still_at (words_of line) before now j entries numbers read heard)
+
+  -- behind one that says an entry, which was heard
+  more_at : (words : List (List ℕ)) (before : Option Progress) (now : Progress) (e : Entry) (n : ℕ) (j j' : Option H) (entries : List Entry) (numbers : List ℕ) → words_read record_grammar words before ≡ Ok (Some now) → cleared before ≡ before → now.entry ≡ Some e →
+      IsSome j' → (Hears HasHeard j now.head.setup entries numbers → Hears HasHeard j' now.head.setup (entries ++ e ∷ []) (numbers ++ n ∷ [])) → HearsAt HasHeard j before entries numbers → HearsAt HasHeard j' (cleared (Some now)) (entries ++ e ∷ []) (numbers ++ n ∷ [])
+  more_at words None now e n j j' entries numbers read clear says some hears heard =
+      let none : option_to_list now.entry ≡ [] = (first_left words (Some now) read).0 in
+      let no : e ∷ [] ≡ [] = sym (ap option_to_list says) ∙ none in absurd (cc)
+  more_at words (Some p) now e n j None entries numbers read clear says some hears heard = absurd (cc)
+  more_at words (Some p) now e n j (Some k) entries numbers read clear says some hears heard = by (say_entry words) (later_left words p (Some now) read)
+    where
+      before_it : (j : Option H) → HearsAt HasHeard j (Some p) entries numbers → now.head ≡ p.head → Hears HasHeard j now.head.setup entries numbers
+      before_it None heard same = heard
+      before_it (Some i) heard same = heard_at p.head.setup now.head.setup i entries numbers (ap (λ (h : Head). h.setup) (sym same)) heard.1
+
+      ends : (b : Bool) (next : Progress) → now ≡ next → Left b p next → (now.ended ≡ true) × (now.head ≡ p.head)
+      ends false next is left = let no : Some e ≡ None = sym says ∙ ap (λ (p : Progress). p.entry) is ∙ left.0 ∙ empty p clear in absurd (cc)
+      ends true next is left = (ap (λ (p : Progress). p.ended) is ∙ left.1, ap (λ (p : Progress). p.head) is ∙ left.2)
+
+      by : (b : Bool) → (next : Progress) × (Some now ≡ Some next) × Left b p next → HearsAt HasHeard (Some k) (cleared (Some now)) (entries ++ e ∷ []) (numbers ++ n ∷ [])
+      by b next =
+          let is = next.1 in
+          let same : now ≡ next.0 = cc in
+          let both = ends b next.0 same next.2 in
+          (both.0, hears (before_it j heard both.1))
+
+  -- what its words say, by what was read before it
+  read_at : (line : List ℕ) (reader : Option Progress) (j : Option H) (before : Option Progress) (entries : List Entry) (numbers : List ℕ) → Stands HasHeard reader j before entries numbers → words_read record_grammar (words_of line) reader ≡ words_read record_grammar (words_of line) before
+  read_at line reader j before entries numbers stands = ap (λ (o : Option Progress). words_read record_grammar (words_of line) o) stands.read
+
+  -- How a line ends.
+
+  -- with a fault
+  pub ends_faulty : (r : Result (Unit {0}) FaultKind) (kind : FaultKind) (n : ℕ) (line : List ℕ) (reader reader' : Option Progress) (j j' : Option H) (before : Option Progress) (entries : List Entry) (numbers : List ℕ) → IsErrAnd r (λ k. k ≡ kind) → length line ≤ 128 → Stands HasHeard reader j before entries numbers →
+      UnlessMemory kind (words_read record_grammar (words_of line) reader ≡ Err kind) → LineEnds HasHeard r n line before reader' j' entries numbers
+  ends_faulty (Ok done) kind n line reader reader' j j' before entries numbers is short stands fault = absurd is
+  ends_faulty (Err k) kind n line reader reader' j j' before entries numbers is short stands fault =
+      subst (λ (k : FaultKind). UnlessMemory k (line_read line before ≡ Err k)) (sym is)
+      (unless_then kind (λ (says : words_read record_grammar (words_of line) reader ≡ Err kind). short_read line before short ∙ sym (read_at line reader j before entries numbers stands) ∙ says) fault)
+
+  -- for want of memory
+  pub ends_wanting : (r : Result (Unit {0}) FaultKind) (n : ℕ) (line : List ℕ) (before reader : Option Progress) (j : Option H) (entries : List Entry) (numbers : List ℕ) → IsErrAnd r (λ k. k ≡ Memory) → LineEnds HasHeard r n line before reader j entries numbers
+  ends_wanting (Ok done) n line before reader j entries numbers is = absurd is
+  ends_wanting (Err k) n line before reader j entries numbers is = subst (λ (k : FaultKind). UnlessMemory k (line_read line before ≡ Err k)) (sym is) tt
+
+  -- or well, with what was read and what was heard
+  ends_well : (n : ℕ) (line : List ℕ) (reader reader' now : Option Progress) (j j' : Option H) (before : Option Progress) (entries : List Entry) (numbers : List ℕ) → length line ≤ 128 → Stands HasHeard reader j before entries numbers → words_read record_grammar (words_of line) reader ≡ Ok now → reader' ≡ cleared now →
+      HearsAt HasHeard j' (cleared now) (entries ++ entry_in now) (numbers ++ number_in n line) → GoesOn HasHeard n line before reader' j' entries numbers
+  ends_well n line reader reader' now j j' before entries numbers short stands read same heard = record {
+    now = now;
+    says = short_read line before short ∙ sym (read_at line reader j before entries numbers stands) ∙ read;
+    stands = record { read = same; clear = clear_twice now; heard = heard };
+  }
+
+  -- it says no entry
+  pub ends_quiet : (n : ℕ) (line : List ℕ) (reader reader' now : Option Progress) (j : Option H) (before : Option Progress) (entries : List Entry) (numbers : List ℕ) → length line ≤ 128 → Stands HasHeard reader j before entries numbers → words_read record_grammar (words_of line) reader ≡ Ok now → reader' ≡ cleared now →
+      entry_in now ≡ [] → GoesOn HasHeard n line before reader' j entries numbers
+  ends_quiet n line reader reader' now j before entries numbers short stands read same none =
+      ends_well n line reader reader' now j j before entries numbers short stands read same
+      (heard_still n line before now j entries numbers (sym (read_at line reader j before entries numbers stands) ∙ read) stands.clear none stands.heard)
+
+  -- it says one, which was heard
+  pub ends_heard : (n : ℕ) (line : List ℕ) (reader reader' : Option Progress) (now : Progress) (e : Entry) (j j' : Option H) (before : Option Progress) (entries : List Entry) (numbers : List ℕ) → length line ≤ 128 → Stands HasHeard reader j before entries numbers → words_read record_grammar (words_of line) reader ≡ Ok (Some now) → now.entry ≡ Some e →
+      reader' ≡ cleared (Some now) → IsSome j' → ((entries : List Entry) (numbers : List ℕ) → Hears HasHeard j now.head.setup entries numbers → Hears HasHeard j' now.head.setup (entries ++ e ∷ []) (numbers ++ n ∷ [])) → GoesOn HasHeard n line before reader' j' entries numbers
+  ends_heard n line reader reader' now e j j' before entries numbers short stands read says same some hears =
+      let read' : words_read record_grammar (words_of line) before ≡ Ok (Some now) = sym (read_at line reader j before entries numbers stands) ∙ read in
+      ends_well n line reader reader' (Some now) j j' before entries numbers short stands read same
+      (subst (λ (l : List Entry). HearsAt HasHeard j' (cleared (Some now)) (entries ++ l) (numbers ++ number_in n line)) (sym (ap option_to_list says))
+      (subst (λ (l : List ℕ). HearsAt HasHeard j' (cleared (Some now)) (entries ++ e ∷ []) (numbers ++ l)) (sym (number_of_some n line before now e read' stands.clear says))
+      (more_at (words_of line) before now e n j j' entries numbers read' stands.clear says some (hears entries numbers) stands.heard)))
+
+  -- it is as it is printed for a Step, which was heard behind an entry
+  pub ends_stepped : (n : ℕ) (line : List ℕ) (reader : Option Progress) (h h' : H) (process : ℕ) (access : Access) (before : Option Progress) (entries : List Entry) (numbers : List ℕ) → length line ≤ 128 → line ≡ spaced (entry_words (step_entry process access)) → is_entry (step_entry process access) ≡ true →
+      ((s : Setup) (entries : List Entry) (numbers : List ℕ) → HasHeard h s entries numbers → HasHeard h' s (entries ++ step_entry process access ∷ []) (numbers ++ n ∷ [])) → Stands HasHeard reader (Some h) before entries numbers → GoesOn HasHeard n line before reader (Some h') entries numbers
+  ends_stepped n line reader h h' process access before entries numbers short printed sound hears stands =
+      by before stands.clear stands.heard stands.read
+    where
+      e : Entry
+      e = step_entry process access
+
+      by : (b : Option Progress) → cleared b ≡ b → HearsAt HasHeard (Some h) b entries numbers → reader ≡ b → GoesOn HasHeard n line b reader (Some h') entries numbers
+      by None clear heard same = absurd heard
+      by (Some p) clear heard same =
+          let now : Progress = record p { ended = true; entry = Some e } in
+          let read : words_read record_grammar (words_of line) (Some p) ≡ Ok (Some now) = ap (λ (l : List ℕ). words_read record_grammar (words_of l) (Some p)) printed ∙ entry_of_line e p (record { sound = sound; few = omega arith }) in
+          record {
+            now = Some now;
+            says = short_read line (Some p) short ∙ read;
+            stands = record {
+              read = same ∙ sym clear ∙ ap (λ (b : Bool). Some (record p { ended = b; entry = None })) heard.0;
+              clear = refl;
+              heard = subst (λ (l : List ℕ). HearsAt HasHeard (Some h') (Some (record p { ended = true; entry = None })) (entries ++ e ∷ []) (numbers ++ l)) (sym (number_of_some n line (Some p) now e read clear refl)) (refl, hears p.head.setup entries numbers heard.1);
+            };
+          }
+
+  -- who has heard all that was said
+  pub heard_all : (j : Option H) (before : Option Progress) (p : Progress) (entries : List Entry) (numbers : List ℕ) → before ≡ Some p → HearsAt HasHeard j before entries numbers → Hears HasHeard j p.head.setup entries numbers
+  heard_all None before p entries numbers is heard = heard
+  heard_all (Some h) None p entries numbers is heard = absurd heard
+  heard_all (Some h) (Some q) p entries numbers is heard = let same : q ≡ p = cc in subst (λ (q : Progress). HasHeard h q.head.setup entries numbers) same heard.1

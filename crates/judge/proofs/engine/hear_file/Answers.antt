@@ -1,0 +1,56 @@
+use Rattle.std.proofs.Common.{◌≡◌, ℕ, Bool, List, Option, Ok, Err, sym, subst, arith}
+use Rattle.files.specs.Reads.{UnlessMemory}
+use Rattle.files.specs.declared.faults.Fault.{Fault}
+use Rattle.record_file.specs.RecordFiles.{line_read}
+use Rattle.files.specs.SourceLines.{GoesToNext, coming}
+use Rattle.judge.specs.Ends.{IsInputFault}
+use Rattle.judge.specs.Trials.{GoesOn, IsHeard}
+use Rattle.judge.proofs.Ends.{if_err, next_fault, onwards_all, onwards_fault, onwards_on}
+use Rattle.judge.proofs.engine.hear_file.Goals as goal
+
+pub lines-preserved : goal.lines-preserved
+lines-preserved g c =
+    let heard = g.H.Hearer.HasHeard in
+    let u = c.lines.invariant.onwards in
+    let all = g.R.Source.to_come c.args.input.now in
+    let mid = coming c.lines.lines.ahead (g.R.Source.to_come c.lines.input) in
+    let rest = coming c.next.new.self.ahead (g.R.Source.to_come c.next.new.input) in
+    let old = c.lines.trial in
+    let new = c.line-in-lines.new.self in
+    let takes = subst (λ (b : Bool). GoesToNext (Ok b) c.lines.lines c.next.new.self mid rest) c.if-branch.true c.in_ok-next.ensures.next in
+    let numbered = subst (λ (n : ℕ). GoesOn heard n c.line.result.now u.before new.reader new.hearer u.entries u.numbers) c.taken.ensures.taken (c.in_default.ensures u.before u.entries u.numbers u.stands) in
+    let on = subst (λ (line : List ℕ). GoesOn heard c.next.new.self.taken line u.before new.reader new.hearer u.entries u.numbers) c.line.ensures numbered in
+    record {
+      onwards = onwards_on heard all mid rest c.lines.lines c.next.new.self old.reader new.reader old.hearer new.hearer u takes on;
+      holds = c.in_ok-next.ensures.holds c.lines.invariant.holds;
+      whole = omega (arith, c.in_ok-next.ensures.failures, c.lines.invariant.whole);
+    }
+
+pub returns-in-Err-clause-fault : goal.returns-in-Err-clause-fault
+returns-in-Err-clause-fault g c =
+    let u = c.lines.invariant.onwards in
+    let all = g.R.Source.to_come c.args.input.now in
+    let mid = coming c.lines.lines.ahead (g.R.Source.to_come c.lines.input) in
+    let rest = coming c.next.new.self.ahead (g.R.Source.to_come c.next.new.input) in
+    let takes = subst (λ (b : Bool). GoesToNext (Ok b) c.lines.lines c.next.new.self mid rest) c.if-branch.true c.in_ok-next.ensures.next in
+    let fault = subst (λ (line : List ℕ). UnlessMemory c.in-Err.kind (line_read line u.before ≡ Err c.in-Err.kind)) c.line.ensures (c.in-Err.ensures u.before u.entries u.numbers u.stands) in
+    subst (λ (f : Fault). IsInputFault f all) (sym c.here.ensures) (onwards_fault g.H.Hearer.HasHeard all mid rest c.lines.lines c.next.new.self c.lines.trial.reader c.lines.trial.hearer c.in-Err.kind u takes fault)
+
+pub returns-clause-heard : goal.returns-clause-heard
+returns-clause-heard g c =
+    let heard = g.H.Hearer.HasHeard in
+    let u = c.lines.invariant.onwards in
+    let all = g.R.Source.to_come c.args.input.now in
+    let mid = coming c.lines.lines.ahead (g.R.Source.to_come c.lines.input) in
+    let rest = coming c.next.new.self.ahead (g.R.Source.to_come c.next.new.input) in
+    let ends = subst (λ (b : Bool). GoesToNext (Ok b) c.lines.lines c.next.new.self mid rest) c.if-branch.false c.in_ok-next.ensures.next in
+    let is = subst (λ (h : Option g.row.H.Denot). IsHeard heard h u.before u.entries u.numbers) c.in-Some.is (c.in_ok-into_hearer.ensures u.before u.entries u.numbers u.stands) in
+    onwards_all heard (heard c.in-Some.hearer) all mid c.lines.lines.taken c.lines.trial.reader c.lines.trial.hearer u is.0 is.1 is.2 ends.before
+
+pub returns-in_err-next-clause-fault : goal.returns-in_err-next-clause-fault
+returns-in_err-next-clause-fault g c =
+    let all = g.R.Source.to_come c.args.input.now in
+    let mid = coming c.lines.lines.ahead (g.R.Source.to_come c.lines.input) in
+    let rest = coming c.next.new.self.ahead (g.R.Source.to_come c.next.new.input) in
+    if_err c.from_residual.result c.in_err-next.field-0.0 (λ (f : Fault). IsInputFault f all) c.from_residual.ensures.1
+    (next_fault g.H.Hearer.HasHeard all mid rest c.lines.lines c.next.new.self c.lines.trial.reader c.lines.trial.hearer c.in_err-next.field-0.0 c.lines.invariant.onwards c.in_err-next.ensures.next)

@@ -1,0 +1,16 @@
+use Rattle.std.proofs.Common.{◌≡◌, ◌-◌, ◌^◌}
+use Rattle.files.specs.SourceLines.{EndHolds, coming}
+use Rattle.judge.proofs.Ends.{Onwards}
+use Rattle.judge.proofs.engine.hear_file.Given as goal
+
+-- reading what is left goes on to what reading all gives, each entry so far was heard, a source that has told its end is at
+-- it, and no call has failed
+abbrev pub invariant-lines : goal.invariant-lines
+invariant-lines g l = record {
+  onwards : Onwards g.H.Hearer.HasHeard (g.R.Source.to_come l.fn.input) (coming l.lines.ahead (g.R.Source.to_come l.input)) l.lines.taken l.trial.reader l.trial.hearer;
+  holds : EndHolds l.lines.ahead (g.R.Source.to_come l.input);
+  whole : g.R.Source.failures l.input ≡ g.R.Source.failures l.fn.input;
+}
+
+abbrev pub decreases-lines : goal.decreases-lines
+decreases-lines g l = 2 ^ 64 - l.lines.taken

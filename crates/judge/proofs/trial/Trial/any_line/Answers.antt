@@ -1,0 +1,32 @@
+use Rattle.std.proofs.Common.{◌≡◌, ℕ, List, [], ◌∷◌, ◌++◌, Option, Some, None, Ok, ap, subst, ◌∙◌}
+use Rattle.std.specs.Option.{option_to_list}
+use Rattle.plain_store.specs.declared.setups.Setup.{Setup}
+use Rattle.files.specs.Files.{words_read}
+use Rattle.files.specs.Words.{words_of}
+use Rattle.record.specs.Entries.{Entry}
+use Rattle.record_file.specs.RecordFiles.{Progress, cleared, entry_in, record_grammar}
+use Rattle.judge.specs.Trials.{Hears}
+use Rattle.judge.proofs.Lines.{quiet_is_cleared}
+use Rattle.judge.proofs.Trials.{ends_heard, ends_quiet}
+use Rattle.judge.proofs.trial.Trial.any_line.Goals as goal
+
+pub returns-in_ok-hear : goal.returns-in_ok-hear
+returns-in_ok-hear g c =
+    let old = c.args.self.now in
+    let heard = g.H.Hearer.HasHeard in
+    let now : Progress = c.in-Some.reader in
+    let e : Entry = c.in-Some-last_entry.entry.now in
+    let left : Some c.forget_entry.new.self ≡ cleared (Some now) = ap (λ (p : Progress). Some p) c.forget_entry.ensures in
+    let says : now.entry ≡ Some e = c.in-Some-last_entry.ensures in
+    let read : words_read record_grammar (words_of c.args.line.now) old.reader ≡ Ok (Some now) = c.in_ok-read_any_line.ensures ∙ ap (λ (o : Option Progress). Ok o) c.in-Some.is in
+    let hears = subst (λ (s : Setup). (entries : List Entry) (numbers : List ℕ) → Hears heard old.hearer s entries numbers → Hears heard c.hear.new.hearer s (entries ++ e ∷ []) (numbers ++ c.args.number ∷ [])) c.setup.ensures.value c.in_ok-hear.ensures.heard in
+    λ before entries numbers stands. ends_heard heard c.args.number c.args.line.now old.reader (Some c.forget_entry.new.self) now e old.hearer c.hear.new.hearer before entries numbers c.requires.short stands read says left c.in_ok-hear.ensures.some hears
+
+pub returns-in_default-last_entry : goal.returns-in_default-last_entry
+returns-in_default-last_entry g c =
+    let old = c.args.self.now in
+    let now : Progress = c.in-Some.reader in
+    let says : now.entry ≡ None = c.in_default-last_entry.ensures in
+    let none : entry_in (Some now) ≡ [] = ap option_to_list says in
+    let read : words_read record_grammar (words_of c.args.line.now) old.reader ≡ Ok (Some now) = c.in_ok-read_any_line.ensures ∙ ap (λ (o : Option Progress). Ok o) c.in-Some.is in
+    λ before entries numbers stands. ends_quiet g.H.Hearer.HasHeard c.args.number c.args.line.now old.reader (Some now) (Some now) old.hearer before entries numbers c.requires.short stands read (quiet_is_cleared now says) none

@@ -1,0 +1,58 @@
+-- The lines of reasons.
+use Rattle.std.specs.Prelude.{ℕ, ◌+◌, List, [], ◌∷◌, ◌++◌, codes, Option, Some, None}
+use Rattle.std.specs.Fmt.{decimal}
+use Rattle.record.specs.Entries.{Entry}
+use Rattle.judge.specs.ReasonLines.{bad_lines, named_entry, number_line, stage_line, word_line}
+use Rattle.any_lock.specs.Changes.{changed}
+use Rattle.any_lock.specs.Shown.{access_refusal_text, mark_refusal_text}
+use Rattle.any_lock.specs.declared.reasons.Remedy.{Remedy}
+use Rattle.any_lock.specs.declared.reasons.Reasons.{Reasons}
+use Rattle.any_lock.specs.declared.reasons.Refused.{Refused}
+use Rattle.any_lock.specs.declared.reasons.Refused.TheVariants as by
+
+-- the entry as it would keep all laws
+abbrev pub may_line : Entry → Option Remedy → List ℕ
+may_line e None = []
+may_line e (Some change) = named_entry (codes "may") (changed change e)
+
+-- why it is refused
+abbrev pub refused_line : Option Refused → List ℕ
+refused_line None = []
+refused_line (Some (by.Access r)) = word_line (codes "refused") (access_refusal_text r)
+refused_line (Some (by.Marks r)) = word_line (codes "refused") (mark_refusal_text r)
+
+-- a word and the number of an entry, if there is one
+abbrev pub entry_if : List ℕ → Option ℕ → List ℕ
+entry_if word None = []
+entry_if word (Some k) = number_line word k
+
+-- a word, a process and the number of an entry
+abbrev pub pair_line : List ℕ → ℕ → ℕ → List ℕ
+pair_line word q k = word ++ (codes " " ++ (decimal q ++ (codes " " ++ (decimal k ++ codes "\n"))))
+
+-- who is inside, and since which entry
+abbrev pub inside_line : Option (ℕ × ℕ) → List ℕ
+inside_line None = []
+inside_line (Some pair) = pair_line (codes "inside") pair.0 pair.1
+
+-- who waits ahead, and since which entry
+abbrev pub wait_line : ℕ → Option ℕ → List ℕ
+wait_line q None = []
+wait_line q (Some k) = pair_line (codes "waits") q k
+
+-- of all processes from q on
+abbrev pub waits_from : ℕ → List (Option ℕ) → List ℕ
+waits_from q [] = []
+waits_from q (wait ∷ waits) = wait_line q wait ++ waits_from (q + 1) waits
+
+-- what stands behind the refusal
+abbrev pub standing_lines : Reasons → List ℕ
+standing_lines r = stage_line r.stage ++ (entry_if (codes "open") r.opened ++ entry_if (codes "torn") r.torn)
+
+-- and behind that
+abbrev pub others_lines : Reasons → List ℕ
+others_lines r = inside_line r.inside ++ (waits_from 0 r.waits ++ entry_if (codes "doorway") r.doorway)
+
+-- The lines of the reasons of an entry that stands in line n.
+abbrev pub reason_lines : ℕ → Entry → Reasons → List ℕ
+reason_lines n e r = bad_lines n e ++ (may_line e r.may ++ (refused_line r.refused ++ (standing_lines r ++ others_lines r)))

@@ -1,0 +1,56 @@
+//! A judge who tells his verdict alone.
+ghost use Rattle.any_lock.specs.Judging.{HasJudged};
+ghost use Rattle.judge.specs.AnyJudgements.{TellsVerdict};
+
+use crate::any_verdicts::{any_status_of, any_verdict_line};
+use crate::hearers::{Hearer, Telling};
+use any_lock::Judge;
+use plain_store::Setup;
+use record::{Access, Entry};
+use std::alloc::{AllocError, Global};
+
+#[derive(Drop)]
+pub(crate) struct PlainHearer {
+    pub judge: Judge,
+}
+
+impl Hearer for PlainHearer {
+    ghost HasHeard = { λ plain s entries numbers. HasJudged plain.judge s entries };
+
+    ghost count = { λ plain. plain.judge.entries };
+
+    ghost Tells = { TellsVerdict };
+
+    fn begin(alloc: Global, setup: &Setup) -> Result<PlainHearer, AllocError> {
+        Ok(PlainHearer {
+            judge: Judge::new(alloc, setup)?,
+        })
+    }
+
+    fn take(&mut self, _alloc: Global, _number: u64, entry: &Entry) -> Result<(), AllocError> {
+        self.judge.hear(entry);
+        Ok(())
+    }
+
+    #[inline]
+    fn take_access(
+        &mut self,
+        _alloc: Global,
+        _number: u64,
+        process: u8,
+        access: Access,
+    ) -> Result<(), AllocError> {
+        self.judge.hear_access(process, access);
+        Ok(())
+    }
+
+    fn tell(&self, alloc: Global) -> Result<Telling, AllocError> {
+        let judged = self.judge.judged();
+        Ok(Telling {
+            text: any_verdict_line(alloc, &judged)?.into_bytes(),
+            status: any_status_of(&judged.verdict),
+        })
+    }
+
+    ghost counts = { λ plain s entries numbers judged. judged.count };
+}

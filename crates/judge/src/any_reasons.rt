@@ -1,0 +1,182 @@
+//! The lines of reasons.
+ghost use Rattle.std.specs.Prelude.{◌≡◌, ◌++◌, IfOk, OnOk, codes};
+ghost use Rattle.std.specs.String.{string_bytes};
+ghost use Rattle.any_lock.specs.Shown.{access_refusal_text, mark_refusal_text};
+ghost use Rattle.judge.specs.ReasonLines.{word_line};
+ghost use Rattle.judge.specs.AnyReasons.{entry_if, inside_line, may_line, others_lines, pair_line, reason_lines as lines_of, refused_line, standing_lines, wait_line, waits_from};
+
+use crate::reason_lines::{push_bad, push_entry, push_number, push_stage};
+use any_lock::{AccessRefusal, MarkRefusal, Reasons, Refused, Remedy, changed};
+use plain_store::NestedTypes;
+use record::Entry;
+use std::alloc::{AllocError, Global};
+
+/// Writes the reasons of a bad entry, which stands in this line.
+#[tactic(auto, using(crate::proofs::Texts::five))]
+pub(crate) fn reason_lines(
+    alloc: Global,
+    number: u64,
+    entry: &Entry,
+    reasons: &Reasons,
+    text: &mut Vec<u8>,
+) -> Result<(), AllocError>
+    ensures { OnOk result (text.new.items ≡ text.old.items ++ lines_of number entry.now reasons.now) }
+{
+    let _nested: NestedTypes = None;
+    push_bad(alloc, number, entry, text)?;
+    push_may(alloc, entry, &reasons.may, text)?;
+    push_refused(alloc, &reasons.refused, text)?;
+    push_standing(alloc, reasons, text)?;
+    push_others(alloc, reasons, text)
+}
+
+/// The entry as it would keep all laws.
+#[tactic(auto, using(crate::proofs::Texts::none))]
+fn push_may(
+    alloc: Global,
+    entry: &Entry,
+    may: &Option<Remedy>,
+    text: &mut Vec<u8>,
+) -> Result<(), AllocError>
+    ensures { OnOk result (text.new.items ≡ text.old.items ++ may_line entry.now may.now) }
+{
+    let _nested: NestedTypes = None;
+    match may {
+        None => Ok(()),
+        Some(change) => {
+            let with = changed(alloc, entry, change)?;
+            push_entry(alloc, "may", &with, text)
+        }
+    }
+}
+
+/// Why it is refused.
+#[tactic(auto, using(crate::proofs::Texts::none))]
+fn push_refused(
+    alloc: Global,
+    refused: &Option<Refused>,
+    text: &mut Vec<u8>,
+) -> Result<(), AllocError>
+    ensures { OnOk result (text.new.items ≡ text.old.items ++ refused_line refused.now) }
+{
+    match refused {
+        None => Ok(()),
+        Some(Refused::Access(refusal)) => {
+            let line = access_text(alloc, refusal)?;
+            text.extend_from_slice(line.as_bytes())
+        }
+        Some(Refused::Marks(refusal)) => {
+            let line = mark_text(alloc, refusal)?;
+            text.extend_from_slice(line.as_bytes())
+        }
+    }
+}
+
+fn access_text(alloc: Global, refusal: &AccessRefusal) -> Result<String, AllocError>
+    ensures { IfOk result (λ line. string_bytes line ≡ word_line (codes "refused") (access_refusal_text refusal.now)) }
+{
+    format!(in alloc; "refused {refusal}\n")
+}
+
+fn mark_text(alloc: Global, refusal: &MarkRefusal) -> Result<String, AllocError>
+    ensures { IfOk result (λ line. string_bytes line ≡ word_line (codes "refused") (mark_refusal_text refusal.now)) }
+{
+    format!(in alloc; "refused {refusal}\n")
+}
+
+/// Where its process stands.
+#[tactic(auto, using(crate::proofs::Texts::three))]
+fn push_standing(alloc: Global, reasons: &Reasons, text: &mut Vec<u8>) -> Result<(), AllocError>
+    ensures { OnOk result (text.new.items ≡ text.old.items ++ standing_lines reasons.now) }
+{
+    push_stage(alloc, reasons.stage, text)?;
+    push_if(alloc, "open", reasons.opened, text)?;
+    push_if(alloc, "torn", reasons.torn, text)
+}
+
+/// Where others stand.
+#[tactic(auto, using(crate::proofs::Texts::three))]
+fn push_others(alloc: Global, reasons: &Reasons, text: &mut Vec<u8>) -> Result<(), AllocError>
+    ensures { OnOk result (text.new.items ≡ text.old.items ++ others_lines reasons.now) }
+{
+    push_inside(alloc, reasons.inside, text)?;
+    push_waits(alloc, &reasons.waits, text)?;
+    push_if(alloc, "doorway", reasons.doorway, text)
+}
+
+/// The number of an entry, if there is one.
+#[tactic(auto, using(crate::proofs::Texts::none))]
+fn push_if(
+    alloc: Global,
+    word: &str,
+    entry: Option<u64>,
+    text: &mut Vec<u8>,
+) -> Result<(), AllocError>
+    ensures { OnOk result (text.new.items ≡ text.old.items ++ entry_if word.now entry) }
+{
+    match entry {
+        None => Ok(()),
+        Some(entry) => push_number(alloc, word, entry, text),
+    }
+}
+
+/// Who is inside.
+#[tactic(auto, using(crate::proofs::Texts::none))]
+fn push_inside(
+    alloc: Global,
+    inside: Option<(u8, u64)>,
+    text: &mut Vec<u8>,
+) -> Result<(), AllocError>
+    ensures { OnOk result (text.new.items ≡ text.old.items ++ inside_line inside) }
+{
+    match inside {
+        None => Ok(()),
+        Some((process, since)) => push_pair(alloc, "inside", u64::from(process), since, text),
+    }
+}
+
+/// Who waits ahead.
+fn push_waits(alloc: Global, waits: &[Option<u64>], text: &mut Vec<u8>) -> Result<(), AllocError>
+    ensures { OnOk result (text.new.items ≡ text.old.items ++ waits_from 0 waits.now) }
+{
+    let mut process = 0;
+    'waits: for wait in waits {
+        push_wait(alloc, process, wait, text)?;
+        process += 1;
+    }
+    Ok(())
+}
+
+#[tactic(auto, using(crate::proofs::Texts::none))]
+fn push_wait(
+    alloc: Global,
+    process: u64,
+    wait: &Option<u64>,
+    text: &mut Vec<u8>,
+) -> Result<(), AllocError>
+    ensures { OnOk result (text.new.items ≡ text.old.items ++ wait_line process wait.now) }
+{
+    match wait {
+        None => Ok(()),
+        Some(entry) => push_pair(alloc, "waits", process, *entry, text),
+    }
+}
+
+fn push_pair(
+    alloc: Global,
+    word: &str,
+    process: u64,
+    entry: u64,
+    text: &mut Vec<u8>,
+) -> Result<(), AllocError>
+    ensures { OnOk result (text.new.items ≡ text.old.items ++ pair_line word.now process entry) }
+{
+    let line = pair_text(alloc, word, process, entry)?;
+    text.extend_from_slice(line.as_bytes())
+}
+
+fn pair_text(alloc: Global, word: &str, process: u64, entry: u64) -> Result<String, AllocError>
+    ensures { IfOk result (λ line. string_bytes line ≡ pair_line word.now process entry) }
+{
+    format!(in alloc; "{word} {process} {entry}\n")
+}

@@ -1,0 +1,53 @@
+//! The engine: it reads a record file line by line, and writes what is told of its record.
+ghost use Rattle.std.specs.Prelude.{◌≡◌, ◌+◌, ◌-◌, ◌^◌, ◌<◌, IfErr, IfOk, IfSome};
+ghost use Rattle.std.specs.Io.KnownBytes.{IsAtEnd};
+ghost use Rattle.files.specs.Engines.{streams};
+ghost use Rattle.files.specs.Streams.{failed_reading};
+ghost use Rattle.judge.specs.Ends.{IsInputFault, IsOfRecord, TrialEnds};
+
+use crate::hearers::Hearer;
+use crate::trial::Trial;
+use files::source_lines::Lines;
+use files::{Fault, FaultKind, Sink, Source, write_all};
+use std::alloc::Global;
+
+/// Reads a whole record file, line by line, and then writes what is told of the record that it says; answers the exit
+/// status. It holds a line, a block and what hears the entries, however long the file is. A file of 2^64 - 1 lines or more,
+/// whose numbers want more than 64 bits, ends with `Memory`.
+pub fn run_trial<H: Hearer, R: Source, W: Sink>(
+    alloc: Global,
+    input: &mut R,
+    output: &mut W,
+) -> Result<u8, Fault>
+    requires reads { R.failures input.old < 2 ^ 64 - 1 }
+    requires writes { W.failures output.old < 2 ^ 64 - 1 }
+    ensures { TrialEnds H.Tells result
+        (streams ⟦<R as Source>⟧ ⟦<W as Sink>⟧ input.old output.old)
+        (streams ⟦<R as Source>⟧ ⟦<W as Sink>⟧ input.new output.new) }
+{
+    let hearer: H = hear_file(alloc, input)?;
+    let telling = hearer.tell(alloc)?;
+    write_all(output, telling.text.as_slice())?;
+    Ok(telling.status)
+}
+
+/// Reads a whole record file; answers who has heard its entries.
+fn hear_file<H: Hearer, R: Source>(alloc: Global, input: &mut R) -> Result<H, Fault>
+    requires { R.failures input.old < 2 ^ 64 - 1 }
+    ensures heard { IfOk result (λ hearer. IfSome (R.to_come input.old) (IsOfRecord (H.HasHeard hearer))) }
+    ensures end { IfOk result (λ _. IsAtEnd (R.to_come input.new)) }
+    ensures fault { IfErr result (λ fault. IsInputFault fault (R.to_come input.old)) }
+    ensures failures { R.failures input.new ≡ R.failures input.old + failed_reading result }
+{
+    let mut lines = Lines::new(alloc);
+    let mut trial: Trial<H> = Trial::new(alloc);
+    'lines: while lines.next(input)? {
+        if let Err(kind) = trial.line(lines.taken(), lines.line()) {
+            return Err(lines.here(kind));
+        }
+    }
+    match trial.into_hearer()? {
+        None => Err(lines.behind(FaultKind::NotFirst)),
+        Some(hearer) => Ok(hearer),
+    }
+}

@@ -1,0 +1,145 @@
+ghost use Rattle.std.specs.Prelude.{◌≡◌, ◌-◌, ◌^◌, ◌<◌, ◌≤◌, ◌∷◌, ◌++◌, [], ℕ, None, Some, true, false, IfOk, IsSome, List, Ok, OnOk, Option, length};
+ghost use Rattle.plain_store.specs.Setups.{checked};
+ghost use Rattle.record.specs.Entries.{Entry as Noted};
+ghost use Rattle.record_file.specs.RecordFiles.{Progress};
+ghost use Rattle.judge.specs.Trials.{GoesOn, Hears, IsHeard, LineEnds, Stands, count_in, good_in};
+
+use crate::hearers::{Hearer, Judging};
+use files::{FaultKind, read_any_line};
+use plain_store::{NestedTypes, Setup};
+use record::Entry;
+use record_file::{RecordReader, read_step};
+use std::alloc::{AllocError, Global};
+
+/// A record file that is heard line by line: what was read, and who hears its entries, once there is one.
+#[derive(Drop)]
+pub struct Trial<H: Hearer> {
+    alloc: Global,
+    reader: Option<RecordReader>,
+    hearer: Option<H>,
+}
+
+impl<H: Hearer> Trial<H> {
+    /// Nothing was read.
+    pub fn new(alloc: Global) -> Trial<H>
+        ensures { Stands H.HasHeard result.reader result.hearer None [] [] }
+    {
+        Trial {
+            alloc,
+            reader: None,
+            hearer: None,
+        }
+    }
+
+    /// One more line, with its number, which is not too long.
+    pub fn line(&mut self, number: u64, line: &[u8]) -> Result<(), FaultKind>
+        requires short { length line.now ≤ 128 }
+        requires few { count_in H.count self.old.hearer < 2 ^ 64 - 1 }
+        ensures { (before : Option Progress) (entries : List Noted) (numbers : List ℕ) → Stands H.HasHeard self.old.reader self.old.hearer before entries numbers → LineEnds H.HasHeard result number line.now before self.new.reader self.new.hearer entries numbers }
+    {
+        if self.hears_step(number, line)? {
+            return Ok(());
+        }
+        self.any_line(number, line)
+    }
+
+    /// Whether behind an entry the line is as it is printed for a Step with an access and no mark, as most lines are: then
+    /// that was heard. Else nothing is changed, and nothing is known of the line.
+    fn hears_step(&mut self, number: u64, line: &[u8]) -> Result<bool, AllocError>
+        requires short { length line.now ≤ 128 }
+        requires few { count_in H.count self.old.hearer < 2 ^ 64 - 1 }
+        ensures heard { IfOk result (λ heard. heard ≡ true → (before : Option Progress) (entries : List Noted) (numbers : List ℕ) → Stands H.HasHeard self.old.reader self.old.hearer before entries numbers → GoesOn H.HasHeard number line.now before self.new.reader self.new.hearer entries numbers) }
+        ensures same { IfOk result (λ heard. heard ≡ false → self.new ≡ self.old) }
+    {
+        let Some(hearer) = &mut self.hearer else {
+            return Ok(false);
+        };
+        let Some((process, access)) = read_step(line) else {
+            return Ok(false);
+        };
+        hearer.take_access(self.alloc, number, process, access)?;
+        Ok(true)
+    }
+
+    /// Any line, by its words.
+    fn any_line(&mut self, number: u64, line: &[u8]) -> Result<(), FaultKind>
+        requires short { length line.now ≤ 128 }
+        requires few { count_in H.count self.old.hearer < 2 ^ 64 - 1 }
+        ensures { (before : Option Progress) (entries : List Noted) (numbers : List ℕ) → Stands H.HasHeard self.old.reader self.old.hearer before entries numbers → LineEnds H.HasHeard result number line.now before self.new.reader self.new.hearer entries numbers }
+    {
+        let _nested: NestedTypes = None;
+        read_any_line(self.alloc, line, &mut self.reader)?;
+        if let Some(reader) = &mut self.reader {
+            if let Some(entry) = reader.last_entry() {
+                hear(self.alloc, reader.setup(), number, entry, &mut self.hearer)?;
+                reader.forget_entry();
+            }
+        }
+        Ok(())
+    }
+
+    /// Who has heard the entries of the lines so far, unless all of these were skipped. The one fault is want of memory.
+    pub fn into_hearer(self) -> Result<Option<H>, AllocError>
+        ensures { IfOk result (λ heard. (before : Option Progress) (entries : List Noted) (numbers : List ℕ) → Stands H.HasHeard self.reader self.hearer before entries numbers → IsHeard H.HasHeard heard before entries numbers) }
+    {
+        let Trial {
+            alloc,
+            reader,
+            hearer,
+        } = self;
+        let Some(reader) = reader else {
+            return Ok(None);
+        };
+        match hearer {
+            Some(hearer) => Ok(Some(hearer)),
+            None => Ok(Some(H::begin(alloc, reader.setup())?)),
+        }
+    }
+}
+
+impl<H: Judging> Trial<H> {
+    /// Whether each entry so far keeps all laws.
+    pub fn is_good(&self) -> bool
+        ensures { result ≡ good_in H.finds_good self.now.hearer }
+    {
+        match &self.hearer {
+            Some(hearer) => hearer.is_good(),
+            None => true,
+        }
+    }
+}
+
+/// One more entry is heard; with the first one there is who hears it.
+fn hear<H: Hearer>(
+    alloc: Global,
+    setup: &Setup,
+    number: u64,
+    entry: &Entry,
+    hearer: &mut Option<H>,
+) -> Result<(), AllocError>
+    requires good { checked setup.now ≡ Ok tt }
+    requires few { count_in H.count hearer.old < 2 ^ 64 - 1 }
+    ensures some { OnOk result (IsSome hearer.new) }
+    ensures heard { OnOk result ((entries : List Noted) (numbers : List ℕ) → Hears H.HasHeard hearer.old setup.now entries numbers → Hears H.HasHeard hearer.new setup.now (entries ++ entry.now ∷ []) (numbers ++ number ∷ [])) }
+{
+    if hearer.is_none() {
+        begin(alloc, setup, hearer)?;
+    }
+    if let Some(hearer) = hearer {
+        hearer.take(alloc, number, entry)?;
+    }
+    Ok(())
+}
+
+/// Now there is one, who has heard nothing. It is a function of its own, since the room in which one is made would else be
+/// cleared before each entry.
+#[inline(never)]
+fn begin<H: Hearer>(alloc: Global, setup: &Setup, hearer: &mut Option<H>) -> Result<(), AllocError>
+    requires good { checked setup.now ≡ Ok tt }
+    ensures some { OnOk result (IsSome hearer.new) }
+    ensures none { OnOk result (count_in H.count hearer.new ≡ 0) }
+    ensures heard { OnOk result (Hears H.HasHeard hearer.new setup.now [] []) }
+{
+    *hearer = Some(H::begin(alloc, setup)?);
+    Ok(())
+}

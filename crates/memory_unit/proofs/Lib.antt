@@ -1,2 +1,0 @@
-mod Registers
-pub mod UnitSteps
