@@ -12,23 +12,30 @@ pub(crate) fn add_choice(
     word: &[u8],
     text: &mut String,
 ) -> Result<(), AllocError> {
-    let keys = table.words(alloc)?;
+    let keys = table.words();
     text.push_str("one of ")?;
     add_between(keys.as_slice(), ", ", text)?;
     if let KeyWordTable::Heads(_) = table {
         text.push_str(", or a process")?;
     }
-    match table {
-        KeyWordTable::Openers(1) if word == b"open".as_slice() => {
-            text.push_str("; open stands behind bakery 2 alone")
-        }
-        KeyWordTable::Heads(1) if word == b"open".as_slice() => {
-            text.push_str("; open stands behind record 2 alone")
-        }
-        KeyWordTable::Verbs(1) if word == b"ask".as_slice() => {
-            text.push_str("; ask stands behind bakery 2 alone")
-        }
-        _ => add_near(alloc, word, keys.as_slice(), text),
+    match told_of_version_2(table, word) {
+        Some(told) => text.push_str(told),
+        None => add_near(alloc, word, keys.as_slice(), text),
+    }
+}
+
+/// What is told of a word that is a key word in version 2 alone.
+fn told_of_version_2(table: KeyWordTable, word: &[u8]) -> Option<&'static str> {
+    let (key, told) = match table {
+        KeyWordTable::Openers(1) => ("open", "; open stands behind bakery 2 alone"),
+        KeyWordTable::Heads(1) => ("open", "; open stands behind record 2 alone"),
+        KeyWordTable::Verbs(1) => ("ask", "; ask stands behind bakery 2 alone"),
+        _ => return None,
+    };
+    if word == key.as_bytes() {
+        Some(told)
+    } else {
+        None
     }
 }
 
@@ -40,26 +47,36 @@ fn add_between(
 ) -> Result<(), AllocError> {
     let mut front = "";
     for word in words {
-        text.push_str(front)?;
-        text.push_str(word)?;
+        add_two(front, word, text)?;
         front = between;
     }
     Ok(())
 }
 
+/// Adds two texts, one behind the other.
+pub(crate) fn add_two(first: &str, second: &str, text: &mut String) -> Result<(), AllocError> {
+    text.push_str(first)?;
+    text.push_str(second)
+}
+
 /// Adds that this form was expected.
-pub(crate) fn add_form(alloc: Global, form: &[Item], text: &mut String) -> Result<(), AllocError> {
+pub(crate) fn add_form(form: &[Item], text: &mut String) -> Result<(), AllocError> {
     text.push_str("the form")?;
     for item in form {
         text.push_str(" ")?;
-        match item {
-            Item::Key(word) => text.push_str(word)?,
-            Item::Choice(table) => add_between(table.words(alloc)?.as_slice(), "|", text)?,
-            Item::Operand(operand) => write!(text, "{operand}")?,
-            Item::Bit => text.push_str("bit")?,
-        }
+        add_item(*item, text)?;
     }
     Ok(())
+}
+
+/// Adds an item as a form has it.
+fn add_item(item: Item, text: &mut String) -> Result<(), AllocError> {
+    text.push_str(match item {
+        Item::Key(word) => word,
+        Item::Choice(table) => return add_between(table.words().as_slice(), "|", text),
+        Item::Operand(operand) => operand.letters(),
+        Item::Bit => "bit",
+    })
 }
 
 /// Adds that such an operand was expected, in a file of this kind and version.
@@ -69,23 +86,28 @@ pub(crate) fn add_operand(
     version: u8,
     text: &mut String,
 ) -> Result<(), AllocError> {
-    let first = kind.word();
-    match operand {
-        Operand::Number { most, .. } => write!(
-            text,
-            "a number from 0 to {most} without leading zeros"
-        ),
-        Operand::Heading { most } => write!(
-            text,
-            "a number from 1 to {most} without leading zeros, behind {first} {version}"
-        ),
-        Operand::Integer => text.push_str(
-            "a whole number from -9223372036854775808 to 9223372036854775807 without leading zeros",
-        ),
-        Operand::Bit => text.push_str("0 or 1"),
-        Operand::Name => text.push_str("a name of 1 to 8 of a to z, 0 to 9, _"),
-        Operand::Value => text.push_str(
-            "c: and a whole number from -9223372036854775808 to 9223372036854775807, or t: and at most 12 visible ASCII characters",
-        ),
-    }
+    text.push_str(match operand {
+        Operand::Number { most, .. } => return add_number(0, most, text),
+        Operand::Heading { most } => {
+            add_number(1, u64::from(most), text)?;
+            let first = kind.word();
+            return write!(text, ", behind {first} {version}");
+        }
+        Operand::Integer => {
+            "a whole number from -9223372036854775808 to 9223372036854775807 without leading zeros"
+        }
+        Operand::Bit => "0 or 1",
+        Operand::Name => "a name of 1 to 8 of a to z, 0 to 9, _",
+        Operand::Value => {
+            "c: and a whole number from -9223372036854775808 to 9223372036854775807, or t: and at most 12 visible ASCII characters"
+        }
+    })
+}
+
+/// Adds that a number in this range was expected.
+fn add_number(least: u8, most: u64, text: &mut String) -> Result<(), AllocError> {
+    write!(
+        text,
+        "a number from {least} to {most} without leading zeros"
+    )
 }

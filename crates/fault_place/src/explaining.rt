@@ -21,28 +21,49 @@ pub fn explanation(
     fault: &LineFault,
 ) -> Result<String, AllocError> {
     let mut text = String::new(alloc);
-    if fault.kind == FaultKind::Memory || !kept.is_whole() {
-        return Ok(text);
+    if fault.kind != FaultKind::Memory && kept.is_whole() {
+        add_explanation(alloc, kind, kept, fault, &mut text)?;
     }
+    Ok(text)
+}
+
+/// Adds these lines.
+fn add_explanation(
+    alloc: Global,
+    kind: FileKind,
+    kept: &KeptFile,
+    fault: &LineFault,
+    text: &mut String,
+) -> Result<(), AllocError> {
     let Some(bytes) = kept.line(fault.line) else {
         let lines = kind.first_lines();
-        write!(text, "expected {lines} as the first line\n")?;
-        return Ok(text);
+        return write!(text, "expected {lines} as the first line\n");
     };
-    let line = SplitLine::new(alloc, bytes)?;
     let faulty = Faulty {
         alloc,
         kind,
         setup: setup_before(alloc, kind, kept.front(), fault.line)?,
         fault: fault.kind,
     };
+    let line = SplitLine::new(alloc, bytes)?;
     let mut what = String::new(alloc);
-    if let Some(span) = faulty.place(&line, fault.line, &mut what)? {
-        line.show(span, &mut text)?;
-        let what = what.as_str();
-        write!(text, "expected {what}\n")?;
-    }
-    Ok(text)
+    add_place(&faulty, &line, fault.line, &mut what, text)
+}
+
+/// Adds the line of this number, carets, and what was expected in it, which comes together in `what`.
+fn add_place(
+    faulty: &Faulty,
+    line: &SplitLine<'_>,
+    number: u64,
+    what: &mut String,
+    text: &mut String,
+) -> Result<(), AllocError> {
+    let Some(span) = faulty.place(line, number, what)? else {
+        return Ok(());
+    };
+    line.show(span, text)?;
+    let what = what.as_str();
+    write!(text, "expected {what}\n")
 }
 
 /// What the lines of a file before the one of this number have set up, as its grammar reads them.
@@ -52,41 +73,60 @@ fn setup_before(
     front: &[u8],
     number: u64,
 ) -> Result<Option<Setup>, AllocError> {
+    match kind {
+        FileKind::Scenario => scenario_setup(alloc, front, number),
+        FileKind::Record => record_setup(alloc, front, number),
+        FileKind::Bits => bits_setup(alloc, front, number),
+    }
+}
+
+fn scenario_setup(alloc: Global, front: &[u8], number: u64) -> Result<Option<Setup>, AllocError> {
     let _nested: NestedTypes = None;
-    Ok(match kind {
-        FileKind::Scenario => match read_before::<Reader>(alloc, front, number)? {
-            Some(read) => Some(*read.setup()),
-            None => None,
-        },
-        FileKind::Record => match read_before::<RecordReader>(alloc, front, number)? {
-            Some(read) => Some(*read.setup()),
-            None => None,
-        },
-        FileKind::Bits => match read_before::<BitsReader>(alloc, front, number)? {
-            Some(_) => Some(Setup::one(1, 1, 1, 1)),
-            None => None,
-        },
+    let mut read: Option<Reader> = None;
+    read_before(alloc, front, number, &mut read)?;
+    Ok(match &read {
+        Some(read) => Some(*read.setup()),
+        None => None,
     })
 }
 
-/// What the lines before the one of this number say.
+fn record_setup(alloc: Global, front: &[u8], number: u64) -> Result<Option<Setup>, AllocError> {
+    let _nested: NestedTypes = None;
+    let mut read: Option<RecordReader> = None;
+    read_before(alloc, front, number, &mut read)?;
+    Ok(match &read {
+        Some(read) => Some(*read.setup()),
+        None => None,
+    })
+}
+
+fn bits_setup(alloc: Global, front: &[u8], number: u64) -> Result<Option<Setup>, AllocError> {
+    let mut read: Option<BitsReader> = None;
+    read_before(alloc, front, number, &mut read)?;
+    Ok(match &read {
+        Some(_) => Some(Setup::one(1, 1, 1, 1)),
+        None => None,
+    })
+}
+
+/// Reads the lines before the one of this number.
 fn read_before<T: FromLines>(
     alloc: Global,
     front: &[u8],
     number: u64,
-) -> Result<Option<T>, AllocError> {
-    let mut read = None;
+    read: &mut Option<T>,
+) -> Result<(), AllocError> {
     let mut at: u64 = 1;
     for line in front.lines() {
         if at >= number {
-            return Ok(read);
+            return Ok(());
         }
         at = at.saturating_add(1);
-        match read_any_line(alloc, line, &mut read) {
+        match read_any_line(alloc, line, read) {
             Ok(()) => {}
             Err(FaultKind::Memory) => return Err(AllocError),
-            Err(_) => return Ok(read),
+            Err(_) => return Ok(()),
         }
     }
-    Ok(read)
+    Ok(())
 }

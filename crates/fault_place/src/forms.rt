@@ -9,7 +9,6 @@ use files::FaultKind;
 use record_file::keywords::{MARK_WORDS, MarkWord, OWN_ANSWERS, REPLY_WORDS, ReplyWord};
 use scenario::bit_files::{BIT_WORDS, BitWord};
 use scenario::keywords::{Heading, LineWord, OPENERS, Opener, TARGETS, VERBS, Verb};
-use std::alloc::{AllocError, Global};
 
 /// What stands at a place of a form.
 #[derive(Clone, Copy)]
@@ -24,8 +23,15 @@ pub(crate) enum Item {
     Bit,
 }
 
+/// The most items of a form: those of `call p cas NAME VALUE VALUE`.
+const MOST_ITEMS: usize = 6;
+
 /// A form: its last item is a choice where the line has no such key word, and nothing is known of what is behind it.
-pub(crate) type LineForm = Vec<Item>;
+#[derive(Clone, Copy)]
+pub(crate) struct LineForm {
+    items: [Item; MOST_ITEMS],
+    count: usize,
+}
 
 /// The key word of a table that a word is.
 pub(crate) fn key_word<M>(rows: &[(&'static str, M)], word: &[u8]) -> Option<&'static str> {
@@ -54,202 +60,185 @@ fn key<M>(rows: &[(&'static str, M)], words: &[&[u8]], place: usize, table: KeyW
 }
 
 /// The form of a line of a scenario of this version, behind the first.
-pub(crate) fn line_form(
-    alloc: Global,
-    version: u8,
-    words: &[&[u8]],
-) -> Result<LineForm, AllocError> {
-    let first = key(&OPENERS, words, 0, KeyWordTable::Openers(version));
-    let mut form = Vec::new(alloc);
+pub(crate) fn line_form(version: u8, words: &[&[u8]]) -> LineForm {
+    let mut form = LineForm::new();
     match Opener::of(word_at(words, 0)) {
         Some(Opener::Line(word)) => {
-            add(&mut form, first)?;
-            add_statement(version, word, words, &mut form)?;
+            form.add(key(&OPENERS, words, 0, KeyWordTable::Openers(version)));
+            form.add_statement(version, word, words);
         }
-        opener => add_head(
-            version,
-            first,
-            opener,
-            KeyWordTable::Openers(version),
-            &mut form,
-        )?,
+        _ => form.add_head(version, words, KeyWordTable::Openers(version)),
     }
-    Ok(form)
+    form
 }
 
 /// The form of a line of a record of this version that is no entry.
-pub(crate) fn head_form(
-    alloc: Global,
-    version: u8,
-    words: &[&[u8]],
-) -> Result<LineForm, AllocError> {
-    let first = key(&OPENERS, words, 0, KeyWordTable::Heads(version));
-    let opener = Opener::of(word_at(words, 0));
-    let mut form = Vec::new(alloc);
-    add_head(
-        version,
-        first,
-        opener,
-        KeyWordTable::Heads(version),
-        &mut form,
-    )?;
-    Ok(form)
-}
-
-/// Adds the form of a heading or an opening pair.
-fn add_head(
-    version: u8,
-    first: Item,
-    opener: Option<Opener>,
-    table: KeyWordTable,
-    form: &mut LineForm,
-) -> Result<(), AllocError> {
-    match opener {
-        Some(Opener::Heading(heading)) => {
-            let most = heading.most(version);
-            add(form, first)?;
-            add_operands(form, &[Operand::Heading { most }])
-        }
-        Some(Opener::Open) if version == 2 => {
-            add(form, first)?;
-            add_operands(form, &[Operand::Name, Operand::Value])
-        }
-        _ => add(form, Item::Choice(table)),
-    }
-}
-
-/// Adds what is behind the first word of a line.
-fn add_statement(
-    version: u8,
-    word: LineWord,
-    words: &[&[u8]],
-    form: &mut LineForm,
-) -> Result<(), AllocError> {
-    match word {
-        LineWord::Call => {
-            add_operands(form, &[PROCESS])?;
-            add_command(version, words, 2, form)
-        }
-        LineWord::Step => add_operands(form, &[PROCESS, COUNT]),
-        LineWord::Go => {
-            add_operands(form, &[PROCESS])?;
-            add(form, key(&TARGETS, words, 2, KeyWordTable::Targets))
-        }
-        LineWord::Fail | LineWord::Withdraw | LineWord::Restart => add_operands(form, &[PROCESS]),
-        LineWord::Flick => {
-            let mode = key(&FLICKS, words, 1, KeyWordTable::Flicks);
-            add(form, mode)?;
-            match mode {
-                Item::Key("pcg") => add_operands(form, &[number("n", u64::MAX)]),
-                _ => Ok(()),
-            }
-        }
-        LineWord::Wander => add_operands(form, &[COUNT]),
-        LineWord::Show => Ok(()),
-    }
-}
-
-/// Adds a command, whose key word has this place.
-fn add_command(
-    version: u8,
-    words: &[&[u8]],
-    place: usize,
-    form: &mut LineForm,
-) -> Result<(), AllocError> {
-    let verb = Verb::of(word_at(words, place));
-    let key = match verb {
-        Some(Verb::Ask) if version != 2 => Item::Choice(KeyWordTable::Verbs(version)),
-        _ => key(&VERBS, words, place, KeyWordTable::Verbs(version)),
-    };
-    add(form, key)?;
-    match verb {
-        Some(Verb::Read) => add_operands(form, &[Operand::Name]),
-        Some(Verb::Write) => add_operands(form, &[Operand::Name, Operand::Value]),
-        Some(Verb::Add) => add_operands(form, &[Operand::Name, Operand::Integer]),
-        Some(Verb::Cas) => add_operands(form, &[Operand::Name, Operand::Value, Operand::Value]),
-        Some(Verb::Ask) | None => Ok(()),
-    }
+pub(crate) fn head_form(version: u8, words: &[&[u8]]) -> LineForm {
+    let mut form = LineForm::new();
+    form.add_head(version, words, KeyWordTable::Heads(version));
+    form
 }
 
 /// The form of a line of a bits file, behind the first.
-pub(crate) fn bits_form(alloc: Global, words: &[&[u8]]) -> Result<LineForm, AllocError> {
-    let mut form = Vec::new(alloc);
-    add(&mut form, key(&BIT_WORDS, words, 0, KeyWordTable::BitWords))?;
-    if has_value(BitWord::of(word_at(words, 0))) {
-        add_operands(&mut form, &[Operand::Bit])?;
-    }
-    Ok(form)
-}
-
-/// Whether a value of a bit stands behind the word.
-fn has_value(word: Option<BitWord>) -> bool {
-    match word {
-        Some(BitWord::Write | BitWord::Settle | BitWord::Value) => true,
-        _ => false,
-    }
+pub(crate) fn bits_form(words: &[&[u8]]) -> LineForm {
+    let mut form = LineForm::new();
+    form.add(key(&BIT_WORDS, words, 0, KeyWordTable::BitWords));
+    form.add_bit_value(word_at(words, 0));
+    form
 }
 
 /// The form of the words of an entry before its marks.
-pub(crate) fn access_form(alloc: Global, words: &[&[u8]]) -> Result<LineForm, AllocError> {
-    let mut form = Vec::new(alloc);
-    add_operands(&mut form, &[number("process", 255)])?;
-    if words.len() < 2 {
-        return Ok(form);
+pub(crate) fn access_form(words: &[&[u8]]) -> LineForm {
+    let mut form = LineForm::new();
+    form.add(number("process", 255));
+    if words.len() >= 2 {
+        form.add(Item::Bit);
+        form.add(key(&MOVES, words, 2, KeyWordTable::Moves));
+        form.add_bit_value(word_at(words, 2));
     }
-    add(&mut form, Item::Bit)?;
-    add(&mut form, key(&MOVES, words, 2, KeyWordTable::Moves))?;
-    if has_value(BitWord::of(word_at(words, 2))) {
-        add_operands(&mut form, &[Operand::Bit])?;
-    }
-    Ok(form)
+    form
 }
 
 /// The form of a mark, by the words behind its sign.
-pub(crate) fn mark_form(alloc: Global, words: &[&[u8]]) -> Result<LineForm, AllocError> {
-    let mut form = Vec::new(alloc);
-    add(&mut form, key(&MARK_WORDS, words, 0, KeyWordTable::Marks))?;
+pub(crate) fn mark_form(words: &[&[u8]]) -> LineForm {
+    let mut form = LineForm::new();
+    form.add(key(&MARK_WORDS, words, 0, KeyWordTable::Marks));
     match MarkWord::of(word_at(words, 0)) {
-        Some(MarkWord::Call) => add_command(2, words, 1, &mut form)?,
-        Some(MarkWord::Wait) => add_operands(&mut form, &[number("n", 4_294_967_295)])?,
+        Some(MarkWord::Call) => form.add_command(2, words, 1),
+        Some(MarkWord::Wait) => form.add(number("n", 4_294_967_295)),
         Some(MarkWord::Taken) => {
-            add_operands(&mut form, &[number("k", u64::MAX)])?;
-            add(
-                &mut form,
-                key(&REPLY_WORDS, words, 2, KeyWordTable::Replies),
-            )?;
-            add_reply(ReplyWord::of(word_at(words, 2)), &mut form)?;
+            form.add(number("k", u64::MAX));
+            form.add_reply(words, 2, KeyWordTable::Replies);
         }
-        Some(MarkWord::Answer) => add_answer(words, &mut form)?,
-        Some(MarkWord::Settled) => add_operands(&mut form, &[Operand::Bit])?,
+        Some(MarkWord::Answer) => form.add_answer(words),
+        Some(MarkWord::Settled) => form.add(Item::Operand(Operand::Bit)),
         _ => {}
     }
-    Ok(form)
+    form
 }
 
-/// Adds an answer.
-fn add_answer(words: &[&[u8]], form: &mut LineForm) -> Result<(), AllocError> {
-    match key(&OWN_ANSWERS, words, 1, KeyWordTable::Answers) {
-        Item::Key(own) => {
-            add(form, Item::Key(own))?;
-            if own == "tickets-full" {
-                add_operands(form, &[PROCESS])?;
-            }
-            Ok(())
-        }
-        _ => {
-            add(form, key(&REPLY_WORDS, words, 1, KeyWordTable::Answers))?;
-            add_reply(ReplyWord::of(word_at(words, 1)), form)
+impl LineForm {
+    /// No item yet.
+    fn new() -> LineForm {
+        LineForm {
+            items: [Item::Bit; MOST_ITEMS],
+            count: 0,
         }
     }
-}
 
-/// Adds what stands behind the first word of a reply.
-fn add_reply(name: Option<ReplyWord>, form: &mut LineForm) -> Result<(), AllocError> {
-    match name {
-        Some(ReplyWord::Value | ReplyWord::Kept) => add_operands(form, &[Operand::Value]),
-        Some(ReplyWord::Sum) => add_operands(form, &[Operand::Integer]),
-        Some(ReplyWord::Last) => add_operands(form, &[number("n", 65_535)]),
-        _ => Ok(()),
+    /// Its items.
+    pub fn items(&self) -> &[Item] {
+        self.items.get(..self.count).unwrap_or(&[])
+    }
+
+    /// Adds an item, for which there is room.
+    fn add(&mut self, item: Item) {
+        if self.count < MOST_ITEMS {
+            self.items[self.count] = item;
+            self.count += 1;
+        }
+    }
+
+    /// Adds operands, in their order.
+    fn add_operands(&mut self, operands: &[Operand]) {
+        for operand in operands {
+            self.add(Item::Operand(*operand));
+        }
+    }
+
+    /// Adds the form of a heading or an opening pair.
+    fn add_head(&mut self, version: u8, words: &[&[u8]], table: KeyWordTable) {
+        match Opener::of(word_at(words, 0)) {
+            Some(Opener::Heading(heading)) => {
+                let most = heading.most(version);
+                self.add(key(&OPENERS, words, 0, table));
+                self.add(Item::Operand(Operand::Heading { most }));
+            }
+            Some(Opener::Open) if version == 2 => {
+                self.add(key(&OPENERS, words, 0, table));
+                self.add_operands(&[Operand::Name, Operand::Value]);
+            }
+            _ => self.add(Item::Choice(table)),
+        }
+    }
+
+    /// Adds what is behind the first word of a line.
+    fn add_statement(&mut self, version: u8, word: LineWord, words: &[&[u8]]) {
+        match word {
+            LineWord::Call => {
+                self.add(Item::Operand(PROCESS));
+                self.add_command(version, words, 2);
+            }
+            LineWord::Step => self.add_operands(&[PROCESS, COUNT]),
+            LineWord::Go => {
+                self.add(Item::Operand(PROCESS));
+                self.add(key(&TARGETS, words, 2, KeyWordTable::Targets));
+            }
+            LineWord::Fail | LineWord::Withdraw | LineWord::Restart => {
+                self.add(Item::Operand(PROCESS));
+            }
+            LineWord::Flick => self.add_flick(words),
+            LineWord::Wander => self.add(Item::Operand(COUNT)),
+            LineWord::Show => {}
+        }
+    }
+
+    /// Adds the mode of `flick`.
+    fn add_flick(&mut self, words: &[&[u8]]) {
+        self.add(key(&FLICKS, words, 1, KeyWordTable::Flicks));
+        if word_at(words, 1) == b"pcg".as_slice() {
+            self.add(number("n", u64::MAX));
+        }
+    }
+
+    /// Adds a command, whose key word has this place.
+    fn add_command(&mut self, version: u8, words: &[&[u8]], place: usize) {
+        let verb = Verb::of(word_at(words, place));
+        self.add(match verb {
+            Some(Verb::Ask) if version != 2 => Item::Choice(KeyWordTable::Verbs(version)),
+            _ => key(&VERBS, words, place, KeyWordTable::Verbs(version)),
+        });
+        match verb {
+            Some(Verb::Read) => self.add_operands(&[Operand::Name]),
+            Some(Verb::Write) => self.add_operands(&[Operand::Name, Operand::Value]),
+            Some(Verb::Add) => self.add_operands(&[Operand::Name, Operand::Integer]),
+            Some(Verb::Cas) => self.add_operands(&[Operand::Name, Operand::Value, Operand::Value]),
+            Some(Verb::Ask) | None => {}
+        }
+    }
+
+    /// Adds the value of a bit, if one stands behind the word.
+    fn add_bit_value(&mut self, word: &[u8]) {
+        match BitWord::of(word) {
+            Some(BitWord::Write | BitWord::Settle | BitWord::Value) => {
+                self.add(Item::Operand(Operand::Bit));
+            }
+            _ => {}
+        }
+    }
+
+    /// Adds an answer.
+    fn add_answer(&mut self, words: &[&[u8]]) {
+        match key_word(&OWN_ANSWERS, word_at(words, 1)) {
+            Some(own) => {
+                self.add(Item::Key(own));
+                if own == "tickets-full" {
+                    self.add(Item::Operand(PROCESS));
+                }
+            }
+            None => self.add_reply(words, 1, KeyWordTable::Answers),
+        }
+    }
+
+    /// Adds a reply, whose first word has this place and is one of this table.
+    fn add_reply(&mut self, words: &[&[u8]], place: usize, table: KeyWordTable) {
+        self.add(key(&REPLY_WORDS, words, place, table));
+        match ReplyWord::of(word_at(words, place)) {
+            Some(ReplyWord::Value | ReplyWord::Kept) => self.add(Item::Operand(Operand::Value)),
+            Some(ReplyWord::Sum) => self.add(Item::Operand(Operand::Integer)),
+            Some(ReplyWord::Last) => self.add(number("n", 65_535)),
+            _ => {}
+        }
     }
 }
 
@@ -262,34 +251,17 @@ pub(crate) fn refused_operand(
     ensures item { IfSome result (λ r. slice_get form.now r.0 ≡ Some (Item.Operand r.1)) }
     ensures word { IfSome result (λ r. fault_at r.1 (slice_index_or (texts words.now) r.0 []) ≡ Some fault) }
 {
-    for (place, item) in form.iter().enumerate() {
-        if place >= words.len() {
-            return None;
-        }
-        if let Item::Operand(operand) = item {
+    for place in 0..form.len().min(words.len()) {
+        if let Item::Operand(operand) = form[place] {
             if operand.fault(words[place]) == Some(fault) {
-                return Some((place, *operand));
+                return Some((place, operand));
             }
         }
     }
     None
 }
 
-/// Adds an item.
-fn add(form: &mut LineForm, item: Item) -> Result<(), AllocError> {
-    form.push(item)?;
-    Ok(())
-}
-
-/// Adds operands, in their order.
-fn add_operands(form: &mut LineForm, operands: &[Operand]) -> Result<(), AllocError> {
-    for operand in operands {
-        form.push(Item::Operand(*operand))?;
-    }
-    Ok(())
-}
-
 /// A number up to `most`.
-fn number(letter: &'static str, most: u64) -> Operand {
-    Operand::Number { letter, most }
+fn number(letter: &'static str, most: u64) -> Item {
+    Item::Operand(Operand::Number { letter, most })
 }

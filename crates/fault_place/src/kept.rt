@@ -45,14 +45,13 @@ impl KeptFile {
     /// The line of this number, counted from 1, if it is among the front or in the last blocks.
     pub fn line(&self, number: u64) -> Option<&[u8]> {
         let place = number.saturating_sub(1);
-        if self.front.len() < INPUT_LIMIT || place < ends_among(self.front.as_slice()) {
-            self.front.as_slice().lines().nth(place as usize)
+        let front = self.front.as_slice();
+        let (bytes, ended) = if front.len() < INPUT_LIMIT || place < ends_among(front) {
+            (front, 0)
         } else {
-            self.last
-                .as_slice()
-                .lines()
-                .nth(place.saturating_sub(self.ended) as usize)
-        }
+            (self.last.as_slice(), self.ended)
+        };
+        bytes.lines().nth(place.saturating_sub(ended) as usize)
     }
 
     /// Keeps bytes that come next.

@@ -1,5 +1,4 @@
 //! The words of a line, and where they stand.
-use bstr::ByteSlice;
 use std::alloc::{AllocError, Global};
 
 /// The most bytes of a line that are shown.
@@ -20,6 +19,13 @@ pub(crate) struct Span {
     pub to: usize,
 }
 
+impl Span {
+    /// These bytes of a line.
+    pub fn of(self, line: &[u8]) -> &[u8] {
+        line.get(self.from..self.to).unwrap_or(&[])
+    }
+}
+
 /// A line, and where its words stand.
 #[derive(Drop)]
 pub(crate) struct SplitLine<'a> {
@@ -31,16 +37,22 @@ pub(crate) struct SplitLine<'a> {
 impl<'a> SplitLine<'a> {
     /// A line of these bytes.
     pub fn new(alloc: Global, bytes: &'a [u8]) -> Result<SplitLine<'a>, AllocError> {
-        let spans = word_spans(alloc, bytes)?;
-        let mut words = Vec::new(alloc);
-        for span in &spans {
-            words.push(bytes.get(span.from..span.to).unwrap_or(&[]))?;
-        }
-        Ok(SplitLine {
+        let mut line = SplitLine {
             bytes,
-            spans,
-            words,
-        })
+            spans: Vec::new(alloc),
+            words: Vec::new(alloc),
+        };
+        line.find_words()?;
+        Ok(line)
+    }
+
+    /// Finds its words.
+    fn find_words(&mut self) -> Result<(), AllocError> {
+        add_spans(self.bytes, &mut self.spans)?;
+        for span in &self.spans {
+            self.words.push(span.of(self.bytes))?;
+        }
+        Ok(())
     }
 
     /// How many bytes it has.
@@ -85,19 +97,15 @@ impl<'a> SplitLine<'a> {
     /// A part of a word between dots; one column where it is empty.
     pub fn part(&self, number: usize, part: usize) -> Span {
         let word = self.word(number);
-        let bytes = self.bytes.get(word.from..word.to).unwrap_or(&[]);
-        let mut from = word.from;
-        for (place, bytes) in bytes.split_str(b".").enumerate() {
-            if place == part {
-                let width = bytes.len().max(1);
-                return Span {
-                    from,
-                    to: from.saturating_add(width),
-                };
-            }
-            from = from.saturating_add(bytes.len()).saturating_add(1);
+        match dotted_part(word.of(self.bytes), part) {
+            Some(span) => Span {
+                from: word.from.saturating_add(span.from),
+                to: word
+                    .from
+                    .saturating_add(span.to.max(span.from.saturating_add(1))),
+            },
+            None => word,
         }
-        word
     }
 
     /// Adds the part of the line round some of its bytes, and carets below these.
@@ -124,28 +132,45 @@ impl<'a> SplitLine<'a> {
     }
 }
 
-/// Where the words of a line stand.
-fn word_spans(alloc: Global, line: &[u8]) -> Result<Vec<Span>, AllocError> {
-    let mut spans = Vec::new(alloc);
-    let mut begun = None;
+/// Adds where the words of a line stand.
+fn add_spans(line: &[u8], spans: &mut Vec<Span>) -> Result<(), AllocError> {
+    let mut from = 0;
     for (at, byte) in line.iter().enumerate() {
-        let blank = *byte == b' ' || *byte == b'\t';
-        match begun {
-            Some(from) if blank => {
-                spans.push(Span { from, to: at })?;
-                begun = None;
-            }
-            None if !blank => begun = Some(at),
-            _ => {}
+        if *byte == b' ' || *byte == b'\t' {
+            add_span(from, at, spans)?;
+            from = at.saturating_add(1);
         }
     }
-    if let Some(from) = begun {
-        spans.push(Span {
-            from,
-            to: line.len(),
-        })?;
+    add_span(from, line.len(), spans)
+}
+
+/// Adds where some bytes stand that are a word unless there are none.
+fn add_span(from: usize, to: usize, spans: &mut Vec<Span>) -> Result<(), AllocError> {
+    if from < to {
+        spans.push(Span { from, to })?;
     }
-    Ok(spans)
+    Ok(())
+}
+
+/// Where in a word a part between its dots stands, if there are so many.
+pub(crate) fn dotted_part(word: &[u8], number: usize) -> Option<Span> {
+    let mut before: usize = 0;
+    let mut from = 0;
+    for (at, byte) in word.iter().enumerate() {
+        if *byte == b'.' {
+            if before == number {
+                return Some(Span { from, to: at });
+            }
+            before = before.saturating_add(1);
+            from = at.saturating_add(1);
+        }
+    }
+    let to = word.len();
+    if before == number {
+        Some(Span { from, to })
+    } else {
+        None
+    }
 }
 
 /// What a terminal gets for a byte.

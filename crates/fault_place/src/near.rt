@@ -1,4 +1,5 @@
 //! The key words that a word may have been meant for.
+use crate::expected::add_two;
 use std::alloc::{AllocError, Global};
 use strsim::osa_distance;
 
@@ -10,22 +11,49 @@ pub(crate) fn add_near(
     text: &mut String,
 ) -> Result<(), AllocError> {
     let small = small_letters(alloc, word)?;
-    let mut least = usize::MAX;
-    for key in keys {
-        least = least.min(errors(alloc, small.as_str(), key)?);
-    }
+    add_nearest(alloc, small.as_str(), keys, text)
+}
+
+/// The same of a word of small letters.
+fn add_nearest(
+    alloc: Global,
+    word: &str,
+    keys: &[&'static str],
+    text: &mut String,
+) -> Result<(), AllocError> {
+    let least = least_errors(alloc, word, keys)?;
     if least == usize::MAX {
         return Ok(());
     }
+    add_those_at(alloc, word, keys, least, text)?;
+    text.push_str("?")
+}
+
+/// How many typing errors lie between a word and the nearest key words.
+fn least_errors(alloc: Global, word: &str, keys: &[&'static str]) -> Result<usize, AllocError> {
+    let mut least = usize::MAX;
+    for key in keys {
+        least = least.min(errors(alloc, word, key)?);
+    }
+    Ok(least)
+}
+
+/// Adds the key words that are so many typing errors away.
+fn add_those_at(
+    alloc: Global,
+    word: &str,
+    keys: &[&'static str],
+    distance: usize,
+    text: &mut String,
+) -> Result<(), AllocError> {
     let mut between = "; did you mean ";
     for key in keys {
-        if errors(alloc, small.as_str(), key)? == least {
-            text.push_str(between)?;
-            text.push_str(key)?;
+        if errors(alloc, word, key)? == distance {
+            add_two(between, key, text)?;
             between = " or ";
         }
     }
-    text.push_str("?")
+    Ok(())
 }
 
 /// How many typing errors lie between a word and a key word; the greatest number where they are too many.

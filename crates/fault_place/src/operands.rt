@@ -5,7 +5,6 @@ ghost use Rattle.fault_place.specs.Operands.{fault_at};
 use files::FaultKind;
 use scenario::bit_files::one_bit;
 use scenario::operands::{integer, name, number, value};
-use std::fmt::{self, Display, Formatter};
 
 /// A kind of operand.
 #[derive(Clone, Copy)]
@@ -48,6 +47,18 @@ impl Operand {
             Operand::Value => value(word).err(),
         }
     }
+
+    /// As a form has it.
+    pub fn letters(self) -> &'static str {
+        match self {
+            Operand::Number { letter, .. } => letter,
+            Operand::Heading { .. } => "n",
+            Operand::Integer => "INT",
+            Operand::Bit => "0|1",
+            Operand::Name => "NAME",
+            Operand::Value => "VALUE",
+        }
+    }
 }
 
 /// The fault of a heading's number.
@@ -58,19 +69,5 @@ fn heading_fault(most: u8, word: &[u8]) -> Option<FaultKind>
         Err(fault) => Some(fault),
         Ok(number) if number < 1 || number > u64::from(most) => Some(FaultKind::BadSetup),
         Ok(_) => None,
-    }
-}
-
-/// As a form has it.
-impl Display for Operand {
-    fn fmt<W: fmt::Write>(&self, f: &mut Formatter<W>) -> fmt::Result {
-        match self {
-            Operand::Number { letter, .. } => f.write_str(letter),
-            Operand::Heading { .. } => f.write_str("n"),
-            Operand::Integer => f.write_str("INT"),
-            Operand::Bit => f.write_str("0|1"),
-            Operand::Name => f.write_str("NAME"),
-            Operand::Value => f.write_str("VALUE"),
-        }
     }
 }

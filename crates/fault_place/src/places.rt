@@ -1,14 +1,13 @@
 //! Where in a line a fault is, by its kind.
-use crate::expected::{add_choice, add_form, add_operand};
+use crate::expected::{add_choice, add_form, add_operand, add_two};
 use crate::forms::{
     Item, access_form, bits_form, head_form, key_word, line_form, mark_form, refused_operand,
     word_at,
 };
-use crate::lines::{Span, SplitLine};
+use crate::lines::{Span, SplitLine, dotted_part};
 use crate::near::add_near;
 use crate::operands::{Operand, PROCESS};
 use crate::tables::{FileKind, KeyWordTable};
-use bstr::ByteSlice;
 use files::{FaultKind, meaning_of};
 use plain_store::{OpenFault, Setup, Value};
 use record_file::LineKind;
@@ -28,7 +27,12 @@ type Found = Result<Option<Span>, AllocError>;
 
 /// A place, of which this was expected.
 fn found(place: Span, expected: &str, what: &mut String) -> Found {
-    what.push_str(expected)?;
+    found_by(place, what.push_str(expected))
+}
+
+/// A place, of which was added what was expected.
+fn found_by(place: Span, added: Result<(), AllocError>) -> Found {
+    added?;
     Ok(Some(place))
 }
 
@@ -103,23 +107,23 @@ impl Faulty {
 
     /// Of the first line: the word that differs, or those too many.
     fn not_first(&self, line: &SplitLine<'_>, what: &mut String) -> Found {
-        let words = line.words.as_slice();
-        what.push_str(self.kind.first_lines())?;
-        what.push_str(" as the first line")?;
-        let Some(first) = words.first() else {
+        add_two(self.kind.first_lines(), " as the first line", what)?;
+        let Some(first) = line.words.first() else {
             return Ok(None);
         };
         if *first != self.kind.word().as_bytes() {
-            self.add_other_kind(first, what)?;
-            return Ok(Some(line.word(0)));
+            return found_by(line.word(0), self.add_other_kind(first, what));
         }
-        let has_two = self.kind != FileKind::Bits;
-        Ok(Some(match words.get(1) {
+        Ok(Some(self.no_version(line)))
+    }
+
+    /// Of a first line whose first word is right.
+    fn no_version(&self, line: &SplitLine<'_>) -> Span {
+        match line.words.get(1) {
             None => line.behind(0),
-            Some(version) if *version == b"1".as_slice() => line.from(2),
-            Some(version) if *version == b"2".as_slice() && has_two => line.from(2),
+            Some(version) if self.kind.has_version(version) => line.from(2),
             Some(_) => line.word(1),
-        }))
+        }
     }
 
     /// Adds what a file is that begins with another word.
@@ -127,11 +131,10 @@ impl Faulty {
         if let Some(kind) = meaning_of(&FIRST_WORDS, first) {
             return what.push_str(kind);
         }
-        if let [0xEF, 0xBB, 0xBF, ..] | [0xFF, 0xFE, ..] | [0xFE, 0xFF, ..] = first {
+        if begins_with_mark(first) {
             return what.push_str("; this begins with a byte order mark");
         }
-        let keys = KeyWordTable::First(self.kind).words(self.alloc)?;
-        add_near(self.alloc, first, keys.as_slice(), what)
+        add_near(self.alloc, first, &[self.kind.word()], what)
     }
 
     /// Of a line that stands too late.
@@ -139,13 +142,18 @@ impl Faulty {
         let Some(first) = line.words.first() else {
             return Ok(None);
         };
-        let (name, only) = match (Opener::of(first), key_word(&OPENERS, first)) {
+        let (name, only) = self.late_words(first);
+        what.push_str(name)?;
+        found(line.word(0), only, what)
+    }
+
+    /// What stands too late where a line begins with this word, and where it may stand.
+    fn late_words(&self, first: &[u8]) -> (&'static str, &'static str) {
+        match (Opener::of(first), key_word(&OPENERS, first)) {
             (Some(Opener::Heading(_)), Some(heading)) => (heading, " once, and before other lines"),
             (Some(Opener::Open), _) => ("open", " before other lines"),
             _ => (self.kind.first_lines(), " in the first line alone"),
-        };
-        what.push_str(name)?;
-        found(line.word(0), only, what)
+        }
     }
 
     /// Of an opening pair that the store has no place for, or another one of its name.
@@ -153,38 +161,31 @@ impl Faulty {
         let Some(setup) = &self.setup else {
             return Ok(None);
         };
-        let mut opening = setup.opening;
-        if let Some(word) = line.words.get(1) {
-            if let Ok(name) = name(word) {
-                if let Err(OpenFault::Double) = opening.add(name, Value::Count(0)) {
-                    return found(line.word(1), "each name opened once", what);
-                }
-            }
+        if is_open(setup, word_at(line.words.as_slice(), 1)) {
+            return found(line.word(1), "each name opened once", what);
         }
         let slots = setup.slots;
-        write!(what, "no more open lines than slots, {slots}")?;
-        Ok(Some(line.word(0)))
+        let added = write!(what, "no more open lines than slots, {slots}");
+        found_by(line.word(0), added)
     }
 
     /// Of a line whose words are at fault.
     fn in_line(&self, line: &SplitLine<'_>, what: &mut String) -> Found {
         let words = line.words.as_slice();
         let form = match self.kind {
-            FileKind::Scenario => line_form(self.alloc, self.version(), words)?,
-            FileKind::Bits => bits_form(self.alloc, words)?,
+            FileKind::Scenario => line_form(self.version(), words),
+            FileKind::Bits => bits_form(words),
             FileKind::Record => match LineKind::of(word_at(words, 0)) {
                 Some(LineKind::Entry) => return self.in_entry(line, what),
-                _ => head_form(self.alloc, self.version(), words)?,
+                _ => head_form(self.version(), words),
             },
         };
-        let form = form.as_slice();
-        let at = 0;
         self.in_part(
             &Part {
                 line,
-                at,
+                at: 0,
                 words,
-                form,
+                form: form.items(),
             },
             what,
         )
@@ -195,34 +196,46 @@ impl Faulty {
         let words = line.words.as_slice();
         let (mut at, mut marks) = (0_usize, 0_usize);
         for place in 0..=words.len() {
-            if let Some(word) = words.get(place) {
-                if *word != b":".as_slice() {
-                    continue;
-                }
+            if place < words.len() && word_at(words, place) != b":".as_slice() {
+                continue;
             }
-            let words = words.get(at..place).unwrap_or(&[]);
-            let form = if marks == 0 {
-                access_form(self.alloc, words)?
-            } else {
-                mark_form(self.alloc, words)?
-            };
-            let form = form.as_slice();
-            let part = Part {
-                line,
-                at,
-                words,
-                form,
-            };
-            if let Some(span) = self.in_part(&part, what)? {
+            if let Some(span) = self.in_entry_part(line, at, place, marks, what)? {
                 return Ok(Some(span));
-            }
-            if marks > 3 && self.fault == FaultKind::Words {
-                return found(line.word(at.saturating_sub(1)), "at most three marks", what);
             }
             marks = marks.saturating_add(1);
             at = place.saturating_add(1);
         }
         Ok(None)
+    }
+
+    /// Of its words from one place to another, behind so many signs.
+    fn in_entry_part(
+        &self,
+        line: &SplitLine<'_>,
+        at: usize,
+        end: usize,
+        marks: usize,
+        what: &mut String,
+    ) -> Found {
+        let words = line.words.get(at..end).unwrap_or(&[]);
+        let form = if marks == 0 {
+            access_form(words)
+        } else {
+            mark_form(words)
+        };
+        let form = form.items();
+        let part = Part {
+            line,
+            at,
+            words,
+            form,
+        };
+        match self.in_part(&part, what)? {
+            None if marks > 3 && self.fault == FaultKind::Words => {
+                found(line.word(at.saturating_sub(1)), "at most three marks", what)
+            }
+            place => Ok(place),
+        }
     }
 
     /// Of words that should have a form.
@@ -244,8 +257,8 @@ impl Faulty {
         else {
             return Ok(None);
         };
-        add_choice(self.alloc, *table, word, what)?;
-        Ok(Some(part.word(place)))
+        let added = add_choice(self.alloc, *table, word, what);
+        found_by(part.word(place), added)
     }
 
     /// The word of a bit that is none, or its part that names no register.
@@ -253,16 +266,18 @@ impl Faulty {
         let Some(bit) = part.bit() else {
             return Ok(None);
         };
-        if bit.split_str(b".").count() != 4 {
+        let (Some(_), None) = (dotted_part(bit, 3), dotted_part(bit, 4)) else {
             return found(part.word(1), "a bit as owner.field.bit.reader", what);
+        };
+        let Some(field) = dotted_part(bit, 1) else {
+            return Ok(None);
+        };
+        let field = field.of(bit);
+        if record_file::keywords::field(field).is_some() {
+            return Ok(None);
         }
-        match bit.split_str(b".").nth(1) {
-            Some(field) if record_file::keywords::field(field).is_none() => {
-                add_choice(self.alloc, KeyWordTable::Fields, field, what)?;
-                Ok(Some(part.line.part(1, 1)))
-            }
-            _ => Ok(None),
-        }
+        let added = add_choice(self.alloc, KeyWordTable::Fields, field, what);
+        found_by(part.line.part(1, 1), added)
     }
 
     /// The words that are too many, or the column where one is missing.
@@ -271,16 +286,16 @@ impl Faulty {
         if has == wants {
             return Ok(None);
         }
-        add_form(self.alloc, part.form, what)?;
         let last = part.at.saturating_add(has).saturating_sub(1);
-        Ok(Some(if has < wants {
+        let place = if has < wants {
             part.line.behind(last)
         } else {
             Span {
                 from: part.word(wants).from,
                 to: part.line.word(last).to,
             }
-        }))
+        };
+        found_by(place, add_form(part.form, what))
     }
 
     /// The first operand that has the fault.
@@ -291,8 +306,8 @@ impl Faulty {
         let Some((place, operand)) = refused_operand(part.form, part.words, self.fault) else {
             return Ok(None);
         };
-        add_operand(operand, self.kind, self.version(), what)?;
-        Ok(Some(part.word(place)))
+        let added = add_operand(operand, self.kind, self.version(), what);
+        found_by(part.word(place), added)
     }
 
     /// The first part of a bit that is no number of an owner, a bit or a reader.
@@ -303,16 +318,54 @@ impl Faulty {
         if PROCESS.fault(process) == Some(self.fault) {
             return Ok(None);
         }
-        for (place, number) in bit.split_str(b".").enumerate() {
-            let operand = Operand::Number {
-                letter: "n",
-                most: if place == 2 { 65_535 } else { 255 },
-            };
-            if place != 1 && operand.fault(number) == Some(self.fault) {
-                add_operand(operand, self.kind, self.version(), what)?;
-                return Ok(Some(part.line.part(1, place)));
+        let Some((place, operand)) = self.refused_part(bit) else {
+            return Ok(None);
+        };
+        let added = add_operand(operand, self.kind, self.version(), what);
+        found_by(part.line.part(1, place), added)
+    }
+
+    /// The first part of a bit that is refused, by its place, and the operand that it is to be.
+    fn refused_part(&self, bit: &[u8]) -> Option<(usize, Operand)> {
+        for place in 0..=bit.len() {
+            if let Some(operand) = self.refused_at(bit, place) {
+                return Some((place, operand));
             }
         }
-        Ok(None)
+        None
+    }
+
+    /// The operand that the part of a bit at this place is to be, if it refuses it.
+    fn refused_at(&self, bit: &[u8], place: usize) -> Option<Operand> {
+        let operand = Operand::Number {
+            letter: "n",
+            most: if place == 2 { 65_535 } else { 255 },
+        };
+        let number = dotted_part(bit, place)?.of(bit);
+        if place != 1 && operand.fault(number) == Some(self.fault) {
+            Some(operand)
+        } else {
+            None
+        }
+    }
+}
+
+/// Whether a file begins with a byte order mark.
+fn begins_with_mark(first: &[u8]) -> bool {
+    match first {
+        [0xEF, 0xBB, 0xBF, ..] | [0xFF, 0xFE, ..] | [0xFE, 0xFF, ..] => true,
+        _ => false,
+    }
+}
+
+/// Whether a setup has opened this name.
+fn is_open(setup: &Setup, word: &[u8]) -> bool {
+    let mut opening = setup.opening;
+    match name(word) {
+        Ok(name) => match opening.add(name, Value::Count(0)) {
+            Err(OpenFault::Double) => true,
+            _ => false,
+        },
+        Err(_) => false,
     }
 }

@@ -2,7 +2,6 @@
 use record_file::keywords::{FIELDS, MARK_WORDS, OWN_ANSWERS, REPLY_WORDS};
 use scenario::bit_files::{BIT_WORDS, BitWord};
 use scenario::keywords::{OPENERS, Opener, TARGETS, VERBS, Verb};
-use std::alloc::{AllocError, Global};
 
 /// What a file is to be.
 #[derive(Clone, Copy, Debug, PartialEq, Eq)]
@@ -33,6 +32,15 @@ impl FileKind {
             FileKind::Record => "record 1 or record 2",
         }
     }
+
+    /// Whether its first line may have this version.
+    pub(crate) fn has_version(self, version: &[u8]) -> bool {
+        match version {
+            [b'1'] => true,
+            [b'2'] => self != FileKind::Bits,
+            _ => false,
+        }
+    }
 }
 
 /// The modes of `flick`.
@@ -50,8 +58,6 @@ pub(crate) const MOVES: [(&str, BitWord); 5] = [
 /// Which key words may stand at a place.
 #[derive(Clone, Copy)]
 pub(crate) enum KeyWordTable {
-    /// The first word of a file.
-    First(FileKind),
     /// The first words of lines of a scenario of this version.
     Openers(u8),
     /// The first words of lines of a record of this version that are no entries.
@@ -69,76 +75,86 @@ pub(crate) enum KeyWordTable {
     Answers,
 }
 
+/// The most key words of a table.
+const MOST_WORDS: usize = 14;
+
+/// Key words, in order.
+#[derive(Clone, Copy)]
+pub(crate) struct KeyWords {
+    words: [&'static str; MOST_WORDS],
+    count: usize,
+}
+
 impl KeyWordTable {
-    /// Its key words, in order.
-    pub fn words(self, alloc: Global) -> Result<Vec<&'static str>, AllocError> {
-        let mut words: Vec<&'static str> = Vec::new(alloc);
-        self.add(&mut words)?;
-        Ok(words)
+    /// Its key words.
+    pub fn words(self) -> KeyWords {
+        let mut words = KeyWords {
+            words: [""; MOST_WORDS],
+            count: 0,
+        };
+        match self {
+            KeyWordTable::Openers(version) => words.add_openers(version, true),
+            KeyWordTable::Heads(version) => words.add_openers(version, false),
+            KeyWordTable::Verbs(version) => words.add_verbs(version),
+            KeyWordTable::Targets => words.add_all(&TARGETS),
+            KeyWordTable::Flicks => words.add_all(&FLICKS),
+            KeyWordTable::BitWords => words.add_all(&BIT_WORDS[1..]),
+            KeyWordTable::Fields => words.add_all(&FIELDS),
+            KeyWordTable::Moves => words.add_all(&MOVES),
+            KeyWordTable::Marks => words.add_all(&MARK_WORDS),
+            KeyWordTable::Replies => words.add_all(&REPLY_WORDS),
+            KeyWordTable::Answers => {
+                words.add_all(&REPLY_WORDS);
+                words.add_all(&OWN_ANSWERS);
+            }
+        }
+        words
+    }
+}
+
+impl KeyWords {
+    /// Its words.
+    pub fn as_slice(&self) -> &[&'static str] {
+        self.words.get(..self.count).unwrap_or(&[])
     }
 
-    /// Adds its key words.
-    fn add(self, words: &mut Vec<&'static str>) -> Result<(), AllocError> {
-        match self {
-            KeyWordTable::First(kind) => add_word(kind.word(), words),
-            KeyWordTable::Openers(version) => add_openers(version, true, words),
-            KeyWordTable::Heads(version) => add_openers(version, false, words),
-            KeyWordTable::Verbs(version) => add_verbs(version, words),
-            KeyWordTable::Targets => add_all(&TARGETS, words),
-            KeyWordTable::Flicks => add_all(&FLICKS, words),
-            KeyWordTable::BitWords => add_all(&BIT_WORDS[1..], words),
-            KeyWordTable::Fields => add_all(&FIELDS, words),
-            KeyWordTable::Moves => add_all(&MOVES, words),
-            KeyWordTable::Marks => add_all(&MARK_WORDS, words),
-            KeyWordTable::Replies => add_all(&REPLY_WORDS, words),
-            KeyWordTable::Answers => {
-                add_all(&REPLY_WORDS, words)?;
-                add_all(&OWN_ANSWERS, words)
+    /// Adds a word, for which there is room.
+    fn add(&mut self, word: &'static str) {
+        if self.count < MOST_WORDS {
+            self.words[self.count] = word;
+            self.count += 1;
+        }
+    }
+
+    /// Adds the key words of a table.
+    fn add_all<M>(&mut self, table: &[(&'static str, M)]) {
+        for row in table {
+            self.add(row.0);
+        }
+    }
+
+    /// Adds the headings, `open` in version 2, and with `lines` the other first words but that of the first line.
+    fn add_openers(&mut self, version: u8, lines: bool) {
+        for row in &OPENERS {
+            let has = match row.1 {
+                Opener::Bakery => false,
+                Opener::Heading(_) => true,
+                Opener::Open => version == 2,
+                Opener::Line(_) => lines,
+            };
+            if has {
+                self.add(row.0);
             }
         }
     }
-}
 
-/// Adds one word.
-fn add_word(word: &'static str, words: &mut Vec<&'static str>) -> Result<(), AllocError> {
-    words.push(word)?;
-    Ok(())
-}
-
-/// Adds the key words of a table.
-fn add_all<M>(
-    table: &[(&'static str, M)],
-    words: &mut Vec<&'static str>,
-) -> Result<(), AllocError> {
-    for row in table {
-        words.push(row.0)?;
-    }
-    Ok(())
-}
-
-/// Adds the headings, `open` in version 2, and with `lines` the other first words but that of the first line.
-fn add_openers(version: u8, lines: bool, words: &mut Vec<&'static str>) -> Result<(), AllocError> {
-    for row in &OPENERS {
-        let has = match row.1 {
-            Opener::Bakery => false,
-            Opener::Heading(_) => true,
-            Opener::Open => version == 2,
-            Opener::Line(_) => lines,
-        };
-        if has {
-            words.push(row.0)?;
+    /// Adds the commands, `ask` in version 2.
+    fn add_verbs(&mut self, version: u8) {
+        for row in &VERBS {
+            match row.1 {
+                Verb::Ask if version != 2 => {}
+                _ => self.add(row.0),
+            }
         }
     }
-    Ok(())
-}
-
-/// Adds the commands, `ask` in version 2.
-fn add_verbs(version: u8, words: &mut Vec<&'static str>) -> Result<(), AllocError> {
-    for row in &VERBS {
-        match row.1 {
-            Verb::Ask if version != 2 => {}
-            _ => words.push(row.0)?,
-        }
-    }
-    Ok(())
 }

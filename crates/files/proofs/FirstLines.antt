@@ -6,7 +6,7 @@ use Rattle.std.proofs.lemmas.List.Folds.{list_all-append}
 use Rattle.std.specs.Io.KnownBytes.{Consumes, IsAtEnd, prepend_known}
 use Rattle.std.specs.List.{list_all}
 use Rattle.files.specs.Words.{lines, onto, begins_with}
-use Rattle.files.specs.Lines.{IsTooLong, MovesEnded, TakesLine, is_inner, without_return}
+use Rattle.files.specs.Lines.{IsTooLong, MovesAll, MovesEnded, TakesLine, is_inner, without_return}
 use Rattle.files.specs.SourceLines.{ComesToEnd, FindsLine, Given, Held, Stays, Told, coming, shown_line, unless_ended}
 use Rattle.files.proofs.Blocks.{stays}
 
@@ -127,6 +127,21 @@ fed a b ahead rest to_come xs line all front stays ends same =
         ∙ line_ended (xs ++ ends.part) (rest.bytes ++ more) inner
         ∙ ap (λ l. without_return l ∷ lines (rest.bytes ++ more)) (sym ends.moved)
 
+-- none came behind them so far: all are taken
+pub fed_all : (a b : Option (List ℕ)) (ahead rest : Given) (to_come : Option (List ℕ)) (xs line : List ℕ) → Consumes a b xs → Stays b (coming ahead to_come) → MovesAll ahead.bytes rest.bytes xs line → rest.ended ≡ ahead.ended → Consumes a (coming rest to_come) line
+fed_all a b ahead rest to_come xs line front stays moves same =
+    subst (λ (t : Bool). Consumes a (prepend_known rest.bytes (unless_ended t to_come)) line) (sym same)
+    (subst (λ (l : List ℕ). Consumes a (prepend_known l (unless_ended ahead.ended to_come)) line) (sym moves.none) (by a b (unless_ended ahead.ended to_come) front stays))
+  where
+    by : (a b left : Option (List ℕ)) → Consumes a b xs → Stays b (prepend_known ahead.bytes left) → Consumes a (prepend_known [] left) line
+    by None b left front stays = tt
+    by (Some text) None left front stays = absurd front
+    by (Some text) (Some mid) None front stays = absurd stays
+    by (Some text) (Some mid) (Some more) front stays = front ∙ ap (λ l. xs ++ l) (sym stays) ∙ sym (append_assoc xs ahead.bytes more) ∙ ap (λ l. l ++ more) (sym moves.moved)
+
+pub all_inner : (old new xs line : List ℕ) → list_all is_inner xs ≡ true → MovesAll old new xs line → list_all is_inner line ≡ true
+all_inner old new xs line inner moves = ap (list_all is_inner) moves.moved ∙ list_all-append is_inner xs old ∙ and_from (list_all is_inner xs) (list_all is_inner old) inner moves.inner
+
 -- and they are too many
 pub fed_long : (a c : Option (List ℕ)) (line : List ℕ) → Told a c (λ text left. TakesLine text line left) → 128 < length line → IfSome a IsTooLong
 fed_long None c line told long = tt
@@ -151,6 +166,15 @@ ended a b c (x ∷ xs) n same some all front end = by a c (at_end a b c (x ∷ x
     by (Some text) None told = absurd told
     by (Some text) (Some rest) told = ap lines told.0 ∙ line_last x xs all ∙ ap (λ l. (x ∷ xs) ∷ lines l) (sym told.1)
 
+pub none_came : (a b c : Option (List ℕ)) (xs : List ℕ) (n : ℕ) → n ≡ length xs → not (n == 0) ≡ false → Consumes a b xs → ComesToEnd b c → IsAtEnd a × IsAtEnd c
+none_came a b c (x ∷ xs) n same none front end = absurd (grind (arith, nat_tests))
+none_came a b c [] n same none front end = (by a b front end.0, subst IsAtEnd (sym end.1) refl)
+  where
+    by : (a b : Option (List ℕ)) → Consumes a b [] → IsAtEnd b → IsAtEnd a
+    by None b front end = tt
+    by (Some text) None front end = absurd front
+    by (Some text) (Some mid) front end = front ∙ end
+
 -- 130 bytes came, and no 0x0A among them
 pub cut_long : (a b : Option (List ℕ)) (xs : List ℕ) → list_all is_inner xs ≡ true → Consumes a b xs → 130 ≤ length xs → IfSome a IsTooLong
 cut_long None b xs all front many = tt
@@ -168,5 +192,3 @@ found_first old new to_come true moved is found same =
     let all = coming old.given to_come in
     subst (λ (l : List ℕ). Told all (coming new.given to_come) (λ text left. TakesLine text l left)) (sym found.line) (fed all all old.given new.given to_come [] found.whole refl (none_taken all) (stays all) found.ends same)
 found_first old new to_come false moved is found same = absurd (cc)
-
--- A source that has told its end.

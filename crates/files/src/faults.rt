@@ -2,38 +2,46 @@
 ghost use Rattle.std.specs.Prelude.{◌≡◌};
 
 use std::alloc::AllocError;
+use std::fmt;
 use thiserror::Error;
 
 /// What is wrong with a line.
 #[derive(Clone, Copy, Debug, PartialEq, Eq, Error)]
 pub enum FaultKind {
     /// The line stands where no line of its kind may stand, or is not the first line that the file must have.
-    #[error("not-first")]
     NotFirst,
     /// A key word is not in the table.
-    #[error("unknown")]
     Unknown,
     /// The number of words is another one.
-    #[error("words")]
     Words,
     /// An operand is no number, or out of its range.
-    #[error("number")]
     Number,
     /// An operand is no name.
-    #[error("bad-name")]
     BadName,
     /// An operand is no value.
-    #[error("bad-value")]
     BadValue,
     /// No such setup is in the file's version.
-    #[error("bad-setup")]
     BadSetup,
     /// The line has more than 128 bytes, or there are too many lines.
-    #[error("too-long")]
     TooLong,
     /// A growth was refused.
-    #[error("memory")]
     Memory,
+}
+
+impl fmt::Display for FaultKind {
+    fn fmt<W: fmt::Write>(&self, f: &mut fmt::Formatter<W>) -> fmt::Result {
+        f.write_str(match self {
+            FaultKind::NotFirst => "not-first",
+            FaultKind::Unknown => "unknown",
+            FaultKind::Words => "words",
+            FaultKind::Number => "number",
+            FaultKind::BadName => "bad-name",
+            FaultKind::BadValue => "bad-value",
+            FaultKind::BadSetup => "bad-setup",
+            FaultKind::TooLong => "too-long",
+            FaultKind::Memory => "memory",
+        })
+    }
 }
 
 /// The first line with a fault, counted from 1.

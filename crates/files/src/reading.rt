@@ -94,10 +94,12 @@ fn read_words<T: FromLines>(
         return Ok(());
     }
     match read {
-        None => *read = Some(T::first(alloc, first, rest)?),
-        Some(read) => read.later(first, rest)?,
+        None => {
+            *read = Some(T::first(alloc, first, rest)?);
+            Ok(())
+        }
+        Some(read) => read.later(first, rest),
     }
-    Ok(())
 }
 
 /// Keeps one more line behind the headings, of which a file has at most 4,000. After an `Err` the lines are

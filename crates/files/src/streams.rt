@@ -161,7 +161,6 @@ pub const INPUT_LIMIT: usize = 532_481;
 
 /// The bytes to come, up to the end or to `INPUT_LIMIT` of them. It fails with `Read` where a call failed,
 /// and with `Memory`; then too only bytes from the front are gone, no more than `INPUT_LIMIT`.
-#[tactic(auto, using(crate::proofs::Appending::front_read))]
 pub fn read_input<R: Source>(alloc: Global, input: &mut R) -> Result<Vec<u8>, Fault>
     requires { R.failures input.old < 2 ^ 64 - 1 }
     ensures ok { GivesInput result (R.to_come input.old) (R.to_come input.new) }

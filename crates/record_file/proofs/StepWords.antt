@@ -2,7 +2,7 @@
 use Rattle.std.proofs.Common.{◌≡◌, ℕ, ◌+◌, ◌-◌, ◌*◌, ◌/◌, ◌%◌, ◌<◌, ◌≤◌, List, [], ◌∷◌, ◌++◌, length, take, drop, slice_index_or, suc, Bool, true, false, codes, refl, subst, ap, sym, ◌∙◌, append_assoc, arith}
 use Rattle.std.proofs.lemmas.Fmt.{decimal_digit, decimal_step}
 use Rattle.std.proofs.Math.Seq.{drop-append_seam, split_at}
-use Rattle.std.proofs.lemmas.List.{length-append, take-append-drop, take-append-le, take_rest}
+use Rattle.std.proofs.lemmas.List.{drop-drop, length-append, take-append-drop, take-append-le, take_rest}
 use Rattle.std.specs.Fmt.{decimal}
 use Rattle.safe_bit.specs.declared.Move.{Move}
 use Rattle.safe_bit.specs.declared.Move.TheVariants as move
@@ -91,20 +91,7 @@ few_are a b c x y z false false second last is some is_b is_c va vb vc yes2 no2 
     subst (λ read. Written read (a ∷ b ∷ c ∷ [])) (sym (no3 refl ∙ no2 refl))
     (one_is a x (va is.0) small, (λ three. absurd (omega (arith, three))))
 
--- the first four bytes
-abbrev pub heads : List ℕ → List ℕ
-heads bytes = slice_index_or bytes 0 0 ∷ slice_index_or bytes 1 0 ∷ slice_index_or bytes 2 0 ∷ slice_index_or bytes 3 0 ∷ []
-
--- the last four bytes
-abbrev pub tails : List ℕ → List ℕ
-tails bytes =
-    slice_index_or bytes (length bytes - 4) 0
-    ∷ slice_index_or bytes (length bytes - 3) 0
-    ∷ slice_index_or bytes (length bytes - 2) 0
-    ∷ slice_index_or bytes (length bytes - 1) 0
-    ∷ []
-
--- the first three
+-- the first three bytes
 abbrev pub three_heads : List ℕ → List ℕ
 three_heads bytes = slice_index_or bytes 0 0 ∷ slice_index_or bytes 1 0 ∷ slice_index_or bytes 2 0 ∷ []
 
@@ -140,17 +127,10 @@ fourth_digit (a ∷ b ∷ c ∷ d ∷ e ∷ rest) n count last some digits many 
     ap (λ x. a ∷ b ∷ c ∷ d ∷ x ∷ rest) dot ∙ ap (λ ds. ds ++ (46 ∷ rest)) (sym four) ∙ ap (λ r. decimal (n * 10 + last) ++ (46 ∷ r)) (sym (take_rest (a ∷ b ∷ c ∷ d ∷ e ∷ rest) 5))
 
 -- four to eight bytes are told by the first four and the last four
-pub ends_are : (bytes : List ℕ) → 4 ≤ length bytes → length bytes ≤ 8 → bytes ≡ heads bytes ++ drop (8 - length bytes) (tails bytes)
-ends_are [] some few = absurd (omega (arith, some))
-ends_are (a ∷ []) some few = absurd (omega (arith, some))
-ends_are (a ∷ b ∷ []) some few = absurd (omega (arith, some))
-ends_are (a ∷ b ∷ c ∷ []) some few = absurd (omega (arith, some))
-ends_are (a ∷ b ∷ c ∷ d ∷ []) some few = refl
-ends_are (a ∷ b ∷ c ∷ d ∷ e ∷ []) some few = refl
-ends_are (a ∷ b ∷ c ∷ d ∷ e ∷ f ∷ []) some few = refl
-ends_are (a ∷ b ∷ c ∷ d ∷ e ∷ f ∷ g ∷ []) some few = refl
-ends_are (a ∷ b ∷ c ∷ d ∷ e ∷ f ∷ g ∷ h ∷ []) some few = refl
-ends_are (a ∷ b ∷ c ∷ d ∷ e ∷ f ∷ g ∷ h ∷ i ∷ rest) some few = absurd (omega (arith, few))
+pub ends_are : (bytes : List ℕ) → 4 ≤ length bytes → length bytes ≤ 8 → bytes ≡ take 4 bytes ++ drop (8 - length bytes) (drop (length bytes - 4) bytes)
+ends_are bytes some few =
+    let at : length bytes - 4 + (8 - length bytes) ≡ 4 = omega (arith, some, few) in
+    sym (take-append-drop 4 bytes) ∙ ap (λ bs. take 4 bytes ++ bs) (sym (drop-drop (8 - length bytes) (length bytes - 4) bytes ∙ ap (λ k. drop k bytes) at))
 
 -- what is behind a word and a space, from the space on
 pub from_end : (bytes word behind : List ℕ) → bytes ≡ word ++ (32 ∷ behind) →

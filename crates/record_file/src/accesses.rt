@@ -3,7 +3,7 @@ ghost use Rattle.std.specs.Prelude.{◌≡◌, ◌∷◌, [], ◌==◌, length, 
 ghost use Rattle.std.specs.Option.{option_map_or};
 ghost use Rattle.std.specs.List.{position};
 ghost use Rattle.files.specs.Words.{texts};
-ghost use Rattle.record_file.specs.Reading.{AreFourParts, access_of, dotted, lone_move_of, move_of};
+ghost use Rattle.record_file.specs.Reading.{AreFourParts, access_of, copy_of, dotted, lone_move_of, move_of};
 
 use crate::keywords::field as field_named;
 use files::FaultKind;
@@ -13,7 +13,7 @@ use scenario::bit_files::{BitWord, one_bit};
 use scenario::operands::{number, process};
 
 /// The words of an access: a copy of a bit, and a move. There may be none.
-#[tactic(auto, unfolding(crate::specs::Reading::access_of, crate::specs::Reading::copy_of))]
+#[tactic(auto, unfolding(crate::specs::Reading::access_of))]
 pub fn access(words: &[&[u8]]) -> Result<Option<Access>, FaultKind>
     ensures { result ≡ access_of (texts words.now) }
 {
@@ -33,17 +33,29 @@ pub fn access(words: &[&[u8]]) -> Result<Option<Access>, FaultKind>
         return Err(FaultKind::Unknown);
     };
     let how = move_named(name, operands)?;
-    Ok(Some(Access {
+    Ok(Some(access_to(parts, field, how)?))
+}
+
+/// The parts of the word of a copy: its owner, its field, its bit and its reader.
+type CopyParts<'w> = (&'w [u8], &'w [u8], &'w [u8], &'w [u8]);
+
+/// An access to a copy of a bit of this field, by the parts of its word.
+#[tactic(auto, unfolding(crate::specs::Reading::copy_of))]
+fn access_to(parts: CopyParts<'_>, field: Field, how: Move) -> Result<Access, FaultKind>
+    ensures { result ≡ copy_of
+        (parts.entry.0.now ∷ parts.entry.1.now ∷ parts.entry.2.now ∷ parts.entry.3.now ∷ []) field how }
+{
+    Ok(Access {
         owner: process(parts.0)?,
         field,
         bit: number(parts.2, 65_535)? as u16,
         reader: process(parts.3)?,
         how,
-    }))
+    })
 }
 
 /// The parts of a word between its dots, if there are four.
-fn dotted_parts(word: &[u8]) -> Option<(&[u8], &[u8], &[u8], &[u8])>
+fn dotted_parts(word: &[u8]) -> Option<CopyParts<'_>>
     ensures { AreFourParts result word.now }
 {
     let (first, behind) = up_to_dot(word);

@@ -321,21 +321,23 @@ fn process_at(bytes: &[u8], end: u8) -> Option<(u8, &[u8])>
 fn move_in(text: &[u8]) -> Option<Move>
     ensures { IfSome result (λ how. text.now ≡ codes " " ++ spaced (move_words how)) }
 {
-    let [a, b, c, d, ..] = text else {
+    let Some(front) = text.first_chunk::<4>() else {
         return None;
     };
-    let [.., w, x, y, z] = text else {
+    let Some(end) = text.last_chunk::<4>() else {
         return None;
     };
-    let (how, count, front, end) = likely_move(*c, *z);
-    if text.len() == count && are(&[*a, *b, *c, *d], &front) && are(&[*w, *x, *y, *z], &end) {
+    let (how, count, likely_front, likely_end) = likely_move(front[2], end[3]);
+    if text.len() == count && are(front, &likely_front) && are(end, &likely_end) {
         return Some(how);
     }
-    match text {
-        b" settle 0" => Some(Move::Settle(false)),
-        b" settle 1" => Some(Move::Settle(true)),
-        _ => None,
+    if text == b" settle 0".as_slice() {
+        return Some(Move::Settle(false));
     }
+    if text == b" settle 1".as_slice() {
+        return Some(Move::Settle(true));
+    }
+    None
 }
 
 /// The move whose words have this letter at the second place and this one at the end, if there is one, and its words, each

@@ -50,7 +50,6 @@ impl StepLine {
 
     /// Prints the line of a Step of this process with this access and no mark, in place of the one before.
     #[inline]
-    #[tactic(auto, using(crate::proofs::Printed::step_is))]
     pub fn print(&mut self, process: u8, access: Access)
         ensures { self.new ≡ entry_line (step_entry process access) }
     {

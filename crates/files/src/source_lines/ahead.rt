@@ -58,7 +58,6 @@ impl Ahead {
     /// Asks the source for a block, where all bytes are taken; `false` if it has none. A source that has told its end is
     /// not asked again.
     #[inline(always)]
-    #[tactic(auto, using(crate::proofs::Blocks::stays, crate::proofs::Blocks::some_left, crate::proofs::Blocks::more_come, crate::proofs::Blocks::some_came, crate::proofs::Blocks::none_come, crate::proofs::Blocks::none_left))]
     pub fn fill<R: Source>(&mut self, input: &mut R) -> Result<bool, Fault>
         requires { R.failures input.old < 2 ^ 64 - 1 }
         ensures some { IfOk result (λ some. some ≡ true → 0 < length self.new.given.bytes) }

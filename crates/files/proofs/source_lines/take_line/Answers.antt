@@ -1,43 +1,94 @@
-use Rattle.std.proofs.Common.{ℕ, List, not, ap, sym, subst, ◌∙◌, arith}
-use Rattle.files.specs.Lines.{TakesLine}
+use Rattle.std.proofs.Common.{◌≡◌, ℕ, List, [], not, ap, arith, refl, subst, sym, ◌∙◌}
+use Rattle.std.specs.Io.KnownBytes.{Consumes}
+use Rattle.std.specs.List.{list_all}
+use Rattle.files.specs.Lines.{TakesLine, is_inner}
 use Rattle.files.specs.SourceLines.{Told, coming}
-use Rattle.files.proofs.FirstLines.{cut_long, ended, fed, fed_long}
+use Rattle.files.proofs.FirstLines.{all_inner, cut_long, ended, fed, fed_all, fed_long, none_came, none_taken}
 use Rattle.files.proofs.source_lines.take_line.Goals as goal
 
--- the end of the input ends a line that has begun
-pub returns-then-not-branch-clause-line : goal.returns-then-not-branch-clause-line
-returns-then-not-branch-clause-line g c =
+pub parts-init : goal.parts-init
+parts-init g c =
     let all = coming c.args.ahead.now.given (g.R.Source.to_come c.args.input.now) in
-    let mid = coming c.parts.ahead.given (g.R.Source.to_come c.parts.input) in
-    let rest = coming c.fill.new.self.given (g.R.Source.to_come c.fill.new.input) in
-    λ some short. ended all mid rest c.parts.line.items c.parts.line.len (omega (arith, c.parts.line.ok.0)) (ap not (sym c.is_empty.ensures) ∙ some) c.parts.invariant.inner c.parts.invariant.front (c.in_ok-fill.ensures.end c.if-not-branch.true)
+    let none : c.clear.new.self.items ≡ [] = c.clear.ensures.items in
+    record {
+      front = subst (λ (l : List ℕ). Consumes all all l) (sym none) (none_taken all);
+      inner = ap (list_all is_inner) none;
+      holds = λ h. h;
+      stays_ended = λ e. e;
+      left_alone = λ _. refl;
+      whole = refl;
+    }
 
-pub returns-then-not-branch-clause-long : goal.returns-then-not-branch-clause-long
-returns-then-not-branch-clause-long g c =
+-- no 0x0A ends the line so far
+pub parts-preserved : goal.parts-preserved
+parts-preserved g c =
+    let inv = c.parts.invariant in
+    let all = coming c.args.ahead.now.given (g.R.Source.to_come c.args.input.now) in
+    let mid = coming c.parts.ahead.given (g.R.Source.to_come c.parts.input) in
+    let moves = c.in_ok-move_to.ensures.all c.if-branch.false in
+    record {
+      front = fed_all all mid c.fill.new.self.given c.move_to.new.self.given (g.R.Source.to_come c.fill.new.input) c.parts.line.items c.move_to.new.line.items inv.front (c.in_ok-fill.ensures.stays c.if-not-branch.false) moves c.in_ok-move_to.ensures.source;
+      inner = all_inner c.fill.new.self.given.bytes c.move_to.new.self.given.bytes c.parts.line.items c.move_to.new.line.items inv.inner moves;
+      holds = λ h e. c.in_ok-fill.ensures.holds (inv.holds h) (sym c.in_ok-move_to.ensures.source ∙ e);
+      stays_ended = λ e. c.in_ok-move_to.ensures.source ∙ c.in_ok-fill.ensures.stays_ended (inv.stays_ended e);
+      left_alone = λ e. c.in_ok-fill.ensures.left_alone (inv.stays_ended e) ∙ inv.left_alone e;
+      whole = omega (arith, c.in_ok-fill.ensures.failures, inv.whole);
+    }
+
+-- the end of the input ends a line that has begun
+pub returns-then-not-branch : goal.returns-then-not-branch
+returns-then-not-branch g c =
+    let inv = c.parts.invariant in
     let all = coming c.args.ahead.now.given (g.R.Source.to_come c.args.input.now) in
     let mid = coming c.parts.ahead.given (g.R.Source.to_come c.parts.input) in
     let rest = coming c.fill.new.self.given (g.R.Source.to_come c.fill.new.input) in
-    λ some long. fed_long all rest c.parts.line.items (ended all mid rest c.parts.line.items c.parts.line.len (omega (arith, c.parts.line.ok.0)) (ap not (sym c.is_empty.ensures) ∙ some) c.parts.invariant.inner c.parts.invariant.front (c.in_ok-fill.ensures.end c.if-not-branch.true)) long
+    record {
+      line = λ some short. ended all mid rest c.parts.line.items c.parts.line.len (omega (arith, c.parts.line.ok.0)) (ap not (sym c.is_empty.ensures) ∙ some) inv.inner inv.front (c.in_ok-fill.ensures.end c.if-not-branch.true);
+      long = λ some long. fed_long all rest c.parts.line.items (ended all mid rest c.parts.line.items c.parts.line.len (omega (arith, c.parts.line.ok.0)) (ap not (sym c.is_empty.ensures) ∙ some) inv.inner inv.front (c.in_ok-fill.ensures.end c.if-not-branch.true)) long;
+      end = λ none. none_came all mid rest c.parts.line.items c.parts.line.len (omega (arith, c.parts.line.ok.0)) (ap not (sym c.is_empty.ensures) ∙ none) inv.front (c.in_ok-fill.ensures.end c.if-not-branch.true);
+      ended = λ _. c.in_ok-fill.ensures.ended c.if-not-branch.true;
+      holds = λ h. c.in_ok-fill.ensures.holds (inv.holds h);
+      stays_ended = λ e. c.in_ok-fill.ensures.stays_ended (inv.stays_ended e);
+      left_alone = λ e. c.in_ok-fill.ensures.left_alone (inv.stays_ended e) ∙ inv.left_alone e;
+      fault = tt;
+      failures = omega (arith, c.in_ok-fill.ensures.failures, inv.whole);
+    }
 
 -- and so does a 0x0A
-pub returns-then-branch-clause-line : goal.returns-then-branch-clause-line
-returns-then-branch-clause-line g c =
-    let all = coming c.args.ahead.now.given (g.R.Source.to_come c.args.input.now) in
-    let mid = coming c.parts.ahead.given (g.R.Source.to_come c.parts.input) in
-    let left = g.R.Source.to_come c.fill.new.input in
-    λ some short. subst (λ (l : List ℕ). Told all (coming c.move_to.new.self.given left) (λ text rest. TakesLine text l rest)) (sym {A = List ℕ} c.drop_return.ensures)
-    (fed all mid c.fill.new.self.given c.move_to.new.self.given left c.parts.line.items c.move_to.new.line.items c.parts.invariant.inner c.parts.invariant.front (c.in_ok-fill.ensures.stays c.if-not-branch.false) (c.in_ok-move_to.ensures.ended c.if-branch.true) c.in_ok-move_to.ensures.source)
-
-pub returns-then-branch-clause-long : goal.returns-then-branch-clause-long
-returns-then-branch-clause-long g c =
+pub returns-then-branch : goal.returns-then-branch
+returns-then-branch g c =
+    let inv = c.parts.invariant in
     let all = coming c.args.ahead.now.given (g.R.Source.to_come c.args.input.now) in
     let mid = coming c.parts.ahead.given (g.R.Source.to_come c.parts.input) in
     let left = g.R.Source.to_come c.fill.new.input in
     let told = subst (λ (l : List ℕ). Told all (coming c.move_to.new.self.given left) (λ text rest. TakesLine text l rest)) (sym {A = List ℕ} c.drop_return.ensures)
-    (fed all mid c.fill.new.self.given c.move_to.new.self.given left c.parts.line.items c.move_to.new.line.items c.parts.invariant.inner c.parts.invariant.front (c.in_ok-fill.ensures.stays c.if-not-branch.false) (c.in_ok-move_to.ensures.ended c.if-branch.true) c.in_ok-move_to.ensures.source) in
-    λ some long. fed_long all (coming c.move_to.new.self.given left) c.drop_return.new.line.items told long
+    (fed all mid c.fill.new.self.given c.move_to.new.self.given left c.parts.line.items c.move_to.new.line.items inv.inner inv.front (c.in_ok-fill.ensures.stays c.if-not-branch.false) (c.in_ok-move_to.ensures.ended c.if-branch.true) c.in_ok-move_to.ensures.source) in
+    record {
+      line = λ some short. told;
+      long = λ some long. fed_long all (coming c.move_to.new.self.given left) c.drop_return.new.line.items told long;
+      end = λ e. absurd (cc);
+      ended = λ e. absurd (cc);
+      holds = λ h e. c.in_ok-fill.ensures.holds (inv.holds h) (sym c.in_ok-move_to.ensures.source ∙ e);
+      stays_ended = λ e. c.in_ok-move_to.ensures.source ∙ c.in_ok-fill.ensures.stays_ended (inv.stays_ended e);
+      left_alone = λ e. c.in_ok-fill.ensures.left_alone (inv.stays_ended e) ∙ inv.left_alone e;
+      fault = tt;
+      failures = omega (arith, c.in_ok-fill.ensures.failures, inv.whole);
+    }
 
 -- and more bytes than a line may have begin one that is too long
-pub returns-clause-long : goal.returns-clause-long
-returns-clause-long g c =
-    λ some long. cut_long (coming c.args.ahead.now.given (g.R.Source.to_come c.args.input.now)) (coming c.parts.ahead.given (g.R.Source.to_come c.parts.input)) c.parts.line.items c.parts.invariant.inner c.parts.invariant.front (omega (arith, c.parts-test.false))
+pub returns : goal.returns
+returns g c =
+    let inv = c.parts.invariant in
+    let all = coming c.args.ahead.now.given (g.R.Source.to_come c.args.input.now) in
+    let mid = coming c.parts.ahead.given (g.R.Source.to_come c.parts.input) in
+    record {
+      line = λ some short. absurd {A = Told all mid (λ text left. TakesLine text c.parts.line.items left)} (omega (arith, c.parts-test.false));
+      long = λ some long. cut_long all mid c.parts.line.items inv.inner inv.front (omega (arith, c.parts-test.false));
+      end = λ e. absurd (cc);
+      ended = λ e. absurd (cc);
+      holds = inv.holds;
+      stays_ended = inv.stays_ended;
+      left_alone = inv.left_alone;
+      fault = tt;
+      failures = omega (arith, inv.whole);
+    }
