@@ -7,6 +7,8 @@ pub mod Breaks
 pub mod Loops
 pub mod Going
 pub mod Unmarked
+pub mod StandsThere
+pub mod Rooms
 pub mod Told
 pub mod Alone
 pub mod Cuts

@@ -264,7 +264,7 @@ impl Kept {
         if !self.is_ahead(other, process) {
             return None;
         }
-        self.standing(other)?.waits
+        self.stands(other).waits
     }
 
     /// `Overtaken`: where the doorway of a process began, in the past or with this access.

@@ -5,3 +5,4 @@ pub mod InCall
 pub mod Steps
 pub mod Passing
 pub mod Heard
+pub mod KeptThere

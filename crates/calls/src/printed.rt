@@ -27,9 +27,9 @@ pub fn print_call(
 {
     let _nested: NestedTypes = None;
     let head = head(alloc, called.process, called.call)?;
-    line.extend_from_slice(head.as_bytes())?;
+    push_text(line, head)?;
     let command = command_shown(alloc, &called.command)?;
-    push_field(line, command.as_bytes())?;
+    push_shown(line, command)?;
     push_numbers(alloc, line, &numbers(called, newest))?;
     push_answer(alloc, line, &called.marks.answer)?;
     Ok(line.push(b'\n')?)
@@ -125,11 +125,17 @@ fn push_number(alloc: Global, line: &mut Vec<u8>, number: Option<u64>) -> Result
     ensures { OnOk result (line.new.items ≡ line.old.items ++ number_field number) }
 {
     line.push(b',')?;
-    if let Some(number) = number {
-        let digits = format!(in alloc; "{number}")?;
-        line.extend_from_slice(digits.as_bytes())?;
+    match number {
+        None => Ok(()),
+        Some(number) => push_text(line, format!(in alloc; "{number}")?),
     }
-    Ok(())
+}
+
+/// A text, which is dropped here, so that its caller has none to drop.
+fn push_text(line: &mut Vec<u8>, text: String) -> Result<(), AllocError>
+    ensures { OnOk result (line.new.items ≡ line.old.items ++ string_bytes text) }
+{
+    line.extend_from_slice(text.as_bytes())
 }
 
 /// An answer as a field or nothing, behind a comma.
@@ -137,11 +143,17 @@ fn push_answer(alloc: Global, line: &mut Vec<u8>, answer: &Option<Answer>) -> Re
     ensures { OnOk result (line.new.items ≡ line.old.items ++ 44 ∷ answer_field answer.now) }
 {
     line.push(b',')?;
-    if let Some(answer) = answer {
-        let text = answer_shown(alloc, answer)?;
-        push_field(line, text.as_bytes())?;
+    match answer {
+        None => Ok(()),
+        Some(answer) => push_shown(line, answer_shown(alloc, answer)?),
     }
-    Ok(())
+}
+
+/// A text as a field, which is dropped here.
+fn push_shown(line: &mut Vec<u8>, text: String) -> Result<(), AllocError>
+    ensures { OnOk result (line.new.items ≡ line.old.items ++ field (string_bytes text)) }
+{
+    push_field(line, text.as_bytes())
 }
 
 /// A text as a field: where a comma or a quote is in it, it stands in quotes, and its own are doubled.

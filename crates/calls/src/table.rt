@@ -37,7 +37,6 @@ impl Model for CallTable {
 
 impl CallTable {
     /// Before the first entry. The one fault is want of memory; no later call takes any.
-    #[tactic(auto, using(crate::proofs::Heard::at_rest_more))]
     pub fn new(alloc: Global, setup: &Setup) -> Result<CallTable, AllocError>
         requires { checked setup.now ≡ Ok tt }
         ensures setup { IfOk result (λ table. table.setup ≡ setup.now) }

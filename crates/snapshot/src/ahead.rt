@@ -12,6 +12,7 @@ ghost use Rattle.snapshot.specs.Doing.{ahead};
 ghost use Rattle.snapshot.specs.Processes.{behind_process, lines_of_two, next_line, words_added};
 ghost use Rattle.snapshot.specs.Knowing.{CoreShows};
 
+use crate::called::push_head;
 use plain_store::NestedTypes;
 use record::{Act, Entry, Event};
 use record_file::print_entry;
@@ -61,11 +62,25 @@ pub(crate) fn push_next(
 {
     let words = words_added(alloc, first)?;
     let others = words_added(alloc, second)?;
-    push_next_line(alloc, process, words.as_slice(), text)?;
-    if words.as_slice() == others.as_slice() {
+    push_lines_of_two(alloc, process, words.as_slice(), others.as_slice(), text)
+}
+
+/// Writes what comes next with either flick: one line, if both are the same.
+fn push_lines_of_two(
+    alloc: Global,
+    process: u8,
+    words: &[u8],
+    others: &[u8],
+    text: &mut Vec<u8>,
+) -> Result<(), AllocError>
+    ensures { OnOk result (text.new.items ≡ text.old.items
+        ++ lines_of_two process words.now others.now) }
+{
+    push_next_line(alloc, process, words, text)?;
+    if words == others {
         return Ok(());
     }
-    push_next_line(alloc, process, others.as_slice(), text)
+    push_next_line(alloc, process, others, text)
 }
 
 /// Writes a line of what comes next.
@@ -77,8 +92,7 @@ fn push_next_line(
 ) -> Result<(), AllocError>
     ensures { OnOk result (text.new.items ≡ text.old.items ++ next_line process words.now) }
 {
-    let head = format!(in alloc; "process {process} next ")?;
-    text.extend_from_slice(head.as_bytes())?;
+    push_head(alloc, process, "next ", text)?;
     text.extend_from_slice(words)
 }
 

@@ -1,12 +1,28 @@
 //! The lines of the call of a process.
-ghost use Rattle.std.specs.Prelude.{◌≡◌, ◌++◌, IfOk, OnOk, option_map};
+ghost use Rattle.std.specs.Prelude.{◌≡◌, ◌++◌, IfOk, OnOk, Some, codes, option_map};
+ghost use Rattle.std.specs.Fmt.{decimal};
 ghost use Rattle.std.specs.String.{string_bytes};
+ghost use Rattle.plain_store.specs.Shown.{reply_text};
 ghost use Rattle.snapshot.specs.Lines.{at_words, call_lines, call_words, line_if, open_lines, process_line, span_words, taken_words};
 
 use calls::Called;
-use plain_store::NestedTypes;
+use plain_store::{NestedTypes, Reply};
 use record::Taken;
 use std::alloc::{AllocError, Global};
+
+/// Writes the start of a line of a process.
+pub(crate) fn push_head(
+    alloc: Global,
+    process: u8,
+    words: &str,
+    text: &mut Vec<u8>,
+) -> Result<(), AllocError>
+    ensures { OnOk result (text.new.items ≡ text.old.items
+        ++ (codes "process " ++ (decimal process ++ (codes " " ++ words.now)))) }
+{
+    let head = format!(in alloc; "process {process} {words}")?;
+    text.extend_from_slice(head.as_bytes())
+}
 
 /// Writes a line of a process.
 pub(crate) fn push_line(
@@ -17,8 +33,21 @@ pub(crate) fn push_line(
 ) -> Result<(), AllocError>
     ensures { OnOk result (text.new.items ≡ text.old.items ++ process_line process words.now) }
 {
-    let line = format!(in alloc; "process {process} {words}\n")?;
-    text.extend_from_slice(line.as_bytes())
+    push_head(alloc, process, words, text)?;
+    text.extend_from_slice(b"\n")
+}
+
+/// The same with words that are dropped here, so that its caller has none to drop.
+pub(crate) fn push_words(
+    alloc: Global,
+    process: u8,
+    words: String,
+    text: &mut Vec<u8>,
+) -> Result<(), AllocError>
+    ensures { OnOk result (text.new.items ≡ text.old.items
+        ++ process_line process (string_bytes words)) }
+{
+    push_line(alloc, process, &words, text)
 }
 
 /// Writes a line of a process that ends with this value.
@@ -32,8 +61,7 @@ pub(crate) fn push_value_line(
     ensures { OnOk result (text.new.items ≡ text.old.items ++ process_line process (words.now
         ++ value.now)) }
 {
-    let head = format!(in alloc; "process {process} {words}")?;
-    text.extend_from_slice(head.as_bytes())?;
+    push_head(alloc, process, words, text)?;
     text.extend_from_slice(value)?;
     text.extend_from_slice(b"\n")
 }
@@ -42,15 +70,15 @@ pub(crate) fn push_value_line(
 pub(crate) fn push_line_if(
     alloc: Global,
     process: u8,
-    words: &Option<String>,
+    words: Option<String>,
     text: &mut Vec<u8>,
 ) -> Result<(), AllocError>
     ensures { OnOk result (text.new.items ≡ text.old.items
-        ++ line_if process (option_map string_bytes words.now)) }
+        ++ line_if process (option_map string_bytes words)) }
 {
     match words {
         None => Ok(()),
-        Some(words) => push_line(alloc, process, words, text),
+        Some(words) => push_words(alloc, process, words, text),
     }
 }
 
@@ -84,15 +112,15 @@ fn push_call(
 {
     let marks = &called.marks;
     let words = call_words(alloc, called)?;
-    push_line(alloc, process, &words, text)?;
+    push_words(alloc, process, words, text)?;
     let doorway = span_words(alloc, "doorway", called.accesses.doorway, marks.door_end)?;
-    push_line_if(alloc, process, &doorway, text)?;
+    push_line_if(alloc, process, doorway, text)?;
     let inside = span_words(alloc, "inside", marks.entered, marks.left)?;
-    push_line_if(alloc, process, &inside, text)?;
+    push_line_if(alloc, process, inside, text)?;
     let taken = taken_words(alloc, history, marks.place, marks.taken)?;
-    push_line_if(alloc, process, &taken, text)?;
-    let withdrew = at_words(alloc, "withdrew", marks.withdrew)?;
-    push_line_if(alloc, process, &withdrew, text)
+    push_line_if(alloc, process, taken, text)?;
+    let withdrew = withdrew_words(alloc, marks.withdrew)?;
+    push_line_if(alloc, process, withdrew, text)
 }
 
 /// Which call it is, its command, and the event with which it began.
@@ -118,20 +146,27 @@ fn span_words(
     let Some(from) = from else {
         return Ok(None);
     };
-    let words = match to {
-        None => format!(in alloc; "{what} from {from}")?,
-        Some(to) => format!(in alloc; "{what} from {from} to {to}")?,
-    };
-    Ok(Some(words))
+    Ok(Some(since_words(alloc, what, from, to)?))
 }
 
-/// With which event something has happened, if it has.
-fn at_words(alloc: Global, what: &str, at: Option<u64>) -> Result<Option<String>, AllocError>
-    ensures { IfOk result (λ words. option_map string_bytes words ≡ at_words what.now at) }
+/// The same of what has begun.
+fn since_words(alloc: Global, what: &str, from: u64, to: Option<u64>) -> Result<String, AllocError>
+    ensures { IfOk result (λ words. Some (string_bytes words) ≡ span_words what.now (Some from) to) }
+{
+    match to {
+        None => format!(in alloc; "{what} from {from}"),
+        Some(to) => format!(in alloc; "{what} from {from} to {to}"),
+    }
+}
+
+/// With which event it was withdrawn, if it was.
+fn withdrew_words(alloc: Global, at: Option<u64>) -> Result<Option<String>, AllocError>
+    ensures { IfOk result (λ words. option_map string_bytes words
+        ≡ at_words (codes "withdrew") at) }
 {
     match at {
         None => Ok(None),
-        Some(at) => Ok(Some(format!(in alloc; "{what} at {at}")?)),
+        Some(at) => Ok(Some(format!(in alloc; "withdrew at {at}")?)),
     }
 }
 
@@ -145,7 +180,6 @@ fn taken_words(
     ensures { IfOk result (λ words. option_map string_bytes words
         ≡ taken_words history.now place at) }
 {
-    let _nested: NestedTypes = None;
     let Some(place) = place else {
         return Ok(None);
     };
@@ -154,9 +188,14 @@ fn taken_words(
     };
     match history.get(place as usize) {
         None => Ok(None),
-        Some(taken) => {
-            let reply = taken.reply;
-            Ok(Some(format!(in alloc; "taken {place} {reply} at {at}")?))
-        }
+        Some(taken) => Ok(Some(taking_words(alloc, place, taken.reply, at)?)),
     }
+}
+
+/// The same of this reply.
+fn taking_words(alloc: Global, place: u64, reply: Reply, at: u64) -> Result<String, AllocError>
+    ensures { IfOk result (λ words. string_bytes words ≡ codes "taken " ++ (decimal place
+        ++ (codes " " ++ (reply_text reply ++ (codes " at " ++ decimal at))))) }
+{
+    format!(in alloc; "taken {place} {reply} at {at}")
 }

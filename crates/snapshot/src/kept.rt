@@ -10,7 +10,7 @@ use plain_store::{NestedTypes, Setup};
 use record::{Access, Field, Mark};
 
 /// A number that was read of a register.
-#[derive(Clone, Copy, Debug)]
+#[derive(Clone, Copy)]
 pub(crate) struct FinishedRead {
     pub owner: u8,
     pub field: Field,
@@ -18,7 +18,7 @@ pub(crate) struct FinishedRead {
 }
 
 /// What is kept of a process. Of the accesses of its last call only the first one is kept.
-#[derive(Clone, Copy, Debug)]
+#[derive(Clone, Copy)]
 pub(crate) struct ProcessKept {
     pub standing: CallStanding,
     /// The number of the entry with which it failed last.

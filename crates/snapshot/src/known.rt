@@ -11,7 +11,7 @@ ghost use Rattle.snapshot.specs.Knowing.{CoreShows};
 ghost use Rattle.snapshot.specs.Lines.{process_line};
 
 use crate::ahead::step_ahead;
-use crate::called::{push_line, push_line_if, push_value_line};
+use crate::called::{push_line_if, push_value_line, push_words};
 use crate::copies::{RegisterCopies, bit_at};
 use crate::doing::{
     failed_words, is_writing, opened_words, progress_words, reads_words, settles_words, ticket_at,
@@ -51,12 +51,12 @@ impl Known<'_> {
         let place = self.core.process(self.process);
         let settling = place.settling();
         let failed = failed_words(self.alloc, self.stage, self.kept.failed)?;
-        push_line_if(self.alloc, self.process, &failed, text)?;
+        push_line_if(self.alloc, self.process, failed, text)?;
         self.push_ticket(&place.ticket_known(), text)?;
         self.push_busy(twin, next, place.number_read(), &settling, text)?;
         let seen = bit_at(self.core, self.setup, next);
         let opened = opened_words(self.alloc, self.process, next, seen, &settling)?;
-        push_line_if(self.alloc, self.process, &opened, text)
+        push_line_if(self.alloc, self.process, opened, text)
     }
 
     /// Writes its ticket, and for whom it waits.
@@ -69,7 +69,7 @@ impl Known<'_> {
             return Ok(());
         };
         let ticket = ticket_at(self.alloc, self.stage, known, &called)?;
-        push_line_if(self.alloc, self.process, &ticket, text)?;
+        push_line_if(self.alloc, self.process, ticket, text)?;
         let waits = waits_at(
             self.alloc,
             self.process,
@@ -77,7 +77,7 @@ impl Known<'_> {
             self.kept.read,
             &called,
         )?;
-        push_line_if(self.alloc, self.process, &waits, text)
+        push_line_if(self.alloc, self.process, waits, text)
     }
 
     /// Writes what it reads, writes or settles; `number`: what it has read so far.
@@ -105,7 +105,7 @@ impl Known<'_> {
             return self.push_writing(twin, next, text);
         }
         let words = reads_words(self.alloc, self.setup, next, number)?;
-        push_line(self.alloc, self.process, &words, text)
+        push_words(self.alloc, self.process, words, text)
     }
 
     /// Writes what its unit settles.
@@ -115,9 +115,9 @@ impl Known<'_> {
             ++ process_line self.now.process (torn_words self.now.process torn.now))) }
     {
         let settles = settles_words(self.alloc, self.setup, self.process, torn)?;
-        push_line(self.alloc, self.process, &settles, text)?;
+        push_words(self.alloc, self.process, settles, text)?;
         let words = torn_words(self.alloc, self.process, torn)?;
-        push_line(self.alloc, self.process, &words, text)
+        push_words(self.alloc, self.process, words, text)
     }
 
     /// Writes what it writes: what the register's first copy holds once the write is done.

@@ -140,10 +140,18 @@ fn push_one_text(
         ++ (copy_text copies.now.setup.now past copies.now.owner copies.now.field 0
         ++ codes "\n")))) }
 {
-    let copy = copies.text(0)?;
     text.extend_from_slice(name.as_bytes())?;
+    let copy = copies.text(0)?;
+    push_copy(copy.as_slice(), text)
+}
+
+/// Writes the text of a copy, which ends its line.
+fn push_copy(copy: &[u8], text: &mut Vec<u8>) -> Result<(), AllocError>
+    ensures { OnOk result (text.new.items ≡ text.old.items ++ (codes " "
+        ++ (copy.now ++ codes "\n"))) }
+{
     text.extend_from_slice(b" ")?;
-    text.extend_from_slice(copy.as_slice())?;
+    text.extend_from_slice(copy)?;
     text.extend_from_slice(b"\n")
 }
 
@@ -182,14 +190,11 @@ fn push_if_first(
     if has_earlier(copies, reader)? {
         return Ok(());
     }
-    let copy = copies.text(reader)?;
     text.extend_from_slice(name.as_bytes())?;
     text.extend_from_slice(b" readers")?;
     push_readers(copies, reader, text)?;
-    text.extend_from_slice(b" ")?;
-    text.extend_from_slice(copy.as_slice())?;
-    text.extend_from_slice(b"\n")?;
-    Ok(())
+    let copy = copies.text(reader)?;
+    push_copy(copy.as_slice(), text)
 }
 
 /// Whether an earlier reader's copy has the text of this one's.

@@ -13,7 +13,7 @@ ghost use Rattle.snapshot.specs.Processes.{is_resting as rests, newest_line, pro
 ghost use Rattle.snapshot.specs.States.{HasHeard, Stands, state_lines};
 
 use crate::ahead::{next_entry, push_newest, push_next};
-use crate::called::{push_line, push_open};
+use crate::called::{push_line, push_open, push_words};
 use crate::kept::ProcessKept;
 use crate::known::Known;
 use crate::register_lines::push_registers;
@@ -46,7 +46,6 @@ impl Model for Snapshot {
 
 impl Snapshot {
     /// Before the first entry. The one fault is want of memory; to hear takes none.
-    #[tactic(auto, using(crate::proofs::Keeps::nothing_more))]
     pub fn new(alloc: Global, setup: &Setup) -> Result<Snapshot, AllocError>
         requires { checked setup.now ≡ Ok tt }
         ensures setup { IfOk result (λ snapshot. snapshot.setup ≡ setup.now) }
@@ -224,12 +223,12 @@ impl Snapshot {
             → kept.now ≡ kept_of self.now.setup process past
             → text.new.items ≡ text.old.items ++ running_lines self.now.setup past process stage) }
     {
-        let taken = history.len() as u64;
-        let first = next_entry(alloc, twin, core, taken, process, false);
-        let second = next_entry(alloc, twin, core, taken, process, true);
         push_line(alloc, process, stage_word(stage), text)?;
         push_open(alloc, process, history, &kept.open_call(), text)?;
+        let taken = history.len() as u64;
+        let first = next_entry(alloc, twin, core, taken, process, false);
         self.push_doing(alloc, twin, core, process, stage, kept, &first, text)?;
+        let second = next_entry(alloc, twin, core, taken, process, true);
         push_next(alloc, process, &first, &second, text)
     }
 
@@ -303,7 +302,7 @@ fn push_rest(
         return push_line(alloc, process, word, text);
     }
     let words = format!(in alloc; "{word} calls {calls}")?;
-    push_line(alloc, process, &words, text)
+    push_words(alloc, process, words, text)
 }
 
 /// The word of a stage.

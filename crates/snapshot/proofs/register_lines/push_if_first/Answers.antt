@@ -2,6 +2,7 @@ use Rattle.std.proofs.Common.{◌≡◌, ◌++◌, ◌∙◌, ℕ, Bool, true, f
 use Rattle.std.specs.Prelude.{codes}
 use Rattle.std.specs.List.{list_any, range_with_len}
 use Rattle.snapshot.specs.Copies.{copies_line, copy_text, have_one_text, reader_if}
+use Rattle.snapshot.proofs.Stand.{ok_then}
 use Rattle.snapshot.proofs.register_lines.push_if_first.Goals as goal
 
 pub returns-then-branch : goal.returns-then-branch
@@ -12,7 +13,8 @@ returns-then-branch c = λ past heard.
     sym (append-nil c.args.text.now.items) ∙ ap (λ b. c.args.text.now.items ++ cond b [] (copies_line c.args.name.now text k.setup.now.processes c.args.reader)) (sym has)
 
 pub returns : goal.returns
-returns c = λ past heard.
+returns c = ok_then c.push_copy.result
+    (λ wrote past heard.
     let k = c.args.copies.now in
     let text = copy_text k.setup.now past k.owner k.field in
     let start = c.args.text.now.items in
@@ -23,12 +25,9 @@ returns c = λ past heard.
     let one = c.in_ok-extend_from_slice.ensures.items ∙ ap (λ l. start ++ l) c.as_bytes.ensures.value in
     let two = c.in_ok-extend_from_slice-2.ensures.items ∙ ap (λ l. l ++ codes " readers") one in
     let three = c.in_ok-push_readers.ensures past heard ∙ ap (λ l. l ++ readers) two in
-    let four = c.in_ok-extend_from_slice-3.ensures.items ∙ ap (λ l. l ++ codes " ") three in
-    let five = c.in_ok-extend_from_slice-4.ensures.items ∙ (λ i. four i ++ (c.as_slice.ensures.value ∙ c.in_ok-copy.ensures past heard) i) in
-    c.in_ok-extend_from_slice-5.ensures.items ∙ ap (λ l. l ++ codes "\n") five
-    ∙ append_assoc ((((start ++ name) ++ codes " readers") ++ readers) ++ codes " ") copy (codes "\n")
-    ∙ append_assoc (((start ++ name) ++ codes " readers") ++ readers) (codes " ") (copy ++ codes "\n")
+    wrote ∙ (λ i. three i ++ (codes " " ++ ((c.as_slice.ensures.value ∙ c.in_ok-copy.ensures past heard) i ++ codes "\n")))
     ∙ append_assoc ((start ++ name) ++ codes " readers") readers (codes " " ++ (copy ++ codes "\n"))
     ∙ append_assoc (start ++ name) (codes " readers") (readers ++ (codes " " ++ (copy ++ codes "\n")))
     ∙ append_assoc start name (codes " readers" ++ (readers ++ (codes " " ++ (copy ++ codes "\n"))))
-    ∙ ap (λ b. start ++ cond b [] (copies_line name text k.setup.now.processes c.args.reader)) (sym none)
+    ∙ ap (λ b. start ++ cond b [] (copies_line name text k.setup.now.processes c.args.reader)) (sym none))
+    c.push_copy.ensures

@@ -1,9 +1,40 @@
-use Rattle.std.proofs.Common.{List, Some, slice_get, refl, sym, ap, ◌∙◌, arith}
+use Rattle.std.proofs.Common.{◌≡◌, List, [], ◌∷◌, ◌++◌, Some, length, slice_get, refl, sym, ap, ◌∙◌, arith}
+use Rattle.std.proofs.lemmas.List.{length-replicate, replicate_more}
+use Rattle.plain_store.specs.Store.{empty_store}
 use Rattle.any_lock.specs.Keeping.{at_rest}
 use Rattle.any_lock.specs.declared.standings.Standing.{Standing}
 use Rattle.any_lock.proofs.Going.{slice_get-replicate}
+use Rattle.any_lock.proofs.Rooms.{has_room}
 use Rattle.any_lock.proofs.Steps.{at_first}
 use Rattle.any_lock.proofs.kept.Kept.new.Goals as goal
+
+pub loop-process-preserved : goal.loop-process-preserved
+loop-process-preserved c =
+    c.in_ok-push.ensures.items ∙ (λ i. c.loop-process.invariant i ++ c.at_rest.ensures i ∷ []) ∙ replicate_more c.loop-process._process at_rest
+
+pub empty-requires-clause-some_slots : goal.empty-requires-clause-some_slots
+empty-requires-clause-some_slots c = (has_room c.args.setup.now c.requires).some_slots
+
+pub empty-requires-clause-few_slots : goal.empty-requires-clause-few_slots
+empty-requires-clause-few_slots c = (has_room c.args.setup.now c.requires).few_slots
+
+pub empty-requires-clause-few_callers : goal.empty-requires-clause-few_callers
+empty-requires-clause-few_callers c = let few = (has_room c.args.setup.now c.requires).few_callers in omega (arith, few, c.callers.ensures)
+
+pub opened-requires-clause-good : goal.opened-requires-clause-good
+opened-requires-clause-good c = c.requires
+
+pub opened-requires-clause-empty : goal.opened-requires-clause-empty
+opened-requires-clause-empty c = c.empty.ensures ∙ ap (empty_store c.args.setup.now.slots) c.callers.ensures
+
+pub invariant_of-result : goal.invariant_of-result
+invariant_of-result c =
+    let all : c.loop-process._process ≡ c.args.setup.now.processes = omega (arith, c.loop-process-test.false, c.loop-process.auto._process-end) in
+    record {
+      good = c.requires;
+      processes = ap (λ (l : List Standing). length l) c.loop-process.invariant ∙ length-replicate c.loop-process._process at_rest ∙ all;
+      few = omega arith;
+    }
 
 pub returns-clause-knows : goal.returns-clause-knows
 returns-clause-knows c = record {

@@ -1,10 +1,14 @@
-use Rattle.std.proofs.Common.{◌≡◌, ap, refl, ◌∙◌, arith, length, slice_get}
+use Rattle.std.proofs.Common.{◌≡◌, ◌++◌, ◌∷◌, [], ap, refl, sym, ◌∙◌, arith, length, slice_get}
 use Rattle.std.specs.Prelude.{List}
 use Rattle.std.proofs.lemmas.List.FromFn.{length-map-range_with_len}
 use Rattle.calls.specs.Stepping.{at_rest}
 use Rattle.calls.specs.declared.standing.CallStanding.{CallStanding}
-use Rattle.calls.proofs.Heard.{at_rest-there}
+use Rattle.calls.proofs.Heard.{at_rest_more, at_rest-there}
 use Rattle.calls.proofs.table.CallTable.new.Goals as goal
+
+pub loop-process-preserved : goal.loop-process-preserved
+loop-process-preserved c =
+    c.in_ok-push.ensures.items ∙ (λ i. c.loop-process.invariant i ++ c.at_rest.ensures i ∷ []) ∙ sym (at_rest_more c.loop-process.process)
 
 pub returns-clause-heard : goal.returns-clause-heard
 returns-clause-heard c = record {

@@ -1,10 +1,14 @@
-use Rattle.std.proofs.Common.{◌≡◌, ap, refl, ◌∙◌, arith, length, slice_get}
+use Rattle.std.proofs.Common.{◌≡◌, ◌++◌, ◌∷◌, [], ap, refl, sym, ◌∙◌, arith, length, slice_get}
 use Rattle.std.specs.Prelude.{List}
 use Rattle.std.proofs.lemmas.List.FromFn.{length-map-range_with_len}
 use Rattle.snapshot.specs.Keeping.{nothing_kept}
 use Rattle.snapshot.specs.declared.kept.ProcessKept.{ProcessKept}
-use Rattle.snapshot.proofs.Keeps.{nothing_there}
+use Rattle.snapshot.proofs.Keeps.{nothing_more, nothing_there}
 use Rattle.snapshot.proofs.snapshot.Snapshot.new.Goals as goal
+
+pub loop-process-preserved : goal.loop-process-preserved
+loop-process-preserved c =
+    c.in_ok-push.ensures.items ∙ (λ i. c.loop-process.invariant i ++ c.nothing.ensures i ∷ []) ∙ sym (nothing_more c.loop-process.process)
 
 pub returns-clause-heard : goal.returns-clause-heard
 returns-clause-heard c = record {

@@ -1,0 +1,22 @@
+use Rattle.std.proofs.Common.{◌≡◌, ap, ◌∙◌, arith}
+use Rattle.std.proofs.lemmas.Result.{IfOk-at_ok}
+use Rattle.plain_store.specs.declared.Reply.{Reply}
+use Rattle.plain_store.specs.Store.{reply_to}
+use Rattle.any_lock.specs.declared.standings.Standing.{Standing}
+use Rattle.any_lock.specs.Keeping.{KeptState}
+use Rattle.any_lock.proofs.StandsThere.{stands_there}
+use Rattle.any_lock.proofs.kept.Kept.right_taking.Goals as goal
+
+pub index-standing-requires : goal.index-standing-requires
+index-standing-requires c = omega (arith, c.self.invariant.processes, ap (λ (k : KeptState). k.setup.processes) c.self.view_is)
+
+pub returns-clause-place : goal.returns-clause-place
+returns-clause-place c = ap (λ (k : KeptState). k.taken) c.self.view_is
+
+pub returns-clause-reply : goal.returns-clause-reply
+returns-clause-reply c = λ past knows.
+    let at = stands_there _ c.args.self.now past c.from.result c.args.process c.index-standing.result.now c.self.view_is c.from.ensures c.requires c.index-standing.ensures knows in
+    let store = ap (λ (k : KeptState). k.store) c.self.view_is ∙ knows.store in
+    let was : Standing = c.index-standing.result.now in
+    IfOk-at_ok (λ (r : Reply). r ≡ reply_to c.self.inside.store was.command (record { process = c.args.process; number = was.number })) c.unwrap-reply.ensures c.apply.ensures.reply
+    ∙ (λ i. reply_to (store i) (at i).command (record { process = c.args.process; number = (at i).number }))

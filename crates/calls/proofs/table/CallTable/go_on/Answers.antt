@@ -1,0 +1,45 @@
+use Rattle.std.proofs.Common.{◌+◌, ◌-◌, ◌^◌, ◌<◌, not, ◌&&◌, cond, None, Some, length, slice_set, sym, ap, ◌∙◌, subst, arith, length-set}
+use Rattle.std.proofs.lemmas.Option.{slice_get_within}
+use Rattle.calls.specs.declared.standing.CallStanding.{CallStanding}
+use Rattle.calls.specs.Hearing.{TableState}
+use Rattle.calls.specs.Stepping.{AreFew, heard}
+use Rattle.calls.proofs.KeptThere.{kept_there}
+use Rattle.calls.proofs.table.CallTable.go_on.Goals as goal
+
+pub overflow_add-self : goal.overflow_add-self
+overflow_add-self c = omega (arith, ap (λ (t : TableState). t.entries) c.self.view_is)
+
+pub invariant_of-self : goal.invariant_of-self
+invariant_of-self c = record { good = c.self.invariant.good; processes = c.self.invariant.processes }
+
+pub returns-then-place-len-clause-goes : goal.returns-then-place-len-clause-goes
+returns-then-place-len-clause-goes c = λ before there.
+    absurd (omega (arith, slice_get_within c.args.self.now.standings c.args.process before there, ap (λ (t : TableState). length t.standings) c.self.view_is))
+
+pub hear-requires : goal.hear-requires
+hear-requires c = c.self.invariant.good
+
+pub invariant_of-self-2 : goal.invariant_of-self-2
+invariant_of-self-2 c = record {
+  good = c.self.invariant.good;
+  processes = length-set c.self.inside.standings.items c.from-place.result c.hear.new.self ∙ c.self.invariant.processes;
+}
+
+pub returns-clause-setup : goal.returns-clause-setup
+returns-clause-setup c = ap (λ (t : TableState). t.setup) c.self.view_is
+
+pub returns-clause-count : goal.returns-clause-count
+returns-clause-count c = ap (λ (t : TableState). t.entries + 1) c.self.view_is
+
+pub returns-clause-goes : goal.returns-clause-goes
+returns-clause-goes c = λ before there.
+    let then : CallStanding = c.hear.new.self in
+    let same = kept_there _ c.args.self.now c.from-place.result c.args.process c.index_mut.result.now before c.self.view_is c.from-place.ensures c.index_mut.ensures.value there in
+    record {
+      then = then;
+      set = λ i. slice_set (c.self.view_is i).standings (c.from-place.ensures i) then;
+      heard = λ few_calls few.
+          c.hear.ensures.heard (subst (λ (k : CallStanding). k.last.call < 2 ^ 64 - 1) (sym same) few_calls) (subst (λ (k : CallStanding). AreFew k.last.accesses) (sym same) few)
+          ∙ (λ i. heard (c.self.view_is i).setup (c.self.view_is i).entries c.args.known.now c.args.access.now c.args.marks.now (same i));
+      is = c.hear.ensures.ended ∙ ap (λ (k : CallStanding). cond (k.calling && not then.calling) (Some then.last) None) same;
+    }
