@@ -1,5 +1,5 @@
 -- Lists of ports: what holds of each of them.
-use Rattle.std.proofs.Common.{◌≡◌, ◌<◌, ℕ, zero, suc, List, [], ◌∷◌, ◌++◌, length, drop, get_or, Some, refl, sym, ap, subst, arith}
+use Rattle.std.proofs.Common.{◌≡◌, ◌+◌, ◌<◌, ℕ, zero, suc, List, [], ◌∷◌, ◌++◌, length, drop, get_or, Some, refl, sym, ap, subst, ◌∙◌, below_more, arith}
 use Rattle.std.specs.Prelude.{slice_get}
 
 -- what holds of each in its place holds then too, where one more comes last
@@ -48,3 +48,8 @@ item_at (y ∷ xs) (suc k) x h e = item_at xs k x (omega arith) e
 pub first_and_rest : {A : Type 0} (xs : List A) (x : A) → 0 < length xs → x ≡ get_or xs 0 x → xs ≡ x ∷ drop 1 xs
 first_and_rest [] x h e = absurd (omega arith)
 first_and_rest (y ∷ xs) x h e = ap (λ z. z ∷ xs) (sym e)
+
+-- what holds of each item before one, and of that one, holds of each before the next
+pub below_next : {A : Type 0} (P : A → Type 0) (xs : List A) (n : ℕ) (x : A) → slice_get xs n ≡ Some x → P x → ((k : ℕ) (y : A) → k < n → slice_get xs k ≡ Some y → P y) → (k : ℕ) (y : A) → k < n + 1 → slice_get xs k ≡ Some y → P y
+below_next {A} P xs n x here is before k y low at =
+    below_more (λ k. (y : A) → slice_get xs k ≡ Some y → P y) n (λ k low y at. before k y low at) (λ y at. let both : Some x ≡ Some y = sym here ∙ at in let same : x ≡ y = cc both in subst P same is) k low y at

@@ -1,10 +1,12 @@
 -- The word of a bit is its own, and tells the bit.
-use Rattle.std.proofs.Common.{◌≡◌, ℕ, zero, suc, ◌+◌, ◌-◌, ◌*◌, ◌/◌, ◌%◌, ◌<◌, ◌≤◌, ◌==◌, ◌&&◌, Bool, true, false, List, [], ◌∷◌, ◌++◌, refl, sym, ap, ◌∙◌, arith, eq-eqb, mul-le-mul_right, suc-mul}
+use Rattle.std.proofs.Common.{◌≡◌, ℕ, zero, suc, ◌+◌, ◌-◌, ◌*◌, ◌/◌, ◌%◌, ◌<◌, ◌≤◌, ◌==◌, ◌&&◌, Bool, true, false, List, [], ◌∷◌, ◌++◌, length, refl, sym, ap, ◌∙◌, below_more, arith, eq-eqb, mul-le-mul_right, suc-mul}
 use Rattle.std.proofs.Math.Nat.{div-lt_iff_lt-mul, le-div_iff_mul-le, mod-lt}
+use Rattle.std.proofs.Math.ListN.{get_or-append}
+use Rattle.std.proofs.lemmas.List.{get_or_push}
 use Rattle.std.proofs.lemmas.Bool.{lt-ltb, le-ltb}
 use Rattle.std.proofs.lemmas.Bool.Decides.{nat_tests}
 use Rattle.std.proofs.lemmas.Nat.{div-mul-add}
-use Rattle.std.specs.Prelude.{nat_lt, slice_index_or}
+use Rattle.std.specs.Prelude.{nat_lt, slice_index, slice_index_or}
 use Rattle.record.specs.safe_bit.declared.Move.TheVariants.{BeginRead}
 use Rattle.record.specs.declared.access.Access.{Access}
 use Rattle.record.specs.declared.access.Field.{Field}
@@ -113,6 +115,13 @@ bit_there s word some_ below_ =
 none : (k : ℕ) → slice_index_or [] k false ≡ false
 none zero = refl
 none (suc k) = refl
+
+-- opening words, with the next one behind them
+pub opening_more : (s : Setup) (words later : List ℕ) (n word : ℕ) → length words ≡ n → later ≡ words ++ word ∷ [] → word ≡ opening_word s n → ((k : ℕ) → k < n → slice_index words k ≡ opening_word s k) → (k : ℕ) → k < n + 1 → slice_index later k ≡ opening_word s k
+opening_more s words later n word long pushed is each =
+    below_more (λ k. slice_index later k ≡ opening_word s k) n
+    (λ k low. let within : k < length words = omega (arith, long, low) in ap (λ ws. slice_index ws k) pushed ∙ get_or-append words (word ∷ []) 0 k within ∙ each k low)
+    (ap (λ ws. slice_index ws n) pushed ∙ get_or_push words word 0 n long ∙ is)
 
 -- a bit as a word of the machine
 pub byte_word : (b : Bool) → mir.Val.bool_byte b ≡ closed_word b

@@ -1,16 +1,20 @@
 -- Whether a call is bad.
-use Rattle.std.proofs.Common.{◌≡◌, ℕ, ◌+◌, ◌<◌, ◌≤◌, Bool, true, false, List, [], ◌∷◌, ◌++◌, length, take, get_or, Some, IsTrue, refl, sym, ap, subst, ◌∙◌, arith, ⊎_elim, true≢false}
+use Rattle.std.proofs.Common.{◌≡◌, ℕ, ◌+◌, ◌<◌, ◌≤◌, ◌||◌, ◌&&◌, max, Bool, true, false, List, [], ◌∷◌, ◌++◌, length, take, get_or, Some, IsTrue, refl, sym, ap, subst, ◌∙◌, arith, ⊎_elim, true≢false}
+use Rattle.std.proofs.Math.Bool.{or-false}
 use Rattle.std.proofs.lemmas.Bool.{cases_lt}
+use Rattle.std.proofs.lemmas.Bool.Decides.{nat_tests}
 use Rattle.std.proofs.lemmas.List.{take_more}
+use Rattle.std.proofs.lemmas.List.Folds.{list_any-append}
 use Rattle.std.proofs.lemmas.Option.{slice_get_read, slice_get_within}
 use Rattle.std.specs.List.{slice_get}
+use Rattle.std.specs.Prelude.{nat_le, nat_lt}
 use Rattle.plain_store.specs.declared.Setup.{Setup}
 use Rattle.plain_store.specs.Store.{Contents}
 use Rattle.call_check.specs.declared.calls.Call.{Call}
 use Rattle.record.specs.declared.calls.Placed.{Placed}
 use Rattle.call_check.specs.declared.notes.Note.{Note}
 use Rattle.call_check.specs.Following.{ArePart, IsFollowed, IsJudged, IsLeast, IsNote}
-use Rattle.call_check.specs.Weighing.{HasWrongReply, IsBad, IsBadIn, above, several, falling, wrong_reply, without_place, with_place, falls, is_above, is_one_of_several, is_other_with_place, is_reply_without_place}
+use Rattle.call_check.specs.Weighing.{HasWrongReply, IsBad, IsBadIn, above, several, falling, wrong_reply, without_place, with_place, falls, is_above, is_one_of_several, is_other_with_place, is_past, is_reply_without_place}
 use Rattle.call_check.proofs.Followed.{from_some}
 
 -- where nothing else is bad, a call is bad that has another answer and a place
@@ -57,3 +61,14 @@ note_there s calls notes c store more p before list i placed note part followed 
     let (own, own_there, own_is) = followed.each (before + i) call there in
     let note_is : slice_get notes (before + i) ≡ Some note = slice_get_read notes (length notes) (before + i) note refl (slice_get_within notes (before + i) own own_there) note_at in
     subst (λ (n : Note). IsNote s calls call n) (from_some own note (sym own_there ∙ note_is)) own_is
+
+-- the least place that the earlier calls leave, with one call more
+pub least_with : (s : Setup) (calls : List Call) (earlier : List Placed) (least then : ℕ) (placed : Placed) → IsLeast s calls earlier least → ((k : ℕ) → (nat_lt k least || is_past s calls k placed placed.place) ≡ nat_lt k then) → IsLeast s calls (earlier ++ placed ∷ []) then
+least_with s calls earlier least then placed is more k =
+    let past = λ (e : Placed). is_past s calls k e e.place in
+    list_any-append past earlier (placed ∷ []) ∙ (λ i. is k i || or-false (past placed) i) ∙ more k
+
+-- a place below the least, or below that of a call or not above it, where the call is a change
+pub least_is_above : (k least place : ℕ) (changes : Bool) → (nat_lt k least || (nat_lt k place || (nat_le k place && changes))) ≡ nat_lt k (max least (place + mir.Val.bool_byte changes))
+least_is_above k least place true = grind (arith, nat_tests)
+least_is_above k least place false = grind (arith, nat_tests)

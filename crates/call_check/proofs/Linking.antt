@@ -1,5 +1,5 @@
 -- The calls are chained by their places.
-use Rattle.std.proofs.Common.{◌≡◌, ◌≢◌, ◌⊎◌, ℕ, ◌+◌, ◌<◌, ◌≤◌, List, [], ◌∷◌, ◌++◌, length, set, Option, Some, refl, sym, ap, subst, ◌∙◌, arith, ⊎_elim, length-append, length-set}
+use Rattle.std.proofs.Common.{◌≡◌, ◌≢◌, ◌⊎◌, ℕ, zero, suc, ◌+◌, ◌<◌, ◌≤◌, List, [], ◌∷◌, ◌++◌, length, set, Option, Some, refl, sym, ap, subst, ◌∙◌, arith, ⊎_elim, length-append, length-set}
 use Rattle.std.proofs.lemmas.Bool.{cases_lt}
 use Rattle.std.proofs.lemmas.Option.{slice_get_within}
 use Rattle.std.specs.List.{slice_get}
@@ -136,3 +136,10 @@ chains_none n heads places are = record {
       };
   link = λ i call there. absurd (none_some call there);
 }
+
+-- one place more, with no call
+pub nothing_more : (heads : List ℕ) → AreNothing heads → AreNothing (heads ++ 0 ∷ [])
+nothing_more [] none zero m at = sym (from_some 0 m at)
+nothing_more [] none (suc k) m at = absurd (none_some m at)
+nothing_more (head ∷ heads) none zero m at = none zero m at
+nothing_more (head ∷ heads) none (suc k) m at = nothing_more heads (λ i n there. none (suc i) n there) k m at

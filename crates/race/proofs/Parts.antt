@@ -1,12 +1,14 @@
 -- Lists and texts that are put together part by part.
-use Rattle.std.proofs.Common.{◌≡◌, ℕ, suc, ◌+◌, ◌<◌, ◌≤◌, List, [], ◌∷◌, ◌++◌, None, Some, codes, flat_map, get_or, length, length-take-le, take, ap, sym, ◌∙◌, append-nil, append_assoc, arith}
+use Rattle.std.proofs.Common.{◌≡◌, ℕ, suc, ◌+◌, ◌<◌, ◌≤◌, List, [], ◌∷◌, ◌++◌, None, Some, Result, Ok, Err, IsOkAnd, String, codes, flat_map, get_or, length, length-take-le, take, ap, sym, ◌∙◌, append-nil, append_assoc, arith}
 use Rattle.std.proofs.lemmas.Grind.{flat_map-append}
 use Rattle.std.proofs.lemmas.List.{length-map, map-append, take_all, take_more}
 use Rattle.std.specs.Fmt.{decimal}
 use Rattle.std.specs.Global.{Vec}
+use Rattle.std.specs.String.{string_bytes}
 use Rattle.plain_store.specs.Shown.{answer_text}
 use Rattle.plain_store.specs.declared.commands.Answer.{Answer}
 use Rattle.record.specs.CallLists.{lists_of}
+use Rattle.scenario.specs.files.Texts.{GivesText}
 use Rattle.record.specs.declared.calls.Placed.{Placed}
 use Rattle.race.specs.Texts.{answer_line, answers_from, list_text}
 
@@ -40,3 +42,8 @@ answers_more vecs i v within at =
     ap (λ (l : List (Vec Placed)). answers_from 0 (lists_of l)) (take_more vecs i v within ∙ ap (λ (x : Vec Placed). take i vecs ++ x ∷ []) (sym at))
     ∙ ap (answers_from 0) (map-append (λ (w : Vec Placed). w.items) (take i vecs) (v ∷ []))
     ∙ answers_snoc 0 i (lists_of (take i vecs)) v.items (omega (arith, size, lists))
+
+-- a text that was made, put behind another one
+pub pushed : {Z E : Type 0} (more : Result (String Z) E) (old new told : List ℕ) → IsOkAnd more (λ text. new ≡ old ++ string_bytes text) → GivesText more told → new ≡ old ++ told
+pushed (Ok text) old new told is gives = is ∙ ap (λ bytes. old ++ bytes) gives
+pushed (Err e) old new told is gives = absurd is

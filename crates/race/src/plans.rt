@@ -22,7 +22,6 @@ pub fn plans_of(alloc: Global, scenario: &Scenario) -> Result<Vec<Vec<Command>>,
 }
 
 /// The plan of one process.
-#[tactic(auto, using(crate::proofs::Parts::items_more, crate::proofs::Parts::items_all))]
 fn plan_of(alloc: Global, lines: &[Line], process: u8) -> Result<Vec<Command>, AllocError>
     ensures { IfOk result (λ plan. plan.items ≡ plan_in lines.now process) }
 {

@@ -35,7 +35,6 @@ type Thread = PromisedHandle<Result<Port, RaceFault>, Making>;
 
 /// Runs the plans, list p by process p, each on a thread of its own, and closes the board. A port asks the gate after each
 /// call that was accepted, and each time that it comes inside.
-#[tactic(auto, using(crate::proofs::Raced::as_many))]
 pub fn race<R: Threads + Wait + Sync, G: Gate + Sync>(
     rt: &R,
     alloc: Global,

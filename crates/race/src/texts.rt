@@ -1,5 +1,6 @@
 //! The text of a race.
-ghost use Rattle.std.specs.Prelude.{None, Some};
+ghost use Rattle.std.specs.Prelude.{◌≡◌, ◌++◌, IsOkAnd, None, OnOk, Some};
+ghost use Rattle.std.specs.String.{string_bytes};
 ghost use Rattle.scenario.specs.files.Texts.{GivesText};
 ghost use Rattle.scenario.specs.Reads.{script};
 ghost use Rattle.record.specs.CallLists.{lists_of};
@@ -23,20 +24,27 @@ pub(crate) fn race_text(
     ensures { GivesText result (raced_text (script scenario.now) lists.now image.now verdict.now) }
 {
     let mut text = refused_lines(alloc, &scenario.setup, scenario.lines.as_slice())?;
-    text.push_str(answer_lines(alloc, lists)?.as_str())?;
-    text.push_str(show_line(alloc, image)?.as_str())?;
-    text.push_str(verdict_line(alloc, verdict)?.as_str())?;
+    push_text(&mut text, answer_lines(alloc, lists))?;
+    push_text(&mut text, show_line(alloc, image))?;
+    push_text(&mut text, verdict_line(alloc, verdict))?;
     Ok(text)
 }
 
+/// Puts another text behind this one, if it was made.
+fn push_text(text: &mut String, more: Result<String, AllocError>) -> Result<(), AllocError>
+    ensures { OnOk result (IsOkAnd more
+        (λ more. string_bytes text.new ≡ string_bytes text.old ++ string_bytes more)) }
+{
+    text.push_str(more?.as_str())
+}
+
 /// The calls of processes that are not there.
-#[tactic(auto, using(crate::proofs::Parts::items_more, crate::proofs::Parts::items_all))]
 fn refused_lines(alloc: Global, setup: &Setup, lines: &[Line]) -> Result<String, AllocError>
     ensures { GivesText result (lines_of_refused setup.now lines.now) }
 {
     let mut text = String::new(alloc);
     for line in lines {
-        text.push_str(refused_line(alloc, setup, line)?.as_str())?;
+        push_text(&mut text, refused_line(alloc, setup, line))?;
     }
     Ok(text)
 }
@@ -59,19 +67,18 @@ fn answer_lines(alloc: Global, lists: &[Vec<Placed>]) -> Result<String, AllocErr
 {
     let mut text = String::new(alloc);
     for (process, calls) in lists.iter().enumerate() {
-        text.push_str(list_lines(alloc, process, calls)?.as_str())?;
+        push_text(&mut text, list_lines(alloc, process, calls))?;
     }
     Ok(text)
 }
 
 /// The answers to one process.
-#[tactic(auto, using(crate::proofs::Parts::items_more, crate::proofs::Parts::items_all))]
 fn list_lines(alloc: Global, process: usize, calls: &[Placed]) -> Result<String, AllocError>
     ensures { GivesText result (list_text process calls.now) }
 {
     let mut text = String::new(alloc);
     for call in calls {
-        text.push_str(call_line(alloc, process, call)?.as_str())?;
+        push_text(&mut text, call_line(alloc, process, call))?;
     }
     Ok(text)
 }

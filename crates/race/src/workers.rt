@@ -119,7 +119,6 @@ impl<'a, G: Gate> Worker<'a, G> {
     }
 
     /// Drives a port whose call has begun until it comes inside, or the call is answered.
-    #[tactic(auto, using(crate::proofs::Calling::still_on_its_way, crate::proofs::Calling::comes_there))]
     fn come_inside<R: Wait>(&self, rt: &R, port: &mut Port, flicks: &mut Flicks) -> CallReached
         requires board { IsOf self.now.board.now port.old }
         requires calling { IsCalling port.old.setup port.old.view.own }

@@ -1,4 +1,6 @@
 use Rattle.std.proofs.Common.{ℕ, List, [], ◌++◌, length, take, sym, subst}
+use Rattle.std.specs.Global.{Vec}
+use Rattle.std.proofs.lemmas.List.{take_all}
 use Rattle.call_check.specs.declared.calls.Call.{Call}
 use Rattle.record.specs.declared.calls.Placed.{Placed}
 use Rattle.call_check.specs.declared.chains.Link.{Link}
@@ -20,3 +22,8 @@ loop-port-preserved c =
     let before : List Call = all_calls (lists_of (take p c.args.lists.now)) in
     subst (λ (l : List Call). AreChains l n c.chain_list.new.heads.items c.chain_list.new.links.items) (sym (all_more c.args.lists.now p c.index-lists-port.result c.loop-port-test.true c.index-lists-port.is))
     (subst (λ (l : List Placed). AreChains (before ++ calls_from p 0 l) n c.chain_list.new.heads.items c.chain_list.new.links.items) c.deref.ensures.value (c.in_ok-chain_list.ensures before n c.loop-port.invariant))
+
+pub returns : goal.returns
+returns c =
+    let n : ℕ = length (all_calls (lists_of c.args.lists.now)) in
+    subst (λ (vecs : List (Vec Placed)). AreChains (all_calls (lists_of vecs)) n c.loop-port.heads.items c.loop-port.links.items) (take_all c.loop-port.port c.args.lists.now c.loop-port-test.false) c.loop-port.invariant

@@ -1,4 +1,6 @@
-use Rattle.std.proofs.Common.{ℕ, ◌≡◌, ◌+◌, ◌++◌, List, length, take, ap, arith, length-append}
+use Rattle.std.proofs.Common.{ℕ, ◌≡◌, ◌+◌, ◌++◌, List, length, take, ap, ◌∙◌, arith, length-append}
+use Rattle.std.specs.Global.{Vec}
+use Rattle.std.proofs.lemmas.List.{take_all}
 use Rattle.call_check.specs.declared.calls.Call.{Call}
 use Rattle.record.specs.declared.calls.Placed.{Placed}
 use Rattle.record.specs.CallLists.{lists_of}
@@ -21,3 +23,6 @@ loop-list-preserved c =
       size = omega (arith, grown, was, own, all, both, size);
       nothing = c.in_ok-more.ensures.nothing c.loop-list.invariant.nothing;
     }
+
+pub returns-clause-size : goal.returns-clause-size
+returns-clause-size c = c.loop-list.invariant.size ∙ ap (λ (vecs : List (Vec Placed)). length (all_calls (lists_of vecs))) (take_all c.loop-list.list-index c.args.lists.now c.loop-list-test.false)

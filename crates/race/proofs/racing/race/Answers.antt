@@ -2,8 +2,11 @@ use Rattle.std.proofs.Common.{◌≡◌, false, true, subst, sym, true≢false}
 use Rattle.plain_store.specs.declared.Setup.{Setup}
 use Rattle.record.specs.CallLists.{lists_of}
 use Rattle.race.specs.Races.{IsRaced, plans_of}
-use Rattle.race.proofs.Raced.{are_new, made_with, of_all, plans_all, quiet, raced}
+use Rattle.race.proofs.Raced.{are_new, as_many, made_with, of_all, plans_all, quiet, raced}
 use Rattle.race.proofs.racing.race.Goals as goal
+
+pub run_all-requires-clause-all : goal.run_all-requires-clause-all
+run_all-requires-clause-all g c κs within = as_many c.args.setup.now c.in_ok-board.board c.in_ok-board.ports.items c.args.plans.now c.requires.good c.in_ok-board.ensures.setup c.in_ok-board.ensures.ports c.requires.all
 
 pub run_all-requires-clause-new : goal.run_all-requires-clause-new
 run_all-requires-clause-new g c κs within = are_new c.in_ok-board.board c.in_ok-board.ports.items c.in_ok-board.ensures.ports c.in_ok-board.ensures.idle

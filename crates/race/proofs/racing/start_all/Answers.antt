@@ -20,6 +20,25 @@ start-requires-clause-new g c κs within =
     let step = c.in-Some.ensures.steps in
     (c.requires.new c.loop-number.number-iterator.count c.in-Some.port (at_drop c.args.ports.items c.loop-number.number-iterator.count c.in-Some.port c.next.new.self.iter.rest.items (sym i.rest ∙ step.0.0))).1 ∙ ap new_own (sym step.1)
 
+pub bounds-plans-number : goal.bounds-plans-number
+bounds-plans-number g c =
+    let count = c.loop-number.number-iterator.count in
+    let step = c.in-Some.ensures.steps in
+    let within = slice_get_within c.args.ports.items count c.in-Some.port (at_drop c.args.ports.items count c.in-Some.port c.next.new.self.iter.rest.items (sym c.loop-number.invariant.rest ∙ step.0.0)) in
+    let number = step.1 in
+    let all = c.requires.all.0 in
+    omega (arith, within, number, all)
+
+pub push_reserved-requires : goal.push_reserved-requires
+push_reserved-requires g c =
+    let i = c.loop-number.invariant in
+    let count = c.loop-number.number-iterator.count in
+    let within = slice_get_within c.args.ports.items count c.in-Some.port (at_drop c.args.ports.items count c.in-Some.port c.next.new.self.iter.rest.items (sym i.rest ∙ c.in-Some.ensures.steps.0.0)) in
+    let counted = i.count in
+    let room = i.room in
+    let long = c.loop-number.threads.ok.0 in
+    omega (arith, within, counted, room, long)
+
 pub loop-number-preserved : goal.loop-number-preserved
 loop-number-preserved g c =
     let i = c.loop-number.invariant in

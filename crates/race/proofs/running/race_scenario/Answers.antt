@@ -1,4 +1,5 @@
-use Rattle.std.proofs.Common.{◌≡◌, List, length, ap, refl, sym, ◌∙◌, subst}
+use Rattle.std.proofs.Common.{◌≡◌, List, length, ap, refl, sym, ◌∙◌, subst, arith}
+use Rattle.std.proofs.lemmas.List.{length-map}
 use Rattle.std.specs.Global.{Vec}
 use Rattle.race.specs.Races.{IsRaced, plans_of}
 use Rattle.scenario.specs.Reading.{Script}
@@ -39,3 +40,10 @@ returns-clause-raced g c =
       is_verdict = refl;
       is_text = c.in_ok-text.ensures;
     }
+
+pub weigh-requires-clause-few_lists : goal.weigh-requires-clause-few_lists
+weigh-requires-clause-few_lists g c = λ two.
+    let all = c.in_ok-closing.ensures.raced.all in
+    let same = ap length c.as_slice-lists.ensures.value in
+    let many = length-map c.in_ok-closing.closing.answers.items (λ (calls : Vec Placed). calls.items) in
+    omega (arith, all, same, many)

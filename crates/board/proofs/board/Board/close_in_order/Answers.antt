@@ -1,11 +1,15 @@
-use Rattle.std.proofs.Common.{◌≡◌, ◌+◌, ℕ, suc, List, Some, sym, ◌∙◌, subst, arith}
+use Rattle.std.proofs.Common.{◌≡◌, ◌+◌, ℕ, suc, List, ◌∷◌, Some, sym, ap, ◌∙◌, subst, arith}
 use Rattle.std.specs.Prelude.{slice_get}
 use Rattle.board.specs.Boards.{IsOf}
 use Rattle.plain_store.specs.declared.Setup.{Setup}
-use Rattle.board.specs.Closings.{AreQuiet, IsStill, StandsInRecord}
+use Rattle.board.specs.Calls.{Calls}
+use Rattle.board.specs.Closings.{AreQuiet, IsStill, Leaves, StandsInRecord, done_calls}
 use Rattle.board.specs.Ports.{PortState}
-use Rattle.board.proofs.PortLists.{item_at, rest_of}
+use Rattle.board.proofs.PortLists.{first_and_rest, item_at, rest_of}
 use Rattle.board.proofs.board.Board.close_in_order.Goals as goal
+
+pub into_parts-first-requires : goal.into_parts-first-requires
+into_parts-first-requires c = record { still = c.requires.quiet 0 c.remove.result (item_at c.args.ports.items 0 c.remove.result c.requires.some c.remove.ensures.value) }
 
 pub shut-requires-clause-board : goal.shut-requires-clause-board
 shut-requires-clause-board c =
@@ -42,3 +46,19 @@ shut-requires-clause-calls c =
     let each = c.requires.ports.each 0 c.remove.result (item_at c.args.ports.items 0 c.remove.result some c.remove.ensures.value) in
     let calls = c.into_parts-first.result.1.items in
     subst (λ (p : ℕ). StandsInRecord c.args.self.setup p calls) each.1 (subst (λ (s : Setup). StandsInRecord s c.remove.result.view.own.process calls) each.0.1 c.into_parts-first.ensures.stands)
+
+pub returns-clause-leaves : goal.returns-clause-leaves
+returns-clause-leaves c =
+    let s = c.args.self.setup in
+    let image = c.shut.result.image in
+    let first = c.remove.result in
+    let seat = c.into_parts-first.ensures.seat in
+    let at = item_at c.args.ports.items 0 first c.requires.some c.remove.ensures.value in
+    let left : Leaves s first.view.own.calls first.view.seen image =
+    subst (λ (calls : Calls). Leaves s calls first.view.seen image) seat.calls (subst (λ seen. Leaves s c.into_parts-first.result.0.me.0.own.calls seen image) seat.seen c.shut.ensures.leaves) in
+    λ port here. let both : Some first ≡ Some port = sym at ∙ here in let same : first ≡ port = cc both in subst (λ (p : PortState). Leaves s p.view.own.calls p.view.seen image) same left
+
+pub returns-clause-answers : goal.returns-clause-answers
+returns-clause-answers c =
+    c.shut.ensures.answers ∙ (λ i. c.into_parts-first.ensures.calls i ∷ done_calls (c.remove.ensures.items i))
+    ∙ sym (ap done_calls (first_and_rest c.args.ports.items c.remove.result c.requires.some c.remove.ensures.value))

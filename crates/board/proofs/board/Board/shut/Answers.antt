@@ -1,12 +1,23 @@
-use Rattle.std.proofs.Common.{◌≡◌, ◌+◌, vec_len, sym, ap, ◌∙◌, subst, arith}
+use Rattle.std.proofs.Common.{◌≡◌, ◌+◌, ◌++◌, List, [], ◌∷◌, length, vec_len, sym, ap, ◌∙◌, subst, arith}
+use Rattle.std.specs.Global.{Vec}
 use Rattle.plain_store.specs.declared.Setup.{Setup}
 use Rattle.board.specs.Agreement.{Agree}
 use Rattle.board.specs.Boards.{BoardState}
 use Rattle.board.specs.Closings.{EachStandsInRecord, IsStill, Leaves}
 use Rattle.board.specs.Views.{OwnView}
 use Rattle.record.specs.CallLists.{lists_of}
+use Rattle.record.specs.declared.calls.Placed.{Placed}
 use Rattle.board.proofs.Closings.{closes}
 use Rattle.board.proofs.board.Board.shut.Goals as goal
+
+pub join_all-requires-clause-order : goal.join_all-requires-clause-order
+join_all-requires-clause-order c =
+    let is = c.self.view_is in
+    let lists = c.push_reserved.ensures.items ∙ ap (λ (xs : List (Vec Placed)). xs ++ c.args.calls ∷ []) c.self.invariant.none in
+    let one : vec_len c.push_reserved.new.self ≡ 1 = c.push_reserved.new.self.ok.0 ∙ ap length lists in
+    λ k port at.
+    let of = c.requires.others k port at in
+    (of.0 ∙ ap (λ (b : BoardState). b.table_id) (sym is), of.1 ∙ sym (c.self.invariant.keyed ∙ ap (λ (b : BoardState). b.setup) is), of.2 ∙ ap (λ n. n + k) (sym one))
 
 pub returns-clause-leaves : goal.returns-clause-leaves
 returns-clause-leaves c =

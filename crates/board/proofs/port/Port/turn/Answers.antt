@@ -1,7 +1,16 @@
 use Rattle.std.proofs.Common.{◌≡◌, true, ap, sym, subst, ◌∙◌}
+use Rattle.std.specs.Prelude.{fold}
 use Rattle.process.specs.Places.{ProcessState, may_step}
-use Rattle.board.specs.Ports.{PortState}
+use Rattle.process.specs.Telling.{marks_told}
+use Rattle.plain_store.specs.declared.Setup.{Setup}
+use Rattle.board.specs.Boards.{BoardState}
+use Rattle.board.specs.Calls.{Calls, calls_after}
+use Rattle.board.specs.Listing.{KnowsPlace}
+use Rattle.board.specs.Lists.{StandsInSeen}
+use Rattle.board.specs.Ports.{IsTied, PortState, with_pending}
+use Rattle.board.specs.Views.{ViewState}
 use Rattle.board.specs.WordSteps.{goes}
+use Rattle.board.specs.declared.pending.Pending.{Pending}
 use Rattle.board.proofs.Doings.{goes_steps}
 use Rattle.board.proofs.port.Port.turn.Goals as goal
 
@@ -9,3 +18,24 @@ pub word_step-told-requires-clause-goes : goal.word_step-told-requires-clause-go
 word_step-told-requires-clause-goes c =
     ap (λ (q : ProcessState). may_step q.doing) c.self.invariant.tied.same
     ∙ goes_steps _ (subst (λ (p : PortState). goes p.setup p.view.own ≡ true) (sym c.self.view_is) c.requires.goes)
+
+pub invariant_of-self : goal.invariant_of-self
+invariant_of-self c =
+    let f = c.self.inside in
+    let told = c.word_step-told.result in
+    let process = c.word_step-told.new.process in
+    let v = c.word_step-told.new.seat.me.0 in
+    let step = c.word_step-told.ensures in
+    let key = c.board.inside.table.shared.key in
+    let keyed : key ≡ f.process.setup = c.board.invariant.keyed ∙ ap (λ (b : BoardState). b.setup) c.board.view_is ∙ sym c.requires.board.1 ∙ ap (λ (p : PortState). p.setup) (sym c.self.view_is) in
+    let setup : process.setup ≡ key = ap (λ (q : ProcessState). q.setup) step.tied.same in
+    let then : with_pending process.setup c.clear.new.self v ≡ v = λ i. with_pending (setup i) (c.clear.ensures i) v in
+    let lists = step.lists f.stamp (subst (λ (s : Setup). KnowsPlace f.stamp (with_pending s f.pending f.seat.me.0)) (sym keyed) c.self.invariant.place) in
+    let calls = c.self.invariant.calls ∙ ap (λ (s : Setup). (with_pending s f.pending f.seat.me.0).own.calls) (sym keyed) in
+    record {
+      tied = subst (λ (s : Setup). IsTied s c.clear.new.self process c.word_step-told.new.value v) (sym setup) (subst (λ (p : Pending). IsTied key p process c.word_step-told.new.value v) (sym c.clear.ensures) step.tied);
+      calls = c.tell.ensures lists.place lists.is ∙ ap (λ (k : Calls). fold (calls_after lists.place) k (marks_told told)) calls ∙ sym lists.calls ∙ ap (λ (w : ViewState). w.own.calls) (sym then);
+      place = subst (KnowsPlace f.stamp) (sym then) lists.known;
+      stands = subst (λ (s : Setup). StandsInSeen s (with_pending process.setup c.clear.new.self v)) (sym setup) (subst (StandsInSeen key) (sym then) step.stands);
+      none = step.same.2 ∙ c.self.invariant.none;
+    }
