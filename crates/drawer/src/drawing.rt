@@ -5,12 +5,14 @@ ghost use Rattle.plain_store.specs.declared.setups.Setup.{Setup as Given};
 ghost use Rattle.record.specs.Entries.{Past};
 ghost use Rattle.companions.specs.picture.columns.declared.reads.OverlappedRead.{OverlappedRead as Ended};
 ghost use Rattle.companions.specs.picture.declared.reads.Reads.{Reads as Mode};
+ghost use Rattle.companions.specs.picture.Bandings.{Plan};
 ghost use Rattle.companions.specs.picture.Pages.{held, page_of, seen_page};
 ghost use Rattle.companions.specs.picture.columns.Stages.{marks_in, marks_said};
 ghost use Rattle.companions.specs.picture.columns.Told.{saying_text};
 ghost use Rattle.scenario.specs.Reads.{script};
+ghost use Rattle.course.specs.Courses.{Follows};
 ghost use Rattle.course.specs.Happenings.{Happening, past_after};
-ghost use Rattle.course.specs.Runs.{happenings};
+ghost use Rattle.course.specs.Runs.{happenings, run_at_start};
 ghost use Rattle.course.specs.Summaries.{counted, summary_of};
 ghost use Rattle.course.specs.Telling.{told_text};
 ghost use Rattle.course.specs.Texts.{end_line, mark_line, replayed};
@@ -70,11 +72,35 @@ pub(crate) fn draw_bands<W: Sink, L: Onlooker>(
 {
     let mut course = Course::new(alloc, &scenario.setup)?;
     let mut drawing = Drawing::new(alloc, &scenario.setup, form, reads)?;
+    draw_lines(file, scenario, &mut course, &mut drawing, output, onlooker)
+}
+
+/// The same, lent a course and a drawing that have just begun. It is a function of its own, since values that are dropped at
+/// each way out of a function are dear to prove.
+fn draw_lines<W: Sink, L: Onlooker>(
+    file: &[u8],
+    scenario: &Scenario,
+    course: &mut Course,
+    drawing: &mut Drawing,
+    output: &mut W,
+    onlooker: &mut L,
+) -> Result<(Summary, u64), Fault>
+    requires setup { course.old.world.setup ≡ scenario.now.setup }
+    requires follows { Follows course.old run_at_start }
+    requires summary { drawing.old.summary ≡ record { events = 0; taken = 0; refused = 0 } }
+    requires held { held drawing.old.page ≡ [] }
+    requires source { drawing.old.source ≡ length scenario.now.setup.opening + 5 }
+    requires writes { W.failures output.old < 2 ^ 64 - 1 }
+    ensures ok { IfOk result (λ answer. (plan : Plan) (mode : Mode) → seen_page drawing.old.page ≡ page_of plan [] → Recalls mode scenario.now.setup [] drawing.old.changes.store drawing.old.overlaps → DrawsBands plan (W.taken output.old) (W.taken output.new) (replayed (script scenario.now)) (marks_in (past_after scenario.now.setup (happenings (script scenario.now)))) (run_given mode (script scenario.now)) answer.1) }
+    ensures summary { IfOk result (λ answer. (plan : Plan) (mode : Mode) → seen_page drawing.old.page ≡ page_of plan [] → Recalls mode scenario.now.setup [] drawing.old.changes.store drawing.old.overlaps → answer.0 ≡ summary_of scenario.now.setup (happenings (script scenario.now))) }
+    ensures fault { IfErr result IsWriteFault }
+    ensures failures { W.failures output.new ≡ W.failures output.old + failed_write result }
+{
     let mut place = LinePlace::before(file, scenario.lines.len());
     for line in &scenario.lines {
         onlooker.reached(place.begin_line(drawing.summary.events));
         drawing.source += 1;
-        draw_line(&mut course, line, &mut drawing, output)?;
+        draw_line(course, line, drawing, output)?;
     }
     drawing.source += 1;
     drawing.summary.taken = course.taken();

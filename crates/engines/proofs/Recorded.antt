@@ -1,14 +1,14 @@
 -- The record of a list of events, one event after the other.
-use Rattle.std.proofs.Common.{◌≡◌, ℕ, true, ◌+◌, ◌<◌, List, [], ◌∷◌, length, reverse, take, get_or, ap, sym, subst, ◌∙◌, inl, inr}
-use Rattle.std.proofs.lemmas.List.{reverse-append, take_more}
+use Rattle.std.proofs.Common.{◌≡◌, ℕ, true, ◌+◌, ◌<◌, ◌≤◌, List, [], ◌∷◌, length, reverse, take, get_or, ap, sym, subst, ◌∙◌, inl, inr}
+use Rattle.std.proofs.lemmas.List.{reverse-append, take_all, take_more}
 use Rattle.std.specs.Global.{Vec}
+use Rattle.plain_store.specs.declared.setups.Setup.{Setup}
 use Rattle.course.specs.«record».declared.events.Event.{Event}
 use Rattle.course.specs.«record».declared.refusals.Refusal.{Refusal}
 use Rattle.course.specs.«record».declared.refusals.Refusal.TheVariants.{Memory}
-use Rattle.course.specs.«record».Acts.{Act}
-use Rattle.course.specs.«record».Entries.{Entry, Past}
-use Rattle.course.specs.«record».Given.{is_event}
-use Rattle.course.specs.«record».Records.{past_of, process_of}
+use Rattle.course.specs.«record».Entries.{Entry}
+use Rattle.course.specs.«record».Given.{AreGiven, is_event}
+use Rattle.course.specs.«record».Records.{past_of}
 use Rattle.course.specs.world.Events.{IsTurnedAway}
 use Rattle.course.specs.world.Shows.{Shows, WorldState}
 use Rattle.engines.specs.Listings.{RecordsEvent}
@@ -27,3 +27,11 @@ records_refused old new event r had has given (inl away) other same kept events 
 pub events_more : (events : List Event) (k : ℕ) (event : Event) → k < length events → event ≡ get_or events k event → reverse (take (k + 1) events) ≡ event ∷ reverse (take k events)
 events_more events k event within is =
     ap reverse (take_more events k event within) ∙ reverse-append (take k events) (get_or events k event ∷ []) ∙ ap (λ e. e ∷ reverse (take k events)) (sym is)
+
+-- behind the last event: all are given, and the entries are their record
+pub all_recorded : (s : Setup) (events : List Event) (k : ℕ) (world : WorldState) (entries : List Entry) → length events ≤ k → Shows world (reverse (take k events)) → world.setup ≡ s → entries ≡ reverse (past_of s (reverse (take k events))) →
+    AreGiven s (reverse events) × (entries ≡ reverse (past_of s (reverse events)))
+all_recorded s events k world entries past shows setup are =
+    let whole : take k events ≡ events = take_all k events past in
+    let given : AreGiven s (reverse (take k events)) = subst (λ (s : Setup). AreGiven s (reverse (take k events))) setup shows.given in
+    (subst (λ (l : List Event). AreGiven s (reverse l)) whole given, are ∙ ap (λ (l : List Event). reverse (past_of s (reverse l))) whole)

@@ -52,7 +52,7 @@ fn do_line(bit: &mut SafeBit, line: BitLine) -> &'static str
 }
 
 /// What the lines of a file print.
-#[tactic(auto, using(crate::proofs::BitLists::bits_text_more, crate::proofs::BitRule::printed_by_rule))]
+#[tactic(auto, using(crate::proofs::BitLists::bits_text_more))]
 fn text_of(alloc: Global, lines: &[BitLine]) -> Result<String, AllocError>
     ensures { IfOk result (λ text. string_bytes text ≡ bits_printed lines.now) }
 {

@@ -131,7 +131,6 @@ fn reply_line(alloc: Global, place: u64, process: u8, reply: &Reply) -> Result<S
 }
 
 /// What a scenario prints.
-#[tactic(auto, using(crate::proofs::Lists::text_more, crate::proofs::Lists::counts_kept, crate::proofs::Lists::place_next))]
 fn text_of(alloc: Global, scenario: &Scenario) -> Result<String, AllocError>
     ensures { GivesText result (printed (script scenario.now)) }
 {

@@ -25,7 +25,6 @@ use sweeper::progress::{LinePlace, Onlooker};
 /// scenario is read, as `judge` reads it, as its setup and the record of its run: the record of whatever events, each of
 /// whose entries fits its line, is read again.
 /// An onlooker hears how far it is: `Nobody`, where nobody is to know.
-#[tactic(auto, using(crate::proofs::RunsAgain::run_again, crate::proofs::FitRecords::records_again, crate::proofs::FitRecords::records_fit))]
 pub fn run_record<R: Source, W: Sink, L: Onlooker>(
     alloc: Global,
     input: &mut R,

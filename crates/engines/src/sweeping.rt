@@ -95,7 +95,6 @@ fn sweep_run<L: Onlooker>(
 }
 
 /// The calls among events, in their order.
-#[tactic(auto, using(crate::proofs::Sweepings::calls_more, crate::proofs::Sweepings::calls_all))]
 fn calls_in(alloc: Global, events: &[Event]) -> Result<Vec<(u8, Command)>, AllocError>
     ensures { IfOk result (λ calls. calls.items ≡ calls_among events.now) }
 {

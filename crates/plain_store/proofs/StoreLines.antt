@@ -1,5 +1,6 @@
 -- A store in words, pair by pair.
-use Rattle.std.proofs.Common.{◌≡◌, ℕ, ◌+◌, List, [], ◌∷◌, ◌++◌, None, Some, drop, ap, sym, refl, ◌∙◌, slice_get, append_assoc, flat_map, codes}
+use Rattle.std.proofs.Common.{◌≡◌, ℕ, ◌+◌, ◌≤◌, length, List, [], ◌∷◌, ◌++◌, None, Some, drop, ap, sym, refl, ◌∙◌, slice_get, append_assoc, flat_map, codes}
+use Rattle.std.proofs.lemmas.List.{append-nil, drop_all}
 use Rattle.plain_store.specs.Shown.{value_text}
 use Rattle.plain_store.specs.declared.commands.Value.{Value}
 use Rattle.plain_store.specs.Pairs.{Pair}
@@ -19,6 +20,10 @@ first_pair (first ∷ pairs) pair at = let same : pair ≡ first = cc in ap (λ 
 -- a text and the pairs from a place on, one pair later
 pub pairs_more : (told : List ℕ) (pairs : List Pair) (k : ℕ) (p : Pair) → slice_get pairs k ≡ Some p → (told ++ next_pair p) ++ flat_map next_pair (drop (k + 1) pairs) ≡ told ++ flat_map next_pair (drop k pairs)
 pairs_more told pairs k p at = append_assoc told _ _ ∙ ap (λ ps. told ++ flat_map next_pair ps) (sym (drop-next pairs k p at))
+
+-- a text behind which no pair is left
+pub all_told : (told : List ℕ) (pairs : List Pair) (k : ℕ) → length pairs ≤ k → told ++ flat_map next_pair (drop k pairs) ≡ told
+all_told told pairs k past = rw (drop_all k pairs past) (append-nil told)
 
 -- a pair's text, as `format!` puts it together
 pub pair_text_is : (name : List ℕ) (value : Value) → name ++ (codes "=" ++ value_text value) ≡ pair_text (name, value)

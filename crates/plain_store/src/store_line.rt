@@ -7,7 +7,6 @@ use crate::{Name, Store, Value};
 use std::alloc::{AllocError, Global};
 
 /// The pairs of a store in order of first write, as `a=c:5 b=t:x`, or `empty`.
-#[tactic(auto, using(crate::proofs::StoreLines::first_pair, crate::proofs::StoreLines::no_pairs))]
 pub fn store_words<S: Store>(alloc: Global, store: &S) -> Result<String, AllocError>
     ensures { IfOk result (λ words. string_bytes words ≡ words_of (S.contents store.now).pairs) }
 {

@@ -1,10 +1,11 @@
 //! The entries of a record told line by line to a picture, whose bands are written as they are full.
 ghost use Rattle.std.specs.Prelude.{◌≡◌, ◌+◌, ◌-◌, ◌^◌, ◌<◌, ℕ, List, [], ◌∷◌, ◌++◌, is_none, map, IfErr, IfOk, Ok, OnOk};
-ghost use Rattle.plain_store.specs.Setups.{checked};
+ghost use Rattle.plain_store.specs.Setups.{checked, opening_store as store_at_first};
 ghost use Rattle.plain_store.specs.declared.setups.Setup.{Setup as Given};
 ghost use Rattle.record.specs.Entries.{Entry as Noted, Past};
 ghost use Rattle.record.specs.declared.marks.Mark.{Mark as Told};
 ghost use Rattle.record_file.specs.Printing.{step_entry};
+ghost use Rattle.companions.specs.picture.Pages.{held, page_of, seen_page};
 ghost use Rattle.companions.specs.picture.columns.declared.reads.OverlappedRead.{OverlappedRead as Ended};
 ghost use Rattle.companions.specs.picture.declared.reads.Reads.{Reads as Mode};
 ghost use Rattle.record_drawer.specs.Drawings.{DrawsOn, DrawsRest, IsAmong, Recalls, kept, kept_at_first, plan_of};
@@ -45,6 +46,21 @@ pub(crate) struct RecordDrawing {
 /// The lines that a record has before its opening pairs.
 const HEADINGS: u64 = 5;
 
+/// The page before the first entry, where nothing is changed.
+fn first_page(
+    alloc: Global,
+    form: Form,
+    setup: &Setup,
+    changes: &RecordedChanges,
+) -> Result<Page, AllocError>
+    ensures held { IfOk result (λ page. held page ≡ []) }
+    ensures page { changes.now.store ≡ store_at_first setup.now
+        → IfOk result (λ page. seen_page page ≡ page_of (plan_of form setup.now) []) }
+{
+    let opening = changes.words_by_pairs()?;
+    Page::new(alloc, form, setup.processes, opening.as_slice())
+}
+
 impl RecordDrawing {
     /// Before the first entry.
     pub fn new(
@@ -62,8 +78,7 @@ impl RecordDrawing {
         ensures failures { failed_write result ≡ 0 }
     {
         let changes = RecordedChanges::new(alloc, setup)?;
-        let opening = changes.words_by_pairs()?;
-        let page = Page::new(alloc, form, setup.processes, opening.as_slice())?;
+        let page = first_page(alloc, form, setup, &changes)?;
         let overlaps = OverlapsHeard::new(alloc, setup, reads)?;
         Ok(RecordDrawing {
             alloc,

@@ -1,99 +1,13 @@
-use Rattle.std.proofs.Common.{◌≡◌, ◌∙◌, ◌+◌, ◌-◌, ◌*◌, ◌^◌, ◌<◌, ℕ, List, [], ◌∷◌, Some, ap, drop, length, arith, refl, subst, sym}
-use Rattle.std.proofs.lemmas.List.{drop_all}
-use Rattle.plain_store.specs.declared.setups.Setup.{Setup}
-use Rattle.drawer.specs.Drawings.{kept}
-use Rattle.scenario.specs.Reads.{script}
-use Rattle.scenario.specs.declared.lines.Line.{Line}
-use Rattle.scenario.proofs.Places.{drop_in}
-use Rattle.course.specs.Runs.{happenings}
-use Rattle.course.specs.Summaries.{summary_of}
-use Rattle.course.specs.Texts.{end_line}
-use Rattle.course.specs.Writing.{IsWriteFault}
-use Rattle.course.specs.declared.summaries.Summary.{Summary}
-use Rattle.course.proofs.Onwards.{onward_numbers}
-use Rattle.course.proofs.Played.{on_fault}
-use Rattle.course.proofs.Written.{failed_same}
-use Rattle.drawer.specs.Drawings.{DrawsRest}
-use Rattle.drawer.specs.Items.{SaysEnd, lines_given, reads_since}
-use Rattle.course.specs.Happenings.{past_after}
+use Rattle.std.proofs.lemmas.Result.{IfOk-weaker}
 use Rattle.drawer.specs.Pictures.{plan_of}
-use Rattle.companions.specs.picture.Bandings.{Plan}
-use Rattle.drawer.specs.declared.drawing.Drawing.{Drawing}
-use Rattle.drawer.proofs.Drawn.{rest_at}
-use Rattle.drawer.proofs.Giving.{number_of_first}
-use Rattle.drawer.proofs.Drawings.{Drawn, drawn_end, drawn_on, drawn_start}
 use Rattle.drawer.proofs.drawing.draw_bands.Goals as goal
-
-pub loop-line-init : goal.loop-line-init
-loop-line-init g c =
-    let e = c.in_ok-drawing.ensures in
-    let none : c.in_ok-drawing.drawing.summary ≡ record { events = 0; taken = 0; refused = 0 } = e.summary in
-    record {
-      drawn = drawn_start (plan_of c.args.form c.args.scenario.now.setup) c.args.reads c.args.scenario.now.setup c.args.scenario.now.lines.items c.in_ok-drawing.drawing.source c.in_ok-course.course c.in_ok-drawing.drawing.summary c.in_ok-drawing.drawing.changes.store c.in_ok-drawing.drawing.overlaps (kept c.in_ok-drawing.drawing.page) (g.W.Sink.taken c.args.output.now)
-          c.in_ok-course.ensures.setup c.in_ok-course.ensures.follows e.summary e.held e.page (number_of_first c.args.scenario.now.setup c.in_ok-drawing.drawing.source e.source) e.recalls;
-      source = omega (arith, e.source);
-      whole = refl;
-      room = (let events = ap (λ (s : Summary). s.events) none in omega (arith, events), let refused = ap (λ (s : Summary). s.refused) none in omega (arith, refused));
-    }
-
-pub loop-line-preserved : goal.loop-line-preserved
-loop-line-preserved g c =
-    let s : Setup = c.args.scenario.now.setup in
-    let plan : Plan = plan_of c.args.form s in
-    let lines : List Line = c.args.scenario.now.lines.items in
-    let k : ℕ = c.loop-line.line-index in
-    let here : Line = c.line-item.result in
-    let next : drop k lines ≡ here ∷ drop (k + 1) lines = drop_in lines k here (omega arith) (rw c.deref-line-items.ensures.value at c.line-item.is) in
-    let begun : Drawing = record c.loop-line.drawing { source = c.loop-line.drawing.source + 1 } in
-    let within : k < length c.args.scenario.now.lines.items = omega arith in
-    let few : k < 4000 = omega (arith, within, c.args.scenario.now.few) in
-    let room = c.loop-line.invariant.room in
-    record {
-      drawn = subst (λ n. Drawn plan c.args.reads s lines (drop (k + 1) lines) n c.draw_line.new.course c.draw_line.new.drawing.summary c.draw_line.new.drawing.changes.store c.draw_line.new.drawing.overlaps (kept c.draw_line.new.drawing.page) (g.W.Sink.taken c.args.output.now) (g.W.Sink.taken c.draw_line.new.output)) (sym c.in_ok-draw_line.ensures.source)
-          (drawn_on plan c.args.reads s lines (drop (k + 1) lines) here c.loop-line.drawing.source c.loop-line.course c.draw_line.new.course begun c.draw_line.new.drawing _ _ _
-          (subst (λ (rest : List Line). Drawn plan c.args.reads s lines rest c.loop-line.drawing.source c.loop-line.course c.loop-line.drawing.summary c.loop-line.drawing.changes.store c.loop-line.drawing.overlaps (kept c.loop-line.drawing.page) (g.W.Sink.taken c.args.output.now) (g.W.Sink.taken c.loop-line.output)) next c.loop-line.invariant.drawn)
-          c.in_ok-draw_line.ensures.ok c.in_ok-draw_line.ensures.source);
-      source = omega (arith, c.in_ok-draw_line.ensures.source, c.loop-line.invariant.source);
-      whole = omega (arith, c.in_ok-draw_line.ensures.failures, c.loop-line.invariant.whole);
-      room = c.in_ok-draw_line.ensures.room ((4000 - (k + 1)) * 2 ^ 32) (omega (arith, room.0, few), omega (arith, room.1, few));
-    }
-
-pub draw_line-requires-clause-room : goal.draw_line-requires-clause-room
-draw_line-requires-clause-room g c =
-    let within : c.loop-line.line-index < length c.args.scenario.now.lines.items = omega arith in
-    let few : c.loop-line.line-index < 4000 = omega (arith, within, c.args.scenario.now.few) in
-    let room = c.loop-line.invariant.room in
-    (omega (arith, room.0, few), omega (arith, room.1, few))
 
 pub returns-clause-ok : goal.returns-clause-ok
 returns-clause-ok g c =
-    let s : Setup = c.args.scenario.now.setup in
-    let plan : Plan = plan_of c.args.form s in
-    let lines : List Line = c.args.scenario.now.lines.items in
-    let d : Drawn plan c.args.reads s lines [] c.loop-line.drawing.source c.loop-line.course c.loop-line.drawing.summary c.loop-line.drawing.changes.store c.loop-line.drawing.overlaps (kept c.loop-line.drawing.page) (g.W.Sink.taken c.args.output.now) (g.W.Sink.taken c.loop-line.output) =
-    subst (λ (rest : List Line). Drawn plan c.args.reads s lines rest c.loop-line.drawing.source c.loop-line.course c.loop-line.drawing.summary c.loop-line.drawing.changes.store c.loop-line.drawing.overlaps (kept c.loop-line.drawing.page) (g.W.Sink.taken c.args.output.now) (g.W.Sink.taken c.loop-line.output)) (drop_all c.loop-line.line-index lines (omega arith)) c.loop-line.invariant.drawn in
-    let numbers = onward_numbers s lines c.loop-line.course c.loop-line.drawing.summary c.taken-drawing.result (Some []) (Some d.text) d.onward c.taken-drawing.ensures in
-    drawn_end plan c.args.reads s lines c.loop-line.drawing.source c.loop-line.course c.loop-line.drawing.summary c.loop-line.drawing.changes.store c.loop-line.drawing.overlaps (kept c.loop-line.drawing.page) _ _ _ (end_line (summary_of s (happenings (script c.args.scenario.now)))) c.loop-line.drawing.summary.events _ d refl
-    (subst (λ (n : Summary). DrawsRest (kept c.loop-line.drawing.page) (g.W.Sink.taken c.loop-line.output) (g.W.Sink.taken c.end.new.output) (end_line n) (lines_given c.args.reads (c.loop-line.drawing.source + 1) c.loop-line.drawing.summary.events (reads_since s d.onward.now.happened) (SaysEnd n ∷ [])) c.height.result) numbers
-    (rest_at _ _ _ _ _ _ _ c.height.ensures (c.in_ok-end.ensures.ok c.args.reads s (past_after s d.onward.now.happened) (reads_since s d.onward.now.happened) d.recalls.waits)))
+    let begun = c.in_ok-drawing.ensures in
+    IfOk-weaker c.draw_lines.result _ _ (λ answer drawn. drawn (plan_of c.args.form c.args.scenario.now.setup) c.args.reads begun.page begun.recalls) c.draw_lines.ensures.ok
 
 pub returns-clause-summary : goal.returns-clause-summary
 returns-clause-summary g c =
-    let s : Setup = c.args.scenario.now.setup in
-    let plan : Plan = plan_of c.args.form s in
-    let lines : List Line = c.args.scenario.now.lines.items in
-    let d : Drawn plan c.args.reads s lines [] c.loop-line.drawing.source c.loop-line.course c.loop-line.drawing.summary c.loop-line.drawing.changes.store c.loop-line.drawing.overlaps (kept c.loop-line.drawing.page) (g.W.Sink.taken c.args.output.now) (g.W.Sink.taken c.loop-line.output) =
-    subst (λ (rest : List Line). Drawn plan c.args.reads s lines rest c.loop-line.drawing.source c.loop-line.course c.loop-line.drawing.summary c.loop-line.drawing.changes.store c.loop-line.drawing.overlaps (kept c.loop-line.drawing.page) (g.W.Sink.taken c.args.output.now) (g.W.Sink.taken c.loop-line.output)) (drop_all c.loop-line.line-index lines (omega arith)) c.loop-line.invariant.drawn in
-    c.in_ok-end.ensures.summary ∙ onward_numbers s lines c.loop-line.course c.loop-line.drawing.summary c.taken-drawing.result (Some []) (Some d.text) d.onward c.taken-drawing.ensures
-
-pub returns-in_err-draw_line-clause-failures : goal.returns-in_err-draw_line-clause-failures
-returns-in_err-draw_line-clause-failures g c = omega (arith, c.in_err-draw_line.ensures.failures, c.loop-line.invariant.whole, failed_same c.from_residual-in_err-draw_line.result c.in_err-draw_line.field-0.0 c.from_residual-in_err-draw_line.ensures.1)
-
-pub returns-in_err-end-clause-failures : goal.returns-in_err-end-clause-failures
-returns-in_err-end-clause-failures g c = omega (arith, c.in_err-end.ensures.failures, c.loop-line.invariant.whole, failed_same c.from_residual-in_err-end.result c.in_err-end.field-0.0 c.from_residual-in_err-end.ensures.1)
-
-pub returns-in_err-draw_line-clause-fault : goal.returns-in_err-draw_line-clause-fault
-returns-in_err-draw_line-clause-fault g c = on_fault c.from_residual-in_err-draw_line.result c.in_err-draw_line.field-0.0 IsWriteFault c.from_residual-in_err-draw_line.ensures.1 c.in_err-draw_line.ensures.fault
-
-pub returns-in_err-end-clause-fault : goal.returns-in_err-end-clause-fault
-returns-in_err-end-clause-fault g c = on_fault c.from_residual-in_err-end.result c.in_err-end.field-0.0 IsWriteFault c.from_residual-in_err-end.ensures.1 c.in_err-end.ensures.fault
+    let begun = c.in_ok-drawing.ensures in
+    IfOk-weaker c.draw_lines.result _ _ (λ answer numbers. numbers (plan_of c.args.form c.args.scenario.now.setup) c.args.reads begun.page begun.recalls) c.draw_lines.ensures.summary

@@ -1,15 +1,14 @@
 use Rattle.std.proofs.Common.{◌≡◌, ◌∷◌, ◌+◌, ℕ, List, reverse, take, ap, sym, subst, ◌∙◌, arith}
-use Rattle.std.proofs.lemmas.List.{reverse-reverse, take_all}
+use Rattle.std.proofs.lemmas.List.{reverse-reverse}
 use Rattle.plain_store.specs.declared.setups.Setup.{Setup}
 use Rattle.course.specs.«record».declared.events.Event.{Event}
-use Rattle.course.specs.«record».Given.{AreGiven}
 use Rattle.course.specs.«record».Headline.{KeepsHeadlineThroughout}
 use Rattle.course.specs.«record».Records.{past_of}
 use Rattle.course.proofs.history_laws.Headlines.{throughout}
 use Rattle.course.specs.world.Shows.{Shows}
 use Rattle.engines.specs.Listings.{Records}
 use Rattle.engines.proofs.FitRecords.{given_again}
-use Rattle.engines.proofs.Recorded.{events_more}
+use Rattle.engines.proofs.Recorded.{all_recorded, events_more}
 use Rattle.engines.proofs.listing.record_of.Goals as goal
 
 pub loop-event-preserved : goal.loop-event-preserved
@@ -27,32 +26,28 @@ loop-event-preserved c =
       entries = made.entries_are ∙ ap (λ (s : Setup). reverse (past_of s (here ∷ before))) c.loop-event.invariant.setup ∙ ap (λ (l : List Event). reverse (past_of s l)) (sym more);
     }
 
+pub returns-clause-given : goal.returns-clause-given
+returns-clause-given c =
+    let s : Setup = c.args.setup.now in
+    let events : List Event = c.args.events.now in
+    let now = c.loop-event.invariant in
+    (all_recorded s events c.loop-event.event-index c.loop-event.world c.loop-event.entries.items (omega arith) now.shows now.setup now.entries).0
+
+pub returns-clause-entries : goal.returns-clause-entries
+returns-clause-entries c =
+    let s : Setup = c.args.setup.now in
+    let events : List Event = c.args.events.now in
+    let now = c.loop-event.invariant in
+    (all_recorded s events c.loop-event.event-index c.loop-event.world c.loop-event.entries.items (omega arith) now.shows now.setup now.entries).1
+
 pub returns-clause-headline : goal.returns-clause-headline
 returns-clause-headline c =
     let s : Setup = c.args.setup.now in
-    let all : List Event = c.args.events.now in
-    let shows : Shows c.loop-event.world (reverse (take c.loop-event.event-index all)) = c.loop-event.invariant.shows in
-    let whole : take c.loop-event.event-index all ≡ all = take_all c.loop-event.event-index all (omega arith) in
-    let given : AreGiven s (reverse all) = subst (λ (l : List Event). AreGiven s (reverse l)) whole (subst (λ (s : Setup). AreGiven s (reverse (take c.loop-event.event-index all))) c.loop-event.invariant.setup shows.given) in
-    let is : c.loop-event.entries.items ≡ reverse (past_of s (reverse all)) = c.loop-event.invariant.entries ∙ ap (λ (l : List Event). reverse (past_of s (reverse l))) whole in
-    subst (KeepsHeadlineThroughout s) (sym (ap reverse is ∙ reverse-reverse (past_of s (reverse all)))) (throughout s c.requires (reverse all) given)
+    let events : List Event = c.args.events.now in
+    subst (KeepsHeadlineThroughout s) (sym (ap reverse (returns-clause-entries c) ∙ reverse-reverse (past_of s (reverse events)))) (throughout s c.requires (reverse events) (returns-clause-given c))
 
 pub returns-clause-fit : goal.returns-clause-fit
-returns-clause-fit c =
-    let s : Setup = c.args.setup.now in
-    let all : List Event = c.args.events.now in
-    let shows : Shows c.loop-event.world (reverse (take c.loop-event.event-index all)) = c.loop-event.invariant.shows in
-    let whole : take c.loop-event.event-index all ≡ all = take_all c.loop-event.event-index all (omega arith) in
-    let given : AreGiven s (reverse all) = subst (λ (l : List Event). AreGiven s (reverse l)) whole (subst (λ (s : Setup). AreGiven s (reverse (take c.loop-event.event-index all))) c.loop-event.invariant.setup shows.given) in
-    let is : c.loop-event.entries.items ≡ reverse (past_of s (reverse all)) = c.loop-event.invariant.entries ∙ ap (λ (l : List Event). reverse (past_of s (reverse l))) whole in
-    (given_again s c.requires all given (omega arith) c.loop-event.entries.items is).0
+returns-clause-fit c = (given_again c.args.setup.now c.requires c.args.events.now (returns-clause-given c) (omega arith) c.loop-event.entries.items (returns-clause-entries c)).0
 
 pub returns-clause-read_again : goal.returns-clause-read_again
-returns-clause-read_again c =
-    let s : Setup = c.args.setup.now in
-    let all : List Event = c.args.events.now in
-    let shows : Shows c.loop-event.world (reverse (take c.loop-event.event-index all)) = c.loop-event.invariant.shows in
-    let whole : take c.loop-event.event-index all ≡ all = take_all c.loop-event.event-index all (omega arith) in
-    let given : AreGiven s (reverse all) = subst (λ (l : List Event). AreGiven s (reverse l)) whole (subst (λ (s : Setup). AreGiven s (reverse (take c.loop-event.event-index all))) c.loop-event.invariant.setup shows.given) in
-    let is : c.loop-event.entries.items ≡ reverse (past_of s (reverse all)) = c.loop-event.invariant.entries ∙ ap (λ (l : List Event). reverse (past_of s (reverse l))) whole in
-    (given_again s c.requires all given (omega arith) c.loop-event.entries.items is).1
+returns-clause-read_again c = (given_again c.args.setup.now c.requires c.args.events.now (returns-clause-given c) (omega arith) c.loop-event.entries.items (returns-clause-entries c)).1

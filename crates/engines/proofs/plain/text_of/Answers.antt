@@ -1,8 +1,26 @@
-use Rattle.std.proofs.Common.{◌≡◌, ◌++◌, ◌+◌, ap, ◌∙◌, drop, rules, arith, length}
+use Rattle.std.proofs.Common.{◌≡◌, ◌<◌, ◌++◌, ◌+◌, ℕ, List, append-nil, ap, ◌∙◌, drop, rules, arith, length, sym}
+use Rattle.std.proofs.lemmas.List.{drop_all, length-replicate}
 use Rattle.std.specs.String.{string_bytes}
+use Rattle.scenario.specs.declared.lines.Line.{Line}
 use Rattle.engines.specs.Plain.{text_from, line_text, run_after, Run}
 use Rattle.engines.proofs.Lists.{text_more, counts_kept, place_next}
 use Rattle.engines.proofs.plain.text_of.Goals as goal
+
+-- no line yet
+pub loop-line-init : goal.loop-line-init
+loop-line-init c =
+    let setup = c.args.scenario.now.setup in
+    let lines = c.args.scenario.now.lines.items in
+    record {
+      told = ap (λ (bytes : List ℕ). bytes ++ text_from setup c.in_ok-run.run' lines) c.new-text.ensures.bytes ∙ ap (λ (r : Run). text_from setup r lines) c.in_ok-run.ensures;
+      known = ap (λ (r : Run). length r.counts) c.in_ok-run.ensures ∙ length-replicate {A = ℕ} setup.processes 0;
+      few = omega (arith, ap (λ (r : Run). r.place) c.in_ok-run.ensures);
+    }
+
+pub line-requires-clause-few : goal.line-requires-clause-few
+line-requires-clause-few c =
+    let within : c.loop-line.line-index < length c.args.scenario.now.lines.items = omega arith in
+    omega (arith, within, c.args.scenario.now.few, c.loop-line.invariant.few)
 
 -- one more line
 pub loop-line-preserved : goal.loop-line-preserved
@@ -18,3 +36,11 @@ loop-line-preserved c =
       known = ap (λ (r : Run). length r.counts) run ∙ counts_kept setup c.loop-line.run c.line-item.result ∙ c.loop-line.invariant.known;
       few = omega (arith, ap (λ (r : Run). r.place) run, place_next setup c.loop-line.run c.line-item.result, c.loop-line.invariant.few);
     }
+
+-- no line is left
+pub returns : goal.returns
+returns c =
+    let setup = c.args.scenario.now.setup in
+    let lines = c.args.scenario.now.lines.items in
+    let text = string_bytes c.loop-line.text in
+    sym (append-nil text) ∙ ap (λ (rest : List Line). text ++ text_from setup c.loop-line.run rest) (sym (drop_all c.loop-line.line-index lines (omega arith))) ∙ c.loop-line.invariant.told

@@ -8,7 +8,8 @@ use Rattle.engines.specs.Recordings.{recorded}
 use Rattle.course.specs.Replays.{ended}
 use Rattle.engines.specs.RecordedRuns.{WritesRecord}
 use Rattle.course.proofs.ReplayEnds.{ended_err, engine_ran, input_answer}
-use Rattle.engines.proofs.RunsAgain.{written_again}
+use Rattle.engines.proofs.FitRecords.{records_again, records_fit}
+use Rattle.engines.proofs.RunsAgain.{run_again, written_again}
 use Rattle.engines.proofs.recording.run_record.Goals as goal
 
 pub returns-in_err-scenario-clause-ran : goal.returns-in_err-scenario-clause-ran
@@ -26,3 +27,31 @@ returns-clause-read_again g c =
     let good = rw c.as_slice.ensures.value at c.in_ok-scenario.ensures in
     input_answer c.record_scenario.result (λ said done. WritesRecord said (g.W.Sink.taken c.args.output.now) (g.W.Sink.taken c.record_scenario.new.output)) c.in_ok-file.file.items (script c.in_ok-scenario.scenario) _ _
     c.in_ok-file.ensures.ok good (written_again c.record_scenario.result c.in_ok-file.file.items (script c.in_ok-scenario.scenario) _ _ good c.record_scenario.ensures.ok)
+
+-- what is said of all runs and records holds at each way out
+pub returns-in_err-file-clause-runs : goal.returns-in_err-file-clause-runs
+returns-in_err-file-clause-runs g c = run_again
+
+pub returns-in_err-file-clause-records : goal.returns-in_err-file-clause-records
+returns-in_err-file-clause-records g c = records_again
+
+pub returns-in_err-file-clause-fit : goal.returns-in_err-file-clause-fit
+returns-in_err-file-clause-fit g c = records_fit
+
+pub returns-in_err-scenario-clause-runs : goal.returns-in_err-scenario-clause-runs
+returns-in_err-scenario-clause-runs g c = run_again
+
+pub returns-in_err-scenario-clause-records : goal.returns-in_err-scenario-clause-records
+returns-in_err-scenario-clause-records g c = records_again
+
+pub returns-in_err-scenario-clause-fit : goal.returns-in_err-scenario-clause-fit
+returns-in_err-scenario-clause-fit g c = records_fit
+
+pub returns-clause-runs : goal.returns-clause-runs
+returns-clause-runs g c = run_again
+
+pub returns-clause-records : goal.returns-clause-records
+returns-clause-records g c = records_again
+
+pub returns-clause-fit : goal.returns-clause-fit
+returns-clause-fit g c = records_fit
