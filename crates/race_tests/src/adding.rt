@@ -1,6 +1,6 @@
 //! Two ports that add to one counter in a race.
-use crate::plans::{add, answer, raced};
-use plain_store::{Answer, Command, Name, Reply, Store, Value};
+use crate::plans::{a, add, answer, raced};
+use plain_store::{Answer, Command, Reply, Store, Value};
 use race::{Closing, Gate, Moment, Pass};
 use std::sync::atomic::AtomicU32;
 use std::sync::atomic::Ordering::SeqCst;
@@ -51,14 +51,8 @@ const RACES: u32 = 1000;
 // calls that it answered with a sum, and it is run anew until all six were.
 #[test]
 fn two_threads_add(rt: HostRuntime) -> Result<(), Fail> {
-    let name = Name::new(b"a")?;
-    let first = [
-        Command::Write(name, Value::Count(0)),
-        add()?,
-        add()?,
-        add()?,
-    ];
-    let second = [add()?, add()?, add()?];
+    let first = [Command::Write(a(), Value::Count(0)), add(), add(), add()];
+    let second = [add(), add(), add()];
     for _ in 0..RACES {
         let gate = AfterTheFirst {
             begun: AtomicU32::new(0),

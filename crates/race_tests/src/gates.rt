@@ -140,7 +140,7 @@ impl Gate for Patient {
 /// Two ports add once each, and the gate holds one of them inside until the other has begun.
 #[test]
 fn one_waits_inside_for_the_other_to_begin(rt: HostRuntime) -> Result<(), Fail> {
-    let adds = [add()?];
+    let adds = [add()];
     for held in [0, 1] {
         let gate = UntilBegun {
             held,
@@ -156,7 +156,7 @@ fn one_waits_inside_for_the_other_to_begin(rt: HostRuntime) -> Result<(), Fail> 
 // Within one ask each looks for the other, so that no body that serves the ports in turns lets them meet.
 #[test]
 fn two_ports_meet(rt: HostRuntime) -> Result<(), Fail> {
-    let adds = [add()?];
+    let adds = [add()];
     let gate = Meeting {
         came: [AtomicBool::new(false), AtomicBool::new(false)],
         found: [AtomicBool::new(false), AtomicBool::new(false)],
@@ -169,7 +169,7 @@ fn two_ports_meet(rt: HostRuntime) -> Result<(), Fail> {
 // One ticket bit: while port 0 is inside, port 1 finds the tickets full, and calls again.
 #[test]
 fn one_passes_a_full_door_while_the_other_is_inside(rt: HostRuntime) -> Result<(), Fail> {
-    let (one, two) = ([add()?], [add()?, add()?]);
+    let (one, two) = ([add()], [add(), add()]);
     let gate = Passing {
         inside: AtomicBool::new(false),
         let_on: AtomicBool::new(false),
@@ -193,12 +193,12 @@ fn asked(
 ) -> Result<(Option<RaceFault>, u32), Fail> {
     let _nested: NestedTypes = None;
     let setup = Setup::one(1, 4, 4, 1);
-    let plans = vec![in alloc; vec![in alloc; add()?]?]?;
+    let plans = [vec![in alloc; add()]?];
     let gate = Patient {
         asked: AtomicU32::new(0),
         refused,
     };
-    let fault = race(rt, alloc, &setup, plans.as_slice(), &gate).err();
+    let fault = race(rt, alloc, &setup, &plans, &gate).err();
     Ok((fault, gate.asked.load(SeqCst)))
 }
 
@@ -217,7 +217,7 @@ fn a_gate_is_asked_ten_million_times(rt: HostRuntime) -> Result<(), Fail> {
 // other one waits at the door, and the race has no end.
 #[test]
 fn a_port_held_inside_lets_the_other_in(rt: HostRuntime) -> Result<(), Fail> {
-    let adds = [add()?];
+    let adds = [add()];
     let gate = Keeping {
         kept: AtomicBool::new(false),
         followed: AtomicBool::new(false),
@@ -231,7 +231,7 @@ fn a_port_held_inside_lets_the_other_in(rt: HostRuntime) -> Result<(), Fail> {
 // Both ports are held for good: the lower one is told.
 #[test]
 fn the_lowest_held_port_is_told(rt: HostRuntime) -> Result<(), Fail> {
-    let adds = [add()?];
+    let adds = [add()];
     let gate = Patient {
         asked: AtomicU32::new(0),
         refused: u32::MAX,

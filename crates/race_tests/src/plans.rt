@@ -11,9 +11,14 @@ use std::sync::Wait;
 use std::test::Fail;
 use std::thread::Threads;
 
-/// The command that adds 1 to the one name here.
-pub fn add() -> Result<Command, Fail> {
-    Ok(Command::Add(Name::new(b"a")?, 1))
+/// The one name here.
+pub fn a() -> Name {
+    Name::new(b"a").unwrap()
+}
+
+/// The command that adds 1 to it.
+pub fn add() -> Command {
+    Command::Add(a(), 1)
 }
 
 /// A race of two processes of version 1 with so many ticket bits, of which each makes its calls.
@@ -28,11 +33,11 @@ pub fn race_of_two<R: Threads + Wait + Sync, G: Gate + Sync>(
     let setup = Setup::one(2, tickets, 4, 1);
     setup.check()?;
     let [first, second] = calls;
-    let plans = vec![in alloc;
+    let plans = [
         Vec::from_slice(alloc, first)?,
         Vec::from_slice(alloc, second)?,
-    ]?;
-    Ok(race(rt, alloc, &setup, plans.as_slice(), gate))
+    ];
+    Ok(race(rt, alloc, &setup, &plans, gate))
 }
 
 /// What such a race leaves, which stands in one history. Its fault fails the test.

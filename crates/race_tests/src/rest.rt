@@ -3,27 +3,30 @@ ghost use Rattle.board.specs.Boards.{IsOf};
 
 use board::{Board, Driven, Flicks, Port};
 use plain_store::Setup;
-use std::test::Fail;
+use std::alloc::AllocError;
 
-/// What driving a port so many turns has led to.
-fn driven(board: &Board, port: &mut Port, turns: u64) -> Driven
+/// Whether a port that is idle makes no step and says so, with turns and without; whether it then fails; and whether it is down,
+/// with turns and without.
+fn says_so(board: &Board, port: &mut Port) -> [bool; 5]
     requires { IsOf board.now port.old }
-    ensures { IsOf board.now port.new }
 {
-    port.drive(board, turns, &mut Flicks::constant(false))
+    let mut flicks = Flicks::constant(false);
+    [
+        matches!(port.drive(board, 0, &mut flicks), Driven::Idle),
+        matches!(port.drive(board, 9, &mut flicks), Driven::Idle),
+        port.fail().is_ok(),
+        matches!(port.drive(board, 99, &mut flicks), Driven::Down),
+        matches!(port.drive(board, 0, &mut flicks), Driven::Down),
+    ]
 }
 
 // A port that is idle makes no step and says so, with turns and without; and so does one that is down.
 #[test]
-fn ports_at_rest_make_no_step(rt: HostRuntime) -> Result<(), Fail> {
+fn ports_at_rest_make_no_step(rt: HostRuntime) -> Result<(), AllocError> {
     let (board, mut ports) = Board::new(rt.alloc(), &Setup::one(1, 2, 2, 1))?;
     let Some(port) = ports.get_mut(0) else {
         panic!(rt; "there is no port");
     };
-    assert!(rt; driven(&board, port, 0) == Driven::Idle);
-    assert!(rt; driven(&board, port, 9) == Driven::Idle);
-    assert!(rt; port.fail().is_ok());
-    assert!(rt; driven(&board, port, 99) == Driven::Down);
-    assert!(rt; driven(&board, port, 0) == Driven::Down);
+    assert!(rt; matches!(says_so(&board, port), [true, true, true, true, true]));
     Ok(())
 }

@@ -1,13 +1,12 @@
 //! The section of a process alone, driven by hand: its cursor over a plain memory.
-ghost use Rattle.std.specs.Prelude.{◌≡◌, true, Ok};
-ghost use Rattle.plain_store.specs.Setups.{checked};
+ghost use Rattle.std.specs.Prelude.{◌≡◌};
 ghost use Rattle.bakery.specs.Sections.{is_going, goes_on};
 
 use super::memory::Memory;
 use bakery::{Section, SectionProgress};
 use plain_store::{Command, Name, NestedTypes, Reply, Setup, Value};
 use record::{Access, Field, Move};
-use std::test::Fail;
+use std::alloc::{AllocError, Global};
 
 /// Whether an access is left.
 fn goes_on(progress: &SectionProgress) -> bool
@@ -36,46 +35,40 @@ fn taken(section: &mut Section, memory: &mut Memory, command: Command) -> Option
     None
 }
 
-/// The setup of a process alone.
-fn alone() -> Setup
-    ensures good { checked result ≡ Ok tt }
-    ensures processes { result.processes ≡ 1 }
-{
-    Setup::one(1, 2, 2, 1)
+fn a() -> Name {
+    Name::new(b"a").unwrap()
 }
 
-fn name() -> Result<Name, Fail> {
-    Ok(Name::new(b"a")?)
-}
-
-fn write() -> Result<Command, Fail> {
-    Ok(Command::Write(name()?, Value::Count(5)))
-}
-
-/// An access of process 0.
-fn own(field: Field, bit: u16, how: Move) -> Access {
-    Access {
+/// Whether a section is idle at first, and whether it then replies so, one command after another: to a write, to a read, and to
+/// a read once the last byte of the image's slot isn't 0.
+fn replies_so(alloc: Global) -> Result<[bool; 4], AllocError> {
+    let mut memory = Memory::new(alloc)?;
+    let mut section = Section::new(alloc, 0, &Setup::one(1, 2, 2, 1))?;
+    let is_idle = section.pending().is_none();
+    let write = Command::Write(a(), Value::Count(5));
+    let written = taken(&mut section, &mut memory, write) == Some((Reply::Done, 748));
+    let five = Reply::Value(Value::Count(5));
+    let read = taken(&mut section, &mut memory, Command::Read(a())) == Some((five, 374));
+    memory.make(&Access {
         owner: 0,
-        field,
-        bit,
+        field: Field::Image1,
+        bit: 176,
         reader: 0,
-        how,
-    }
+        how: Move::BeginWrite(true),
+    });
+    let spoiled = taken(&mut section, &mut memory, Command::Read(a()));
+    let unread = spoiled == Some((Reply::NoName, 374));
+    Ok([is_idle, written, read, unread])
 }
 
 // The section of a lone write makes 748 accesses, and that of a read after it 374. Bytes that are no image count as the empty
 // store: the last byte of a counter's slot has to be 0.
 #[test]
-fn bytes_that_are_no_image(rt: HostRuntime) -> Result<(), Fail> {
-    let mut memory = Memory::new(rt.alloc())?;
-    let mut section = Section::new(rt.alloc(), 0, &alone())?;
-    assert!(rt; section.pending().is_none());
-    let ran = taken(&mut section, &mut memory, write()?);
-    assert!(rt; ran == Some((Reply::Done, 748)));
-    let ran = taken(&mut section, &mut memory, Command::Read(name()?));
-    assert!(rt; ran == Some((Reply::Value(Value::Count(5)), 374)));
-    memory.make(&own(Field::Image1, 176, Move::BeginWrite(true)));
-    let ran = taken(&mut section, &mut memory, Command::Read(name()?));
-    assert!(rt; ran == Some((Reply::NoName, 374)));
+fn bytes_that_are_no_image(rt: HostRuntime) -> Result<(), AllocError> {
+    let [is_idle, written, read, unread] = replies_so(rt.alloc())?;
+    assert!(rt; is_idle);
+    assert!(rt; written);
+    assert!(rt; read);
+    assert!(rt; unread);
     Ok(())
 }

@@ -1,15 +1,12 @@
 //! Want of memory: what is refused changes nothing, and succeeds at the next try. The test passes with ample
 //! memory, and where any one growth is refused.
-use plain_store::{Command, Name, Setup, Store, Value};
+use crate::worlds::a;
+use plain_store::{Command, Setup, Store, Value};
 use record::{Event, Refusal, Stage};
 use std::alloc::AllocError;
 use std::process::Abort;
 use std::test::Fail;
 use world::World;
-
-fn a() -> Name {
-    Name::new(b"a").unwrap()
-}
 
 fn write(count: i64) -> Command {
     Command::Write(a(), Value::Count(count))

@@ -8,9 +8,9 @@ use crate::uses::printed_replies;
 use bstr::ByteSlice;
 use engines::events_of;
 use plain_store::Setup;
-use record::{Act, Event, Mark};
+use record::{Act, Event};
 use scenario::{FromRead, IntoWrite, Scenario, read_scenario};
-use std::alloc::Global;
+use std::alloc::{AllocError, Global};
 use std::test::Fail;
 use world::World;
 
@@ -40,55 +40,31 @@ fn marks_of_replay(alloc: Global, file: &str) -> Result<Vec<u8>, Fail> {
     Ok(marks)
 }
 
-/// Adds a mark as a replay prints it.
-fn push_mark(
-    alloc: Global,
-    marks: &mut Vec<u8>,
-    number: usize,
-    process: u8,
-    mark: &Mark,
-) -> Result<(), Fail> {
-    let line = format!(in alloc; "{number} {process} {mark}\n")?;
-    Ok(marks.extend_from_slice(line.as_bytes())?)
-}
-
-/// Makes an event, and adds its marks.
-fn make(
-    alloc: Global,
-    marks: &mut Vec<u8>,
-    world: &mut World,
-    number: usize,
-    event: Event,
-) -> Result<(), Fail> {
-    let act = world.event(event)?;
-    push_all(alloc, marks, number, event.process(), &act)
-}
-
-/// Adds the marks of an act.
-fn push_all(
-    alloc: Global,
-    marks: &mut Vec<u8>,
-    number: usize,
-    process: u8,
-    act: &Act,
-) -> Result<(), Fail> {
+/// Adds the marks of an act, as a replay prints them.
+fn push_marks(marks: &mut String, number: usize, process: u8, act: &Act) -> Result<(), AllocError> {
     for mark in act.marks.as_slice() {
-        push_mark(alloc, marks, number, process, mark)?;
+        writeln!(marks, "{number} {process} {mark}")?;
     }
     Ok(())
 }
 
+/// Makes an event, and adds its marks.
+fn make(marks: &mut String, world: &mut World, number: usize, event: Event) -> Result<(), Fail> {
+    let act = world.event(event)?;
+    Ok(push_marks(marks, number, event.process(), &act)?)
+}
+
 /// The marks of events that are made one by one.
-fn marks_on(alloc: Global, world: &mut World, events: &[Event]) -> Result<Vec<u8>, Fail> {
-    let mut marks = Vec::new(alloc);
+fn marks_on(alloc: Global, world: &mut World, events: &[Event]) -> Result<String, Fail> {
+    let mut marks = String::new(alloc);
     for (number, event) in events.iter().enumerate() {
-        make(alloc, &mut marks, world, number, *event)?;
+        make(&mut marks, world, number, *event)?;
     }
     Ok(marks)
 }
 
 /// The same on a new world.
-fn marks_in(alloc: Global, setup: &Setup, events: &[Event]) -> Result<Vec<u8>, Fail>
+fn marks_in(alloc: Global, setup: &Setup, events: &[Event]) -> Result<String, Fail>
     requires { checked setup.now ≡ Ok tt }
 {
     let mut world = World::new(alloc, setup)?;
@@ -96,24 +72,29 @@ fn marks_in(alloc: Global, setup: &Setup, events: &[Event]) -> Result<Vec<u8>, F
 }
 
 /// The marks of a scenario's accepted events.
-fn marks_of_scenario(alloc: Global, scenario: &Scenario) -> Result<Vec<u8>, Fail> {
+fn marks_of_scenario(alloc: Global, scenario: &Scenario) -> Result<String, Fail> {
     let events = events_of(alloc, scenario)?;
     marks_in(alloc, &scenario.setup, &events)
 }
 
 /// The same of a file.
-fn marks_of_events(alloc: Global, file: &str) -> Result<Vec<u8>, Fail> {
+fn marks_of_events(alloc: Global, file: &str) -> Result<String, Fail> {
     let scenario = read_scenario(alloc, file.as_bytes())?;
     marks_of_scenario(alloc, &scenario)
+}
+
+/// Whether the events of a file have the marks of its replay.
+fn has_its_marks(alloc: Global, file: &str) -> Result<bool, Fail> {
+    let marks = marks_of_events(alloc, file)?;
+    let printed = marks_of_replay(alloc, file)?;
+    Ok(marks.as_bytes() == printed.as_slice())
 }
 
 // The accepted events of each worked run, made one by one, have the marks that its replay prints.
 #[test]
 fn single_events_make_the_marks_of_replays(rt: HostRuntime) -> Result<(), Fail> {
     for file in SCENARIOS {
-        let marks = marks_of_events(rt.alloc(), file)?;
-        let printed = marks_of_replay(rt.alloc(), file)?;
-        assert!(rt; marks.as_slice() == printed.as_slice(), "{file}");
+        assert!(rt; has_its_marks(rt.alloc(), file)?, "{file}");
     }
     Ok(())
 }

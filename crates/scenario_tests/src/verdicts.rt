@@ -4,17 +4,14 @@ ghost use Rattle.std.specs.Prelude.{◌≡◌, Ok};
 ghost use Rattle.plain_store.specs.Setups.{checked};
 
 use crate::scenarios::LONE_WRITE;
+use crate::worlds::a;
 use engines::{Auditor, Law, Record, Swept, Verdict, audit, events_of, record_of, sweep};
-use plain_store::{Command, Name, Setup, Value};
+use plain_store::{Command, Setup, Value};
 use record::{Event, Mark};
 use scenario::read_scenario;
 use std::alloc::{AllocError, Global};
 use std::process::Abort;
 use std::test::Fail;
-
-fn a() -> Name {
-    Name::new(b"a").unwrap()
-}
 
 /// The command that reads it.
 fn read() -> Command {
@@ -125,33 +122,38 @@ fn hears_and_audits_a_record(rt: HostRuntime) -> Result<(), Fail> {
 
 #[test]
 fn sweeps_the_lone_write(rt: HostRuntime) -> Result<(), Fail> {
-    let scenario = read_scenario(rt.alloc(), LONE_WRITE.as_bytes())?;
-    let events = events_of(rt.alloc(), &scenario)?;
-    let write = Command::Write(a(), Value::Count(5));
-    let found = sweep(rt.alloc(), &scenario.setup, &events, &[(0, write)])?;
+    let events = events_of_lone_write(rt.alloc())?;
+    let calls = [(0, Command::Write(a(), Value::Count(5)))];
+    let found = sweep(rt.alloc(), &setup_of_lone_write(), &events, &calls)?;
     assert!(rt; are_all_good(&found, 1_522), "{found}");
     Ok(())
 }
 
+const STEP: Event = Event::Step(0, false);
+
 // Restart and calls of a failed process: it may fail after the call, and again after its restart. What is refused between is
 // no event to be cut after.
 #[test]
-fn sweeps_a_failed_process(rt: HostRuntime) -> Result<(), Fail> {
+fn sweeps_a_failed_process(rt: HostRuntime) -> Result<(), AllocError> {
     let setup = Setup::one(1, 4, 4, 1);
-    let mut events = Vec::new(rt.alloc());
-    for event in [
+    let events = [
         Event::Call(0, read()),
         Event::Fail(0),
         Event::Restart(0),
         Event::Call(0, read()),
-    ] {
-        events.push(event)?;
-    }
-    for _ in 0..10 {
-        events.push(Event::Step(0, false))?;
-    }
-    events.push(Event::Call(0, read()))?;
-    events.push(Event::Restart(0))?;
+        STEP,
+        STEP,
+        STEP,
+        STEP,
+        STEP,
+        STEP,
+        STEP,
+        STEP,
+        STEP,
+        STEP,
+        Event::Call(0, read()),
+        Event::Restart(0),
+    ];
     let found = sweep_again(rt.alloc(), &setup, &events, &[(0, read())])?;
     assert!(rt; are_all_good(&found, 4), "{found}");
     Ok(())

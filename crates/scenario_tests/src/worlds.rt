@@ -7,24 +7,34 @@ use std::process::Abort;
 use std::test::Fail;
 use world::World;
 
+/// The name that is read.
+pub fn a() -> Name {
+    Name::new(b"a").unwrap()
+}
+
+/// Makes an event.
+fn make(world: &mut World, event: Event) -> Result<(), Refusal> {
+    world.event(event)?;
+    Ok(())
+}
+
 /// A process reads, and makes 20 steps: where it is then.
-fn comes_to_wait(world: &mut World, process: u8, read: Command) -> Result<Option<Stage>, Fail> {
-    world.event(Event::Call(process, read))?;
+fn comes_to_wait(world: &mut World, process: u8) -> Result<Option<Stage>, Refusal> {
+    make(world, Event::Call(process, Command::Read(a())))?;
     for _ in 0..20 {
-        world.event(Event::Step(process, false))?;
+        make(world, Event::Step(process, false))?;
     }
     Ok(world.stage(process))
 }
 
 /// Two processes wait, of which the first gives up.
-fn one_gives_up(rt: &impl Abort, world: &mut World) -> Result<(), Fail> {
-    let read = Command::Read(Name::new(b"a")?);
+fn one_gives_up(rt: &impl Abort, world: &mut World) -> Result<(), Refusal> {
     for process in 0..2 {
-        let stage = comes_to_wait(world, process, read)?;
+        let stage = comes_to_wait(world, process)?;
         assert!(rt; matches!(stage, Some(Stage::Waiting)));
     }
     assert!(rt; world.ahead(0).is_empty() && matches!(world.ahead(1).as_slice(), [0]));
-    world.event(Event::Withdraw(0))?;
+    make(world, Event::Withdraw(0))?;
     assert!(rt; world.ahead(1).is_empty());
     Ok(())
 }
@@ -33,11 +43,11 @@ fn one_gives_up(rt: &impl Abort, world: &mut World) -> Result<(), Fail> {
 #[test]
 fn tells_who_is_ahead(rt: HostRuntime) -> Result<(), Fail> {
     let mut world = World::new(rt.alloc(), &Setup::one(2, 2, 2, 1))?;
-    one_gives_up(&rt, &mut world)
+    Ok(one_gives_up(&rt, &mut world)?)
 }
 
 /// Whether a call and a step have the acts that each would have alone.
-fn calls_and_steps(world: &mut World) -> Result<bool, Fail> {
+fn calls_and_steps(world: &mut World) -> Result<bool, Refusal> {
     let call = Event::Call(1, Command::Ask);
     let (called, stepped) = two_events(world, call, Event::Step(1, false))?;
     let calls = matches!(called.marks.as_slice(), [Mark::Called(Command::Ask)]);
@@ -46,7 +56,7 @@ fn calls_and_steps(world: &mut World) -> Result<bool, Fail> {
 }
 
 /// Makes a call and a step, and then a step and one of a process that does not run.
-fn makes_them(rt: &impl Abort, world: &mut World) -> Result<(), Fail> {
+fn makes_them(rt: &impl Abort, world: &mut World) -> Result<(), Refusal> {
     assert!(rt; calls_and_steps(world)?);
     let refused = two_events(world, Event::Step(1, false), Event::Step(0, false));
     assert!(rt; matches!(refused, Err(Refusal::NotRunning)));
@@ -57,27 +67,25 @@ fn makes_them(rt: &impl Abort, world: &mut World) -> Result<(), Fail> {
 #[test]
 fn makes_two_events(rt: HostRuntime) -> Result<(), Fail> {
     let mut world = World::new(rt.alloc(), &Setup::one(2, 4, 4, 1))?;
-    makes_them(&rt, &mut world)
+    Ok(makes_them(&rt, &mut world)?)
 }
 
 /// A call that fails before its first access, up to its process's restart.
-fn call_that_fails(world: &mut World, read: Command) -> Result<(), Fail> {
-    world.event(Event::Call(0, read))?;
-    world.event(Event::Fail(0))?;
+fn call_that_fails(world: &mut World) -> Result<(), Refusal> {
+    make(world, Event::Call(0, Command::Read(a())))?;
+    make(world, Event::Fail(0))?;
     for _ in 0..4 {
-        world.event(Event::Step(0, false))?;
+        make(world, Event::Step(0, false))?;
     }
-    world.event(Event::Restart(0))?;
-    Ok(())
+    make(world, Event::Restart(0))
 }
 
 /// What a call is refused for after 65,535 such calls.
-fn refused_after(world: &mut World) -> Result<Option<Refusal>, Fail> {
-    let read = Command::Read(Name::new(b"a")?);
+fn refused_after(world: &mut World) -> Result<Option<Refusal>, Refusal> {
     for _ in 0..65_535 {
-        call_that_fails(world, read)?;
+        call_that_fails(world)?;
     }
-    Ok(world.event(Event::Call(0, read)).err())
+    Ok(make(world, Event::Call(0, Command::Read(a()))).err())
 }
 
 /// The same in a world of one process.
@@ -86,7 +94,7 @@ fn refused_after_calls(alloc: Global, version: u8) -> Result<Option<Refusal>, Fa
     setup.version = version;
     setup.check()?;
     let mut world = World::new(alloc, &setup)?;
-    refused_after(&mut world)
+    Ok(refused_after(&mut world)?)
 }
 
 // In version 2 a process makes 65,535 calls; in version 1 there is no such bound.

@@ -32,15 +32,15 @@ fn readers_refuse_bytes_that_are_no_image(rt: HostRuntime) {
         (&[0; 207], 0),
     ];
     for (bytes, callers) in cases {
-        assert!(rt; Image::read(bytes, callers).err() == Some(BadImage::Length));
+        assert!(rt; matches!(Image::read(bytes, callers), Err(BadImage::Length)));
     }
     let mut unclean = COUNTER;
     unclean[22] = 1;
-    assert!(rt; Image::read(&unclean, 0).err() == Some(BadImage::Slot(0)));
+    assert!(rt; matches!(Image::read(&unclean, 0), Err(BadImage::Slot(0))));
     // An image of two slots that has the counter behind an unused slot, and one that has it twice.
     for first in [[0; 23], COUNTER] {
         let bytes = of_two(&first, &COUNTER);
-        assert!(rt; Image::read(&bytes, 0).err() == Some(BadImage::Slot(1)));
+        assert!(rt; matches!(Image::read(&bytes, 0), Err(BadImage::Slot(1))));
     }
 }
 
@@ -104,9 +104,11 @@ fn table(slot: &[u8]) -> Option<Option<&[u8]>> {
 }
 
 /// Whether one of so many slots has this name.
-fn has_name(bytes: &[u8], slots: usize, name: Option<&[u8]>) -> bool {
+fn has_name(bytes: &[u8], slots: usize, name: &[u8]) -> bool {
     for slot in bytes.chunks_exact(23).take(slots) {
-        if table(slot) == Some(name) {
+        if let Some(Some(other)) = table(slot)
+            && other == name
+        {
             return true;
         }
     }
@@ -120,10 +122,10 @@ fn first_fault(bytes: &[u8], slots: usize) -> Option<usize> {
         let Some(name) = table(slot) else {
             return Some(place);
         };
-        if name.is_none() {
+        let Some(name) = name else {
             unused_before = true;
             continue;
-        }
+        };
         if unused_before || has_name(bytes, place, name) {
             return Some(place);
         }
@@ -131,29 +133,19 @@ fn first_fault(bytes: &[u8], slots: usize) -> Option<usize> {
     None
 }
 
-/// Has these bytes read, and what is read compared with the table's. They were changed at a place.
-fn is_read_by_the_table(
-    rt: &impl Abort,
-    bytes: &[u8],
-    slots: usize,
-    callers: u8,
-    at: usize,
-) -> Result<(), Fail>
+/// Whether these bytes are read as the table says.
+fn is_read_by_the_table(bytes: &[u8], slots: usize, callers: u8) -> bool
     requires { callers ≤ 16 }
 {
     let read = Image::read(bytes, callers);
     match first_fault(bytes, slots) {
-        Some(place) => assert!(rt;
-            read.err() == Some(BadImage::Slot(place)),
-            "changed at {at}"
-        ),
-        None => assert!(rt; read?.bytes() == bytes, "changed at {at}"),
+        Some(place) => matches!(read, Err(BadImage::Slot(told)) if told == place),
+        None => matches!(read, Ok(image) if image.bytes() == bytes),
     }
-    Ok(())
 }
 
 /// Changes each byte of an image to some others, and has each outcome compared with the table's.
-fn each_byte_counts(rt: &impl Abort, image: &Image, slots: u8, callers: u8) -> Result<(), Fail>
+fn each_byte_counts(rt: &impl Abort, image: &Image, slots: u8, callers: u8)
     requires { callers ≤ 16 }
 {
     let mut bytes = [0; MOST_BYTES];
@@ -165,11 +157,11 @@ fn each_byte_counts(rt: &impl Abort, image: &Image, slots: u8, callers: u8) -> R
         let kept = bytes[at];
         for other in [0, 1, 2, kept.wrapping_add(1), 0x20, b'a', 0x80, 0xff] {
             bytes[at] = other;
-            is_read_by_the_table(rt, &bytes[..length], slots, callers, at)?;
+            let is_so = is_read_by_the_table(&bytes[..length], slots, callers);
+            assert!(rt; is_so, "changed at {at}");
         }
         bytes[at] = kept;
     }
-    Ok(())
 }
 
 /// The image of a store in which these pairs were written.
@@ -192,12 +184,13 @@ fn written(slots: u8, callers: u8, pairs: &[(&[u8], Value)]) -> Result<Image, Fa
 // In names, in lengths, in values and in the zeros behind them.
 #[test]
 fn changed_bytes_are_read_by_the_table(rt: HostRuntime) -> Result<(), Fail> {
-    let long = Value::Text(Text::new(b"Twelve_bytes")?);
+    let long = Value::Text(Text::new(b"Twelve_bytes").unwrap());
     let image = written(3, 0, &[(b"a", Value::Count(5)), (b"b", long)])?;
-    each_byte_counts(&rt, &image, 3, 0)?;
-    let short = Value::Text(Text::new(b"!~")?);
+    each_byte_counts(&rt, &image, 3, 0);
+    let short = Value::Text(Text::new(b"!~").unwrap());
     let least = Value::Count(i64::MIN);
     let image = written(4, 2, &[(b"y_456789", short), (b"y_45678", least)])?;
-    each_byte_counts(&rt, &image, 4, 2)?;
-    each_byte_counts(&rt, &Image::empty(8, 16), 8, 16)
+    each_byte_counts(&rt, &image, 4, 2);
+    each_byte_counts(&rt, &Image::empty(8, 16), 8, 16);
+    Ok(())
 }

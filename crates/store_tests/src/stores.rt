@@ -1,7 +1,8 @@
 //! The calls of examples/worked/one-thread-store on both stores.
 use plain_store::{Caller, NestedTypes, PlainStore, Store};
 use scenario::{Line, read_scenario};
-use std::alloc::Global;
+use std::alloc::{AllocError, Global};
+use std::process::Abort;
 use std::test::Fail;
 use store_image::Image;
 
@@ -13,12 +14,8 @@ const REPLIES: &str = "no-name\ndone\noverflow\nvalue c:9223372036854775807\nsto
     no-name\nkept c:9223372036854775807\nswapped\nnot-counter\n";
 
 /// Adds what a store replies to the call of a line.
-fn push_reply<S: Store>(
-    alloc: Global,
-    text: &mut String,
-    store: &mut S,
-    line: &Line,
-) -> Result<(), Fail> {
+fn push_reply<S: Store>(text: &mut String, store: &mut S, line: &Line) -> Result<(), AllocError> {
+    let _nested: NestedTypes = None;
     let Line::Call(process, command) = line else {
         return Ok(());
     };
@@ -27,31 +24,33 @@ fn push_reply<S: Store>(
         number: 0,
     };
     let reply = store.apply(command, caller)?;
-    let told = format!(in alloc; "{reply}\n")?;
-    Ok(text.push_str(told.as_str())?)
+    writeln!(text, "{reply}")
 }
 
 /// What a store replies to calls, a line each.
-fn replies_to<S: Store>(alloc: Global, store: &mut S, lines: &[Line]) -> Result<String, Fail> {
+fn replies_to<S: Store>(
+    alloc: Global,
+    store: &mut S,
+    lines: &[Line],
+) -> Result<String, AllocError> {
     let _nested: NestedTypes = None;
     let mut text = String::new(alloc);
     for line in lines {
-        push_reply(alloc, &mut text, store, line)?;
+        push_reply(&mut text, store, line)?;
     }
     Ok(text)
 }
 
-/// What a store replies to the calls.
-fn replies<S: Store>(alloc: Global, store: &mut S) -> Result<String, Fail> {
-    let scenario = read_scenario(alloc, CALLS.as_bytes())?;
-    replies_to(alloc, store, &scenario.lines)
+/// A store replies so to the calls.
+fn replies<S: Store>(rt: &(impl Abort + AllocGlobal), store: &mut S) -> Result<(), Fail> {
+    let scenario = read_scenario(rt.alloc(), CALLS.as_bytes())?;
+    let told = replies_to(rt.alloc(), store, &scenario.lines)?;
+    assert!(rt; told.as_str() == REPLIES, "{told}");
+    Ok(())
 }
 
 #[test]
 fn both_stores_reply_alike(rt: HostRuntime) -> Result<(), Fail> {
-    let plain = replies(rt.alloc(), &mut PlainStore::new(rt.alloc(), 1, 0))?;
-    assert!(rt; plain.as_str() == REPLIES, "{plain}");
-    let image = replies(rt.alloc(), &mut Image::empty(1, 0))?;
-    assert!(rt; image.as_str() == REPLIES, "{image}");
-    Ok(())
+    replies(&rt, &mut PlainStore::new(rt.alloc(), 1, 0))?;
+    replies(&rt, &mut Image::empty(1, 0))
 }

@@ -41,26 +41,33 @@ fn entry(alloc: Global, access: Access) -> Entry {
     Entry { process: 0, act }
 }
 
-/// The number of the first move of which the watch does not say so, whether it keeps the law.
-fn first_otherwise(alloc: Global, heard: &[Heard]) -> Result<Option<usize>, AllocError> {
-    let mut watch = Watch::new(alloc, &Setup::one(2, 2, 2, 1))?;
-    for (number, (place, how, keeps)) in heard.iter().enumerate() {
-        if watch.hear(&entry(alloc, access(*place, *how))) != *keeps {
-            return Ok(Some(number));
-        }
-    }
-    Ok(None)
+/// What is asked of the watch.
+#[derive(Clone, Copy)]
+enum Asked {
+    /// Whether a move keeps the law.
+    Keeps,
+    /// Whether it ends an overlapped read.
+    Overlaps,
 }
 
-/// The number of the first move of which the watch does not say so, whether it ends an overlapped read.
-fn first_other_overlap(alloc: Global, heard: &[Heard]) -> Result<Option<usize>, AllocError> {
+/// The number of the first move of which the watch does not say so.
+fn first_otherwise(
+    alloc: Global,
+    heard: &[Heard],
+    asked: Asked,
+) -> Result<Option<usize>, AllocError> {
     let mut watch = Watch::new(alloc, &Setup::one(2, 2, 2, 1))?;
-    for (number, (place, how, overlaps)) in heard.iter().enumerate() {
+    for (number, (place, how, expected)) in heard.iter().enumerate() {
         let access = access(*place, *how);
-        if watch.overlaps(&access) != *overlaps {
+        let overlaps = watch.overlaps(&access);
+        let keeps = watch.hear(&entry(alloc, access));
+        let said = match asked {
+            Asked::Keeps => keeps,
+            Asked::Overlaps => overlaps,
+        };
+        if said != *expected {
             return Ok(Some(number));
         }
-        watch.hear(&entry(alloc, access));
     }
     Ok(None)
 }
@@ -143,7 +150,7 @@ fn moves_on_a_bit_keep_the_law_or_not(rt: HostRuntime) -> Result<(), Fail> {
         &OUT_OF_TURN,
     ];
     for heard in tables {
-        let other = first_otherwise(rt.alloc(), heard)?;
+        let other = first_otherwise(rt.alloc(), heard, Asked::Keeps)?;
         assert!(rt; other.is_none(), "{other:?}");
     }
     Ok(())
@@ -186,7 +193,7 @@ const OTHER_READS: [Heard; 8] = [
 fn the_end_of_an_overlapped_read_is_told(rt: HostRuntime) -> Result<(), Fail> {
     let tables: [&[Heard]; 2] = [&ENDS_OF_OVERLAPPED, &OTHER_READS];
     for heard in tables {
-        let other = first_other_overlap(rt.alloc(), heard)?;
+        let other = first_otherwise(rt.alloc(), heard, Asked::Overlaps)?;
         assert!(rt; other.is_none(), "{other:?}");
     }
     Ok(())
@@ -216,7 +223,7 @@ const APART: [Heard; 16] = [
 // Each copy of each bit of each register is heard by itself.
 #[test]
 fn bits_are_told_apart(rt: HostRuntime) -> Result<(), Fail> {
-    let other = first_otherwise(rt.alloc(), &APART)?;
+    let other = first_otherwise(rt.alloc(), &APART, Asked::Keeps)?;
     assert!(rt; other.is_none(), "{other:?}");
     Ok(())
 }

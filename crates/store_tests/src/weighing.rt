@@ -1,6 +1,5 @@
 //! Weighing: the lists of two ports, in which each call goes by a name. All calls are of the value `a`.
-ghost use Rattle.std.specs.Prelude.{◌≡◌, ◌≤◌, ◌∷◌, [], length, IfOk};
-ghost use Rattle.call_check.specs.record.CallLists.{lists_of};
+ghost use Rattle.std.specs.Prelude.{◌≤◌};
 
 use call_check::{Placed, Weighed, weigh};
 use plain_store::{Answer, Caller, Command, Name, NestedTypes, Reply, Setup, Store, Value};
@@ -186,27 +185,29 @@ fn list(alloc: Global, calls: &[CallMade]) -> Result<Vec<Placed>, AllocError> {
     Ok(list)
 }
 
-fn lists(
+/// Weighs the lists of two ports of version 1.
+fn weighed(
+    alloc: Global,
+    first: Vec<Placed>,
+    second: Vec<Placed>,
+    image: &Image,
+) -> Result<Weighed, AllocError> {
+    weigh(alloc, &Setup::one(2, 2, 2, 1), &[first, second], image)
+}
+
+fn weighed_row(
     alloc: Global,
     first: &[CallMade],
     second: &[CallMade],
-) -> Result<Vec<Vec<Placed>>, AllocError> {
-    let _nested: NestedTypes = None;
-    let mut lists = Vec::new(alloc);
-    lists.push(list(alloc, first)?)?;
-    lists.push(list(alloc, second)?)?;
-    Ok(lists)
-}
-
-/// Weighs the lists of two ports of version 1.
-fn weighed(alloc: Global, lists: &[Vec<Placed>], image: &Image) -> Result<Weighed, AllocError> {
-    weigh(alloc, &Setup::one(2, 2, 2, 1), lists, image)
+    image: &Image,
+) -> Result<Weighed, AllocError> {
+    weighed(alloc, list(alloc, first)?, list(alloc, second)?, image)
 }
 
 fn weighs(rt: &(impl Abort + AllocGlobal), table: &[Row], image: &Image) -> Result<(), Fail> {
     for (row, (first, second, verdict)) in table.iter().enumerate() {
-        let both = lists(rt.alloc(), first, second)?;
-        assert!(rt; weighed(rt.alloc(), &both, image)? == *verdict, "row {row}");
+        let found = weighed_row(rt.alloc(), first, second, image)?;
+        assert!(rt; found == *verdict, "row {row}");
     }
     Ok(())
 }
@@ -254,15 +255,15 @@ fn weighed_with(
     index: usize,
     change: &Change,
 ) -> Result<Weighed, AllocError> {
-    let (first, second) = if port == 0 {
+    let (in_first, in_second) = if port == 0 {
         (index, usize::MAX)
     } else {
         (usize::MAX, index)
     };
-    let mut both = Vec::new(alloc);
-    both.push(changed(alloc, FIRST, first, change)?)?;
-    both.push(changed(alloc, SECOND, second, change)?)?;
-    weighed(alloc, &both, &image(7, 0)?)
+    let image = image(7, 0)?;
+    let first = changed(alloc, FIRST, in_first, change)?;
+    let second = changed(alloc, SECOND, in_second, change)?;
+    weighed(alloc, first, second, &image)
 }
 
 /// Calls of the true run by port and index, each with another place, and what is then weighed.
@@ -344,28 +345,6 @@ fn weighs_cut_calls(rt: HostRuntime) -> Result<(), Fail> {
     Ok(())
 }
 
-/// The lists of a port with these calls and of one without.
-fn of_one_port(alloc: Global, calls: &[Placed]) -> Result<Vec<Vec<Placed>>, AllocError>
-    ensures { IfOk result (λ lists. lists_of lists.items ≡ calls.now ∷ [] ∷ []) }
-{
-    let _nested: NestedTypes = None;
-    let mut lists = Vec::new(alloc);
-    lists.push(Vec::from_slice(alloc, calls)?)?;
-    lists.push(Vec::new(alloc))?;
-    Ok(lists)
-}
-
-/// Weighs these lists of version 2.
-fn weighed_in_two(alloc: Global, calls: &[Placed], image: &Image) -> Result<Weighed, AllocError>
-    requires { length calls.now ≤ 65535 }
-{
-    let setup = Setup {
-        version: 2,
-        ..Setup::one(2, 2, 2, 1)
-    };
-    weigh(alloc, &setup, &of_one_port(alloc, calls)?, image)
-}
-
 /// The list of a port, and what it weighs against the image after the write, in which its number is 1.
 const IN_TWO: [(&[CallMade], Weighed); 3] = [
     (&[Write, AskOne], Weighed::Good),
@@ -374,23 +353,28 @@ const IN_TWO: [(&[CallMade], Weighed); 3] = [
     (&[LostAsk, Write, AskTwo], Weighed::BadEnd),
 ];
 
-/// Weighs a list of version 2 that is short.
-fn weighed_short(alloc: Global, calls: &[CallMade], image: &Image) -> Result<Weighed, AllocError> {
+/// Weighs in version 2 the list of a port, which is short, and an empty one.
+fn weighed_in_two(alloc: Global, calls: &[CallMade], image: &Image) -> Result<Weighed, AllocError> {
+    let setup = Setup {
+        version: 2,
+        ..Setup::one(2, 2, 2, 1)
+    };
     let list = list(alloc, calls)?;
     if list.len() > 65_535 {
         return Ok(Weighed::BadEnd);
     }
-    weighed_in_two(alloc, list.as_slice(), image)
+    weigh(alloc, &setup, &[list, Vec::new(alloc)], image)
 }
 
 // The asker is told the number of its write.
 #[test]
 fn weighs_version_two(rt: HostRuntime) -> Result<(), Fail> {
+    let written = image(5, 2)?;
     for (calls, verdict) in IN_TWO {
-        let found = weighed_short(rt.alloc(), calls, &image(5, 2)?)?;
+        let found = weighed_in_two(rt.alloc(), calls, &written)?;
         assert!(rt; found == verdict, "{verdict}");
     }
-    let found = weighed_short(rt.alloc(), &[Write, AskOne], &Image::empty(1, 2))?;
-    assert!(rt; found == Weighed::BadEnd);
+    let found = weighed_in_two(rt.alloc(), &[Write, AskOne], &Image::empty(1, 2))?;
+    assert!(rt; matches!(found, Weighed::BadEnd));
     Ok(())
 }

@@ -15,7 +15,7 @@ ghost use Rattle.world.specs.Events.{KeepsTheHeadline, stage_in};
 ghost use Rattle.world.specs.Shows.{Shows};
 
 use anyhow::{Result, bail};
-use board::{Board, Driven, Port};
+use board::{Board, Driven, Image, Port};
 use plain_store::{Command, Name, Setup, Value, show_line};
 use record::Field;
 use safe_bit::Move;
@@ -24,7 +24,6 @@ use std::thread::{self, Threads};
 use world::{Act, Event, Flicks, Stage, World};
 
 /// Both parts begin with two processes and the counter `a` at 5.
-#[tactic(auto, using(board::proofs::Orders::all_are_made, board::proofs::Orders::first_are_made))]
 fn main(rt: HostRuntime) -> Result<()> {
     let counter = Name::new(b"a")?;
     let mut setup = Setup::one(2, 2, 2, 1);
@@ -32,14 +31,7 @@ fn main(rt: HostRuntime) -> Result<()> {
     setup.opening.add(counter, Value::Count(5))?;
     setup.check()?;
     by_hand(&rt, &setup, counter)?;
-    let (board, mut ports) = Board::new(rt.alloc(), &setup)?;
-    let calls = [Command::Add(counter, 1), Command::Add(counter, 10)];
-    call_all(&rt, &board, &mut ports, &calls);
-    let Ok(closing) = board.close(ports) else {
-        bail!("a call is not answered");
-    };
-    print!(rt; "{}", show_line(rt.alloc(), &closing.image)?)?;
-    Ok(())
+    on_threads(&rt, &setup, counter)
 }
 
 /// Process 0 fails within its change, and looks up what became of it.
@@ -47,27 +39,29 @@ fn by_hand(rt: &HostRuntime, setup: &Setup, counter: Name) -> Result<()>
     requires { checked setup.now ≡ Ok tt }
 {
     let mut world = World::new(rt.alloc(), setup)?;
-    make(rt, &mut world, Event::Call(0, Command::Add(counter, 1)))?;
-    fail_at_commit(rt, &mut world, counter)?;
-    look_up(rt, &mut world)?;
-    if let Some(store) = world.newest() {
-        print!(rt; "{}", show_line(rt.alloc(), &store)?)?;
+    fail_and_look_up(rt, &mut world, counter)?;
+    match world.newest() {
+        Some(store) => show(rt, &store),
+        None => Ok(()),
     }
+}
+
+/// Prints a store.
+fn show<T: Print + AllocGlobal>(rt: &T, store: &Image) -> Result<()> {
+    print!(rt; "{}", show_line(rt.alloc(), store)?)?;
     Ok(())
 }
 
-/// Process 1 calls too, and process 0 fails within the write of its commit bit. Its memory unit settles that at 1, so the change is taken, as `ask` tells.
-fn fail_at_commit<T: Print>(rt: &T, world: &mut World, counter: Name) -> Result<()> {
+/// Both processes call, and process 0 fails within the write of its commit bit. Its memory unit settles that at 1, so the change
+/// is taken, as `ask` tells once process 0 is back.
+fn fail_and_look_up<T: Print>(rt: &T, world: &mut World, counter: Name) -> Result<()> {
+    make(rt, world, Event::Call(0, Command::Add(counter, 1)))?;
     make(rt, world, Event::Call(1, Command::Add(counter, 10)))?;
     go(rt, world, 0, false, Stage::Inside)?;
     begin_commit(rt, world, 0)?;
     make(rt, world, Event::Fail(0))?;
     go(rt, world, 0, true, Stage::Down)?;
-    go(rt, world, 1, false, Stage::Idle)
-}
-
-/// Process 0 is back, and asks for its last change.
-fn look_up<T: Print>(rt: &T, world: &mut World) -> Result<()> {
+    go(rt, world, 1, false, Stage::Idle)?;
     make(rt, world, Event::Restart(0))?;
     make(rt, world, Event::Call(0, Command::Ask))?;
     go(rt, world, 0, false, Stage::Idle)
@@ -111,6 +105,24 @@ fn begin_commit<T: Print>(rt: &T, world: &mut World, process: u8) -> Result<()> 
         }
     }
     bail!("process {process} does not come to its commit bit")
+}
+
+/// The same two calls of ports of a board.
+#[tactic(auto, using(board::proofs::Orders::all_are_made, board::proofs::Orders::first_are_made))]
+fn on_threads<T: Print + AllocGlobal + Threads + Wait + Sync>(
+    rt: &T,
+    setup: &Setup,
+    counter: Name,
+) -> Result<()>
+    requires { checked setup.now ≡ Ok tt }
+{
+    let (board, mut ports) = Board::new(rt.alloc(), setup)?;
+    let calls = [Command::Add(counter, 1), Command::Add(counter, 10)];
+    call_all(rt, &board, &mut ports, &calls);
+    match board.close(ports) {
+        Ok(closing) => show(rt, &closing.image),
+        Err(_open) => bail!("a call is not answered"),
+    }
 }
 
 /// Each port makes its call, on a thread of its own.

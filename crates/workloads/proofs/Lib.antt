@@ -1,1 +1,2 @@
+pub mod PortsOf
 pub mod Short

@@ -2,7 +2,7 @@
 use anyhow::Result;
 use call_check::Image;
 use plain_store::{Caller, Command, Name, NestedTypes, Reply, Store, Value};
-use std::alloc::{AllocError, Global};
+use std::alloc::AllocError;
 use std::rt::Clock;
 use std::time::Instant;
 
@@ -11,9 +11,9 @@ const NAMES: [&str; 8] = [
 ];
 
 /// Makes so many rounds of 8 adds, and prints what they left.
-pub fn times<T: Print + Eprint + Clock + AllocGlobal>(rt: &T, rounds: u32) -> Result<()> {
+pub fn times<T: Print + Eprint + Clock>(rt: &T, rounds: u32) -> Result<()> {
     let mut image = Image::empty(8, 16);
-    let adds = fill(rt.alloc(), &mut image)?;
+    let adds = fill(&mut image)?;
     let start = Instant::now(rt)?;
     let sum = rounds_of_adds(&mut image, &adds, rounds)?;
     let passed = start.elapsed(rt)?;
@@ -23,17 +23,17 @@ pub fn times<T: Print + Eprint + Clock + AllocGlobal>(rt: &T, rounds: u32) -> Re
 }
 
 /// Writes 0 to 8 counters. The commands that add 1 to each.
-fn fill(alloc: Global, image: &mut Image) -> Result<Vec<Command>> {
+fn fill(image: &mut Image) -> Result<[Command; 8]> {
     let _nested: NestedTypes = None;
     let caller = Caller {
         process: 0,
         number: 0,
     };
-    let mut adds = Vec::new(alloc);
-    for word in NAMES {
-        let name = Name::new(word.as_bytes())?;
+    let mut adds = [Command::Ask; 8];
+    for place in 0..8 {
+        let name = Name::new(NAMES[place].as_bytes())?;
         image.apply(&Command::Write(name, Value::Count(0)), caller)?;
-        adds.push(Command::Add(name, 1))?;
+        adds[place] = Command::Add(name, 1);
     }
     Ok(adds)
 }

@@ -11,6 +11,7 @@ mod weighing;
 
 use anyhow::{Result, bail};
 use std::env::{self, Env};
+use std::io;
 use std::rt::Clock;
 use std::thread::Threads;
 
@@ -23,8 +24,8 @@ const PARTS: [&str; 5] = ["registers", "image", "board", "weigh", "rounds"];
 /// third word are numbers, which say how much of it there is; of `rounds` the second is a scenario, and the third says how many of
 /// its lines are carried out by turns. What took how long goes to standard error.
 fn main(rt: HostRuntime) -> Result<()> {
-    if let Some(word) = env::args(&rt)?.nth(1) {
-        return run(&rt, word.as_str());
+    if let Some(part) = word(&rt, 1)? {
+        return run(&rt, part.as_str());
     }
     for part in PARTS {
         run(&rt, part)?;
@@ -37,18 +38,18 @@ fn run<T: Env + Print + Eprint + Clock + AllocGlobal + Threads + Sync>(
     rt: &T,
     part: &str,
 ) -> Result<()> {
+    let second = number(rt, 3)?;
     if part == "rounds" {
-        let by_turns = number(rt, 3)?.unwrap_or(0);
-        return rounds::play_all(rt, by_turns as usize);
+        return rounds::play_all(rt, second.unwrap_or(0) as usize);
     }
-    let (first, second) = (number(rt, 2)?, number(rt, 3)?);
-    let (some, more) = (first.unwrap_or(1), second.unwrap_or(1));
+    let first = number(rt, 2)?;
+    let some = first.unwrap_or(1);
     if part == "registers" {
         accesses::times(rt, some)
     } else if part == "image" {
         images::times(rt, some)
     } else if part == "board" {
-        boards::times(rt, some, more)
+        boards::times(rt, some, second.unwrap_or(1))
     } else if part == "weigh" {
         weighing::times(rt, first, second)
     } else {
@@ -58,8 +59,13 @@ fn run<T: Env + Print + Eprint + Clock + AllocGlobal + Threads + Sync>(
 
 /// The number that the word at this place says, if there is one.
 fn number<T: Env + AllocGlobal>(rt: &T, at: usize) -> Result<Option<u32>> {
-    match env::args(rt)?.nth(at) {
+    match word(rt, at)? {
         Some(word) => Ok(Some(word.parse()?)),
         None => Ok(None),
     }
+}
+
+/// The word at this place, if there is one.
+fn word<T: Env + AllocGlobal>(rt: &T, at: usize) -> io::Result<Option<String>> {
+    Ok(env::args(rt)?.nth(at))
 }

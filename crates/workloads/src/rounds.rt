@@ -1,10 +1,14 @@
 //! Rounds of boards whose ports are cut by failures, on threads or by turns: what each leaves, to be judged by
 //! `tests/gate/boards.py` and `tests/byhand/soak_boards.py`.
+ghost use Rattle.std.specs.Prelude.{◌≡◌, Ok};
+ghost use Rattle.plain_store.specs.Setups.{checked};
+
+use crate::word;
 use anyhow::{Result, bail};
-use board_runs::{Left, Scenario, played, read_scenario};
-use call_check::{Weighed, weigh};
-use std::alloc::{AllocError, Global};
-use std::env::{self, Env};
+use board_runs::{Left, played, read_scenario};
+use call_check::weigh;
+use plain_store::Setup;
+use std::env::Env;
 use std::thread::Threads;
 
 /// One process alone. Inside it reads its commit bit, 2 bits of a stamp and 200 of an image, and writes 200 bits of an image
@@ -27,41 +31,40 @@ pub fn play_all<T: Env + Print + AllocGlobal + Threads + Sync>(
     rt: &T,
     by_turns: usize,
 ) -> Result<()> {
-    if let Some(scenario) = env::args(rt)?.nth(2) {
+    if let Some(scenario) = word(rt, 2)? {
         return play(rt, scenario.as_str(), by_turns);
     }
     play(rt, ALONE, by_turns)?;
     play(rt, READERS, by_turns)
 }
 
-/// The ports of a board carry out the lines of a scenario. Prints the setup, the ports' lists and the image that the board
-/// leaves; and in version 1 what weighing finds of them.
+/// The ports of a board carry out the lines of a scenario, so many of them by turns.
 fn play<T: Print + AllocGlobal + Threads + Sync>(
     rt: &T,
     file: &str,
     by_turns: usize,
 ) -> Result<()> {
     let scenario = read_scenario(rt.alloc(), file.as_bytes())?;
-    let Some(left) = played(rt, &scenario, by_turns)? else {
-        bail!("a process is at work");
-    };
+    match played(rt, &scenario, by_turns)? {
+        Some(left) => tell(rt, &scenario.setup, &left),
+        None => bail!("a process is at work"),
+    }
+}
+
+/// Prints the setup, the ports' lists and the image that the board leaves; and in version 1 what weighing finds of them.
+fn tell<T: Print + AllocGlobal>(rt: &T, setup: &Setup, left: &Left<'_>) -> Result<()>
+    requires { checked setup.now ≡ Ok tt }
+{
     print!(rt; "{left}")?;
-    if let Some(verdict) = weighed(rt.alloc(), &scenario, &left)? {
+    if setup.version == 1 {
+        let closing = &left.closing;
+        let verdict = weigh(
+            rt.alloc(),
+            setup,
+            closing.answers.as_slice(),
+            &closing.image,
+        )?;
         println!(rt; "{verdict}")?;
     }
     Ok(())
-}
-
-/// What weighing finds of lists of version 1.
-fn weighed(
-    alloc: Global,
-    scenario: &Scenario,
-    left: &Left<'_>,
-) -> Result<Option<Weighed>, AllocError> {
-    if scenario.setup.version != 1 {
-        return Ok(None);
-    }
-    let lists = left.closing.answers.as_slice();
-    let verdict = weigh(alloc, &scenario.setup, lists, &left.closing.image)?;
-    Ok(Some(verdict))
 }

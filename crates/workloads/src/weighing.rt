@@ -8,23 +8,49 @@ mod histories;
 
 use crate::counters::counting;
 use anyhow::{Result, bail};
-use call_check::weigh;
+use call_check::{Image, Weighed, weigh};
 use histories::{Calls, History, called_in_turn};
 use plain_store::Setup;
 use record::Placed;
+use std::io;
 use std::rt::Clock;
 use std::time::Instant;
 
 /// The most calls of a process in version 2.
 const MOST_CALLS: u32 = 65_535;
 
-/// What each history is, its version, what is called, and whether its last call is spoiled.
-const HISTORIES: [(&str, u8, Calls, bool); 5] = [
-    ("adds", 2, Calls::Adds, false),
-    ("reads", 2, Calls::Reads, false),
-    ("adds and reads", 2, Calls::Mixed, false),
-    ("adds of version 1", 1, Calls::Adds, false),
-    ("adds, the last one bad", 2, Calls::Adds, true),
+/// What is weighed.
+const HISTORIES: [History; 5] = [
+    History {
+        name: "adds",
+        version: 2,
+        calls: Calls::Adds,
+        is_spoiled: false,
+    },
+    History {
+        name: "reads",
+        version: 2,
+        calls: Calls::Reads,
+        is_spoiled: false,
+    },
+    History {
+        name: "adds and reads",
+        version: 2,
+        calls: Calls::Mixed,
+        is_spoiled: false,
+    },
+    History {
+        name: "adds of version 1",
+        version: 1,
+        calls: Calls::Adds,
+        is_spoiled: false,
+    },
+    History {
+        name: "adds, the last one bad",
+        version: 2,
+        calls: Calls::Adds,
+        is_spoiled: true,
+    },
 ];
 
 /// Prints the verdict on each history, or on that of one number alone, with so many calls of each of 16 processes, 65,535 if
@@ -36,20 +62,9 @@ pub fn times<T: Print + Eprint + Clock + AllocGlobal>(
 ) -> Result<()> {
     let rounds = calls.unwrap_or(MOST_CALLS);
     let mut number = 0u32;
-    for (name, version, calls, is_spoiled) in HISTORIES {
-        if only.is_none_or(|only| only == number) {
-            let rounds = if version == 1 {
-                rounds.saturating_mul(2)
-            } else {
-                rounds
-            };
-            let history = History {
-                setup: setup_of(version)?,
-                calls,
-                rounds,
-                is_spoiled,
-            };
-            weighed(rt, name, &history)?;
+    for history in &HISTORIES {
+        if only.unwrap_or(number) == number {
+            weighed(rt, history, rounds)?;
         }
         number = number.wrapping_add(1);
     }
@@ -61,34 +76,56 @@ fn setup_of(version: u8) -> Result<Setup>
     ensures { IfOk result (λ setup. checked setup ≡ Ok tt) }
 {
     if version == 2 {
-        return counting(16, 2, 1);
+        counting(16, 2, 1)
+    } else {
+        Ok(Setup::one(8, 2, 2, 1))
     }
-    let setup = Setup::one(8, 2, 2, 1);
-    setup.check()?;
-    Ok(setup)
 }
 
-/// Weighs a history.
+/// Weighs a history of so many calls of each process.
 fn weighed<T: Print + Eprint + Clock + AllocGlobal>(
     rt: &T,
-    name: &str,
     history: &History,
+    rounds: u32,
+) -> Result<()> {
+    let setup = setup_of(history.version)?;
+    let rounds = rounds.saturating_mul(if history.version == 1 { 2 } else { 1 });
+    let (lists, image) = called_in_turn(rt.alloc(), &setup, history, rounds)?;
+    let calls = u32::from(setup.processes).saturating_mul(rounds);
+    timed(rt, &setup, &lists, &image, history.name, calls)
+}
+
+/// Weighs these lists, which have so many calls.
+fn timed<T: Print + Eprint + Clock + AllocGlobal>(
+    rt: &T,
+    setup: &Setup,
+    lists: &[Vec<Placed>],
+    image: &Image,
+    name: &str,
+    calls: u32,
 ) -> Result<()>
-    requires { checked history.now.setup ≡ Ok tt }
+    requires { checked setup.now ≡ Ok tt }
 {
-    let (lists, image) = called_in_turn(rt.alloc(), history)?;
-    if history.setup.version == 2
-        && !(lists.len() <= usize::from(history.setup.processes) && are_short(&lists))
-    {
+    if setup.version == 2 && !(lists.len() <= usize::from(setup.processes) && are_short(lists)) {
         bail!("there are too many calls");
     }
     let start = Instant::now(rt)?;
-    let verdict = weigh(rt.alloc(), &history.setup, &lists, &image)?;
+    let verdict = weigh(rt.alloc(), setup, lists, image)?;
+    tell(rt, name, calls, &verdict, &start)?;
+    Ok(())
+}
+
+/// Tells the verdict on so many calls, whose weighing began then.
+fn tell<T: Print + Eprint + Clock>(
+    rt: &T,
+    name: &str,
+    calls: u32,
+    verdict: &Weighed,
+    start: &Instant,
+) -> io::Result<()> {
     let passed = start.elapsed(rt)?;
     println!(rt; "{name}: {verdict}")?;
-    let calls = u32::from(history.setup.processes).saturating_mul(history.rounds);
-    eprintln!(rt; "{calls} {} {name}", passed.as_nanos())?;
-    Ok(())
+    eprintln!(rt; "{calls} {} {name}", passed.as_nanos())
 }
 
 /// Whether no list has more calls than a process of version 2 may have.

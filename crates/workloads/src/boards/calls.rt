@@ -49,7 +49,10 @@ pub fn calls_alone(
     let mut flicks = Flicks::constant(false);
     for _ in 0..calls {
         if port.begin(board, *command).is_err()
-            || port.drive(board, steps.saturating_sub(1), &mut flicks) != Driven::Turns
+            || !matches!(
+                port.drive(board, steps.saturating_sub(1), &mut flicks),
+                Driven::Turns
+            )
             || !matches!(port.drive(board, 1, &mut flicks), Driven::Answered(_))
         {
             return false;
@@ -80,21 +83,22 @@ fn calls_again(board: &Board, mut port: Port, command: &Command, times: u32) -> 
     steps
 }
 
-/// The same of each of these ports, each on a thread of its own.
+/// The same of each of these ports, each on a thread of its own: how many they are, and the least that one answers.
 pub fn all_call<R: Threads + Sync>(
     rt: &R,
     board: &Board,
     ports: Vec<Port>,
     command: &Command,
     times: u32,
-) -> Result<Vec<u64>, AllocError>
+) -> Result<(usize, u64), AllocError>
     requires { (k : ℕ) (port : PortState) → slice_get ports.items k ≡ Some port → IsOf board.now port }
 {
-    thread::map_vec(
+    let made = thread::map_vec(
         rt,
         ports,
         &|port: Port| -> u64
             requires { IsOf board.now port }
         { calls_again(board, port, command, times) },
-    )
+    )?;
+    Ok((made.len(), made.iter().copied().min().unwrap_or(0)))
 }

@@ -3,9 +3,8 @@ ghost use Rattle.std.specs.Prelude.{◌≡◌, Ok};
 ghost use Rattle.plain_store.specs.Setups.{checked};
 
 use crate::counters::counter;
-use anyhow::Result;
 use call_check::Image;
-use plain_store::{Answer, Caller, Command, Name, NestedTypes, Reply, Setup, Store, Value, opened};
+use plain_store::{Answer, Caller, Command, NestedTypes, Reply, Setup, Store, Value, opened};
 use record::Placed;
 use std::alloc::{AllocError, Global};
 
@@ -20,46 +19,60 @@ pub enum Calls {
     Mixed,
 }
 
-/// What the processes of a setup call in turn, each so many times. The counter opens at 0 in version 2; in version 1 there is
-/// none, and the first call of all writes 1.
-#[derive(Clone, Copy)]
+/// What the processes of a setup call in turn. The counter opens at 0 in version 2; in version 1 there is none, and the first call
+/// of all writes 1.
+#[derive(Drop)]
 pub struct History {
-    pub setup: Setup,
+    pub name: &'static str,
+    pub version: u8,
     pub calls: Calls,
-    pub rounds: u32,
     /// Whether the last call of all has a reply that no store gives.
     pub is_spoiled: bool,
 }
 
-/// The finished calls of each process, and the image after them.
-pub fn called_in_turn(alloc: Global, history: &History) -> Result<(Vec<Vec<Placed>>, Image)>
-    requires { checked history.now.setup ≡ Ok tt }
+/// The finished calls of each process, so many, and the image after them.
+pub fn called_in_turn(
+    alloc: Global,
+    setup: &Setup,
+    history: &History,
+    rounds: u32,
+) -> Result<(Vec<Vec<Placed>>, Image), AllocError>
+    requires { checked setup.now ≡ Ok tt }
 {
-    let _nested: NestedTypes = None;
-    let setup = &history.setup;
-    let counter = counter()?;
     let mut image = opened(Image::empty(setup.slots, setup.callers()), setup)?;
-    let mut lists = empty_lists(alloc, setup.processes, history.rounds)?;
-    let mut changes = 0;
-    let mut number = 0u16;
-    for round in 0..history.rounds {
-        number = number.wrapping_add(1);
-        let mut process = 0u8;
-        for list in lists.iter_mut() {
-            let command = if setup.version == 1 && changes == 0 {
-                Command::Write(counter, Value::Count(1))
-            } else {
-                command_in(history.calls, counter, round)
-            };
-            let caller = Caller { process, number };
-            process = process.wrapping_add(1);
-            list.push(finished(&mut image, command, caller, &mut changes)?)?;
-        }
-    }
+    let mut lists = empty_lists(alloc, setup.processes, rounds)?;
+    call_all(history, rounds, &mut image, &mut lists)?;
     if history.is_spoiled {
         spoil(&mut lists);
     }
     Ok((lists, image))
+}
+
+/// Makes the calls.
+fn call_all(
+    history: &History,
+    rounds: u32,
+    image: &mut Image,
+    lists: &mut Vec<Vec<Placed>>,
+) -> Result<(), AllocError> {
+    let _nested: NestedTypes = None;
+    let mut changes = 0;
+    let mut number = 0u16;
+    for round in 0..rounds {
+        number = number.wrapping_add(1);
+        let mut process = 0u8;
+        for list in lists.iter_mut() {
+            let command = if history.version == 1 && changes == 0 {
+                Command::Write(counter(), Value::Count(1))
+            } else {
+                command_in(history.calls, round)
+            };
+            let caller = Caller { process, number };
+            process = process.wrapping_add(1);
+            list.push(finished(image, command, caller, &mut changes)?)?;
+        }
+    }
+    Ok(())
 }
 
 /// A list for each process, with room for so many calls.
@@ -73,11 +86,11 @@ fn empty_lists(alloc: Global, processes: u8, calls: u32) -> Result<Vec<Vec<Place
 }
 
 /// What is called in a round.
-fn command_in(calls: Calls, counter: Name, round: u32) -> Command {
+fn command_in(calls: Calls, round: u32) -> Command {
     match calls {
-        Calls::Adds => Command::Add(counter, 1),
-        Calls::Mixed if round % 2 == 0 => Command::Add(counter, 1),
-        _ => Command::Read(counter),
+        Calls::Adds => Command::Add(counter(), 1),
+        Calls::Mixed if round % 2 == 0 => Command::Add(counter(), 1),
+        _ => Command::Read(counter()),
     }
 }
 

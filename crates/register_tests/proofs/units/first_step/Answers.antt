@@ -6,7 +6,7 @@ use Rattle.bakery.specs.Memory.{CanAccess}
 use Rattle.bakery.specs.process.Alone.{settling_with}
 use Rattle.bakery.specs.process.Places.{ProcessState, process_after}
 use Rattle.bakery.specs.process.Serving.{next_at}
-use Rattle.register_tests.proofs.units.clears_the_registers.Goals as goal
+use Rattle.register_tests.proofs.units.first_step.Goals as goal
 
 -- the first access of a unit that has nothing to settle may be made on new locks
 abbrev Clears : Data → Setup → Type 0
@@ -15,8 +15,8 @@ Clears versions s = CanAccess (lock_of (new_locks s) 0) versions (next_at (settl
 clears : (versions : Data) → Clears versions (record { version = 1; processes = 1; ticket_bits = 1; stamp_bits = 2; slots = 1; opening = [] })
 clears versions = record { there = record { reader_in = omega arith; bit_in = omega arith }; turn = refl }
 
-pub step-told-requires-clause-can : goal.step-told-requires-clause-can
-step-told-requires-clause-can g c =
+pub step-requires-clause-can : goal.step-requires-clause-can
+step-requires-clause-can c =
     let versions : Data = c.own-2.result.now in
     let lock = c.own.ensures.lock ∙ ap (λ (locks : List LockRows). lock_of locks 0) c.in_ok-locks.ensures in
     subst (λ (l : LockRows). CanAccess l versions (next_at c.start-unit.result true)) (sym lock)

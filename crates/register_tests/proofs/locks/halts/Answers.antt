@@ -5,7 +5,7 @@ use Rattle.record.specs.Places.{value_of}
 use Rattle.bakery.specs.Doors.{IsInTurn, MayDrop}
 use Rattle.bakery.specs.Locks.{LockRows, new_locks}
 use Rattle.bakery.specs.process.Places.{ProcessState, called, process_after, stepped}
-use Rattle.register_tests.proofs.locks.door_on_registers.Goals as goal
+use Rattle.register_tests.proofs.locks.halts.Goals as goal
 
 -- a door of process 0 that has started
 abbrev started : Setup → ProcessState
@@ -26,13 +26,13 @@ halts : (locks : List LockRows) (v : Bool) → Halts locks v (record { version =
 halts locks v = tt
 
 pub step-told-requires-clause-turn : goal.step-told-requires-clause-turn
-step-told-requires-clause-turn o c =
+step-told-requires-clause-turn c =
     let starts = c.start.ensures.door ∙ ap (λ (d : ProcessState). called d Ask 0) c.in_ok-door.ensures.door in
     subst (λ (d : ProcessState). IsInTurn d c.in_ok-locks.locks true) (sym starts)
     (subst (λ (locks : List LockRows). IsInTurn (started c.one-setup.result) locks true) (sym c.in_ok-locks.ensures) (subst Opens (sym c.one-setup.ensures) opens))
 
 pub fail-requires-clause-there : goal.fail-requires-clause-there
-fail-requires-clause-there g c =
+fail-requires-clause-there c =
     let starts = c.start.ensures.door ∙ ap (λ (d : ProcessState). called d Ask 0) c.in_ok-door.ensures.door in
     let locks = c.step-told.new.locks in
     let value = value_of c.step-told.result.0.how in
@@ -40,7 +40,7 @@ fail-requires-clause-there g c =
     (subst (Halts locks value) (sym c.one-setup.ensures) (halts locks value))
 
 pub next-requires : goal.next-requires
-next-requires g c =
+next-requires c =
     let starts = c.start.ensures.door ∙ ap (λ (d : ProcessState). called d Ask 0) c.in_ok-door.ensures.door in
     let value = value_of c.step-told.result.0.how in
     omega (arith, c.in-Some.ensures.known.1, ap (λ (d : ProcessState). d.setup.processes) (c.step-told.ensures.door ∙ ap (λ (d : ProcessState). stepped d true value) starts), ap (λ (s : Setup). s.processes) c.one-setup.ensures)

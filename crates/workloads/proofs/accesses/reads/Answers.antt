@@ -1,9 +1,0 @@
-use Rattle.std.proofs.Common.{false}
-use Rattle.register_drive.proofs.Steps.{new_written, new_idle}
-use Rattle.workloads.proofs.accesses.reads.Goals as goal
-
-pub write_all-requires-clause-written : goal.write_all-requires-clause-written
-write_all-requires-clause-written g c = (λ _. false, new_written 1728 16 _ c.in_ok-register.ensures.register)
-
-pub write_all-requires-clause-idle : goal.write_all-requires-clause-idle
-write_all-requires-clause-idle g c = new_idle 1728 16 _ 0 c.in_ok-register.ensures.register
