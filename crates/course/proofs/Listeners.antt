@@ -93,6 +93,19 @@ told_audited s before this made answer taken old new is h heard audits = by this
     by (Tires p) tells given = absurd tells
     by Looks tells given = absurd tells
 
+-- and nothing is added to the past by what is no entry
+pub other_audited : (s : Setup) (before : List Happening) (this : Happening) (answer : Told) (taken : List Taken) (old : Audit) → ((made : Accepted) → answer ≡ told.Accepted made → ⊥) → Happens s before this answer taken → Audits s (past_after s before) old → Audits s (past_after s (this ∷ before)) old
+other_audited s before this answer taken old other h audits = by this answer other h.tells
+  where
+    by : (this : Happening) (answer : Told) → ((made : Accepted) → answer ≡ told.Accepted made → ⊥) → TellsOf s (past_after s before) this answer → Audits s (past_after s (this ∷ before)) old
+    by (Tries event) (told.Accepted made) other tells = absurd (other made refl)
+    by (Tries event) (told.Refused p refusal) other tells = subst (λ past. Audits s past old) (sym (past_kept s (tried before) event refusal tells.1)) audits
+    by (Tries event) (told.Tired p) other tells = absurd tells
+    by (Tries event) (told.Shown store) other tells = absurd tells
+    by (Lacks p) answer other tells = audits
+    by (Tires p) answer other tells = audits
+    by Looks answer other tells = audits
+
 -- and so is a Step without a mark
 pub stepped_audited : (s : Setup) (before : List Happening) (made : Stepped) (old new : Audit) → StepsOn s before made →
     ((s : Setup) (past : Past) → KeepsAll s past (record { process = made.process; access = Some made.access; marks = [] }) → Audits s past old → Audits s (record { process = made.process; access = Some made.access; marks = [] } ∷ past) new) →

@@ -1,4 +1,5 @@
 -- A line that is being played: what was heard of it, and what is left.
+use Rattle.std.specs.Prelude.{OnOk}
 use Rattle.std.proofs.Common.{◌≡◌, ℕ, Bool, ◌<◌, ◌≤◌, List, [], ◌∷◌, ◌++◌, map, Option, None, Some, Result, Ok, Err, IfErr, IfOk, IsErrAnd, refl, ap, sym, subst, ◌∙◌, arith}
 use Rattle.plain_store.specs.declared.setups.Setup.{Setup}
 use Rattle.plain_store.specs.Setups.{checked}
@@ -202,6 +203,15 @@ wanted_by (Err e) n m less = tt
 pub on_fault : {A : Type 0} (r : Result A Fault) (e : Fault) (P : Fault → Type 0) → IsErrAnd r (λ x. x ≡ e) → P e → IfErr r P
 on_fault (Ok a) e P is p = tt
 on_fault (Err x) e P is p = subst P (sym is) p
+
+-- and there it owes nothing that is said of a value
+pub no_value : {A : Type 0} (r : Result A Fault) (e : Fault) (P : A → Type 0) → IsErrAnd r (λ x. x ≡ e) → IfOk r P
+no_value (Ok a) e P is = absurd is
+no_value (Err x) e P is = tt
+
+pub not_ok : {A : Type 0} (r : Result A Fault) (e : Fault) (P : Type 0) → IsErrAnd r (λ x. x ≡ e) → OnOk r P
+not_ok (Ok a) e P is = absurd is
+not_ok (Err x) e P is = tt
 
 -- a Step that tells nothing is heard
 pub untold : {L : Type 0} (Hears : L → Setup → List Happening → List Happening → L → Type 0) (old : WorldState) (p : ℕ) (flick : Bool) (told : Option Told) (new : WorldState) (was is : L) → told ≡ None → HearsStep Hears old p flick new was is → MakesStep Hears old p flick told new was is

@@ -1,5 +1,5 @@
 -- A failure finds a torn bit, which the unit settles, or none.
-use Rattle.std.proofs.Common.{◌≡◌, ℕ, ◌+◌, ◌*◌, ◌==◌, ◌&&◌, ◌||◌, Bool, true, false, cond, not, List, [], ◌∷◌, get_or, length, Option, None, Some, option_map, refl, sym, ap, ◌∙◌, arith, inl, inr}
+use Rattle.std.proofs.Common.{◌≡◌, ℕ, ◌+◌, ◌*◌, ◌==◌, ◌&&◌, ◌||◌, Bool, true, false, cond, not, List, [], ◌∷◌, get_or, length, Option, None, Some, option_map, refl, sym, ap, ◌∙◌, subst, arith, ◌<◌, ◌⊎◌, inl, inr}
 use Rattle.std.proofs.lemmas.Bool.{cases_eq, eq-eqb, ne_eqb}
 use Rattle.std.specs.Prelude.{IfSome}
 use Rattle.plain_store.specs.declared.Reply.{Reply}
@@ -9,7 +9,7 @@ use Rattle.record.specs.declared.access.Field.{Field}
 use Rattle.record.specs.declared.access.Field.TheVariants.{Commit, Ticket}
 use Rattle.record.specs.Closings as closing
 use Rattle.record.specs.Closings.{Closing, no_ticket}
-use Rattle.record.specs.Cuts.{Change, named, pending_at, torn_in, torn_run}
+use Rattle.record.specs.Cuts.{Change, IsTornOf, named, pending_at, torn_in, torn_run}
 use Rattle.record.specs.Failures.{begun_run, cut, taken_with}
 use Rattle.record.specs.Parts.{is_read, read_at, written_at}
 use Rattle.record.specs.Registers.{width}
@@ -18,13 +18,14 @@ use Rattle.record.proofs.Closing.{ticket_width}
 use Rattle.record.proofs.Ties.{written-width}
 use Rattle.laws.specs.Doings.{Closes, is_inside}
 use Rattle.registers.specs.AtParts.{ReadsAt, WritesAt, run_at, run_by}
-use Rattle.registers.specs.Begins.{is_torn, is_writing, made_of_bit, settling}
+use Rattle.registers.specs.Begins.{is_torn, is_writing, made_of_bit, settling, torn_bit}
 use Rattle.registers.specs.Cursors.{CursorState}
 use Rattle.registers.specs.Rows.{bit_begun, write_kept}
 use Rattle.registers.specs.declared.cursor.NumberRun.TheVariants.{Writes}
 use Rattle.registers.specs.declared.fields.RegisterName.{RegisterName}
 use Rattle.process.specs.declared.work.ProcessWork.{ProcessWork}
 use Rattle.process.specs.declared.work.ProcessWork.TheVariants as work
+use Rattle.process.specs.Alone.{torn_of}
 use Rattle.process.specs.CallParts.{PartState}
 use Rattle.process.specs.Places.{ProcessState, failed}
 use Rattle.process.specs.Working.{IsOfCommit, KeepsPlace, SettlesAt, doing_at, is_torn_at, reply_taken, settling_at, state_at, taken_at, with_doing}
@@ -142,11 +143,55 @@ cut-keeps k (work.Settles i t) cur inside taken keeps torn commit = absurd (cc)
 cut-keeps k (work.Frees i) cur inside taken keeps torn commit = absurd (cc)
 cut-keeps k work.Lowers cur inside taken keeps torn commit = absurd (cc)
 
--- WHERE THERE IS NONE
+-- WHAT A FAILURE WOULD FIND
 
-none-at : (k : PartState) (cur : CursorState) → KeepsPlace k work.Runs cur → is_torn cur ≡ false → torn_run k.call k.part (run_at cur) ≡ None
-none-at k cur keeps torn = by (is_read k.part) keeps.working.at
+torn-in-is : (s : Setup) (p : ℕ) (written : Field × List Bool) (cur : CursorState) → WritesAt s p written cur → torn_in written.0 (write_kept cur) ≡ torn_bit cur
+torn-in-is s p written cur at =
+    torn-write written.0 cur (is_torn cur) at.run refl
+    ∙ ap (λ (r : RegisterName). cond (is_torn cur) (Some (named r.field (cur.bit, torn_now (made_of_bit cur)))) None) (sym at.at)
+
+runs-torn : (k : PartState) (cur : CursorState) → KeepsPlace k work.Runs cur → torn_bit cur ≡ torn_run k.call k.part (run_at cur)
+runs-torn k cur keeps = by (is_read k.part) keeps.working.at
   where
-    by : (b : Bool) → elim b as (λ _. Type 0) [ true ↦ ReadsAt k.call.setup k.call.process (read_at k.call k.part) cur | false ↦ WritesAt k.call.setup k.call.process (written_at k.call k.part) cur ] → torn_run k.call k.part (run_at cur) ≡ None
-    by true at = ap (λ r. torn_run k.call k.part (run_by r cur)) at.run
-    by false at = ap (λ r. torn_run k.call k.part (run_by r cur)) at.run ∙ torn-write (written_at k.call k.part).0 cur false at.run torn
+    by : (b : Bool) → elim b as (λ _. Type 0) [ true ↦ ReadsAt k.call.setup k.call.process (read_at k.call k.part) cur | false ↦ WritesAt k.call.setup k.call.process (written_at k.call k.part) cur ] → torn_bit cur ≡ torn_run k.call k.part (run_at cur)
+    by true at =
+        ap (λ r. cond (is_writing r && (not (cur.copy == 0) || cur.begun)) (Some (named cur.register.field (cur.bit, torn_now (made_of_bit cur)))) None) at.run
+        ∙ sym (ap (λ r. torn_run k.call k.part (run_by r cur)) at.run)
+    by false at = sym (ap (λ r. torn_run k.call k.part (run_by r cur)) at.run ∙ torn-in-is k.call.setup k.call.process (written_at k.call k.part) cur at)
+
+-- it is one of the setup
+torn-known : (s : Setup) (cur : CursorState) → cur.bit < width s cur.register.field → 0 < s.processes → IfSome (torn_bit cur) (IsTornOf s)
+torn-known s cur inside some = by (is_torn cur)
+  where
+    by : (b : Bool) → IfSome (cond b (Some (named cur.register.field (cur.bit, torn_now (made_of_bit cur)))) None) (IsTornOf s)
+    by true = (inside, some)
+    by false = tt
+
+inside-register : (s : Setup) (r : RegisterName) (owner : ℕ) (field : Field) (bit wide : ℕ) → bit < wide → wide ≡ width s field → r ≡ record { owner = owner; field = field } → bit < width s r.field
+inside-register s r owner field bit wide going is at = omega (arith, going, is, ap (λ (r : RegisterName). width s r.field) at)
+
+runs-inside : (k : PartState) (cur : CursorState) → KeepsPlace k work.Runs cur → cur.bit < width k.call.setup cur.register.field
+runs-inside k cur keeps = by (is_read k.part) keeps.working.at
+  where
+    by : (b : Bool) → elim b as (λ _. Type 0) [ true ↦ ReadsAt k.call.setup k.call.process (read_at k.call k.part) cur | false ↦ WritesAt k.call.setup k.call.process (written_at k.call k.part) cur ] → cur.bit < width k.call.setup cur.register.field
+    by true at = inside-register k.call.setup cur.register (read_at k.call k.part).0 (read_at k.call k.part).1 cur.bit cur.width at.going at.wide at.at
+    by false at = inside-register k.call.setup cur.register k.call.process (written_at k.call k.part).0 cur.bit cur.width at.going at.wide at.at
+
+-- at work that may tear a bit
+abbrev TornIs : PartState → ProcessWork → CursorState → Type 0
+TornIs k w cur = (torn_bit cur ≡ torn_of k.call.setup k.call.process (doing_at k w cur)) × IfSome (torn_bit cur) (IsTornOf k.call.setup)
+
+torn-works : (k : PartState) (w : ProcessWork) (cur : CursorState) → (w ≡ work.Runs) ⊎ (w ≡ work.Withdraws) → KeepsPlace k w cur → TornIs k w cur
+torn-works k w cur (inl runs) keeps =
+    let now = subst (λ w. KeepsPlace k w cur) runs keeps in
+    subst (λ w. TornIs k w cur) (sym runs) (runs-torn k cur now, torn-known k.call.setup cur (runs-inside k cur now) (omega (arith, now.call.process)))
+torn-works k w cur (inr withdraws) keeps =
+    let now = subst (λ w. KeepsPlace k w cur) withdraws keeps in
+    let at = now.working in
+    subst (λ w. TornIs k w cur) (sym withdraws) (
+      sym (torn-in-is k.call.setup k.call.process (Ticket, no_ticket k.call) cur at),
+      torn-known k.call.setup cur (inside-register k.call.setup cur.register k.call.process Ticket cur.bit cur.width at.going at.wide at.at) (omega (arith, now.call.process)),
+    )
+
+pub torn-shown : (k : PartState) (w : ProcessWork) (cur : CursorState) (now : ProcessState) → KeepsPlace k w cur → state_at k w cur ≡ now → (w ≡ work.Runs) ⊎ (w ≡ work.Withdraws) → (torn_bit cur ≡ torn_of now.setup now.process now.doing) × IfSome (torn_bit cur) (IsTornOf now.setup)
+torn-shown k w cur now keeps shown may = subst (λ (x : ProcessState). (torn_bit cur ≡ torn_of x.setup x.process x.doing) × IfSome (torn_bit cur) (IsTornOf x.setup)) shown (torn-works k w cur may keeps)

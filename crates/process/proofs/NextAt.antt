@@ -1,5 +1,6 @@
 -- The next access of a process is that of its cursor.
-use Rattle.std.proofs.Common.{◌≡◌, ◌+◌, Bool, true, false, List, [], ◌∷◌, Option, sym, ap, ◌∙◌, subst, arith}
+use Rattle.std.proofs.Common.{◌≡◌, ◌+◌, Bool, true, false, List, [], ◌∷◌, Option, None, Some, ℕ, sym, ap, ◌∙◌, subst, arith, ◌⊎◌, inl, inr}
+use Rattle.std.specs.Prelude.{IfSome}
 use Rattle.plain_store.specs.declared.Reply.{Reply}
 use Rattle.record.specs.declared.access.Access.{Access}
 use Rattle.record.specs.declared.access.Field.TheVariants.{Choosing, Ticket}
@@ -14,9 +15,9 @@ use Rattle.registers.proofs.CursorRuns.{moves}
 use Rattle.process.specs.declared.work.ProcessWork.{ProcessWork}
 use Rattle.process.specs.declared.work.ProcessWork.TheVariants as work
 use Rattle.process.specs.CallParts.{PartState}
-use Rattle.process.specs.Places.{ProcessState, marks_on, may_step, stepped}
+use Rattle.process.specs.Places.{ProcessState, changes_at, changes_read, marks_on, may_step, stepped}
 use Rattle.process.specs.Serving.{next_at}
-use Rattle.process.specs.Working.{AreMarksOn, IsStepped, HasMoved, KeepsPlace, SettlesAt, doing_at, given, reply_taken, settling_at, state_at, with_doing}
+use Rattle.process.specs.Working.{AreMarksOn, IsMoved, IsStepped, HasMoved, KeepsPlace, SettlesAt, doing_at, given, reply_taken, settling_at, state_at, with_doing}
 
 settling-next : (k : PartState) (inside flick : Bool) (taken : Option (Bool × Reply)) (cur : CursorState) → SettlesAt k.call.setup k.call.process taken cur →
     next_access cur flick ≡ next_at (state_at k (work.Settles inside taken) cur) flick
@@ -34,6 +35,14 @@ next-is k (work.Settles inside taken) cur flick keeps goes = settling-next k ins
 next-is k (work.Frees inside) cur flick keeps goes = let e = ends k.call.setup k.call.process (Ticket, no_ticket k.call) cur false keeps.working in sym e.access
 next-is k work.Lowers cur flick keeps goes = let e = ends k.call.setup k.call.process (Choosing, false ∷ []) cur false keeps.working in sym e.access
 
+-- neither does one that goes rest, nor lie
+idle-goes : (k : PartState) (w : ProcessWork) (cur : CursorState) → may_step (doing_at k w cur) ≡ true → (w ≡ work.Rests) ⊎ (w ≡ work.Lies) → ⊥
+idle-goes k w cur goes (inl rests) = let none : false ≡ true = sym (ap (λ w. may_step (doing_at k w cur)) rests) ∙ goes in absurd (cc)
+idle-goes k w cur goes (inr lies) = let none : false ≡ true = sym (ap (λ w. may_step (doing_at k w cur)) lies) ∙ goes in absurd (cc)
+
+pub shown-idle : (k : PartState) (w : ProcessWork) (cur : CursorState) (now : ProcessState) → state_at k w cur ≡ now → may_step now.doing ≡ true → (w ≡ work.Rests) ⊎ (w ≡ work.Lies) → ⊥
+shown-idle k w cur now shows goes = idle-goes k w cur (ap (λ (s : ProcessState). may_step s.doing) shows ∙ goes)
+
 -- the cursor has made it, at work that is this
 has-moved : {k : PartState} {was : ProcessWork} {g fresh : Bool} {a : Access} {before cur : CursorState} (w : ProcessWork) (flick value : Bool) → KeepsPlace k was before → was ≡ w → g ≡ given was flick value → a ≡ next_access before g → cur ≡ cursor_after before a.how → fresh ≡ is_fresh before →
     HasMoved k w flick value before cur fresh
@@ -42,6 +51,10 @@ has-moved {k} {was} {g} {fresh} {a} {before} {cur} w flick value keeps same give
   moves = goes ∙ ap (λ (b : Access). cursor_after before b.how) (is ∙ ap (next_access before) (gives ∙ ap (λ w. given w flick value) same));
   first = first;
 }
+
+pub is-moved : {k : PartState} {was : ProcessWork} {g fresh : Bool} {a : Access} {before cur : CursorState} (w : ProcessWork) (flick value : Bool) → KeepsPlace k was before → was ≡ w → g ≡ given was flick value → a ≡ next_access before g → cur ≡ cursor_after before a.how → fresh ≡ is_fresh before →
+    IsMoved k w cur fresh
+is-moved {k} {was} {g} {fresh} {a} {before} {cur} w flick value keeps same gives is goes first = (flick, value, before, has-moved w flick value keeps same gives is goes first)
 
 -- so the process has gone on from what it was
 pub then-stepped : {k : PartState} {was : ProcessWork} {g fresh : Bool} {a : Access} {before cur : CursorState} {now next : ProcessState} (w : ProcessWork) (flick value : Bool) → KeepsPlace k was before → state_at k was before ≡ now → was ≡ w → g ≡ given was flick value → a ≡ next_access before g → cur ≡ cursor_after before a.how → fresh ≡ is_fresh before →
@@ -57,3 +70,12 @@ then-marks {k} {was} {g} {fresh} {a} {before} {cur} {now} {marks} w flick value 
     are flick value before (has-moved w flick value keeps same gives is goes first)
     ∙ ap (λ w. marks_on (state_at k w before) flick value) (sym same)
     ∙ ap (λ (s : ProcessState). marks_on s flick value) shows
+
+-- the changes that it tells of are those that it has read, of a call that runs; otherwise it tells of none
+pub runs-changes : (k : PartState) (was : ProcessWork) (before : CursorState) (now : ProcessState) (told : Option ℕ) → state_at k was before ≡ now → was ≡ work.Runs → IfSome told (λ n. n ≡ changes_at k.part) → IfSome told (λ n. n ≡ changes_read now.doing)
+runs-changes k was before now told shows same are =
+    subst (λ most. IfSome told (λ n. n ≡ most)) (sym (ap (λ w. changes_read (doing_at k w before)) same) ∙ ap (λ (s : ProcessState). changes_read s.doing) shows) are
+
+pub no-changes : (told : Option ℕ) (most : ℕ) → told ≡ None → IfSome told (λ n. n ≡ most)
+no-changes None most none = tt
+no-changes (Some n) most some = absurd (cc)

@@ -6,6 +6,7 @@ use Rattle.plain_store.specs.declared.Reply.{Reply}
 use Rattle.plain_store.specs.declared.Setup.{Setup}
 use Rattle.registers.specs.safe_bit.declared.moves.Move.TheVariants.{BeginWrite, EndWrite, Settle}
 use Rattle.registers.specs.reader_copies.Runs as copies
+use Rattle.record.specs.declared.access.Field.TheVariants.{Ticket}
 use Rattle.record.specs.Closings as closing
 use Rattle.record.specs.Closings.{freeing, is_last_settled, settled_marks}
 use Rattle.laws.specs.Doings.{Closes}
@@ -19,7 +20,7 @@ use Rattle.process.specs.declared.work.ProcessWork.TheVariants as work
 use Rattle.process.specs.CallParts.{PartState}
 use Rattle.process.specs.Places.{ProcessState, marks_on, stepped}
 use Rattle.process.specs.Working.{HasMoved, KeepsPlace, SettlesAt, reply_taken, settling_at, state_at, with_doing}
-use Rattle.process.proofs.ClosingsOn.{then_closes}
+use Rattle.process.proofs.ClosingsOn.{clearing, then_closes}
 
 -- THE CURSOR AFTER ITS NEXT ACCESS, settling at v
 
@@ -119,6 +120,20 @@ settles-on k inside flick value taken before cur fresh h =
     ap (λ r. stepped (with_doing k (Closes k.call.command k.call.number (settling_at r inside (reply_taken taken) before))) flick value) at.run
     ∙ ap (settles_to k inside taken before (settling_kept at.cut at.value before) (unwrap_or at.value flick))
     (last-is k taken before flick at ∙ ap is_over (sym h.moves))
+
+pub settles-within : (k : PartState) (inside flick value : Bool) (taken : Option (Bool × Reply)) (before cur : CursorState) (fresh : Bool) → HasMoved k (work.Settles inside taken) flick value before cur fresh → is_over cur ≡ false →
+    state_at k (work.Settles inside taken) cur ≡ stepped (state_at k (work.Settles inside taken) before) flick value
+settles-within k inside flick value taken before cur fresh h more =
+    let at = h.keeps.working in
+    ap (state_at k (work.Settles inside taken)) h.moves
+    ∙ ap (λ at. with_doing k (Closes k.call.command k.call.number at)) (settling-next k.call.setup k.call.process taken inside before flick at (ap is_over (sym h.moves) ∙ more))
+    ∙ sym (settles-on k inside flick value taken before cur fresh h ∙ ap (settles_to k inside taken before (settling_kept at.cut at.value before) (unwrap_or at.value flick)) more)
+
+pub settles-over : (k : PartState) (inside flick value : Bool) (taken : Option (Bool × Reply)) (before cur : CursorState) (fresh : Bool) → HasMoved k (work.Settles inside taken) flick value before cur fresh → is_over cur ≡ true →
+    state_at k (work.Frees inside) (clearing k Ticket) ≡ stepped (state_at k (work.Settles inside taken) before) flick value
+settles-over k inside flick value taken before cur fresh h over =
+    let at = h.keeps.working in
+    sym (settles-on k inside flick value taken before cur fresh h ∙ ap (settles_to k inside taken before (settling_kept at.cut at.value before) (unwrap_or at.value flick)) over)
 
 pub settles-marks : (k : PartState) (inside flick value : Bool) (taken : Option (Bool × Reply)) (before cur : CursorState) (fresh : Bool) → (h : HasMoved k (work.Settles inside taken) flick value before cur fresh) →
     marks_on (state_at k (work.Settles inside taken) before) flick value

@@ -1,7 +1,10 @@
-use Rattle.std.proofs.Common.{sym}
+use Rattle.std.proofs.Common.{sym, arith}
 use Rattle.process.specs.Seen.{call_of}
 use Rattle.process.proofs.AfterParts.{awaits-some}
 use Rattle.process.proofs.after.await_from.Goals as goal
+
+pub first_other-requires : goal.first_other-requires
+first_other-requires c = omega (arith, c.requires.first, c.requires.call.processes)
 
 pub returns-in-Some-clause-part : goal.returns-in-Some-clause-part
 returns-in-Some-clause-part c = λ seen. awaits-some (call_of c.args.call.now) seen c.args.ticket c.args.first c.in-Some.owner c.requires.first (sym c.in-Some.ensures)

@@ -1,7 +1,19 @@
-use Rattle.std.proofs.Common.{◌≡◌, length, ◌∙◌, ap, arith}
+use Rattle.std.proofs.Common.{◌≡◌, ◌≤◌, ◌==◌, ℕ, Bool, true, false, length, ◌∙◌, ap, arith}
+use Rattle.std.specs.Prelude.{if◌then◌else◌}
+use Rattle.plain_store.proofs.GoodSetups.{few-processes}
 use Rattle.store_image.specs.Reading.{store_in}
 use Rattle.store_image.proofs.ImageBytes.{length-image_of}
 use Rattle.process.proofs.image.image_in.Goals as goal
+
+-- an image has a number for each process, or for none
+few-if : (b : Bool) (n : ℕ) → n ≤ 16 → (if b then 0 else n) ≤ 16
+few-if true n few = omega arith
+few-if false n few = few
+
+pub read-requires : goal.read-requires
+read-requires c =
+    let s = c.args.setup.now in
+    omega (arith, c.callers-callers.ensures, few-if (s.version == 1) s.processes (few-processes s c.requires.good))
 
 pub returns-in-Ok-clause-store : goal.returns-in-Ok-clause-store
 returns-in-Ok-clause-store c =

@@ -4,7 +4,7 @@ use Rattle.record.specs.Entries.{Entry, Past}
 use Rattle.auditor.specs.Verdicts.{KeepsAll}
 use Rattle.course.specs.Judging.{Audits}
 use Rattle.course.specs.Telling.{entry_made}
-use Rattle.course.proofs.Listeners.{told_audited}
+use Rattle.course.proofs.Listeners.{other_audited, told_audited}
 use Rattle.course.proofs.judging.Audit.hear_told.Goals as goal
 
 pub returns-in-Accepted : goal.returns-in-Accepted
@@ -16,3 +16,6 @@ returns-in-Accepted c = λ s before this taken happens audits.
     let same : e ≡ entry_made made = λ i. record { process = c.process.ensures i; access = made.access; marks = (c.as_slice.ensures ∙ c.marks-marks.ensures) i } in
     told_audited s before this made c.args.told.now taken old new c.in-Accepted.is happens
     (subst (λ (e : Entry). (s : Setup) (past : Past) → KeepsAll s past e → Audits s past old → Audits s (e ∷ past) new) same c.hear.ensures) audits
+
+pub returns-in_default : goal.returns-in_default
+returns-in_default c = λ s before this taken happens audits. other_audited s before this c.args.told.now taken c.args.self.now c.in_default.not-Accepted happens audits

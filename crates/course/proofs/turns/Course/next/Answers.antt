@@ -6,7 +6,7 @@ use Rattle.course.specs.Runs.{Run}
 use Rattle.course.specs.Turns.{rest_of}
 use Rattle.course.proofs.Alone.{alone_whole}
 use Rattle.course.proofs.Knowing.{nothing_yet}
-use Rattle.course.proofs.Played.{on_fault, unheard}
+use Rattle.course.proofs.Played.{no_value, on_fault, unheard}
 use Rattle.course.proofs.Runnings.{at_once}
 use Rattle.course.proofs.turns.Course.next.Goals as goal
 
@@ -30,3 +30,12 @@ returns-then-not-makes_steps-clause-room g c = λ more room.
 pub returns-in-Step-clause-ok : goal.returns-in-Step-clause-ok
 returns-in-Step-clause-ok g c =
     alone_whole (HearsUpTo g.L.Listener.Hears g.L.Listener.Knows) c.args.self.now c.run_alone.new.self c.args.line.now c.in-Step.process c.in-Step.field-1 c.args.listener.now c.run_alone.new.listener c.run_alone.result c.in-Step.is c.run_alone.ensures.ended c.run_alone.ensures.ok
+
+pub returns-in_err-make-clause-left : goal.returns-in_err-make-clause-left
+returns-in_err-make-clause-left g c = no_value c.from_residual.result Memory _ c.from_residual.ensures.1
+
+pub returns-in_err-make-clause-ok : goal.returns-in_err-make-clause-ok
+returns-in_err-make-clause-ok g c = no_value c.from_residual.result Memory _ c.from_residual.ensures.1
+
+pub returns-in_err-make-clause-room : goal.returns-in_err-make-clause-room
+returns-in_err-make-clause-room g c = no_value c.from_residual.result Memory _ c.from_residual.ensures.1

@@ -10,7 +10,7 @@ use Rattle.course.specs.Steppers.{IsAlone}
 use Rattle.course.specs.Turns.{rest_of, turns_in}
 use Rattle.course.proofs.Alone.{KnowsAlone, MakesMore, alone_ended, alone_on, alone_passed, alone_stops, alone_told}
 use Rattle.course.proofs.Knowing.{quiet_steps, step_knows, step_needs}
-use Rattle.course.proofs.Played.{on_fault}
+use Rattle.course.proofs.Played.{no_value, on_fault}
 use Rattle.course.proofs.Runnings.{comes_start, comes_stop, comes_then, comes_to}
 use Rattle.course.proofs.turns.Course.run_alone.Goals as goal
 
@@ -125,3 +125,15 @@ returns-clause-ok g c = λ l run follows next.
     let i = c.steps.self-inside in
     alone_ended g.L.Listener.Hears g.L.Listener.Knows c.args.self.now.world.setup l c.args.self.now.left c.args.process c.args.floor run c.args.listener.now c.steps.listener (course i.world i.flicks i.left) (c.steps.invariant.on l run follows next)
     (omega (arith, c.steps-test.false))
+
+pub returns-in_err-step-clause-left : goal.returns-in_err-step-clause-left
+returns-in_err-step-clause-left g c = no_value c.from_residual.result c.in_err-step.field-0.0 _ c.from_residual.ensures.1
+
+pub returns-in_err-step-clause-ended : goal.returns-in_err-step-clause-ended
+returns-in_err-step-clause-ended g c = no_value c.from_residual.result c.in_err-step.field-0.0 _ c.from_residual.ensures.1
+
+pub returns-in_err-step-clause-ok : goal.returns-in_err-step-clause-ok
+returns-in_err-step-clause-ok g c = no_value c.from_residual.result c.in_err-step.field-0.0 _ c.from_residual.ensures.1
+
+pub returns-in_err-step-clause-room : goal.returns-in_err-step-clause-room
+returns-in_err-step-clause-room g c = no_value c.from_residual.result c.in_err-step.field-0.0 _ c.from_residual.ensures.1

@@ -2,15 +2,16 @@ use Rattle.std.proofs.Common.{Some, refl, None, ◌≡◌, ◌==◌, ◌<◌, �
 use Rattle.std.proofs.lemmas.Bool.Decides.{nat_tests}
 use Rattle.scenario.specs.declared.lines.Line.TheVariants.{Wander as WanderLine}
 use Rattle.world.specs.flicks.Flicks.{FlickState, after_flick, after_pick, flick_of, pick_of}
+use Rattle.world.specs.Walks.{left_in}
 use Rattle.course.specs.Counts.{IsCounted}
 use Rattle.course.specs.Courses.{CourseState, Follows, Makes, course}
-use Rattle.course.specs.Listening.{Comes, ComesTo, HearsFrom, HearsStep, HearsUpTo, KnowsEnough, Learns, MakesStep, MaySteps}
+use Rattle.course.specs.Listening.{Comes, ComesTo, HearsFrom, HearsStep, HearsUpTo, KnowsEnough, Learns, MakesStep, MaySteps, room_wanted}
 use Rattle.course.specs.Runs.{Run, movers, past_in}
 use Rattle.course.specs.Turns.{rest_of, turn_of}
 use Rattle.course.proofs.Counted.{counted_put, none_known}
 use Rattle.course.proofs.Knowing.{nothing_yet, pick_steps, step_knows, step_needs}
 use Rattle.course.proofs.Movers.{none_left, some_left}
-use Rattle.course.proofs.Played.{on_fault}
+use Rattle.course.proofs.Played.{no_value, on_fault}
 use Rattle.course.proofs.Runnings.{at_once, comes_as, comes_end, comes_start, comes_stop, comes_then, comes_to}
 use Rattle.course.proofs.Wanders.{ArePicked, KnowsWhile, picked_on, picked_stops, picked_told, wander_ends}
 use Rattle.course.proofs.turns.Course.run_random.Goals as goal
@@ -130,3 +131,56 @@ returns-clause-ok g c = λ steps run follows.
     comes_end (HearsUpTo g.L.Listener.Hears g.L.Listener.Knows None) c.args.self.now.world.setup (WanderLine steps) c.args.self.now.left run c.args.listener.now c.steps.listener (course i.world i.flicks i.left) (ArePicked ps) (omega (arith, c.steps-test.false))
     (comes_as g.L.Listener.Hears g.L.Listener.Knows (KnowsWhile g.L.Listener.Knows i.left) g.L.Listener.Knows c.args.self.now.world.setup (WanderLine steps) c.args.self.now.left run c.args.listener.now c.steps.listener (course i.world i.flicks i.left) (ArePicked ps)
     (λ x known. elim known [ inl known ↦ known | inr more ↦ absurd (omega (arith, more, c.steps-test.false)) ]) (c.steps.invariant.on steps run follows))
+
+pub invariant_of-self : goal.invariant_of-self
+invariant_of-self g c = record { are = c.self.invariant.are; few = c.self.invariant.few }
+
+pub returns-then-is_empty-clause-room : goal.returns-then-is_empty-clause-room
+returns-then-is_empty-clause-room g c = λ more room. g.met.L.Listener.room_less c.args.listener.now (more + 0) (more + c.args.self.now.left) (omega arith) room
+
+pub invariant_of-self-in-steps : goal.invariant_of-self-in-steps
+invariant_of-self-in-steps g c = record { are = c.steps.invariant.kept.are; few = c.steps.invariant.kept.few }
+
+pub overflow_sub-self : goal.overflow_sub-self
+overflow_sub-self g c = c.steps-test.true
+
+pub step-requires-clause-within : goal.step-requires-clause-within
+step-requires-clause-within g c = subst (λ at. slice_index c.steps.within at ≤ left_in c.steps.self-inside.world.seats c.steps.next.0) (sym c.from-at.ensures) (c.steps.invariant.counted c.steps.next.0)
+
+pub step-requires-clause-untold : goal.step-requires-clause-untold
+step-requires-clause-untold g c = c.steps.invariant.untold
+
+pub invariant_of-self-in_err-step : goal.invariant_of-self-in_err-step
+invariant_of-self-in_err-step g c = record { are = c.steps.invariant.kept.are ∙ ap (λ s. s.processes) (sym c.step.ensures.setup); few = c.steps.invariant.kept.few }
+
+pub returns-in_err-step-clause-left : goal.returns-in_err-step-clause-left
+returns-in_err-step-clause-left g c = no_value c.from_residual.result c.in_err-step.field-0.0 _ c.from_residual.ensures.1
+
+pub returns-in_err-step-clause-ok : goal.returns-in_err-step-clause-ok
+returns-in_err-step-clause-ok g c = no_value c.from_residual.result c.in_err-step.field-0.0 _ c.from_residual.ensures.1
+
+pub returns-in_err-step-clause-room : goal.returns-in_err-step-clause-room
+returns-in_err-step-clause-room g c = no_value c.from_residual.result c.in_err-step.field-0.0 _ c.from_residual.ensures.1
+
+pub invariant_of-self-in-Some : goal.invariant_of-self-in-Some
+invariant_of-self-in-Some g c = record { are = c.steps.invariant.kept.are ∙ ap (λ s. s.processes) (sym c.step.ensures.setup); few = c.steps.invariant.kept.few }
+
+pub returns-in-Some-clause-left : goal.returns-in-Some-clause-left
+returns-in-Some-clause-left g c = subst (λ told. room_wanted told (c.steps.self-inside.left - 1) ≤ c.args.self.now.left) (sym c.in-Some.is) (omega (arith, c.steps-test.true, c.steps.invariant.left))
+
+pub returns-in-Some-clause-room : goal.returns-in-Some-clause-room
+returns-in-Some-clause-room g c = λ more room.
+    let laws = g.met.L.Listener in
+    let left : ℕ = c.steps.self-inside.left in
+    let wants = rw c.in-Some.is at c.in_ok-step.ensures.room in
+    subst (λ told. g.L.Listener.HasRoom c.step.new.listener (more + room_wanted told (left - 1))) (sym c.in-Some.is)
+    (laws.room_less c.step.new.listener (more + (left - 1 + 1)) (more + (left - 1) + (0 + 1)) (omega arith) (wants (more + (left - 1)) (laws.room_less c.steps.listener (more + (left - 1) + 1) (more + left) (omega (arith, c.steps-test.true)) (c.steps.invariant.room more room))))
+
+pub steps-smaller : goal.steps-smaller
+steps-smaller g c = omega (arith, c.steps-test.true)
+
+pub returns-clause-left : goal.returns-clause-left
+returns-clause-left g c = c.steps.invariant.left
+
+pub returns-clause-room : goal.returns-clause-room
+returns-clause-room g c = c.steps.invariant.room

@@ -1,7 +1,7 @@
 use Rattle.std.proofs.Common.{◌+◌, ◌∙◌, Some, arith, length, refl, subst, sym}
 use Rattle.course.specs.Happenings.{tried}
 use Rattle.course.specs.Listening.{HearsStep, Learns, LeavesRoom}
-use Rattle.course.proofs.Played.{on_fault, untold}
+use Rattle.course.proofs.Played.{not_ok, on_fault, untold}
 use Rattle.course.proofs.StepsTold.{overlaps_of, step_quiet, step_setup, step_told}
 use Rattle.course.proofs.Within.{some_is, steps_on}
 use Rattle.course.proofs.turns.steps.any_step.Goals as goal
@@ -62,3 +62,12 @@ returns-in_err-step-clause-cut g c =
       step = quiet;
       hears = λ before shows. c.in_err-step.ensures.cut w.setup before (steps_on w s.new.self c.args.process c.args.flick (Some c.number_read.result) before quiet shows (λ n is. some_is c.number_read.result n is ∙ c.number_read.ensures (tried before) shows) (λ none. absurd (cc)) c.in-Some.made.overlapped (overlaps_of w s.result c.in-Some.made made.0 s.ensures.overlapped));
     })
+
+pub returns-in_err-step-clause-ok : goal.returns-in_err-step-clause-ok
+returns-in_err-step-clause-ok g c = not_ok c.from_residual.result c.in_err-step.field-0.0 _ c.from_residual.ensures.1
+
+pub returns-in_err-step-clause-knows : goal.returns-in_err-step-clause-knows
+returns-in_err-step-clause-knows g c = not_ok c.from_residual.result c.in_err-step.field-0.0 _ c.from_residual.ensures.1
+
+pub returns-in_err-step-clause-room : goal.returns-in_err-step-clause-room
+returns-in_err-step-clause-room g c = not_ok c.from_residual.result c.in_err-step.field-0.0 _ c.from_residual.ensures.1

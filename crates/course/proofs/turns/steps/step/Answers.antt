@@ -2,7 +2,7 @@ use Rattle.std.proofs.Common.{◌∙◌, ◌∷◌, arith, refl, sym}
 use Rattle.record.specs.declared.events.Event.TheVariants.{Step}
 use Rattle.course.specs.Happenings.{Tries}
 use Rattle.course.specs.Listening.{HearsStep}
-use Rattle.course.proofs.Played.{on_fault, untold}
+use Rattle.course.proofs.Played.{not_ok, on_fault, untold}
 use Rattle.course.proofs.Within.{byte_is, on_within, pass_one}
 use Rattle.course.proofs.turns.steps.step.Goals as goal
 
@@ -36,3 +36,12 @@ returns-clause-ok g c =
       hears = λ before shows. c.pass.ensures.ok (sym c.hears_steps.ensures ∙ c.if-hears_steps.false) w.setup before (Tries (Step c.args.process c.args.flick) ∷ before) made.result.access refl
           (pass_one w made.new.self c.args.process c.args.flick made.result.access made.result.overlapped c.from.result before made.ensures.quietly shows (omega (arith, c.quiet_known-known.ensures, c.if-known-eq0.false)) (c.from.ensures ∙ byte_is made.result.overlapped));
     })
+
+pub returns-in_err-step-clause-ok : goal.returns-in_err-step-clause-ok
+returns-in_err-step-clause-ok g c = not_ok c.from_residual.result c.in_err-step.field-0.0 _ c.from_residual.ensures.1
+
+pub returns-in_err-step-clause-knows : goal.returns-in_err-step-clause-knows
+returns-in_err-step-clause-knows g c = not_ok c.from_residual.result c.in_err-step.field-0.0 _ c.from_residual.ensures.1
+
+pub returns-in_err-step-clause-room : goal.returns-in_err-step-clause-room
+returns-in_err-step-clause-room g c = not_ok c.from_residual.result c.in_err-step.field-0.0 _ c.from_residual.ensures.1

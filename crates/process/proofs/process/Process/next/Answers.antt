@@ -6,6 +6,7 @@ use Rattle.process.specs.Serving.{next_at}
 use Rattle.process.specs.Working.{doing_at}
 use Rattle.process.proofs.NextAt.{next-is}
 use Rattle.process.proofs.OfRegister.{of-register}
+use Rattle.process.proofs.Serves.{stands}
 use Rattle.process.proofs.process.Process.next.Goals as goal
 
 pub returns-clause-access : goal.returns-clause-access
@@ -21,3 +22,6 @@ returns-clause-register c =
     let q = c.self.inside in
     subst (λ (s : ProcessState). IsOfRegister s.setup s.process s.doing c.next.result) c.self.view_is
     (subst (IsOfRegister q.called.call.setup q.called.call.process (doing_at q.called q.work q.cursor)) (sym c.next.ensures) (of-register q.called q.work q.cursor c.given.result c.self.invariant))
+
+pub next-requires : goal.next-requires
+next-requires c = (stands c.self.inside.called c.self.inside.work c.self.inside.cursor c.self.invariant (ap (λ (s : ProcessState). may_step s.doing) c.self.view_is ∙ c.requires.goes)).going

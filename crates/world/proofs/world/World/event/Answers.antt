@@ -1,7 +1,8 @@
 use Rattle.std.proofs.Common.{rules, ◌≡◌, ◌∙◌, IfOk, ap, length, subst, sym}
 use Rattle.process.specs.Telling.{act_of}
 use Rattle.record.specs.Records.{process_of}
-use Rattle.world.specs.Events.{Adds, KeepsTheHeadline}
+use Rattle.std.specs.Prelude.{IfErr, OnErr, OnOk}
+use Rattle.world.specs.Events.{Adds, GoesOn, IsTurnedAway, KeepsTheHeadline}
 use Rattle.world.specs.Shows.{WorldState}
 use Rattle.world.proofs.world.World.event.Goals.{in-Ok, in-Err}
 use Rattle.world.proofs.world.World.event.Goals as goal
@@ -29,3 +30,27 @@ returns-clause-headline c =
           subst (λ r. IfOk r (λ act. KeepsTheHeadline old p act)) (sym w.result-is) (subst (KeepsTheHeadline old p) (sym is) w.in-Ok.ensures.headline)
       | in-Err w ↦ subst (λ r. IfOk r (λ act. KeepsTheHeadline old p act)) (sym w.result-is) tt
     ]
+
+pub returns-clause-shows : goal.returns-clause-shows
+returns-clause-shows c = elim c.match-make.branch [
+  | in-Ok w ↦ subst (λ r. OnOk r (GoesOn c.args.self.now c.args.event c.make.new.self)) (sym w.result-is) w.in-Ok.ensures.shows
+  | in-Err w ↦ subst (λ r. OnOk r (GoesOn c.args.self.now c.args.event c.make.new.self)) (sym w.result-is) tt
+]
+
+pub returns-clause-refused : goal.returns-clause-refused
+returns-clause-refused c = elim c.match-make.branch [
+  | in-Ok w ↦ subst (λ r. IfErr r (λ refusal. IsTurnedAway c.args.self.now c.args.event refusal)) (sym w.result-is) tt
+  | in-Err w ↦ subst (λ r. IfErr r (λ refusal. IsTurnedAway c.args.self.now c.args.event refusal)) (sym w.result-is) w.in-Err.ensures.refused
+]
+
+pub returns-clause-unchanged : goal.returns-clause-unchanged
+returns-clause-unchanged c = elim c.match-make.branch [
+  | in-Ok w ↦ subst (λ r. OnErr r (c.make.new.self ≡ c.args.self.now)) (sym w.result-is) tt
+  | in-Err w ↦ subst (λ r. OnErr r (c.make.new.self ≡ c.args.self.now)) (sym w.result-is) w.in-Err.ensures.unchanged
+]
+
+pub returns-clause-setup : goal.returns-clause-setup
+returns-clause-setup c = elim c.match-make.branch [
+  | in-Ok w ↦ subst (λ r. OnOk r (c.make.new.self.setup ≡ c.args.self.now.setup)) (sym w.result-is) w.in-Ok.ensures.setup
+  | in-Err w ↦ subst (λ r. OnOk r (c.make.new.self.setup ≡ c.args.self.now.setup)) (sym w.result-is) tt
+]

@@ -1,6 +1,7 @@
-use Rattle.std.proofs.Common.{◌∷◌, Some, length, sym, subst, ◌∙◌, inl, arith}
+use Rattle.std.proofs.Common.{◌∷◌, List, Some, ap, length, sym, subst, ◌∙◌, inl, arith}
 use Rattle.std.specs.Vec.{vec_capacity}
 use Rattle.process.specs.Telling.{act_of, marks_of}
+use Rattle.record.specs.declared.Taken.{Taken}
 use Rattle.record.specs.Histories.{reply_taken}
 use Rattle.record.specs.Records.{process_of}
 use Rattle.world.specs.Changes.{with_taken}
@@ -50,3 +51,17 @@ returns-in-Ok-clause-headline c =
     subst (λ (w : WorldState). KeepsTheHeadline w p (act_of (length w.history) (record { access = c.in-Ok.access; effect = c.event.new.effect }))) c.self.view_is
     (keeps_headline (with_history i.core i.history.items) (with_history c.event.new.self (with_taken i.history.items p last.0 last.1 (reply_taken (marks_of c.event.new.effect)))) c.args.event.now p _
     (c.in-Ok.ensures.accepted i.history.items) (c.in-Ok.ensures.shows.goes i.history.items) c.in-Ok.ensures.setup)
+
+pub invariant_of-self : goal.invariant_of-self
+invariant_of-self c =
+    let i = c.self.inside in
+    wider_keeps i.core i.history.items c.reserve.new.history.items _ _ c.self.invariant c.reserve.ensures.capacity c.reserve.ensures.items
+
+pub returns-in-Err-clause-unchanged : goal.returns-in-Err-clause-unchanged
+returns-in-Err-clause-unchanged c = ap (λ (h : List Taken). with_history c.self.inside.core h) c.reserve.ensures.items ∙ c.self.view_is
+
+pub returns-in-Ok-clause-setup : goal.returns-in-Ok-clause-setup
+returns-in-Ok-clause-setup c = c.in-Ok.ensures.setup ∙ ap (λ (w : WorldState). w.setup) c.self.view_is
+
+pub returns-in-Err-event-clause-unchanged : goal.returns-in-Err-event-clause-unchanged
+returns-in-Err-event-clause-unchanged c = (λ k. with_history (c.in-Err-event.ensures.unchanged k) (c.reserve.ensures.items k)) ∙ c.self.view_is

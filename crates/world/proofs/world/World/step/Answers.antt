@@ -1,11 +1,12 @@
 use Rattle.std.proofs.Common.{◌≡◌, ◌∷◌, length, Some, None, sym, ap, subst, ◌∙◌}
+use Rattle.std.specs.Vec.{vec_capacity}
 use Rattle.record.specs.declared.events.Event.TheVariants.{Step}
 use Rattle.record.specs.Histories.{reply_taken}
 use Rattle.process.specs.declared.told.Effect.TheVariants.{Steps}
 use Rattle.process.specs.Telling.{act_of, marks_told}
 use Rattle.world.specs.Changes.{with_taken}
-use Rattle.world.specs.Cores.{call_in, with_history}
-use Rattle.world.specs.Events.{Adds, GoesOn, IsRefused, KeepsTheHeadline}
+use Rattle.world.specs.Cores.{CoreState, call_in, with_history}
+use Rattle.world.specs.Events.{Adds, GoesOn, IsRefused, KeepsTheHeadline, KeepsWorld}
 use Rattle.world.specs.Shows.{Shows, WorldState}
 use Rattle.world.specs.Walks.{KeepOthers, TellsOverlapped}
 use Rattle.world.proofs.WorldHeadline.{keeps_headline}
@@ -55,3 +56,14 @@ returns-in-Err-clause-others c = subst (λ (w : WorldState). KeepOthers w.seats 
 
 pub returns-in-Ok-clause-overlapped : goal.returns-in-Ok-clause-overlapped
 returns-in-Ok-clause-overlapped c = subst (λ (w : WorldState). TellsOverlapped w c.in-Ok.made.access c.in-Ok.made.overlapped) c.self.view_is (c.in-Ok.ensures.overlapped c.self.inside.history.items)
+
+pub invariant_of-self-in-Err : goal.invariant_of-self-in-Err
+invariant_of-self-in-Err c =
+    let history = c.self.inside.history in
+    subst (λ (x : CoreState). KeepsWorld (with_history x history.items) (vec_capacity history)) (sym c.in-Err.ensures.unchanged) c.self.invariant
+
+pub returns-in-Ok-clause-setup : goal.returns-in-Ok-clause-setup
+returns-in-Ok-clause-setup c = c.in-Ok.ensures.setup ∙ ap (λ (w : WorldState). w.setup) c.self.view_is
+
+pub returns-in-Err-clause-unchanged : goal.returns-in-Err-clause-unchanged
+returns-in-Err-clause-unchanged c = ap (λ (x : CoreState). with_history x c.self.inside.history.items) c.in-Err.ensures.unchanged ∙ c.self.view_is
