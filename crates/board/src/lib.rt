@@ -4,9 +4,9 @@
 //! each of which stands in the changes of such a record.
 //!
 //! ```rust
-//! let (board, mut ports) = Board::new(rt.alloc(), &setup)?;
+//! let (board, mut ports) = Board::new(rt.alloc(), setup)?;
 //! let calls = [Command::Add(counter, 1), Command::Add(counter, 10)];
-//! call_all(&rt, &board, &mut ports, &calls);
+//! call_all(rt, &board, &mut ports, &calls);
 //! ```
 #![tactic(auto)]
 

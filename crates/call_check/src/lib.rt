@@ -3,7 +3,7 @@
 //! a bad one names the first bad call of the lowest list, or says that the image alone does not fit.
 //!
 //! ```rust
-//! let verdict = weigh(rt.alloc(), &history.setup, &lists, &image)?;
+//! let verdict = weigh(rt.alloc(), setup, lists, image)?;
 //! ```
 #![tactic(auto)]
 

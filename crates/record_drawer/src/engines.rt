@@ -16,10 +16,10 @@ use crate::changes::RecordedChanges;
 use crate::held::Held;
 use crate::sheet::{DrawnEntry, Sheet};
 use crate::writing::write_markup;
-use judge::{Judging, Trial};
 use companions::{FIRST_BAND, Form, Reads, page_end, picture_end, picture_head};
 use files::source_lines::Lines;
 use files::{Fault, FaultKind, Sink, Source, write_all};
+use judge::{Judging, Trial};
 use std::alloc::Global;
 
 /// Reads a record file line by line, and writes the page of what it says: a picture in bands, each written when it is full.

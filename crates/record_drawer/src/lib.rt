@@ -17,7 +17,7 @@ mod sheet;
 mod taken_files;
 mod writing;
 
-pub use judge::{Explaining, ExplainingAnyLock, Judging, judge_any_lock};
 pub use engines::{draw_judged_record, draw_judged_record_svg, draw_record, draw_record_svg};
+pub use judge::{Explaining, ExplainingAnyLock, Judging, judge_any_lock};
 pub use opened::Opened;
 pub use taken_files::{records_are_taken_for_records, scenarios_are_not_taken_for_records};

@@ -26,11 +26,11 @@ fn register_steps_and_widths(rt: HostRuntime) -> Result<(), NumberFault> {
 
 /// What a write leaves that is cut: the torn bit, how many accesses its settling takes and how many a read after it, and the
 /// number that is read.
-type Left = (Option<u16>, u32, u64, u64);
+type AfterCut = (Option<u16>, u32, u64, u64);
 
 /// Cuts a write of 3 to a register of 2 bits and 2 readers after so many steps, and settles it at this value. None where the
 /// settling or the read has no end.
-fn cut_after(alloc: Global, steps: u32, settled: bool) -> Result<Option<Left>, NumberFault> {
+fn cut_after(alloc: Global, steps: u32, settled: bool) -> Result<Option<AfterCut>, NumberFault> {
     let mut register = Register::new(alloc, 2, 2)?;
     let mut read = ReadRun::new(alloc, 2)?;
     let Some((torn, settling)) = cut_and_settle(&mut register, 2, &[3], steps, settled, 1) else {

@@ -43,7 +43,7 @@ fn entry(alloc: Global, access: Access) -> Entry {
 
 /// What is asked of the watch.
 #[derive(Clone, Copy)]
-enum Asked {
+enum AskedOfWatch {
     /// Whether a move keeps the law.
     Keeps,
     /// Whether it ends an overlapped read.
@@ -54,7 +54,7 @@ enum Asked {
 fn first_otherwise(
     alloc: Global,
     heard: &[Heard],
-    asked: Asked,
+    asked: AskedOfWatch,
 ) -> Result<Option<usize>, AllocError> {
     let mut watch = Watch::new(alloc, &Setup::one(2, 2, 2, 1))?;
     for (number, (place, how, expected)) in heard.iter().enumerate() {
@@ -62,8 +62,8 @@ fn first_otherwise(
         let overlaps = watch.overlaps(&access);
         let keeps = watch.hear(&entry(alloc, access));
         let said = match asked {
-            Asked::Keeps => keeps,
-            Asked::Overlaps => overlaps,
+            AskedOfWatch::Keeps => keeps,
+            AskedOfWatch::Overlaps => overlaps,
         };
         if said != *expected {
             return Ok(Some(number));
@@ -150,7 +150,7 @@ fn moves_on_a_bit_keep_the_law_or_not(rt: HostRuntime) -> Result<(), Fail> {
         &OUT_OF_TURN,
     ];
     for heard in tables {
-        let other = first_otherwise(rt.alloc(), heard, Asked::Keeps)?;
+        let other = first_otherwise(rt.alloc(), heard, AskedOfWatch::Keeps)?;
         assert!(rt; other.is_none(), "{other:?}");
     }
     Ok(())
@@ -193,7 +193,7 @@ const OTHER_READS: [Heard; 8] = [
 fn the_end_of_an_overlapped_read_is_told(rt: HostRuntime) -> Result<(), Fail> {
     let tables: [&[Heard]; 2] = [&ENDS_OF_OVERLAPPED, &OTHER_READS];
     for heard in tables {
-        let other = first_otherwise(rt.alloc(), heard, Asked::Overlaps)?;
+        let other = first_otherwise(rt.alloc(), heard, AskedOfWatch::Overlaps)?;
         assert!(rt; other.is_none(), "{other:?}");
     }
     Ok(())
@@ -223,7 +223,7 @@ const APART: [Heard; 16] = [
 // Each copy of each bit of each register is heard by itself.
 #[test]
 fn bits_are_told_apart(rt: HostRuntime) -> Result<(), Fail> {
-    let other = first_otherwise(rt.alloc(), &APART, Asked::Keeps)?;
+    let other = first_otherwise(rt.alloc(), &APART, AskedOfWatch::Keeps)?;
     assert!(rt; other.is_none(), "{other:?}");
     Ok(())
 }

@@ -3,7 +3,7 @@
 //! is good, which is a law here; whether one met its limits is what is found.
 //!
 //! ```rust
-//! let found = sweep(rt.alloc(), &scenario.setup, &events, &[(0, write)])?;
+//! let found = sweep(rt.alloc(), &setup_of_lone_write(), &events, &calls)?;
 //! ```
 #![tactic(auto)]
 

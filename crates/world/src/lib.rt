@@ -4,7 +4,11 @@
 //!
 //! ```rust
 //! let mut world = World::new(rt.alloc(), setup)?;
-//! make(rt, &mut world, Event::Call(0, Command::Add(counter, 1)))?;
+//! ```
+//!
+//! ```rust
+//! make(rt, world, Event::Call(0, Command::Add(counter, 1)))?;
+//! make(rt, world, Event::Call(1, Command::Add(counter, 10)))?;
 //! ```
 #![tactic(auto)]
 
