@@ -91,8 +91,16 @@ fn draw_lines<W: Sink, L: Onlooker>(
     requires held { held drawing.old.page ≡ [] }
     requires source { drawing.old.source ≡ length scenario.now.setup.opening + 5 }
     requires writes { W.failures output.old < 2 ^ 64 - 1 }
-    ensures ok { IfOk result (λ answer. (plan : Plan) (mode : Mode) → seen_page drawing.old.page ≡ page_of plan [] → Recalls mode scenario.now.setup [] drawing.old.changes.store drawing.old.overlaps → DrawsBands plan (W.taken output.old) (W.taken output.new) (replayed (script scenario.now)) (marks_in (past_after scenario.now.setup (happenings (script scenario.now)))) (run_given mode (script scenario.now)) answer.1) }
-    ensures summary { IfOk result (λ answer. (plan : Plan) (mode : Mode) → seen_page drawing.old.page ≡ page_of plan [] → Recalls mode scenario.now.setup [] drawing.old.changes.store drawing.old.overlaps → answer.0 ≡ summary_of scenario.now.setup (happenings (script scenario.now))) }
+    ensures ok { IfOk result (λ answer. (plan : Plan) (mode : Mode)
+        → seen_page drawing.old.page ≡ page_of plan []
+        → Recalls mode scenario.now.setup [] drawing.old.changes.store drawing.old.overlaps
+        → DrawsBands plan (W.taken output.old) (W.taken output.new) (replayed (script scenario.now))
+        (marks_in (past_after scenario.now.setup (happenings (script scenario.now))))
+        (run_given mode (script scenario.now)) answer.1) }
+    ensures summary { IfOk result (λ answer. (plan : Plan) (mode : Mode)
+        → seen_page drawing.old.page ≡ page_of plan []
+        → Recalls mode scenario.now.setup [] drawing.old.changes.store drawing.old.overlaps
+        → answer.0 ≡ summary_of scenario.now.setup (happenings (script scenario.now))) }
     ensures fault { IfErr result IsWriteFault }
     ensures failures { W.failures output.new ≡ W.failures output.old + failed_write result }
 {

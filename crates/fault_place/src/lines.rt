@@ -152,7 +152,7 @@ fn add_span(from: usize, to: usize, spans: &mut Vec<Span>) -> Result<(), AllocEr
     Ok(())
 }
 
-/// Where in a word a part between its dots stands, if there are so many.
+/// Where in a word a part between its dots stands, counted from the word's first byte, if there are so many.
 pub(crate) fn dotted_part(word: &[u8], number: usize) -> Option<Span> {
     let mut before: usize = 0;
     let mut from = 0;

@@ -14,9 +14,9 @@ use Rattle.any_lock.specs.declared.verdicts.AnyLockVerdict.TheVariants.{Good, Ba
 use Rattle.any_lock.proofs.Told.{newest_first, verdict_bad, verdict_good}
 use Rattle.judge.specs.ReasonLines.{AreLinesAt}
 use Rattle.judge.proofs.LinesAt.{counted_on, lines_of_newest, lines_stay}
-use Rattle.judge.specs.AnyExplanations.{AreLines, AreLinesOf, Explains, ExplainsIf, HasExplained, TellsReasons, is_good}
-use Rattle.judge.specs.AnyJudgements.{TellsVerdict, status_of_verdict, verdict_line}
-use Rattle.judge.specs.AnyReasons.{reason_lines}
+use Rattle.judge.specs.AnyExplanations.{AreLines, AnyAreLinesOf, Explains, ExplainsIf, AnyHasExplained, AnyTellsReasons, any_is_good}
+use Rattle.judge.specs.AnyJudgements.{AnyTellsVerdict, any_status_of_verdict, any_verdict_line}
+use Rattle.judge.specs.AnyReasons.{any_reason_lines}
 
 -- the newest of some entries
 newest_is : (e y : Entry) (xs ys later : Past) → e ∷ xs ≡ later ++ y ∷ ys → length ys ≡ length xs → (e ≡ y) × (xs ≡ ys)
@@ -28,20 +28,20 @@ and_false : (b : Bool) → (b && not true) ≡ false
 and_false true = refl
 and_false false = refl
 
-pub good_is : (v : AnyLockVerdict) → is_good v ≡ true → v ≡ Good
+pub good_is : (v : AnyLockVerdict) → any_is_good v ≡ true → v ≡ Good
 good_is Good is = refl
 good_is (Bad k l) is = absurd (true≢false (sym is))
 
 -- the entry with which the verdict gets bad
-pub explained_now : (j j' : JudgeState) (lines lines' : List ℕ) (n : ℕ) (e : Entry) (s : Setup) (entries : List Entry) (numbers : List ℕ) → HasExplained j lines s entries numbers → j.verdict ≡ Good → HasJudged j' s (entries ++ e ∷ []) → is_good j'.verdict ≡ false →
-    Explains j' n e lines lines' → HasExplained j' lines' s (entries ++ e ∷ []) (numbers ++ n ∷ [])
+pub explained_now : (j j' : JudgeState) (lines lines' : List ℕ) (n : ℕ) (e : Entry) (s : Setup) (entries : List Entry) (numbers : List ℕ) → AnyHasExplained j lines s entries numbers → j.verdict ≡ Good → HasJudged j' s (entries ++ e ∷ []) → any_is_good j'.verdict ≡ false →
+    Explains j' n e lines lines' → AnyHasExplained j' lines' s (entries ++ e ∷ []) (numbers ++ n ∷ [])
 explained_now j j' lines lines' n e s entries numbers explained good judged bad explains = by (first_broken s (reverse entries) e) (verdict_good s entries e (sym explained.judged.verdict ∙ good))
   where
     empty : lines ≡ []
-    empty = subst (λ (v : AnyLockVerdict). AreLinesOf s entries numbers v lines) good explained.are
+    empty = subst (λ (v : AnyLockVerdict). AnyAreLinesOf s entries numbers v lines) good explained.are
 
-    by : (broken : Option AnyLockLaw) → verdict_of s (entries ++ e ∷ []) ≡ verdict_with (length entries) broken → HasExplained j' lines' s (entries ++ e ∷ []) (numbers ++ n ∷ [])
-    by None is = absurd (true≢false (sym (ap is_good (judged.verdict ∙ is)) ∙ bad))
+    by : (broken : Option AnyLockLaw) → verdict_of s (entries ++ e ∷ []) ≡ verdict_with (length entries) broken → AnyHasExplained j' lines' s (entries ++ e ∷ []) (numbers ++ n ∷ [])
+    by None is = absurd (true≢false (sym (ap any_is_good (judged.verdict ∙ is)) ∙ bad))
     by (Some l) is =
         let told = explains s (entries ++ e ∷ []) judged (length entries) l is in
         let at : AreReasonsAt s (entries ++ e ∷ []) (length entries) l (Some told.0) = told.1 in
@@ -55,13 +55,13 @@ explained_now j j' lines lines' n e s entries numbers explained good judged bad 
         record {
           judged = judged;
           counted = counted_on entries numbers n e explained.counted;
-          are = subst (λ (v : AnyLockVerdict). AreLinesOf s (entries ++ e ∷ []) (numbers ++ n ∷ []) v lines') (sym (judged.verdict ∙ is))
-              (lines_of_newest (AreLines l) s entries numbers n e lines' explained.counted (told.0, are, told.2 ∙ ap (λ (l : List ℕ). l ++ reason_lines n e told.0) empty));
+          are = subst (λ (v : AnyLockVerdict). AnyAreLinesOf s (entries ++ e ∷ []) (numbers ++ n ∷ []) v lines') (sym (judged.verdict ∙ is))
+              (lines_of_newest (AreLines l) s entries numbers n e lines' explained.counted (told.0, are, told.2 ∙ ap (λ (l : List ℕ). l ++ any_reason_lines n e told.0) empty));
         }
 
 -- any other
-pub explained_still : (j j' : JudgeState) (lines : List ℕ) (n : ℕ) (e : Entry) (s : Setup) (entries : List Entry) (numbers : List ℕ) → HasExplained j lines s entries numbers → HasJudged j' s (entries ++ e ∷ []) → (is_good j.verdict && not (is_good j'.verdict)) ≡ false →
-    HasExplained j' lines s (entries ++ e ∷ []) (numbers ++ n ∷ [])
+pub explained_still : (j j' : JudgeState) (lines : List ℕ) (n : ℕ) (e : Entry) (s : Setup) (entries : List Entry) (numbers : List ℕ) → AnyHasExplained j lines s entries numbers → HasJudged j' s (entries ++ e ∷ []) → (any_is_good j.verdict && not (any_is_good j'.verdict)) ≡ false →
+    AnyHasExplained j' lines s (entries ++ e ∷ []) (numbers ++ n ∷ [])
 explained_still j j' lines n e s entries numbers explained judged never = record {
   judged = judged;
   counted = counted_on entries numbers n e explained.counted;
@@ -72,47 +72,47 @@ explained_still j j' lines n e s entries numbers explained judged never = record
     not_not true is = refl
     not_not false is = absurd (true≢false is)
 
-    by : (v : AnyLockVerdict) → j.verdict ≡ v → (is_good v && not (is_good j'.verdict)) ≡ false → AreLinesOf s (entries ++ e ∷ []) (numbers ++ n ∷ []) j'.verdict lines
+    by : (v : AnyLockVerdict) → j.verdict ≡ v → (any_is_good v && not (any_is_good j'.verdict)) ≡ false → AnyAreLinesOf s (entries ++ e ∷ []) (numbers ++ n ∷ []) j'.verdict lines
     by Good is never =
-        subst (λ (v : AnyLockVerdict). AreLinesOf s (entries ++ e ∷ []) (numbers ++ n ∷ []) v lines) (sym (good_is j'.verdict (not_not (is_good j'.verdict) never)))
-        (subst (λ (v : AnyLockVerdict). AreLinesOf s entries numbers v lines) is explained.are)
+        subst (λ (v : AnyLockVerdict). AnyAreLinesOf s (entries ++ e ∷ []) (numbers ++ n ∷ []) v lines) (sym (good_is j'.verdict (not_not (any_is_good j'.verdict) never)))
+        (subst (λ (v : AnyLockVerdict). AnyAreLinesOf s entries numbers v lines) is explained.are)
     by (Bad k l) is never =
-        let at : AreLinesAt (AreLines l) s entries numbers k lines = subst (λ (v : AnyLockVerdict). AreLinesOf s entries numbers v lines) is explained.are in
-        subst (λ (v : AnyLockVerdict). AreLinesOf s (entries ++ e ∷ []) (numbers ++ n ∷ []) v lines) (sym (judged.verdict ∙ verdict_bad s entries e k l (sym explained.judged.verdict ∙ is)))
+        let at : AreLinesAt (AreLines l) s entries numbers k lines = subst (λ (v : AnyLockVerdict). AnyAreLinesOf s entries numbers v lines) is explained.are in
+        subst (λ (v : AnyLockVerdict). AnyAreLinesOf s (entries ++ e ∷ []) (numbers ++ n ∷ []) v lines) (sym (judged.verdict ∙ verdict_bad s entries e k l (sym explained.judged.verdict ∙ is)))
         (lines_stay (AreLines l) s entries numbers n e k lines at)
 
 -- either
-pub explained_on : (j j' : JudgeState) (lines lines' : List ℕ) (n : ℕ) (e : Entry) (s : Setup) (entries : List Entry) (numbers : List ℕ) → HasExplained j lines s entries numbers → HasJudged j' s (entries ++ e ∷ []) →
-    ExplainsIf (is_good j.verdict && not (is_good j'.verdict)) j' n e lines lines' → HasExplained j' lines' s (entries ++ e ∷ []) (numbers ++ n ∷ [])
-explained_on j j' lines lines' n e s entries numbers explained judged explains = by (is_good j.verdict) (is_good j'.verdict) refl refl explains
+pub explained_on : (j j' : JudgeState) (lines lines' : List ℕ) (n : ℕ) (e : Entry) (s : Setup) (entries : List Entry) (numbers : List ℕ) → AnyHasExplained j lines s entries numbers → HasJudged j' s (entries ++ e ∷ []) →
+    ExplainsIf (any_is_good j.verdict && not (any_is_good j'.verdict)) j' n e lines lines' → AnyHasExplained j' lines' s (entries ++ e ∷ []) (numbers ++ n ∷ [])
+explained_on j j' lines lines' n e s entries numbers explained judged explains = by (any_is_good j.verdict) (any_is_good j'.verdict) refl refl explains
   where
-    still : lines' ≡ lines → (is_good j.verdict && not (is_good j'.verdict)) ≡ false → HasExplained j' lines' s (entries ++ e ∷ []) (numbers ++ n ∷ [])
-    still same never = subst (λ (l : List ℕ). HasExplained j' l s (entries ++ e ∷ []) (numbers ++ n ∷ [])) (sym same) (explained_still j j' lines n e s entries numbers explained judged never)
+    still : lines' ≡ lines → (any_is_good j.verdict && not (any_is_good j'.verdict)) ≡ false → AnyHasExplained j' lines' s (entries ++ e ∷ []) (numbers ++ n ∷ [])
+    still same never = subst (λ (l : List ℕ). AnyHasExplained j' l s (entries ++ e ∷ []) (numbers ++ n ∷ [])) (sym same) (explained_still j j' lines n e s entries numbers explained judged never)
 
-    by : (a b : Bool) → is_good j.verdict ≡ a → is_good j'.verdict ≡ b → ExplainsIf (a && not b) j' n e lines lines' → HasExplained j' lines' s (entries ++ e ∷ []) (numbers ++ n ∷ [])
+    by : (a b : Bool) → any_is_good j.verdict ≡ a → any_is_good j'.verdict ≡ b → ExplainsIf (a && not b) j' n e lines lines' → AnyHasExplained j' lines' s (entries ++ e ∷ []) (numbers ++ n ∷ [])
     by true false was now explains = explained_now j j' lines lines' n e s entries numbers explained (good_is j.verdict was) judged now explains
-    by true true was now same = still same (ap (λ b. is_good j.verdict && not b) now ∙ and_false (is_good j.verdict))
-    by false true was now same = still same (ap (λ b. b && not (is_good j'.verdict)) was)
-    by false false was now same = still same (ap (λ b. b && not (is_good j'.verdict)) was)
+    by true true was now same = still same (ap (λ b. any_is_good j.verdict && not b) now ∙ and_false (any_is_good j.verdict))
+    by false true was now same = still same (ap (λ b. b && not (any_is_good j'.verdict)) was)
+    by false false was now same = still same (ap (λ b. b && not (any_is_good j'.verdict)) was)
 
 -- before the first entry
-pub explained_first : (j : JudgeState) (s : Setup) → HasJudged j s [] → HasExplained j [] s [] []
-explained_first j s judged = record { judged = judged; counted = refl; are = subst (λ (v : AnyLockVerdict). AreLinesOf s [] [] v []) (sym judged.verdict) refl }
+pub explained_first : (j : JudgeState) (s : Setup) → HasJudged j s [] → AnyHasExplained j [] s [] []
+explained_first j s judged = record { judged = judged; counted = refl; are = subst (λ (v : AnyLockVerdict). AnyAreLinesOf s [] [] v []) (sym judged.verdict) refl }
 
 -- what is told
-pub tells : (j : JudgeState) (lines told : List ℕ) (status : ℕ) (s : Setup) (entries : List Entry) (numbers : List ℕ) → HasExplained j lines s entries numbers → status ≡ status_of_verdict (verdict_of s entries) → told ≡ verdict_line (length entries) (verdict_of s entries) ++ lines → TellsReasons s entries numbers told status
+pub tells : (j : JudgeState) (lines told : List ℕ) (status : ℕ) (s : Setup) (entries : List Entry) (numbers : List ℕ) → AnyHasExplained j lines s entries numbers → status ≡ any_status_of_verdict (verdict_of s entries) → told ≡ any_verdict_line (length entries) (verdict_of s entries) ++ lines → AnyTellsReasons s entries numbers told status
 tells j lines told status s entries numbers explained answer text = record {
   lines = lines;
-  are = subst (λ (v : AnyLockVerdict). AreLinesOf s entries numbers v lines) explained.judged.verdict explained.are;
+  are = subst (λ (v : AnyLockVerdict). AnyAreLinesOf s entries numbers v lines) explained.judged.verdict explained.are;
   answer = answer;
   text = text;
 }
 
-pub tells_verdict : (s : Setup) (entries : List Entry) (numbers told : List ℕ) (status n : ℕ) (v : AnyLockVerdict) → v ≡ verdict_of s entries → n ≡ length entries → status ≡ status_of_verdict v → told ≡ verdict_line n v → TellsVerdict s entries numbers told status
+pub tells_verdict : (s : Setup) (entries : List Entry) (numbers told : List ℕ) (status n : ℕ) (v : AnyLockVerdict) → v ≡ verdict_of s entries → n ≡ length entries → status ≡ any_status_of_verdict v → told ≡ any_verdict_line n v → AnyTellsVerdict s entries numbers told status
 tells_verdict s entries numbers told status n v is count answer line = record {
-  answer = answer ∙ ap status_of_verdict is;
-  line = line ∙ ap (λ k. verdict_line k v) count ∙ ap (verdict_line (length entries)) is;
+  answer = answer ∙ ap any_status_of_verdict is;
+  line = line ∙ ap (λ k. any_verdict_line k v) count ∙ ap (any_verdict_line (length entries)) is;
 }
 
-pub explains_some : (j : JudgeState) (n : ℕ) (e : Entry) (lines lines' : List ℕ) (r : Reasons) → ((s : Setup) (entries : List Entry) → HasJudged j s entries → AreReasonsOf s entries (verdict_of s entries) (Some r)) → lines' ≡ lines ++ reason_lines n e r → Explains j n e lines lines'
+pub explains_some : (j : JudgeState) (n : ℕ) (e : Entry) (lines lines' : List ℕ) (r : Reasons) → ((s : Setup) (entries : List Entry) → HasJudged j s entries → AreReasonsOf s entries (verdict_of s entries) (Some r)) → lines' ≡ lines ++ any_reason_lines n e r → Explains j n e lines lines'
 explains_some j n e lines lines' r reasons written s entries judged k l is = (r, subst (λ (v : AnyLockVerdict). AreReasonsOf s entries v (Some r)) is (reasons s entries judged), written)

@@ -8,15 +8,15 @@ use Rattle.any_lock.specs.declared.verdicts.AnyLockVerdict.{AnyLockVerdict}
 use Rattle.any_lock.specs.declared.verdicts.AnyLockVerdict.TheVariants.{Good, Bad}
 
 -- the line of a verdict on so many entries
-abbrev pub verdict_line : ℕ → AnyLockVerdict → List ℕ
-verdict_line entries verdict = verdict_text entries verdict ++ codes "\n"
+abbrev pub any_verdict_line : ℕ → AnyLockVerdict → List ℕ
+any_verdict_line entries verdict = verdict_text entries verdict ++ codes "\n"
 
 -- the exit status of a verdict
-abbrev pub status_of_verdict : AnyLockVerdict → ℕ
-status_of_verdict Good = 0
-status_of_verdict (Bad entry law) = 3
+abbrev pub any_status_of_verdict : AnyLockVerdict → ℕ
+any_status_of_verdict Good = 0
+any_status_of_verdict (Bad entry law) = 3
 
 -- the line of the verdict on a record, and its status
-pub record TellsVerdict (s : Setup) (entries : List Entry) (numbers told : List ℕ) (status : ℕ) : Type 0 where
-  pub answer : status ≡ status_of_verdict (verdict_of s entries)
-  pub line : told ≡ verdict_line (length entries) (verdict_of s entries)
+pub record AnyTellsVerdict (s : Setup) (entries : List Entry) (numbers told : List ℕ) (status : ℕ) : Type 0 where
+  pub answer : status ≡ any_status_of_verdict (verdict_of s entries)
+  pub line : told ≡ any_verdict_line (length entries) (verdict_of s entries)

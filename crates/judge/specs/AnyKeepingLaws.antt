@@ -1,4 +1,4 @@
--- What a judge finds of the entries that he has heard: whether each keeps all laws.
+-- What a judge of any lock finds of the entries that he has heard: whether each keeps all laws.
 use Rattle.std.specs.Prelude.{◌≡◌, true, false, List}
 use Rattle.std.proofs.Common.{ap, sym, true≢false, ◌∙◌}
 use Rattle.plain_store.specs.declared.setups.Setup.{Setup}
@@ -6,17 +6,17 @@ use Rattle.record.specs.Entries.{Entry}
 use Rattle.any_lock.specs.Verdicts.{verdict_of}
 use Rattle.any_lock.specs.declared.verdicts.AnyLockVerdict.{AnyLockVerdict}
 use Rattle.any_lock.specs.declared.verdicts.AnyLockVerdict.TheVariants.{Good, Bad}
-use Rattle.judge.specs.AnyExplanations.{is_good}
+use Rattle.judge.specs.AnyExplanations.{any_is_good}
 
 -- each entry of a record keeps all laws
-abbrev pub KeepsLaws : Setup → List Entry → Type 0
-KeepsLaws s entries = verdict_of s entries ≡ Good
+abbrev pub AnyKeepsLaws : Setup → List Entry → Type 0
+AnyKeepsLaws s entries = verdict_of s entries ≡ Good
 
 -- so it is by a good verdict
-pub found_good : (s : Setup) (entries : List Entry) (v : AnyLockVerdict) → v ≡ verdict_of s entries → is_good v ≡ true → KeepsLaws s entries
-found_good s entries Good is good = sym is
-found_good s entries (Bad k l) is good = absurd (true≢false (sym good))
+pub any_found_good : (s : Setup) (entries : List Entry) (v : AnyLockVerdict) → v ≡ verdict_of s entries → any_is_good v ≡ true → AnyKeepsLaws s entries
+any_found_good s entries Good is good = sym is
+any_found_good s entries (Bad k l) is good = absurd (true≢false (sym good))
 
 -- and not by a bad one
-pub found_bad : (s : Setup) (entries : List Entry) (v : AnyLockVerdict) → v ≡ verdict_of s entries → is_good v ≡ false → KeepsLaws s entries → ⊥
-found_bad s entries v is bad keeps = true≢false (sym (ap is_good (is ∙ keeps)) ∙ bad)
+pub any_found_bad : (s : Setup) (entries : List Entry) (v : AnyLockVerdict) → v ≡ verdict_of s entries → any_is_good v ≡ false → AnyKeepsLaws s entries → ⊥
+any_found_bad s entries v is bad keeps = true≢false (sym (ap any_is_good (is ∙ keeps)) ∙ bad)

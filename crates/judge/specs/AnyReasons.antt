@@ -1,4 +1,4 @@
--- The lines of reasons.
+-- The lines of the reasons, on a record of any lock.
 use Rattle.std.specs.Prelude.{ℕ, ◌+◌, List, [], ◌∷◌, ◌++◌, codes, Option, Some, None}
 use Rattle.std.specs.Fmt.{decimal}
 use Rattle.record.specs.Entries.{Entry}
@@ -11,15 +11,15 @@ use Rattle.any_lock.specs.declared.reasons.Refused.{Refused}
 use Rattle.any_lock.specs.declared.reasons.Refused.TheVariants as by
 
 -- the entry as it would keep all laws
-abbrev pub may_line : Entry → Option Remedy → List ℕ
-may_line e None = []
-may_line e (Some change) = named_entry (codes "may") (changed change e)
+abbrev pub any_may_line : Entry → Option Remedy → List ℕ
+any_may_line e None = []
+any_may_line e (Some change) = named_entry (codes "may") (changed change e)
 
 -- why it is refused
-abbrev pub refused_line : Option Refused → List ℕ
-refused_line None = []
-refused_line (Some (by.Access r)) = word_line (codes "refused") (access_refusal_text r)
-refused_line (Some (by.Marks r)) = word_line (codes "refused") (mark_refusal_text r)
+abbrev pub any_refused_line : Option Refused → List ℕ
+any_refused_line None = []
+any_refused_line (Some (by.Access r)) = word_line (codes "refused") (access_refusal_text r)
+any_refused_line (Some (by.Marks r)) = word_line (codes "refused") (mark_refusal_text r)
 
 -- a word and the number of an entry, if there is one
 abbrev pub entry_if : List ℕ → Option ℕ → List ℕ
@@ -54,5 +54,5 @@ abbrev pub others_lines : Reasons → List ℕ
 others_lines r = inside_line r.inside ++ (waits_from 0 r.waits ++ entry_if (codes "doorway") r.doorway)
 
 -- The lines of the reasons of an entry that stands in line n.
-abbrev pub reason_lines : ℕ → Entry → Reasons → List ℕ
-reason_lines n e r = bad_lines n e ++ (may_line e r.may ++ (refused_line r.refused ++ (standing_lines r ++ others_lines r)))
+abbrev pub any_reason_lines : ℕ → Entry → Reasons → List ℕ
+any_reason_lines n e r = bad_lines n e ++ (any_may_line e r.may ++ (any_refused_line r.refused ++ (standing_lines r ++ others_lines r)))

@@ -15,7 +15,7 @@ pub mod Explanations
 pub mod Judgements
 pub mod Mays
 pub mod KeepingLaws
--- Records of any lock
+-- Records of any lock: names that stand for the other judge too begin with any here
 pub mod AnyJudgements
 pub mod AnyReasons
 pub mod AnyExplanations

@@ -1,7 +1,7 @@
-//! A judge who tells the reasons of a bad verdict too.
+//! A judge of records of any lock who tells the reasons of a bad verdict too.
 ghost use Rattle.std.specs.Prelude.{◌≡◌, ◌&&◌, not, refl, OnOk};
-ghost use Rattle.judge.specs.AnyExplanations.{Explains, ExplainsIf, HasExplained, TellsReasons, is_good};
-ghost use Rattle.judge.specs.AnyKeepingLaws.{KeepsLaws, found_bad, found_good};
+ghost use Rattle.judge.specs.AnyExplanations.{Explains, ExplainsIf, AnyHasExplained, AnyTellsReasons, any_is_good};
+ghost use Rattle.judge.specs.AnyKeepingLaws.{AnyKeepsLaws, any_found_bad, any_found_good};
 
 use crate::any_reasons::reason_lines;
 use crate::any_verdicts::{any_status_of, any_verdict_line};
@@ -19,11 +19,11 @@ pub struct ExplainingAnyLock {
 }
 
 impl Hearer for ExplainingAnyLock {
-    ghost HasHeard = { λ e s entries numbers. HasExplained e.judge e.reasons.items s entries numbers };
+    ghost HasHeard = { λ e s entries numbers. AnyHasExplained e.judge e.reasons.items s entries numbers };
 
     ghost count = { λ e. e.judge.entries };
 
-    ghost Tells = { TellsReasons };
+    ghost Tells = { AnyTellsReasons };
 
     fn begin(alloc: Global, setup: &Setup) -> Result<ExplainingAnyLock, AllocError> {
         Ok(ExplainingAnyLock {
@@ -75,9 +75,9 @@ impl Hearer for ExplainingAnyLock {
 }
 
 impl Judging for ExplainingAnyLock {
-    ghost Keeps = { KeepsLaws };
+    ghost Keeps = { AnyKeepsLaws };
 
-    ghost finds_good = { λ e. is_good e.judge.verdict };
+    ghost finds_good = { λ e. any_is_good e.judge.verdict };
 
     fn is_good(&self) -> bool {
         is_good(&self.judge)
@@ -85,15 +85,15 @@ impl Judging for ExplainingAnyLock {
 
     ghost begins = { λ s. refl };
 
-    ghost good = { λ e s entries numbers heard good. found_good s entries e.judge.verdict heard.judged.verdict good };
+    ghost good = { λ e s entries numbers heard good. any_found_good s entries e.judge.verdict heard.judged.verdict good };
 
-    ghost bad = { λ e s entries numbers heard bad keeps. found_bad s entries e.judge.verdict heard.judged.verdict bad keeps };
+    ghost bad = { λ e s entries numbers heard bad keeps. any_found_bad s entries e.judge.verdict heard.judged.verdict bad keeps };
 }
 
 /// Whether the verdict of a judge is good.
 #[inline]
 fn is_good(judge: &Judge) -> bool
-    ensures { result ≡ is_good judge.now.verdict }
+    ensures { result ≡ any_is_good judge.now.verdict }
 {
     matches!(judge.judged().verdict, AnyLockVerdict::Good)
 }
@@ -107,7 +107,7 @@ fn explain_if(
     judge: &Judge,
     lines: &mut Vec<u8>,
 ) -> Result<(), AllocError>
-    ensures { OnOk result (ExplainsIf (was_good && not (is_good judge.now.verdict)) judge.now number entry.now lines.old.items lines.new.items) }
+    ensures { OnOk result (ExplainsIf (was_good && not (any_is_good judge.now.verdict)) judge.now number entry.now lines.old.items lines.new.items) }
 {
     if !was_good || is_good(judge) {
         return Ok(());

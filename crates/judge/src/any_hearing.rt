@@ -1,6 +1,6 @@
-//! A judge who tells his verdict alone.
+//! A judge of records of any lock who tells his verdict alone.
 ghost use Rattle.any_lock.specs.Judging.{HasJudged};
-ghost use Rattle.judge.specs.AnyJudgements.{TellsVerdict};
+ghost use Rattle.judge.specs.AnyJudgements.{AnyTellsVerdict};
 
 use crate::any_verdicts::{any_status_of, any_verdict_line};
 use crate::hearers::{Hearer, Telling};
@@ -19,7 +19,7 @@ impl Hearer for PlainHearer {
 
     ghost count = { λ plain. plain.judge.entries };
 
-    ghost Tells = { TellsVerdict };
+    ghost Tells = { AnyTellsVerdict };
 
     fn begin(alloc: Global, setup: &Setup) -> Result<PlainHearer, AllocError> {
         Ok(PlainHearer {

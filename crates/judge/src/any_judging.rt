@@ -1,6 +1,6 @@
-//! The engine: the verdict on the record that a file says, which is read line by line.
+//! The engine `judge --any-lock`: the verdict on the record of any lock that a file says, which is read line by line.
 ghost use Rattle.std.specs.Prelude.{◌-◌, ◌^◌, ◌<◌};
-ghost use Rattle.judge.specs.AnyExplanations.{JudgeEnds};
+ghost use Rattle.judge.specs.AnyExplanations.{AnyJudgeEnds};
 ghost use Rattle.judge.specs.files.Engines.{streams};
 
 use crate::any_explaining::ExplainingAnyLock;
@@ -20,7 +20,7 @@ pub fn judge_any_lock<R: Source, W: Sink>(
 ) -> Result<u8, Fault>
     requires reads { R.failures input.old < 2 ^ 64 - 1 }
     requires writes { W.failures output.old < 2 ^ 64 - 1 }
-    ensures { JudgeEnds asked result
+    ensures { AnyJudgeEnds asked result
         (streams ⟦<R as Source>⟧ ⟦<W as Sink>⟧ input.old output.old)
         (streams ⟦<R as Source>⟧ ⟦<W as Sink>⟧ input.new output.new) }
 {

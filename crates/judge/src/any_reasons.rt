@@ -1,9 +1,9 @@
-//! The lines of reasons.
+//! The lines of the reasons of a bad verdict on a record of any lock.
 ghost use Rattle.std.specs.Prelude.{◌≡◌, ◌++◌, IfOk, OnOk, codes};
 ghost use Rattle.std.specs.String.{string_bytes};
 ghost use Rattle.any_lock.specs.Shown.{access_refusal_text, mark_refusal_text};
 ghost use Rattle.judge.specs.ReasonLines.{word_line};
-ghost use Rattle.judge.specs.AnyReasons.{entry_if, inside_line, may_line, others_lines, pair_line, reason_lines as lines_of, refused_line, standing_lines, wait_line, waits_from};
+ghost use Rattle.judge.specs.AnyReasons.{entry_if, inside_line, any_may_line, others_lines, pair_line, any_reason_lines as lines_of, any_refused_line, standing_lines, wait_line, waits_from};
 
 use crate::reason_lines::{push_bad, push_entry, push_number, push_stage};
 use any_lock::{AccessRefusal, MarkRefusal, Reasons, Refused, Remedy, changed};
@@ -38,7 +38,7 @@ fn push_may(
     may: &Option<Remedy>,
     text: &mut Vec<u8>,
 ) -> Result<(), AllocError>
-    ensures { OnOk result (text.new.items ≡ text.old.items ++ may_line entry.now may.now) }
+    ensures { OnOk result (text.new.items ≡ text.old.items ++ any_may_line entry.now may.now) }
 {
     let _nested: NestedTypes = None;
     match may {
@@ -57,7 +57,7 @@ fn push_refused(
     refused: &Option<Refused>,
     text: &mut Vec<u8>,
 ) -> Result<(), AllocError>
-    ensures { OnOk result (text.new.items ≡ text.old.items ++ refused_line refused.now) }
+    ensures { OnOk result (text.new.items ≡ text.old.items ++ any_refused_line refused.now) }
 {
     match refused {
         None => Ok(()),

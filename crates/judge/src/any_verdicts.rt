@@ -1,7 +1,7 @@
 //! What the engine writes and answers for verdicts on records of any lock.
 ghost use Rattle.std.specs.Prelude.{◌≡◌, IfOk};
 ghost use Rattle.std.specs.String.{string_bytes};
-ghost use Rattle.judge.specs.AnyJudgements.{status_of_verdict, verdict_line as line_of_verdict};
+ghost use Rattle.judge.specs.AnyJudgements.{any_status_of_verdict, any_verdict_line as line_of_verdict};
 
 use crate::verdicts::BAD;
 use any_lock::{AnyLockVerdict, Judged};
@@ -10,7 +10,7 @@ use std::alloc::{AllocError, Global};
 
 /// The exit status that a verdict stands for: 0 for a good one, 3 for a bad one.
 pub(crate) fn any_status_of(verdict: &AnyLockVerdict) -> u8
-    ensures { result ≡ status_of_verdict verdict.now }
+    ensures { result ≡ any_status_of_verdict verdict.now }
 {
     match verdict {
         AnyLockVerdict::Good => DONE,

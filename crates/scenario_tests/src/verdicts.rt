@@ -13,7 +13,7 @@ use std::alloc::{AllocError, Global};
 use std::process::Abort;
 use std::test::Fail;
 
-/// The command that reads it.
+/// The command that reads the one name here.
 fn read() -> Command {
     Command::Read(a())
 }

@@ -7,7 +7,7 @@ use std::process::Abort;
 use std::test::Fail;
 use world::World;
 
-/// The name that is read.
+/// The one name here.
 pub fn a() -> Name {
     Name::new(b"a").unwrap()
 }

@@ -1,5 +1,5 @@
 use Rattle.std.proofs.Common.{not, ◌&&◌, Bool, OnOk, subst}
-use Rattle.judge.specs.AnyExplanations.{ExplainsIf, is_good}
+use Rattle.judge.specs.AnyExplanations.{ExplainsIf, any_is_good}
 use Rattle.judge.proofs.AnyExplained.{explained_on}
 use Rattle.judge.proofs.LinesAt.{ok_then}
 use Rattle.judge.proofs.any_explaining.ExplainingAnyLockHearer.take.Goals as goal
@@ -11,4 +11,4 @@ returns c =
     let judge = c.hear.new.self in
     ok_then c.explain_if.result
     (λ explains s entries numbers explained. explained_on c.args.self.now.judge judge old new c.args.number c.args.entry.now s entries numbers explained (c.hear.ensures.heard s entries explained.judged) explains)
-    (subst (λ (was : Bool). OnOk c.explain_if.result (ExplainsIf (was && not (is_good judge.verdict)) judge c.args.number c.args.entry.now old new)) c.is_good-was_good.ensures c.explain_if.ensures)
+    (subst (λ (was : Bool). OnOk c.explain_if.result (ExplainsIf (was && not (any_is_good judge.verdict)) judge c.args.number c.args.entry.now old new)) c.is_good-was_good.ensures c.explain_if.ensures)
