@@ -135,17 +135,19 @@ impl Course {
         }
         let movers = movers.as_slice();
         let mut within = [0_u32; 256];
+        let mut left = self.left;
+        let mut flicks = self.flicks.twin();
         let mut ahead = self.flicks.twin();
         let mut next = drawn(&mut ahead, movers);
         let mut told = None;
-        'steps: while 0 < self.left {
-            self.left -= 1;
+        'steps: while 0 < left {
+            left -= 1;
             let (process, flick) = next;
-            self.flicks.copy_from(&ahead);
+            flicks.copy_from(&ahead);
             next = drawn(&mut ahead, movers);
             let at = usize::from(process);
             let mut quiet = within[at];
-            let is_last = self.left == 0;
+            let is_last = left == 0;
             step(
                 &mut self.world,
                 &mut quiet,
@@ -157,9 +159,13 @@ impl Course {
             )?;
             within[at] = quiet;
             if let Some(_answer) = &told {
+                self.left = left;
+                self.flicks = flicks;
                 return Ok(told);
             }
         }
+        self.left = left;
+        self.flicks = flicks;
         Ok(None)
     }
 

@@ -5,7 +5,7 @@ use Rattle.world.specs.flicks.Flicks.{FlickState, after_flick, after_pick, flick
 use Rattle.world.specs.Walks.{left_in}
 use Rattle.course.specs.Counts.{IsCounted}
 use Rattle.course.specs.Courses.{CourseState, Follows, Makes, course}
-use Rattle.course.specs.Listening.{Comes, ComesTo, HearsFrom, HearsStep, HearsUpTo, KnowsEnough, Learns, MakesStep, MaySteps, room_wanted}
+use Rattle.course.specs.Listening.{Comes, ComesOn, ComesTo, HearsFrom, HearsStep, HearsUpTo, KnowsEnough, Learns, MakesStep, MaySteps, room_wanted}
 use Rattle.course.specs.Runs.{Run, movers, past_in}
 use Rattle.course.specs.Turns.{rest_of, turn_of}
 use Rattle.course.proofs.Counted.{counted_put, none_known}
@@ -32,12 +32,12 @@ steps-init g c =
     let ps = c.as_slice-movers.result.now in
     let left = ap (λ (old : CourseState). old.left) c.self.view_is in
     record {
-      on = λ steps run follows. comes_start (HearsFrom g.L.Listener.Hears g.L.Listener.Knows (KnowsWhile g.L.Listener.Knows i.left)) (WanderLine steps) run c.args.self.now (course i.world i.flicks i.left) c.args.listener.now (ArePicked ps) (g.met.L.Listener.hears_nothing c.args.listener.now c.args.self.now.world.setup run.happened, λ known. inl known) c.self.view_is follows (c.as_slice-movers.ensures ∙ c.movers-movers.ensures run follows);
+      on = λ steps run follows. subst (λ (f : FlickState). ComesOn (HearsFrom g.L.Listener.Hears g.L.Listener.Knows (KnowsWhile g.L.Listener.Knows i.left)) c.args.self.now.world.setup (WanderLine steps) c.args.self.now.left run c.args.listener.now c.args.listener.now (course i.world f i.left) (ArePicked ps)) (sym c.twin-flicks.ensures) (comes_start (HearsFrom g.L.Listener.Hears g.L.Listener.Knows (KnowsWhile g.L.Listener.Knows i.left)) (WanderLine steps) run c.args.self.now (course i.world i.flicks i.left) c.args.listener.now (ArePicked ps) (g.met.L.Listener.hears_nothing c.args.listener.now c.args.self.now.world.setup run.happened, λ known. inl known) c.self.view_is follows (c.as_slice-movers.ensures ∙ c.movers-movers.ensures run follows));
       kept = record { are = c.self.invariant.are; few = c.self.invariant.few };
       left = omega (arith, left);
-      process = c.drawn-next.ensures.process ∙ ap (λ (f : FlickState). slice_index ps (pick_of (length ps) f)) c.twin-ahead.ensures;
-      flick = c.drawn-next.ensures.flick ∙ ap (λ (f : FlickState). flick_of (after_pick f)) c.twin-ahead.ensures;
-      ahead = c.drawn-next.ensures.after ∙ ap (λ (f : FlickState). after_flick (after_pick f)) c.twin-ahead.ensures;
+      process = c.drawn-next.ensures.process ∙ ap (λ (f : FlickState). slice_index ps (pick_of (length ps) f)) (c.twin-ahead.ensures ∙ sym c.twin-flicks.ensures);
+      flick = c.drawn-next.ensures.flick ∙ ap (λ (f : FlickState). flick_of (after_pick f)) (c.twin-ahead.ensures ∙ sym c.twin-flicks.ensures);
+      ahead = c.drawn-next.ensures.after ∙ ap (λ (f : FlickState). after_flick (after_pick f)) (c.twin-ahead.ensures ∙ sym c.twin-flicks.ensures);
       counted = λ p. let none = none_known 256 p in omega (arith, none);
       untold = refl;
       room = λ more room. g.met.L.Listener.room_less c.args.listener.now (more + i.left) (more + c.args.self.now.left) (omega (arith, left)) room;
@@ -52,7 +52,7 @@ drawn-next-requires-in-steps g c = subst (λ (l : List ℕ). 0 < length l) (sym 
 pub step-requires-clause-room : goal.step-requires-clause-room
 step-requires-clause-room g c =
     let laws = g.met.L.Listener in
-    laws.room_less c.steps.listener 1 (0 + c.steps.self-inside.left) (omega (arith, c.steps-test.true)) (c.steps.invariant.room 0 (laws.room_less c.args.listener.now (0 + c.args.self.now.left) c.args.self.now.left (omega arith) c.requires))
+    laws.room_less c.steps.listener 1 (0 + c.steps.left) (omega (arith, c.steps-test.true)) (c.steps.invariant.room 0 (laws.room_less c.args.listener.now (0 + c.args.self.now.left) c.args.self.now.left (omega arith) c.requires))
 
 pub steps-preserved : goal.steps-preserved
 steps-preserved g c =
@@ -61,8 +61,8 @@ steps-preserved g c =
     let i = c.steps.self-inside in
     let Knows = g.L.Listener.Knows in
     let heard : HearsStep Hears i.world c.steps.next.0 c.steps.next.1 c.step.new.world c.steps.listener c.step.new.listener = rw c.in_default.is at c.in_ok-step.ensures.ok in
-    let knows : HearsStep (HearsFrom Hears (KnowsWhile Knows i.left) (KnowsWhile Knows (i.left - 1))) i.world c.steps.next.0 c.steps.next.1 c.step.new.world c.steps.listener c.step.new.listener =
-    step_knows Hears Knows i.world c.step.new.world c.steps.next.0 c.steps.next.1 c.steps.listener c.step.new.listener (KnowsWhile Knows i.left) (λ s x. 0 < i.left - 1) (i.left - 1 == 0) heard
+    let knows : HearsStep (HearsFrom Hears (KnowsWhile Knows c.steps.left) (KnowsWhile Knows (c.steps.left - 1))) i.world c.steps.next.0 c.steps.next.1 c.step.new.world c.steps.listener c.step.new.listener =
+    step_knows Hears Knows i.world c.step.new.world c.steps.next.0 c.steps.next.1 c.steps.listener c.step.new.listener (KnowsWhile Knows c.steps.left) (λ s x. 0 < c.steps.left - 1) (c.steps.left - 1 == 0) heard
     (λ last. subst (λ told. MakesStep (Learns Knows) i.world c.steps.next.0 c.steps.next.1 told c.step.new.world c.steps.listener c.step.new.listener) c.in_default.is (c.in_ok-step.ensures.knows last))
     (λ more before shows. grind (arith, nat_tests)) in
     let same : c.steps.ahead ≡ c.copy_from.new.self = sym c.copy_from.ensures in
@@ -70,9 +70,9 @@ steps-preserved g c =
     let some : 0 < length ps = subst (λ (l : List ℕ). 0 < length l) (sym c.as_slice-movers.ensures) (some_left c.movers-movers.result.items (sym c.is_empty.ensures ∙ c.if-is_empty.false)) in
     record {
       on = λ steps run follows.
-          comes_then Hears laws.hears_on Knows (KnowsWhile Knows i.left) c.args.self.now.world.setup (WanderLine steps) c.args.self.now.left run c.args.listener.now c.steps.listener c.step.new.listener (course i.world i.flicks i.left) (ArePicked ps) (c.steps.invariant.on steps run follows) (KnowsWhile Knows (i.left - 1)) (course c.step.new.world c.copy_from.new.self (i.left - 1)) (ArePicked ps)
-          (λ run follows are. picked_on i.world c.step.new.world steps i.left c.steps.next.0 ps c.steps.next.1 run i.flicks c.copy_from.new.self (λ none. omega (arith, none, c.steps-test.true)) some c.steps.invariant.process c.steps.invariant.flick (c.copy_from.ensures ∙ c.steps.invariant.ahead)
-          follows are (HearsFrom Hears (KnowsWhile Knows i.left) (KnowsWhile Knows (i.left - 1))) c.steps.listener c.step.new.listener knows);
+          comes_then Hears laws.hears_on Knows (KnowsWhile Knows c.steps.left) c.args.self.now.world.setup (WanderLine steps) c.args.self.now.left run c.args.listener.now c.steps.listener c.step.new.listener (course i.world c.steps.flicks c.steps.left) (ArePicked ps) (c.steps.invariant.on steps run follows) (KnowsWhile Knows (c.steps.left - 1)) (course c.step.new.world c.copy_from.new.self (c.steps.left - 1)) (ArePicked ps)
+          (λ run follows are. picked_on i.world c.step.new.world steps c.steps.left c.steps.next.0 ps c.steps.next.1 run c.steps.flicks c.copy_from.new.self (λ none. omega (arith, none, c.steps-test.true)) some c.steps.invariant.process c.steps.invariant.flick (c.copy_from.ensures ∙ c.steps.invariant.ahead)
+          follows are (HearsFrom Hears (KnowsWhile Knows c.steps.left) (KnowsWhile Knows (c.steps.left - 1))) c.steps.listener c.step.new.listener knows);
       kept = record { are = c.steps.invariant.kept.are ∙ ap (λ s. s.processes) (sym c.step.ensures.setup); few = c.steps.invariant.kept.few };
       left = omega (arith, c.steps-test.true, c.steps.invariant.left);
       process = c.drawn-next-in-steps.ensures.process ∙ ap (λ (f : FlickState). slice_index ps (pick_of (length ps) f)) same;
@@ -82,7 +82,7 @@ steps-preserved g c =
       untold = c.in_default.is;
       room = λ more room.
           let wants = rw c.in_default.is at c.in_ok-step.ensures.room in
-          laws.room_less c.step.new.listener (more + (i.left - 1)) (more + (i.left - 1) + 0) (omega arith) (wants (more + (i.left - 1)) (laws.room_less c.steps.listener (more + (i.left - 1) + 1) (more + i.left) (omega (arith, c.steps-test.true)) (c.steps.invariant.room more room)));
+          laws.room_less c.step.new.listener (more + (c.steps.left - 1)) (more + (c.steps.left - 1) + 0) (omega arith) (wants (more + (c.steps.left - 1)) (laws.room_less c.steps.listener (more + (c.steps.left - 1) + 1) (more + c.steps.left) (omega (arith, c.steps-test.true)) (c.steps.invariant.room more room)));
     }
 
 pub returns-in_err-step-clause-cut : goal.returns-in_err-step-clause-cut
@@ -98,12 +98,12 @@ returns-in_err-step-clause-cut g c =
     let some : 0 < length ps = subst (λ (l : List ℕ). 0 < length l) (sym c.as_slice-movers.ensures) (some_left c.movers-movers.result.items (sym c.is_empty.ensures ∙ c.if-is_empty.false)) in
     on_fault c.from_residual.result c.in_err-step.field-0.0 (λ fault. (steps : ℕ) (run : Run) → Follows c.args.self.now run → had ≤ steps → Stops c.args.listener.now s run.happened (rest_of s (WanderLine steps) had run).happened fault c.step.new.listener) c.from_residual.ensures.1
     (λ steps run follows few.
-    comes_stop Hears laws.hears_on Knows (KnowsWhile Knows i.left) s (WanderLine steps) had run c.args.listener.now c.steps.listener c.step.new.listener (course i.world i.flicks i.left) (ArePicked ps) (c.steps.invariant.on steps run follows) Stops laws.stops_on c.in_err-step.field-0.0 few
-    (λ run follows are few. picked_stops i.world c.step.new.world steps i.left c.steps.next.0 ps c.steps.next.1 run i.flicks c.copy_from.new.self (λ none. omega (arith, none, c.steps-test.true)) some c.steps.invariant.process c.steps.invariant.flick (c.copy_from.ensures ∙ c.steps.invariant.ahead)
+    comes_stop Hears laws.hears_on Knows (KnowsWhile Knows c.steps.left) s (WanderLine steps) had run c.args.listener.now c.steps.listener c.step.new.listener (course i.world c.steps.flicks c.steps.left) (ArePicked ps) (c.steps.invariant.on steps run follows) Stops laws.stops_on c.in_err-step.field-0.0 few
+    (λ run follows are few. picked_stops i.world c.step.new.world steps c.steps.left c.steps.next.0 ps c.steps.next.1 run c.steps.flicks c.copy_from.new.self (λ none. omega (arith, none, c.steps-test.true)) some c.steps.invariant.process c.steps.invariant.flick (c.copy_from.ensures ∙ c.steps.invariant.ahead)
     follows are Stops c.steps.listener c.step.new.listener c.in_err-step.field-0.0 laws.stops_before c.in_err-step.ensures.cut few))
 
 pub returns-in-Some-clause-ok : goal.returns-in-Some-clause-ok
-returns-in-Some-clause-ok g c = subst (λ told. (steps : ℕ) → Comes g.L.Listener.Hears g.L.Listener.Knows c.args.self.now (WanderLine steps) (course c.step.new.world c.copy_from.new.self (c.steps.self-inside.left - 1)) c.args.listener.now c.step.new.listener told) (sym c.in-Some.is) (λ steps run follows.
+returns-in-Some-clause-ok g c = subst (λ told. (steps : ℕ) → Comes g.L.Listener.Hears g.L.Listener.Knows c.args.self.now (WanderLine steps) (course c.step.new.world c.copy_from.new.self (c.steps.left - 1)) c.args.listener.now c.step.new.listener told) (sym c.in-Some.is) (λ steps run follows.
     let laws = g.met.L.Listener in
     let Hears = g.L.Listener.Hears in
     let Knows = g.L.Listener.Knows in
@@ -113,11 +113,11 @@ returns-in-Some-clause-ok g c = subst (λ told. (steps : ℕ) → Comes g.L.List
     let both = rw c.in-Some.is at c.in_ok-step.ensures.ok in
     let ps = c.as_slice-movers.result.now in
     let some : 0 < length ps = subst (λ (l : List ℕ). 0 < length l) (sym c.as_slice-movers.ensures) (some_left c.movers-movers.result.items (sym c.is_empty.ensures ∙ c.if-is_empty.false)) in
-    let new : CourseState = course c.step.new.world c.copy_from.new.self (i.left - 1) in
-    comes_to Hears laws.hears_on Knows (KnowsWhile Knows i.left) s (WanderLine steps) had run c.args.listener.now c.steps.listener c.step.new.listener (course i.world i.flicks i.left) (ArePicked ps) (c.steps.invariant.on steps run follows) (KnowsEnough Knows (Some c.in-Some._answer)) new (Some c.in-Some._answer)
-    (λ run follows are. subst (λ b. ComesTo (HearsFrom Hears (KnowsWhile Knows i.left) (KnowsEnough Knows (Some c.in-Some._answer))) i.world.setup (WanderLine steps) i.left run c.steps.listener b (Some c.in-Some._answer) new) (sym both.1)
-    (picked_told i.world c.step.new.world steps i.left c.steps.next.0 ps c.steps.next.1 run i.flicks c.copy_from.new.self (λ none. omega (arith, none, c.steps-test.true)) some c.steps.invariant.process c.steps.invariant.flick (c.copy_from.ensures ∙ c.steps.invariant.ahead)
-    follows are (HearsFrom Hears (KnowsWhile Knows i.left) (KnowsEnough Knows (Some c.in-Some._answer))) c.steps.listener c.in-Some._answer
+    let new : CourseState = course c.step.new.world c.copy_from.new.self (c.steps.left - 1) in
+    comes_to Hears laws.hears_on Knows (KnowsWhile Knows c.steps.left) s (WanderLine steps) had run c.args.listener.now c.steps.listener c.step.new.listener (course i.world c.steps.flicks c.steps.left) (ArePicked ps) (c.steps.invariant.on steps run follows) (KnowsEnough Knows (Some c.in-Some._answer)) new (Some c.in-Some._answer)
+    (λ run follows are. subst (λ b. ComesTo (HearsFrom Hears (KnowsWhile Knows c.steps.left) (KnowsEnough Knows (Some c.in-Some._answer))) i.world.setup (WanderLine steps) c.steps.left run c.steps.listener b (Some c.in-Some._answer) new) (sym both.1)
+    (picked_told i.world c.step.new.world steps c.steps.left c.steps.next.0 ps c.steps.next.1 run c.steps.flicks c.copy_from.new.self (λ none. omega (arith, none, c.steps-test.true)) some c.steps.invariant.process c.steps.invariant.flick (c.copy_from.ensures ∙ c.steps.invariant.ahead)
+    follows are (HearsFrom Hears (KnowsWhile Knows c.steps.left) (KnowsEnough Knows (Some c.in-Some._answer))) c.steps.listener c.in-Some._answer
     (λ tells. (
       laws.hears_nothing c.steps.listener i.world.setup run.happened,
       λ known. step_needs i.world.setup c.steps.next.0 (flick_of (after_pick run.flicks)) run.happened c.in-Some._answer (Knows c.steps.listener i.world.setup run.happened) tells
@@ -128,8 +128,8 @@ pub returns-clause-ok : goal.returns-clause-ok
 returns-clause-ok g c = λ steps run follows.
     let i = c.steps.self-inside in
     let ps = c.as_slice-movers.result.now in
-    comes_end (HearsUpTo g.L.Listener.Hears g.L.Listener.Knows None) c.args.self.now.world.setup (WanderLine steps) c.args.self.now.left run c.args.listener.now c.steps.listener (course i.world i.flicks i.left) (ArePicked ps) (omega (arith, c.steps-test.false))
-    (comes_as g.L.Listener.Hears g.L.Listener.Knows (KnowsWhile g.L.Listener.Knows i.left) g.L.Listener.Knows c.args.self.now.world.setup (WanderLine steps) c.args.self.now.left run c.args.listener.now c.steps.listener (course i.world i.flicks i.left) (ArePicked ps)
+    comes_end (HearsUpTo g.L.Listener.Hears g.L.Listener.Knows None) c.args.self.now.world.setup (WanderLine steps) c.args.self.now.left run c.args.listener.now c.steps.listener (course i.world c.steps.flicks c.steps.left) (ArePicked ps) (omega (arith, c.steps-test.false))
+    (comes_as g.L.Listener.Hears g.L.Listener.Knows (KnowsWhile g.L.Listener.Knows c.steps.left) g.L.Listener.Knows c.args.self.now.world.setup (WanderLine steps) c.args.self.now.left run c.args.listener.now c.steps.listener (course i.world c.steps.flicks c.steps.left) (ArePicked ps)
     (λ x known. elim known [ inl known ↦ known | inr more ↦ absurd (omega (arith, more, c.steps-test.false)) ]) (c.steps.invariant.on steps run follows))
 
 pub invariant_of-self : goal.invariant_of-self
@@ -138,11 +138,11 @@ invariant_of-self g c = record { are = c.self.invariant.are; few = c.self.invari
 pub returns-then-is_empty-clause-room : goal.returns-then-is_empty-clause-room
 returns-then-is_empty-clause-room g c = λ more room. g.met.L.Listener.room_less c.args.listener.now (more + 0) (more + c.args.self.now.left) (omega arith) room
 
-pub invariant_of-self-in-steps : goal.invariant_of-self-in-steps
-invariant_of-self-in-steps g c = record { are = c.steps.invariant.kept.are; few = c.steps.invariant.kept.few }
+pub invariant_of-self-2 : goal.invariant_of-self-2
+invariant_of-self-2 g c = record { are = c.steps.invariant.kept.are; few = c.steps.invariant.kept.few }
 
-pub overflow_sub-self : goal.overflow_sub-self
-overflow_sub-self g c = c.steps-test.true
+pub overflow_sub-left : goal.overflow_sub-left
+overflow_sub-left g c = c.steps-test.true
 
 pub step-requires-clause-within : goal.step-requires-clause-within
 step-requires-clause-within g c = subst (λ at. slice_index c.steps.within at ≤ left_in c.steps.self-inside.world.seats c.steps.next.0) (sym c.from-at.ensures) (c.steps.invariant.counted c.steps.next.0)
@@ -166,12 +166,12 @@ pub invariant_of-self-in-Some : goal.invariant_of-self-in-Some
 invariant_of-self-in-Some g c = record { are = c.steps.invariant.kept.are ∙ ap (λ s. s.processes) (sym c.step.ensures.setup); few = c.steps.invariant.kept.few }
 
 pub returns-in-Some-clause-left : goal.returns-in-Some-clause-left
-returns-in-Some-clause-left g c = subst (λ told. room_wanted told (c.steps.self-inside.left - 1) ≤ c.args.self.now.left) (sym c.in-Some.is) (omega (arith, c.steps-test.true, c.steps.invariant.left))
+returns-in-Some-clause-left g c = subst (λ told. room_wanted told (c.steps.left - 1) ≤ c.args.self.now.left) (sym c.in-Some.is) (omega (arith, c.steps-test.true, c.steps.invariant.left))
 
 pub returns-in-Some-clause-room : goal.returns-in-Some-clause-room
 returns-in-Some-clause-room g c = λ more room.
     let laws = g.met.L.Listener in
-    let left : ℕ = c.steps.self-inside.left in
+    let left : ℕ = c.steps.left in
     let wants = rw c.in-Some.is at c.in_ok-step.ensures.room in
     subst (λ told. g.L.Listener.HasRoom c.step.new.listener (more + room_wanted told (left - 1))) (sym c.in-Some.is)
     (laws.room_less c.step.new.listener (more + (left - 1 + 1)) (more + (left - 1) + (0 + 1)) (omega arith) (wants (more + (left - 1)) (laws.room_less c.steps.listener (more + (left - 1) + 1) (more + left) (omega (arith, c.steps-test.true)) (c.steps.invariant.room more room))))

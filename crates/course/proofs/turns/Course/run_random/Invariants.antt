@@ -13,16 +13,16 @@ use Rattle.course.proofs.turns.Course.run_random.Given as goal
 abbrev pub invariant-steps : goal.invariant-steps
 invariant-steps g l = record {
   on : (steps : ℕ) (run : Run) → Follows l.fn.self run →
-      ComesOn (HearsFrom g.L.Listener.Hears g.L.Listener.Knows (KnowsWhile g.L.Listener.Knows l.self-inside.left)) l.fn.self.world.setup (WanderLine steps) l.fn.self.left run l.fn.listener l.listener (course l.self-inside.world l.self-inside.flicks l.self-inside.left) (ArePicked l.movers);
+      ComesOn (HearsFrom g.L.Listener.Hears g.L.Listener.Knows (KnowsWhile g.L.Listener.Knows l.left)) l.fn.self.world.setup (WanderLine steps) l.fn.self.left run l.fn.listener l.listener (course l.self-inside.world l.flicks l.left) (ArePicked l.movers);
   kept : KeepsCourse l.self-inside.processes l.self-inside.world;
-  left : l.self-inside.left ≤ l.fn.self.left;
-  process : l.next.0 ≡ slice_index l.movers (pick_of (length l.movers) l.self-inside.flicks);
-  flick : l.next.1 ≡ flick_of (after_pick l.self-inside.flicks);
-  ahead : l.ahead ≡ after_flick (after_pick l.self-inside.flicks);
+  left : l.left ≤ l.fn.self.left;
+  process : l.next.0 ≡ slice_index l.movers (pick_of (length l.movers) l.flicks);
+  flick : l.next.1 ≡ flick_of (after_pick l.flicks);
+  ahead : l.ahead ≡ after_flick (after_pick l.flicks);
   counted : IsCounted l.within l.self-inside.world.seats;
   untold : l.told ≡ None;
-  room : (more : ℕ) → g.L.Listener.HasRoom l.fn.listener (more + l.fn.self.left) → g.L.Listener.HasRoom l.listener (more + l.self-inside.left);
+  room : (more : ℕ) → g.L.Listener.HasRoom l.fn.listener (more + l.fn.self.left) → g.L.Listener.HasRoom l.listener (more + l.left);
 }
 
 abbrev pub decreases-steps : goal.decreases-steps
-decreases-steps g l = l.self-inside.left
+decreases-steps g l = l.left
