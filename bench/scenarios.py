@@ -24,8 +24,8 @@ For `race`, with 16 ticket and 13 stamp bits and one slot: `race-N` where each o
 by turns, 4,000 calls in all.
 """
 
+import argparse
 import pathlib
-import sys
 
 
 def call(k):
@@ -123,7 +123,9 @@ def raced(processes):
 
 
 def main():
-    folder = pathlib.Path(sys.argv[1] if len(sys.argv) > 1 else ".")
+    parser = argparse.ArgumentParser(description=__doc__, formatter_class=argparse.RawDescriptionHelpFormatter)
+    parser.add_argument("folder", nargs="?", default=".", type=pathlib.Path, help="where the files go, this folder if not said")
+    folder = parser.parse_args().folder
     folder.mkdir(parents=True, exist_ok=True)
     (folder / "calls").write_bytes(calls().encode())
     (folder / "largest").write_bytes(largest().encode())
