@@ -28,3 +28,7 @@ all_told told pairs k past = rw (drop_all k pairs past) (append-nil told)
 -- a pair's text, as `format!` puts it together
 pub pair_text_is : (name : List ℕ) (value : Value) → name ++ (codes "=" ++ value_text value) ≡ pair_text (name, value)
 pair_text_is name value = simp append_assoc
+
+-- a pair behind others, as it is added
+pub pair_added : (told : List ℕ) (p : Pair) → (told ++ codes " ") ++ pair_text p ≡ told ++ next_pair p
+pair_added told p = append_assoc told (codes " ") (pair_text p)

@@ -43,7 +43,7 @@ impl fmt::Display for Command {
             Command::Write(name, value) => write!(f, "write {name} {value}"),
             Command::Add(name, by) => write!(f, "add {name} {by}"),
             Command::Cas(name, expected, value) => write!(f, "cas {name} {expected} {value}"),
-            Command::Ask => write!(f, "ask"),
+            Command::Ask => f.write_str("ask"),
         }
     }
 }
@@ -54,14 +54,14 @@ impl fmt::Display for Reply {
     fn fmt<W: fmt::Write>(&self, f: &mut fmt::Formatter<W>) -> fmt::Result {
         match self {
             Reply::Value(value) => write!(f, "value {value}"),
-            Reply::Done => write!(f, "done"),
+            Reply::Done => f.write_str("done"),
             Reply::Sum(sum) => write!(f, "sum {sum}"),
-            Reply::Swapped => write!(f, "swapped"),
+            Reply::Swapped => f.write_str("swapped"),
             Reply::Kept(value) => write!(f, "kept {value}"),
-            Reply::NoName => write!(f, "no-name"),
-            Reply::NotCounter => write!(f, "not-counter"),
-            Reply::Overflow => write!(f, "overflow"),
-            Reply::StoreFull => write!(f, "store-full"),
+            Reply::NoName => f.write_str("no-name"),
+            Reply::NotCounter => f.write_str("not-counter"),
+            Reply::Overflow => f.write_str("overflow"),
+            Reply::StoreFull => f.write_str("store-full"),
             Reply::Last(number) => write!(f, "last {number}"),
         }
     }
@@ -74,8 +74,8 @@ impl fmt::Display for Answer {
         match self {
             Answer::Reply(reply) => write!(f, "{reply}"),
             Answer::TicketsFull { process } => write!(f, "tickets-full {process}"),
-            Answer::StampsFull => write!(f, "stamps-full"),
-            Answer::Withdrawn => write!(f, "withdrawn"),
+            Answer::StampsFull => f.write_str("stamps-full"),
+            Answer::Withdrawn => f.write_str("withdrawn"),
         }
     }
 }

@@ -1,7 +1,7 @@
 //! A store in words, and on one line.
-ghost use Rattle.std.specs.Prelude.{◌≡◌, IfOk};
+ghost use Rattle.std.specs.Prelude.{◌≡◌, ◌++◌, IfOk, OnOk};
 ghost use Rattle.std.specs.String.{string_bytes};
-ghost use Rattle.plain_store.specs.StoreLine.{pair_text, show_text, store_words as words_of};
+ghost use Rattle.plain_store.specs.StoreLine.{next_pair, pair_text, show_text, store_words as words_of};
 
 use crate::{Name, Store, Value};
 use std::alloc::{AllocError, Global};
@@ -16,11 +16,24 @@ pub fn store_words<S: Store>(alloc: Global, store: &S) -> Result<String, AllocEr
     let mut words = pair_words(alloc, &name, &value)?;
     for place in 1..store.len() {
         let (name, value) = store.entry(place).unwrap();
-        let pair = pair_words(alloc, &name, &value)?;
-        words.push_str(" ")?;
-        words.push_str(pair.as_str())?;
+        push_pair(alloc, &mut words, &name, &value)?;
     }
     Ok(words)
+}
+
+/// Adds a pair behind others.
+#[tactic(auto, using(crate::proofs::StoreLines::pair_added))]
+fn push_pair(
+    alloc: Global,
+    words: &mut String,
+    name: &Name,
+    value: &Value,
+) -> Result<(), AllocError>
+    ensures { OnOk result (string_bytes words.new ≡ string_bytes words.old ++ next_pair (name.now, value.now)) }
+{
+    let pair = pair_words(alloc, name, value)?;
+    words.push_str(" ")?;
+    words.push_str(pair.as_str())
 }
 
 /// The same as a line, as `show a=c:5 b=t:x`.

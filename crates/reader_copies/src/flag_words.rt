@@ -10,7 +10,7 @@ use safe_bit::Move;
 
 /// What sixty-four copies are: bit `k` of each word is a flag of copy `k`. All that an access to a copy looks at, and
 /// all that it changes, so lies in one place.
-#[derive(Clone, Copy, Debug)]
+#[derive(Clone, Copy)]
 pub(crate) struct Flags {
     value: u64,
     writing: u64,
