@@ -30,9 +30,7 @@ count_more store (x ∷ taken) t =
   where
     go : (b d : Bool) (n : ℕ) → cond b (suc (cond d (n + 1) n)) (cond d (n + 1) n) ≡ cond d (cond b (suc n) n + 1) (cond b (suc n) n)
     go true true n = omega arith
-    go true false n = refl
-    go false true n = refl
-    go false false n = refl
+    go _ _ n = refl
 
 -- what an entry's command is taken as
 abbrev pub taken_at : Setup → Past → Entry → Reply → Taken

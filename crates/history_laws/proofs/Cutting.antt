@@ -13,7 +13,7 @@ use Rattle.plain_store.specs.Store.{Contents}
 use Rattle.record.specs.declared.events.Event.{Event}
 use Rattle.record.specs.declared.marks.Mark.TheVariants.{Failed}
 use Rattle.record.specs.Calls.{call_number, last_command}
-use Rattle.record.specs.Closings.{Closing, Withdraws, Settles, Frees, Lowers, Quit, Ended, failing}
+use Rattle.record.specs.Closings.{Closing, Withdraws, Settles, failing}
 use Rattle.record.specs.Cuts.{Change, named, change_of}
 use Rattle.record.specs.Entries.{Entry, Past, own}
 use Rattle.record.specs.Failures.{cut, cut_at}
@@ -143,10 +143,7 @@ working-inside x fresh h = go (is_inside_at x fresh) refl
 closing-stays : (command : Command) (number : ℕ) (at : Closing) → may_fail (Closes command number at) ≡ true → is_working (Closes command number at) ≡ true → ⊥
 closing-stays command number (Withdraws w) may is = false≢true is
 closing-stays command number (Settles f bit begun taken b t) may is = false≢true may
-closing-stays command number (Frees b w) may is = false≢true is
-closing-stays command number (Lowers w) may is = false≢true is
-closing-stays command number Quit may is = false≢true is
-closing-stays command number Ended may is = false≢true is
+closing-stays command number _ may is = false≢true is
 
 -- what the unit begins with is known, and it settles the commit bit if that was being written
 abbrev BeginsAs : Setup → Past → ℕ → Doing → Type 0

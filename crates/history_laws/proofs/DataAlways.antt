@@ -6,7 +6,7 @@ use Rattle.plain_store.specs.declared.Command.{Command}
 use Rattle.plain_store.specs.declared.Setup.{Setup}
 use Rattle.plain_store.specs.Setups.{checked}
 use Rattle.record.specs.declared.events.Event.{Event}
-use Rattle.record.specs.Closings.{Closing, Withdraws, Settles, Frees, Lowers, Quit, Ended}
+use Rattle.record.specs.Closings.{Closing, Settles}
 use Rattle.record.specs.Entries.{Entry, Past}
 use Rattle.record.specs.Given.{AreGiven}
 use Rattle.record.specs.Histories.{history}
@@ -90,12 +90,7 @@ working_keeps s g events what e h works known = go (accepted s g events what e h
 
     closed : (command : Command) (number : ℕ) (at : Closing) → d ≡ Closes command number at → is_settling_inside at ≡ true → Keeps s past e
     closed command number (Settles f bit begun taken true t) does inside = settling-keeps s g events what e h command number f bit begun taken t does known
-    closed command number (Settles f bit begun taken false t) does inside = absurd (false≢true inside)
-    closed command number (Withdraws w) does inside = absurd (false≢true inside)
-    closed command number (Frees is w) does inside = absurd (false≢true inside)
-    closed command number (Lowers w) does inside = absurd (false≢true inside)
-    closed command number Quit does inside = absurd (false≢true inside)
-    closed command number Ended does inside = absurd (false≢true inside)
+    closed command number _ does inside = absurd (false≢true inside)
 
     go : Happens s past p e d (doing s p (e ∷ past)) → Keeps s past e
     go (a_call command number does none marks to) = absurd (false≢true (works_as Rests does))

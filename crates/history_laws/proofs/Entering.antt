@@ -88,10 +88,7 @@ pub closes-known : (s : Setup) (past : Past) (p : ℕ) (v : Versions) (store : C
     KnowsClosing s (call s p command number) v store m at → KnowsData s past p v store m t (closes command number at)
 closes-known s past p v store m t command number (Withdraws w) h = tt
 closes-known s past p v store m t command number (Settles f bit begun taken is x) h = h
-closes-known s past p v store m t command number (Frees is w) h = tt
-closes-known s past p v store m t command number (Lowers w) h = tt
-closes-known s past p v store m t command number Quit h = tt
-closes-known s past p v store m t command number Ended h = tt
+closes-known s past p v store m t command number _ h = tt
 
 -- the place after an access
 place-known : (s : Setup) (past past' : Past) (p : ℕ) (command : Command) (number : ℕ) (v v' : Versions) (store store' : Contents) (m m' : Wires) (t t' : ℕ → Touches) (at : Place) (b : Bool)
@@ -114,11 +111,7 @@ place-known s past past' p command number v v' store store' m m' t t' at b idle 
 idle-closing : (s : Setup) (c : Call) (v : Versions) (store : Contents) (m : Wires) (at : Closing) → is_settling_inside at ≡ false → SettlesInside at → KnowsClosing s c v store m at
 idle-closing s c v store m (Settles f bit begun taken true t) idle h = absurd (true≢false idle)
 idle-closing s c v store m (Settles f bit begun taken false t) idle h = let x = settled-outside f taken h in (x.1, x.0)
-idle-closing s c v store m (Withdraws w) idle h = tt
-idle-closing s c v store m (Frees is w) idle h = tt
-idle-closing s c v store m (Lowers w) idle h = tt
-idle-closing s c v store m Quit idle h = tt
-idle-closing s c v store m Ended idle h = tt
+idle-closing s c v store m _ idle h = tt
 
 -- it stays so
 after-idle : (c : Call) (at : Closing) (flick : Bool) → is_settling_inside at ≡ false → is_settling_inside (closing_after c at flick) ≡ false
@@ -172,11 +165,7 @@ idle-known s past p e d d' v v' store store' m m' t t' step idle closes' read h 
       where
         closing : (to : Closing) → d' ≡ closes command number to → is_settling_inside to ≡ false → K d'
         closing (Settles f bit begun taken is x) k idle = subst K (sym k) (idle-closing s (call s p command number) v' store' m' (Settles f bit begun taken is x) idle (subst ClosesInside k closes'))
-        closing (Withdraws w) k idle = subst K (sym k) tt
-        closing (Frees is w) k idle = subst K (sym k) tt
-        closing (Lowers w) k idle = subst K (sym k) tt
-        closing Quit k idle = subst K (sym k) tt
-        closing Ended k idle = subst K (sym k) tt
+        closing _ k idle = subst K (sym k) tt
 
 -- the unit that an entry begins, or goes on with, settles bits of versions for a process that is inside alone
 closes_then : (s : Setup) → IsGood s → (events : List Event) (what : Event) (e : Entry) → entry_of s (past_of s events) what ≡ Some e → (p : ℕ) → ClosesInside (doing s p (e ∷ past_of s events))

@@ -51,9 +51,7 @@ not-full s past what e = go (nat_lt (process_of what) s.processes) (refused_at w
 
     go : (b : Bool) (r : Option Refusal) (f : Bool) → entered b r f ≡ Some e → f ≡ false
     go true None false h = refl
-    go true None true h = cc
-    go true (Some x) f h = cc
-    go false r f h = cc
+    go _ _ _ h = cc
 
 -- so the next number has 16 bits
 next-number : (b : Bool) (n : ℕ) → (b && nat_le 65535 n) ≡ false → cond b (suc n) 0 < 2 ^ 16

@@ -10,7 +10,7 @@ use Rattle.plain_store.specs.declared.Reply.{Reply}
 use Rattle.plain_store.specs.declared.Setup.{Setup}
 use Rattle.plain_store.specs.Setups.{opening_store}
 use Rattle.plain_store.specs.Store.{Contents, changes}
-use Rattle.record.specs.Closings.{Closing, Withdraws, Settles, Frees, Lowers, Quit, Ended}
+use Rattle.record.specs.Closings.{Closing, Settles}
 use Rattle.record.specs.Entries.{Entry, Past}
 use Rattle.record.specs.Headline.{is_version, is_image, ends_read, before_image_read, count_changes}
 use Rattle.record.specs.Histories.{history, store_after}
@@ -53,9 +53,7 @@ pub record SameVersions (m m' : Wires) (t t' : ℕ → Touches) : Type 0 where
 pub full-kept : (s : Setup) (past past' : Past) (c : Call) (a : Answer) → before_image_read c.process past' ≡ before_image_read c.process past → IsStampsFull s past c a → IsStampsFull s past' c a
 full-kept s past past' c answer.StampsFull same h =
     subst (λ (y : Past). (changes (store_after s (history s y)) c.command ≡ true) × (count_changes (opening_store s) (history s y) ≡ max_of s.stamp_bits)) (sym same) h
-full-kept s past past' c (answer.Reply r) same h = tt
-full-kept s past past' c (answer.TicketsFull j) same h = tt
-full-kept s past past' c answer.Withdrawn same h = tt
+full-kept s past past' c _ same h = tt
 
 image-kept : (s : Setup) (c : Call) (v : Versions) (store : Contents) (m m' : Wires) (t t' : ℕ → Touches) → SameVersions m m' t t' → HasImage s c v store m → HasImage s c v store m'
 image-kept s c v store m m' t t' same h =
@@ -109,11 +107,7 @@ closing-kept s c v store m m' t t' (Settles Stamp0 bit begun taken true x) same 
 closing-kept s c v store m m' t t' (Settles Stamp1 bit begun taken true x) same h = h
 closing-kept s c v store m m' t t' (Settles Image0 bit begun taken true x) same h = h
 closing-kept s c v store m m' t t' (Settles Image1 bit begun taken true x) same h = h
-closing-kept s c v store m m' t t' (Withdraws w) same h = tt
-closing-kept s c v store m m' t t' (Frees is w) same h = tt
-closing-kept s c v store m m' t t' (Lowers w) same h = tt
-closing-kept s c v store m m' t t' Quit same h = tt
-closing-kept s c v store m m' t t' Ended same h = tt
+closing-kept s c v store m m' t t' _ same h = tt
 
 -- whatever is done, while the versions are the same
 pub known-kept : (s : Setup) (past past' : Past) (p : ℕ) (v : Versions) (store : Contents) (m m' : Wires) (t t' : ℕ → Touches) (d : Doing) → SameVersions m m' t t' →
@@ -153,11 +147,7 @@ outside-kept s past past' p v v' store store' m m' t t' (Closes command number a
     go : (at : Closing) → is_inside (Closes command number at) ≡ false → KnowsClosing s c v store m at → KnowsClosing s c v' store' m' at
     go (Settles f bit begun taken false x) out h = h
     go (Settles f bit begun taken true x) out h = absurd (true≢false out)
-    go (Withdraws w) out h = tt
-    go (Frees is w) out h = tt
-    go (Lowers w) out h = tt
-    go Quit out h = tt
-    go Ended out h = tt
+    go _ out h = tt
 
 -- Of an entry.
 

@@ -16,7 +16,7 @@ use Rattle.record.specs.Entries.{Entry, Past}
 use Rattle.record.specs.Headline.{is_version, is_image, ends_read, before_image_read}
 use Rattle.record.specs.Histories.{history, reply_taken, store_after}
 use Rattle.record.specs.Moves.{valued}
-use Rattle.record.specs.Parts.{Part, Refuses, Waits, AsksCommit, AsksStamp, AsksImage, WritesImage, WritesStamp, WritesCommit, Clears, first_marks, last_marks}
+use Rattle.record.specs.Parts.{Part, Waits, AsksCommit, AsksStamp, AsksImage, WritesImage, WritesStamp, WritesCommit, Clears, first_marks, last_marks}
 use Rattle.record.specs.Parts as part
 use Rattle.record.specs.Places.{Run, Writing, Reading, is_fresh, is_last, bits_with, access_at, marks_of, value_of}
 use Rattle.record.specs.Program.{Wait, entered_if_none, lets_by, waits_of}
@@ -86,11 +86,7 @@ idle-free (Closes command number at) h c = go at h c
     go : (at : Closing) → is_settling_inside at ≡ false → SettlesInside at → is_busy (Closes command number at) ≡ false
     go (Settles f bit begun taken true t) h c = absurd (true≢false h)
     go (Settles f bit begun taken false t) h c = version-commit f (settled-outside f taken c).0
-    go (Withdraws w) h c = refl
-    go (Frees is w) h c = refl
-    go (Lowers w) h c = refl
-    go Quit h c = refl
-    go Ended h c = refl
+    go _ h c = refl
 
 -- It takes nothing.
 
@@ -121,8 +117,6 @@ last-none c (part.Lowers t) bits h = entered-none (waits_of c)
 last-none c (Waits t w ws) bits h = either-none (lets_by c t w bits) (entered_if_none ws) (entered-none ws)
 last-none c (AsksImage vs) bits h = absurd (true≢false h)
 last-none c (WritesCommit vs st) bits h = absurd (true≢false h)
-last-none c (Refuses f) bits h = refl
-last-none c (Clears a) bits h = refl
 last-none c _ bits h = refl
 
 closing-none : (c : Call) (at : Closing) (flick : Bool) (n : Next) → closing_next c at flick ≡ Some n → is_settling_inside at ≡ false → SettlesInside at → reply_taken n.marks ≡ None
@@ -187,10 +181,7 @@ closing-apart c at flick n next idle is = go at next idle is
     go : (at : Closing) → closing_next c at flick ≡ Some n → is_settling_inside at ≡ false → is_inside_closing at ≡ true → is_version n.access.field ≡ false
     go (Frees was w) k idle is = of_next _ k refl
     go (Settles f bit begun taken was t) k idle is = absurd (true≢false (sym is ∙ idle))
-    go (Withdraws w) k idle is = absurd (false≢true is)
-    go (Lowers w) k idle is = absurd (false≢true is)
-    go Quit k idle is = absurd (false≢true is)
-    go Ended k idle is = absurd (false≢true is)
+    go _ k idle is = absurd (false≢true is)
 
 inside-apart : (s : Setup) (past : Past) (p : ℕ) (e : Entry) (d d' : Doing) → Step s past p e d d' → is_working d ≡ false → is_inside d ≡ true → IsApart e
 inside-apart s past p e d d' (calls command number i none k) idle is a acc = let f : None ≡ Some a = sym none ∙ acc in cc

@@ -18,7 +18,7 @@ use Rattle.record.specs.Records.{entry_of, past_of}
 use Rattle.record.specs.Registers.{processes}
 use Rattle.record.specs.Stages.{inside}
 use Rattle.record.proofs.Width.{IsGood}
-use Rattle.laws.specs.Doings.{Doing, Rests, Lies, Runs, Closes, call, doing}
+use Rattle.laws.specs.Doings.{Doing, Runs, call, doing}
 use Rattle.laws.specs.LockLaws.{is_taken}
 use Rattle.laws.proofs.Alone.{alone}
 use Rattle.laws.proofs.Always.{inv_of}
@@ -52,22 +52,11 @@ stamps_count s good events given p stamp below h = at (doing s p past) (kept_dat
     at_part command number (part.WritesImage vs st) run k h = counted vs k.versions_read h
     at_part command number (part.WritesStamp vs st) run k h = counted vs k.0.versions_read h
     at_part command number (part.WritesCommit vs st) run k h = counted vs k.0.versions_read h
-    at_part command number part.Raises run k h = cc
-    at_part command number (part.Asks j js ts) run k h = cc
-    at_part command number (part.TakesTicket t) run k h = cc
-    at_part command number (part.Lowers t) run k h = cc
-    at_part command number (part.Refuses q) run k h = cc
-    at_part command number (part.Waits t w ws) run k h = cc
-    at_part command number (part.AsksCommit q ks vs) run k h = cc
-    at_part command number (part.AsksStamp q ks vs b) run k h = cc
-    at_part command number (part.Clears a) run k h = cc
-    at_part command number part.Over run k h = cc
+    at_part command number _ run k h = cc
 
     at : (d : Doing) → KnowsData s past p (versions s past) (store_of s past) (wires s past p) (λ o. touches s past o p) d → stamp_read d ≡ Some stamp → stamp ≡ count_changes (opening_store s) (history s past)
     at (Runs command number here) k h = at_part command number here.part here.run k h
-    at Rests k h = cc
-    at Lies k h = cc
-    at (Closes command number here) k h = cc
+    at _ k h = cc
 
 -- no command is taken with these marks
 none_taken : (marks : List Mark) → Rattle.std.specs.List.list_any is_taken marks ≡ false → reply_taken marks ≡ None

@@ -13,7 +13,7 @@ use Rattle.plain_store.specs.declared.Setup.{Setup}
 use Rattle.plain_store.specs.Store.{Contents, after}
 use Rattle.record.specs.declared.events.Event.{Event}
 use Rattle.record.specs.Calls.{last_call}
-use Rattle.record.specs.Closings.{Closing, Withdraws, Settles, Frees, Lowers, Quit, Ended, closing_after, closing_next, freeing, is_last_settled, settled_marks}
+use Rattle.record.specs.Closings.{Closing, Settles, closing_after, closing_next, freeing, is_last_settled, settled_marks}
 use Rattle.record.specs.Entries.{Entry, Past, own}
 use Rattle.record.specs.Histories.{history, reply_taken}
 use Rattle.record.specs.Moves.{ended_with, moves_of, valued}
@@ -239,11 +239,7 @@ closing_keeps s g events what e command number (Settles f b begun taken true t) 
     is : n ≡ made
     is = let f : Some made ≡ Some n = next in cc
 closing_keeps s g events what e command number (Settles f b begun taken false t) flick n h was inside next access same marks then known = absurd (false≢true inside)
-closing_keeps s g events what e command number (Withdraws w) flick n h was inside next access same marks then known = absurd (false≢true inside)
-closing_keeps s g events what e command number (Frees is w) flick n h was inside next access same marks then known = absurd (false≢true inside)
-closing_keeps s g events what e command number (Lowers w) flick n h was inside next access same marks then known = absurd (false≢true inside)
-closing_keeps s g events what e command number Quit flick n h was inside next access same marks then known = absurd (false≢true inside)
-closing_keeps s g events what e command number Ended flick n h was inside next access same marks then known = absurd (false≢true inside)
+closing_keeps s g events what e command number _ flick n h was inside next access same marks then known = absurd (false≢true inside)
 
 -- A step of a memory unit that settles a bit of a process that was inside keeps the data.
 pub settling-keeps : (s : Setup) → IsGood s → (events : List Event) (what : Event) (e : Entry) → let past : Past = past_of s events in

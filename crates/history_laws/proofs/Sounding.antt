@@ -41,10 +41,7 @@ name_good Ask name good named = cc
 absent_good : (room : Bool) (last : ℕ) (command : Command) (x : Value) → is_command command ≡ true → (at_absent room last command).written ≡ Some x → is_value x ≡ true
 absent_good room last (Read n) x good written = none_is_some x written
 absent_good true last (Write n y) x good written = ap is_value (sym (same_some y x written)) ∙ (and_parts (is_name n) (is_value y) good).1
-absent_good false last (Write n y) x good written = none_is_some x written
-absent_good room last (Add n d) x good written = none_is_some x written
-absent_good room last (Cas n y z) x good written = none_is_some x written
-absent_good room last Ask x good written = none_is_some x written
+absent_good _ last _ x good written = none_is_some x written
 
 -- a sum that is written fits
 sum_good : (a d : ℤ) (x : Value) → (added (Count a) d).written ≡ Some x → is_value x ≡ true

@@ -150,9 +150,7 @@ latest_is m p store (t ∷ h) last up none there =
 
     parts : (a b c : Bool) → (a && b && c) ≡ true → (a ≡ true) × (b ≡ true) × (c ≡ true)
     parts true true true h = (refl, refl, refl)
-    parts true true false h = cc
-    parts true false c h = cc
-    parts false b c h = cc
+    parts _ _ _ h = cc
 
     go : (b : Bool) → is_hit p (λ n. n == m) store t ≡ b → (b || has_change p (λ n. n == m) (then store t) h) ≡ true →
         let next : ℕ = latest_change p (then store t) h (cond ((t.process == p) && changes store t.command) t.number last) in

@@ -131,9 +131,7 @@ silent-tells taken d d' ms s h answers done = record {
 
 answer-few : (a : Answer) (taken : List (ℕ × Reply)) → IsAnswerTo a taken → length taken < 2
 answer-few (answer.Reply r) taken h = let n : length taken ≡ 1 = ap length h.1 in omega (arith, n)
-answer-few (answer.TicketsFull j) taken h = few taken h
-answer-few answer.StampsFull taken h = few taken h
-answer-few answer.Withdrawn taken h = few taken h
+answer-few _ taken h = few taken h
 
 pub part-few : (part : Part) (taken : List (ℕ × Reply)) → TookAt part taken → length taken < 2
 part-few (Clears a) taken h = answer-few a taken h

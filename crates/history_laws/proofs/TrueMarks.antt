@@ -5,7 +5,7 @@ use Rattle.std.proofs.lemmas.Bool.{false≢true, true≢false}
 use Rattle.record.specs.reader_copies.Runs as copies
 use Rattle.record.specs.declared.access.Access.{Access}
 use Rattle.record.specs.declared.access.Field.{Field}
-use Rattle.record.specs.declared.access.Field.TheVariants.{Choosing, Ticket, Commit, Stamp0, Stamp1, Image0, Image1}
+use Rattle.record.specs.declared.access.Field.TheVariants.{Commit}
 use Rattle.plain_store.specs.declared.Answer.TheVariants as answer
 use Rattle.plain_store.specs.declared.Command.{Command}
 use Rattle.plain_store.specs.declared.Reply.{Reply}
@@ -150,12 +150,7 @@ settling_known : (s : Setup) (c : Call) (v : Versions) (store : Contents) (m : W
     KnowsClosing s c v store m (Settles f bit begun taken is t) → (r : Reply) → taken ≡ Some r → r ≡ reply c store
 settling_known s c v store m f bit begun false taken t h r k = none_taken taken r h.0 k
 settling_known s c v store m Commit bit begun true taken t h r k = let f : Some r ≡ Some (reply c store) = sym k ∙ h.reply_is in cc
-settling_known s c v store m Choosing bit begun true taken t h r k = none_taken taken r h.0 k
-settling_known s c v store m Ticket bit begun true taken t h r k = none_taken taken r h.0 k
-settling_known s c v store m Stamp0 bit begun true taken t h r k = none_taken taken r h.0 k
-settling_known s c v store m Stamp1 bit begun true taken t h r k = none_taken taken r h.0 k
-settling_known s c v store m Image0 bit begun true taken t h r k = none_taken taken r h.0 k
-settling_known s c v store m Image1 bit begun true taken t h r k = none_taken taken r h.0 k
+settling_known s c v store m _ bit begun true taken t h r k = none_taken taken r h.0 k
 
 closing_true : (s : Setup) (past : Past) (c : Call) (m : Wires) (at : Closing) (flick : Bool) (n : Next) → closing_next c at flick ≡ Some n → KnowsClosing s c (versions s past) (store_of s past) m at → AreTrue s past c n.marks
 closing_true s past c m at flick n next h = go at next h

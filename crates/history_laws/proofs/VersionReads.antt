@@ -14,7 +14,7 @@ use Rattle.record.specs.safe_number.Runs.{new_write}
 use Rattle.plain_store.specs.declared.Command.{Command}
 use Rattle.plain_store.specs.declared.Setup.{Setup}
 use Rattle.record.specs.declared.events.Event.{Event}
-use Rattle.record.specs.Closings.{Closing, Withdraws, Settles, Frees, Lowers, Quit, Ended, closing_after}
+use Rattle.record.specs.Closings.{Closing, Withdraws, closing_after}
 use Rattle.record.specs.Entries.{Entry, Past}
 use Rattle.record.specs.Histories.{history}
 use Rattle.record.specs.Headline.{ends_read, is_version}
@@ -117,11 +117,7 @@ untouched_runs s t p command number at h = go (is_over at.part)
 
 untouched_closes : (s : Setup) (t : ℕ → Touches) (p : ℕ) (command : Command) (number : ℕ) (at : Closing) → IsUntouchedBy s t p (closes command number at)
 untouched_closes s t p command number (Withdraws w) = tt
-untouched_closes s t p command number (Settles f bit begun taken is x) = tt
-untouched_closes s t p command number (Frees is w) = tt
-untouched_closes s t p command number (Lowers w) = tt
-untouched_closes s t p command number Quit = tt
-untouched_closes s t p command number Ended = tt
+untouched_closes s t p command number _ = tt
 
 -- Where it begins, no write of the copy is open: its writer would be inside too.
 begins_untouched : (s : Setup) → IsGood s → (events : List Event) (event : Event) (e : Entry) → entry_of s (past_of s events) event ≡ Some e →

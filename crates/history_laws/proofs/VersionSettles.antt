@@ -7,7 +7,7 @@ use Rattle.record.specs.safe_bit.SafeRule.{read_value}
 use Rattle.record.specs.safe_bit.declared.Move.TheVariants.{BeginWrite, EndWrite, Settle}
 use Rattle.record.specs.declared.access.Access.{Access}
 use Rattle.record.specs.declared.access.Field.{Field}
-use Rattle.record.specs.declared.access.Field.TheVariants.{Choosing, Ticket, Commit, Stamp0, Stamp1, Image0, Image1}
+use Rattle.record.specs.declared.access.Field.TheVariants.{Commit}
 use Rattle.record.specs.Accesses.{access_of}
 use Rattle.plain_store.specs.declared.Command.{Command}
 use Rattle.plain_store.specs.declared.Reply.{Reply}
@@ -167,23 +167,13 @@ register_settles s p f d d' v store busy busy' m m' apart idle one turns k = kep
 pub register_known : (s : Setup) (c : Call) (v : Versions) (store : Contents) (m : Wires) (f : Field) (b : ℕ) (begun : Bool) (taken : Option Reply) (t : copies.Settling) → is_commit_field f ≡ false → KnowsSettling s c v store m f b begun taken t →
     (taken ≡ None) × IsUncommitted v c.process f
 register_known s c v store m Commit b begun taken t e h = absurd (true≢false e)
-register_known s c v store m Choosing b begun taken t e h = h
-register_known s c v store m Ticket b begun taken t e h = h
-register_known s c v store m Stamp0 b begun taken t e h = h
-register_known s c v store m Stamp1 b begun taken t e h = h
-register_known s c v store m Image0 b begun taken t e h = h
-register_known s c v store m Image1 b begun taken t e h = h
+register_known s c v store m _ b begun taken t e h = h
 
 -- it depends neither on the registers nor on the cursor
 register_knows : (s : Setup) (c : Call) (v : Versions) (store : Contents) (m' : Wires) (f : Field) (b : ℕ) (begun : Bool) (taken : Option Reply) (t' : copies.Settling) → is_commit_field f ≡ false → (taken ≡ None) × IsUncommitted v c.process f →
     KnowsSettling s c v store m' f b begun taken t'
 register_knows s c v store m' Commit b begun taken t' e h = absurd (true≢false e)
-register_knows s c v store m' Choosing b begun taken t' e h = h
-register_knows s c v store m' Ticket b begun taken t' e h = h
-register_knows s c v store m' Stamp0 b begun taken t' e h = h
-register_knows s c v store m' Stamp1 b begun taken t' e h = h
-register_knows s c v store m' Image0 b begun taken t' e h = h
-register_knows s c v store m' Image1 b begun taken t' e h = h
+register_knows s c v store m' _ b begun taken t' e h = h
 
 pub register_settles_on : (s : Setup) (c : Call) (v : Versions) (store : Contents) (m m' : Wires) (f : Field) (b : ℕ) (begun : Bool) (taken : Option Reply) (t : copies.Settling) (flick : Bool) → is_commit_field f ≡ false → KnowsSettling s c v store m f b begun taken t →
     KnowsClosing s c v store m' (closing_after c (Settles f b begun taken true t) flick)

@@ -71,12 +71,7 @@ ascending n i j d less long =
 
 waits-is : (st : Stage) → is_waiting_stage st ≡ true → st ≡ stages.Waiting
 waits-is stages.Waiting h = refl
-waits-is stages.Idle h = cc
-waits-is stages.Doorway h = cc
-waits-is stages.Inside h = cc
-waits-is stages.Leaving h = cc
-waits-is stages.Settling h = cc
-waits-is stages.Down h = cc
+waits-is _ h = cc
 
 list-is : (s : Setup) (p : ℕ) (past : Past) → is_queued (stage p past) ≡ true → ahead s p past ≡ filter (λ j. is_ahead past j p) (processes s)
 list-is s p past q = ap (λ b. elim b as (λ _. List ℕ) [ true ↦ filter (λ j. is_ahead past j p) (processes s) | false ↦ [] ]) q

@@ -3,7 +3,7 @@ use Rattle.std.proofs.Common.{◌≡◌, ℕ, Bool, true, false, cond, List, [],
 use Rattle.record.specs.reader_copies.Runs as copies
 use Rattle.record.specs.reader_copies.Written.{IsWrite}
 use Rattle.record.specs.declared.access.Access.{Access}
-use Rattle.record.specs.declared.access.Field.TheVariants.{Choosing, Ticket, Commit, Stamp0, Stamp1, Image0, Image1}
+use Rattle.record.specs.declared.access.Field.TheVariants.{Choosing, Ticket}
 use Rattle.plain_store.specs.declared.Command.{Command}
 use Rattle.plain_store.specs.declared.Setup.{Setup}
 use Rattle.record.specs.declared.events.Event.{Event}
@@ -12,7 +12,7 @@ use Rattle.record.specs.Closings as closing
 use Rattle.record.specs.Entries.{Entry, Past}
 use Rattle.record.specs.Headline.{is_version}
 use Rattle.record.specs.Moves.{valued}
-use Rattle.record.specs.Parts.{Part, Raises, Asks, TakesTicket, Lowers, Refuses, Waits, AsksCommit, AsksStamp, AsksImage, WritesImage, WritesStamp, WritesCommit, Clears, Over, is_over, read_at, written_at}
+use Rattle.record.specs.Parts.{Part, Lowers, Waits, AsksCommit, AsksStamp, AsksImage, WritesImage, WritesStamp, WritesCommit, is_over, read_at, written_at}
 use Rattle.record.specs.Places.{Place, Run, Writing, Reading, is_fresh, access_at, place_after, value_of, write_moved}
 use Rattle.record.specs.Program.{Wait}
 use Rattle.record.specs.Records.{entry_of, past_of}
@@ -49,17 +49,7 @@ pub version-written : (c : Call) (part : Part) (fresh : Bool) → is_version (wr
 version-written c (WritesImage vs st) fresh h = refl
 version-written c (WritesStamp vs st) fresh h = refl
 version-written c (WritesCommit vs st) fresh h = refl
-version-written c Raises fresh h = absurd (true≢false (sym h))
-version-written c (Asks j js ts) fresh h = absurd (true≢false (sym h))
-version-written c (TakesTicket t) fresh h = absurd (true≢false (sym h))
-version-written c (Lowers t) fresh h = absurd (true≢false (sym h))
-version-written c (Refuses f) fresh h = absurd (true≢false (sym h))
-version-written c (Waits t w ws) fresh h = absurd (true≢false (sym h))
-version-written c (AsksCommit k ks vs) fresh h = absurd (true≢false (sym h))
-version-written c (AsksStamp k ks vs b) fresh h = absurd (true≢false (sym h))
-version-written c (AsksImage vs) fresh h = absurd (true≢false (sym h))
-version-written c (Clears a) fresh h = absurd (true≢false (sym h))
-version-written c Over fresh h = absurd (true≢false (sym h))
+version-written c _ fresh h = absurd (true≢false (sym h))
 
 cut-inside : (s : Setup) (p : ℕ) (c : Call) (cl : Closing) {d : Doing} → IsCut s p c cl d → SettlesInside cl
 cut-inside s p c cl (at_rest e) = subst SettlesInside (sym e) tt
@@ -74,10 +64,7 @@ cut-inside s p c cl (clearing command number w bit begun t e u) = subst SettlesI
 on-closes : (command : Command) (number : ℕ) (at : Closing) → SettlesInside at → ClosesInside (closes command number at)
 on-closes command number (Withdraws w) h = tt
 on-closes command number (Settles f bit begun taken is t) h = h
-on-closes command number (Frees is w) h = tt
-on-closes command number (closing.Lowers w) h = tt
-on-closes command number Quit h = tt
-on-closes command number Ended h = tt
+on-closes command number _ h = tt
 
 on-runs : (command : Command) (number : ℕ) (at : Place) → ClosesInside (runs command number at)
 on-runs command number at = go (is_over at.part)
@@ -128,27 +115,14 @@ closes_inside s g = own-induction s (λ (past : Past) (p : ℕ). ClosesInside (d
 waits-apart : (held_at since : ℕ) (from to : ℕ → ℕ) (w : Wait) (ws : List Wait) (j : ℕ) (js : List ℕ) → IsWait held_at since from to w ws j js → is_version w.1 ≡ false
 waits-apart held_at since from to (i, Choosing) ws j js h = refl
 waits-apart held_at since from to (i, Ticket) ws j js h = refl
-waits-apart held_at since from to (i, Commit) ws j js h = absurd h
-waits-apart held_at since from to (i, Stamp0) ws j js h = absurd h
-waits-apart held_at since from to (i, Stamp1) ws j js h = absurd h
-waits-apart held_at since from to (i, Image0) ws j js h = absurd h
-waits-apart held_at since from to (i, Image1) ws j js h = absurd h
+waits-apart held_at since from to _ ws j js h = absurd h
 
 version-read : (s : Setup) (p : ℕ) (c : Call) (n : Notes) (part : Part) (fresh : Bool) → StandsAt s p n part fresh → is_version (read_at c part).1 ≡ true → is_inside_at part fresh ≡ true
 version-read s p c n (Waits t w ws) fresh st h = absurd (true≢false (sym h ∙ waits-apart _ _ _ _ w ws st.now st.next st.wait))
 version-read s p c n (AsksCommit k ks vs) fresh st h = refl
 version-read s p c n (AsksStamp k ks vs b) fresh st h = refl
 version-read s p c n (AsksImage vs) fresh st h = refl
-version-read s p c n Raises fresh st h = absurd (true≢false (sym h))
-version-read s p c n (Asks j js ts) fresh st h = absurd (true≢false (sym h))
-version-read s p c n (TakesTicket t) fresh st h = absurd (true≢false (sym h))
-version-read s p c n (Lowers t) fresh st h = absurd (true≢false (sym h))
-version-read s p c n (Refuses f) fresh st h = absurd (true≢false (sym h))
-version-read s p c n (WritesImage vs x) fresh st h = absurd (true≢false (sym h))
-version-read s p c n (WritesStamp vs x) fresh st h = absurd (true≢false (sym h))
-version-read s p c n (WritesCommit vs x) fresh st h = absurd (true≢false (sym h))
-version-read s p c n (Clears a) fresh st h = absurd (true≢false (sym h))
-version-read s p c n Over fresh st h = absurd (true≢false (sym h))
+version-read s p c n _ fresh st h = absurd (true≢false (sym h))
 
 pub version-at : (s : Setup) (p : ℕ) (c : Call) (n : Notes) (part : Part) (run : Run) → StandsAt s p n part (is_fresh run) → is_version (access_at c part run).field ≡ true → is_inside_at part (is_fresh run) ≡ true
 version-at s p c n part (Writing w) st h = version-written c part (is_fresh (Writing w)) h

@@ -62,11 +62,7 @@ AtPlace Q (Closes command number at) = Unit {0}
 
 pub at_place-closes : (Q : Command → ℕ → Place → Type 0) (command : Command) (number : ℕ) (at : Closing) → AtPlace Q (closes command number at)
 at_place-closes Q command number (Withdraws w) = tt
-at_place-closes Q command number (Settles f bit begun taken is t) = tt
-at_place-closes Q command number (Frees is w) = tt
-at_place-closes Q command number (Lowers w) = tt
-at_place-closes Q command number Quit = tt
-at_place-closes Q command number Ended = tt
+at_place-closes Q command number _ = tt
 
 pub at_place-runs : (Q : Command → ℕ → Place → Type 0) (command : Command) (number : ℕ) (at : Place) → (is_over at.part ≡ false → Q command number at) → AtPlace Q (runs command number at)
 at_place-runs Q command number at h = go (is_over at.part) h

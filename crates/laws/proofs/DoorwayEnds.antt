@@ -11,7 +11,7 @@ use Rattle.record.specs.declared.marks.Mark.TheVariants.{Waiting, Taken, Answere
 use Rattle.record.specs.Entries.{Entry, Past, has, is_waiting}
 use Rattle.record.specs.Headline.{tickets_read}
 use Rattle.record.specs.Histories.{history}
-use Rattle.record.specs.Parts.{Part, Raises, Asks, TakesTicket, Lowers, Refuses, Waits, AsksCommit, AsksStamp, AsksImage, WritesImage, WritesStamp, WritesCommit, Clears, Over, first_marks, last_marks}
+use Rattle.record.specs.Parts.{Part, Lowers, Refuses, Waits, AsksImage, Clears, first_marks, last_marks}
 use Rattle.record.specs.Places.{is_fresh, is_last, bits_with, value_of}
 use Rattle.record.specs.Program.{Wait, entered_if_none, lets_by, reply, store_read, waits_of}
 use Rattle.record.specs.Records.{entry_of, past_of, placed}
@@ -44,9 +44,7 @@ placed-entered k (w ∷ ws) = refl
 
 no_full : (a : Answer) → is_full a ≡ false → list_any ends_doorway (Answered a ∷ []) ≡ false
 no_full (answer.TicketsFull j) h = absurd (true≢false h)
-no_full answer.StampsFull h = refl
-no_full answer.Withdrawn h = refl
-no_full (answer.Reply r) h = refl
+no_full _ h = refl
 
 -- nothing marks the first access
 unmarked : (b : Bool) (ms : List Mark) → (cond {A = List Mark} b [] [] ++ ms) ≡ ms
@@ -70,15 +68,7 @@ part-ends s p c (AsksImage vs) bits values e k fresh h x m = absurd (true≢fals
     go : (b : Bool) → list_any ends_doorway (cond b [] (Taken 0 (reply c (store_read c bits)) ∷ [])) ≡ false
     go true = refl
     go false = refl
-part-ends s p c (WritesCommit vs st) bits values e k fresh h x m = absurd (true≢false (sym h))
-part-ends s p c Raises bits values e k fresh h x m = absurd (true≢false (sym h))
-part-ends s p c (Asks j js ts) bits values e k fresh h x m = absurd (true≢false (sym h))
-part-ends s p c (TakesTicket t) bits values e k fresh h x m = absurd (true≢false (sym h))
-part-ends s p c (AsksCommit i is vs) bits values e k fresh h x m = absurd (true≢false (sym h))
-part-ends s p c (AsksStamp i is vs b) bits values e k fresh h x m = absurd (true≢false (sym h))
-part-ends s p c (WritesImage vs st) bits values e k fresh h x m = absurd (true≢false (sym h))
-part-ends s p c (WritesStamp vs st) bits values e k fresh h x m = absurd (true≢false (sym h))
-part-ends s p c Over bits values e k fresh h x m = absurd (true≢false (sym h))
+part-ends s p c _ bits values e k fresh h x m = absurd (true≢false (sym h))
 
 happens-ends : (s : Setup) (past : Past) (p : ℕ) (e : Entry) → Happens s past p e (doing s p past) (doing s p (e ∷ past)) → AtPlace (KnowsAt s past p) (doing s p past) → has ends_doorway e ≡ true →
     EndsWith s p (read_in_call s p past).finished e
@@ -132,9 +122,6 @@ ticket-ends _ h = absurd (true≢false (sym h))
 
 full-ends : (j : ℕ) (m : Mark) → tells_full j m ≡ true → ends_doorway m ≡ true
 full-ends j (Answered (answer.TicketsFull f)) h = refl
-full-ends j (Answered answer.StampsFull) h = absurd (true≢false (sym h))
-full-ends j (Answered answer.Withdrawn) h = absurd (true≢false (sym h))
-full-ends j (Answered (answer.Reply r)) h = absurd (true≢false (sym h))
 full-ends j _ h = absurd (true≢false (sym h))
 
 entered-full : (j : ℕ) (ws : List Wait) → list_any (tells_full j) (entered_if_none ws) ≡ false

@@ -11,7 +11,7 @@ use Rattle.record.specs.declared.marks.Mark.TheVariants.{Taken}
 use Rattle.record.specs.Doorways.{raises, begins_doorway}
 use Rattle.record.specs.Entries.{Entry, is_waiting}
 use Rattle.record.specs.Moves.{ended, ended_with}
-use Rattle.record.specs.Parts.{Part, Raises, Asks, TakesTicket, Lowers, Refuses, Waits, AsksCommit, AsksStamp, AsksImage, WritesImage, WritesStamp, WritesCommit, Clears, Over, is_over, last_marks, to_b, to_d, to_e, to_g, part_after}
+use Rattle.record.specs.Parts.{Part, Raises, Asks, TakesTicket, Lowers, Refuses, Waits, AsksCommit, AsksStamp, AsksImage, WritesImage, Clears, is_over, last_marks, to_b, to_d, to_e, to_g, part_after}
 use Rattle.record.specs.Places.{Place, Run, Writing, Reading, is_fresh, is_last, bits_with, enter, run_after, access_at, place_after}
 use Rattle.record.specs.Program.{Version, Wait, entered_if_none, greatest, max_of, first_full, lets_by, newest_stamp, reply, store_read, waits_of}
 use Rattle.record.specs.Registers.{others, processes}
@@ -84,11 +84,7 @@ begun-after c (Waits t w ws) bits fresh = (begun-to_d c t (cond (lets_by c t w b
 begun-after c (AsksCommit k ks vs) bits fresh = refl
 begun-after c (AsksStamp k ks vs b) bits fresh = (begun-to_e ks _ fresh).0
 begun-after c (AsksImage vs) bits fresh = (begun-to_g c vs (store_read c bits) fresh).0
-begun-after c (WritesImage vs st) bits fresh = refl
-begun-after c (WritesStamp vs st) bits fresh = refl
-begun-after c (WritesCommit vs st) bits fresh = refl
-begun-after c (Clears a) bits fresh = refl
-begun-after c Over bits fresh = refl
+begun-after c _ bits fresh = refl
 
 finished-after : (c : Call) (part : Part) (bits : List Bool) → is_over (part_after c part bits) ≡ false → has_finished (part_after c part bits) ≡ (has_finished part || is_lowering part)
 finished-after c Raises bits o = (begun-to_b c (others c.setup c.process) [] true).1
@@ -100,11 +96,7 @@ finished-after c (Waits t w ws) bits o = (begun-to_d c t (cond (lets_by c t w bi
 finished-after c (AsksCommit k ks vs) bits o = refl
 finished-after c (AsksStamp k ks vs b) bits o = (begun-to_e ks _ true).1
 finished-after c (AsksImage vs) bits o = (begun-to_g c vs (store_read c bits) true).1
-finished-after c (WritesImage vs st) bits o = refl
-finished-after c (WritesStamp vs st) bits o = refl
-finished-after c (WritesCommit vs st) bits o = refl
-finished-after c (Clears a) bits o = refl
-finished-after c Over bits o = refl
+finished-after c _ bits o = refl
 
 pub begun-next : (c : Call) (at : Place) (v : Bool) → has_begun (place_after c at v).part (is_fresh (place_after c at v).run) ≡ true
 begun-next c at v = go (is_last c at.part at.run)
@@ -188,9 +180,6 @@ waiting-last c (AsksImage vs) bits = go (changes (store_read c bits) c.command)
     go : (b : Bool) → list_any is_waiting (cond b [] (Taken 0 (reply c (store_read c bits)) ∷ [])) ≡ false
     go true = refl
     go false = refl
-waiting-last c (Refuses f) bits = refl
-waiting-last c (WritesCommit vs st) bits = refl
-waiting-last c (Clears a) bits = refl
 waiting-last c _ bits = refl
 
 -- the first access of the announcement begins the doorway

@@ -50,12 +50,7 @@ field_of n = cond (n == 0) Choosing (cond (n == 1) Ticket (cond (n == 2) Commit 
 
 field_told : (f : Field) → field_of (field_number f) ≡ f
 field_told Choosing = refl
-field_told Ticket = refl
-field_told Commit = refl
-field_told Stamp0 = refl
-field_told Stamp1 = refl
-field_told Image0 = refl
-field_told Image1 = refl
+field_told _ = refl
 
 pub field-same : (f g : Field) → (field_number f == field_number g) ≡ true → f ≡ g
 field-same f g h = sym (field_told f) ∙ ap field_of (eqb-true (field_number f) (field_number g) h) ∙ field_told g
@@ -73,10 +68,7 @@ not_true false h = refl
 
 all_four : (k r o f : Bool) → (k && r && o && f) ≡ true → (k ≡ true) × (r ≡ true) × (o ≡ true) × (f ≡ true)
 all_four true true true true h = (refl, refl, refl, refl)
-all_four true true true false h = cc
-all_four true true false f h = cc
-all_four true false o f h = cc
-all_four false r o f h = cc
+all_four _ _ _ _ h = cc
 
 pub on-copy : (x : Access) (o : ℕ) (f : Field) (k r : ℕ) → same_bit (copy o f r k) x ≡ true → OnCopy x o f k r
 on-copy x o f k r h =

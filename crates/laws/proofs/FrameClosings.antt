@@ -9,7 +9,7 @@ use Rattle.record.specs.declared.events.Event.{Event}
 use Rattle.record.specs.declared.marks.Mark.TheVariants.{Failed, Withdrew}
 use Rattle.record.specs.declared.stages.Stage.TheVariants as stages
 use Rattle.record.specs.Calls.{last_call, last_command, call_number}
-use Rattle.record.specs.Closings.{Closing, Withdraws, Settles, Frees, Lowers, Quit, Ended, withdrawing, failing, closing_next, closing_after, closing_stage}
+use Rattle.record.specs.Closings.{Closing, Withdraws, Settles, Frees, Lowers, Quit, Ended, withdrawing, failing, closing_after, closing_stage}
 use Rattle.record.specs.Entries.{Entry, Past, own, has, since, before, starts, is_failed}
 use Rattle.record.specs.Moves.{moves_of}
 use Rattle.record.specs.Records.{last_start, past_of, stepped}
@@ -23,7 +23,7 @@ use Rattle.record.proofs.OpenSteps.{leaving_at, failing_at, closing-same}
 use Rattle.record.proofs.Staging.{no_start}
 use Rattle.record.proofs.Width.{IsGood}
 use Rattle.record.proofs.ClosingSteps.{ClosingStep, withdrawn-step, unit-step, leaving-then, failing-then}
-use Rattle.laws.specs.Doings.{Closes, call, closes, goes_on, does_after, doing}
+use Rattle.laws.specs.Doings.{Doing, Closes, call, closes, goes_on, does_after, doing}
 use Rattle.laws.proofs.Frame.{Does, at_rest, lying, leaving, settling, a_closing, Goes, then_doing}
 
 -- an entry with an access of a closing
@@ -32,16 +32,44 @@ then-closing : (s : Setup) (past : Past) (p : ℕ) (e : Entry) (command : Comman
 then-closing s past p e command number at a plain access does =
     ap (λ m. does_after s p (own p past) e m (doing s p past)) (no_start e.marks plain) ∙ ap (λ x. goes_on s p e x (doing s p past)) access ∙ ap (goes_on s p e (Some a)) does
 
+-- a step of a closing, where what its process does then fits its stage
+closing-goes : (s : Setup) (past : Past) (p : ℕ) (flick : Bool) (e : Entry) (at : Closing)
+    → let mine : Past = own p past in
+    let command : Command = last_command mine in
+    let number : ℕ = call_number s mine in
+    ClosingStep s past p flick e at → doing s p past ≡ Closes command number at →
+    (then_doing s past p e ≡ closes command number (closing_after (last_call s p mine) at (value_written e)) → Does s p (e ∷ mine) (fold stage_after (stage p past) e.marks) (then_doing s past p e)) →
+    Goes s past p e (doing s p past) (then_doing s past p e)
+closing-goes s past p flick e at step does then = record {
+  happens = a_closing (last_command mine) (call_number s mine) at value n does step.told step.access
+      (closing-same (last_call s p mine) at value (read_value (opening_bit s n.access) (moves_of n.access past) value) n step.told) (ap (λ (e : Entry). e.marks) (sym step.is)) d';
+  does = then d';
+}
+  where
+    mine : Past
+    mine = own p past
+
+    n : Next
+    n = step.next
+
+    value : Bool
+    value = value_written e
+
+    d' : then_doing s past p e ≡ closes (last_command mine) (call_number s mine) (closing_after (last_call s p mine) at value)
+    d' = then-closing s past p e (last_command mine) (call_number s mine) at n.access step.plain step.access does
+
+-- what it closes is the same command, with the same number, after an entry that begins no program
+same-call : (s : Setup) (mine : Past) (e : Entry) (at : Closing) → has starts e ≡ false →
+    Closes (last_command (e ∷ mine)) (call_number s (e ∷ mine)) at ≡ Closes (last_command mine) (call_number s mine) at
+same-call s mine e at plain = λ j. Closes (command-plain e mine plain j) (cond (s.version == 2) (calls-plain e mine plain j) 0) at
+
 -- a step of a process that withdrew
 pub leaving-goes : (s : Setup) → IsGood s → (events : List Event) (p : ℕ) (flick : Bool) (e : Entry)
     → let past : Past = past_of s events in
     let mine : Past = own p past in
     last_start mine ≡ Some Withdrew → stage p past ≡ stages.Leaving → doing s p past ≡ Closes (last_command mine) (call_number s mine) (leaving_at s p mine) →
     stepped s past p flick ≡ Some e → Goes s past p e (doing s p past) (then_doing s past p e)
-leaving-goes s g events p flick e b st does h = record {
-  happens = a_closing (last_command mine) (call_number s mine) at value n does told access (closing-same c at value (read_value (opening_bit s n.access) (moves_of n.access past) value) n told) (ap (λ (e : Entry). e.marks) (sym step.is)) d';
-  does = finish to refl (keeps-kind c (withdrawing c) (value ∷ fs));
-}
+leaving-goes s g events p flick e b st does h = closing-goes s past p flick e at step does (λ d. finish d to refl (keeps-kind c (withdrawing c) (value_written e ∷ map value_written (since starts mine))))
   where
     past : Past
     past = past_of s events
@@ -52,51 +80,23 @@ leaving-goes s g events p flick e b st does h = record {
     c : Call
     c = last_call s p mine
 
-    fs : List Bool
-    fs = map value_written (since starts mine)
-
     at : Closing
     at = leaving_at s p mine
 
     step : ClosingStep s past p flick e at
     step = withdrawn-step s g events p flick e b st h
 
-    n : Next
-    n = step.next
-
-    access : e.access ≡ Some n.access
-    access = step.access
-
-    plain : has starts e ≡ false
-    plain = step.plain
-
-    value : Bool
-    value = value_written e
-
-    told : closing_next c at value ≡ Some n
-    told = step.told
-
     to : Closing
-    to = closing_after c at value
+    to = closing_after c at (value_written e)
 
-    d' : then_doing s past p e ≡ closes (last_command mine) (call_number s mine) to
-    d' = then-closing s past p e (last_command mine) (call_number s mine) at n.access plain access does
+    ends : Closing → Doing
+    ends = closes (last_command mine) (call_number s mine)
 
-    place : leaving_at s p (e ∷ mine) ≡ to
-    place = leaving-then s p e mine plain
-
-    at_stage : fold stage_after (stage p past) e.marks ≡ closing_stage to
-    at_stage = step.at_stage
-
-    finish : (x : Closing) → to ≡ x → is_unit to ≡ false → Does s p (e ∷ mine) (fold stage_after (stage p past) e.marks) (then_doing s past p e)
-    finish (Withdraws q) i k = leaving (start-plain e mine plain ∙ b) (at_stage ∙ ap closing_stage i)
-        (d' ∙ ap (closes (last_command mine) (call_number s mine)) i ∙ ap (Closes (last_command mine) (call_number s mine)) (sym (place ∙ i))
-        ∙ sym (λ j. Closes (command-plain e mine plain j) (cond (s.version == 2) (calls-plain e mine plain j) 0) (leaving_at s p (e ∷ mine))))
-    finish Quit i k = at_rest (at_stage ∙ ap closing_stage i) (d' ∙ ap (closes (last_command mine) (call_number s mine)) i)
-    finish (Settles field bit begun taken is t) i k = absurd (true≢false (sym (ap is_unit i) ∙ k))
-    finish (Frees is q) i k = absurd (true≢false (sym (ap is_unit i) ∙ k))
-    finish (Lowers q) i k = absurd (true≢false (sym (ap is_unit i) ∙ k))
-    finish Ended i k = absurd (true≢false (sym (ap is_unit i) ∙ k))
+    finish : then_doing s past p e ≡ ends to → (x : Closing) → to ≡ x → is_unit to ≡ false → Does s p (e ∷ mine) (fold stage_after (stage p past) e.marks) (then_doing s past p e)
+    finish d (Withdraws q) i k = leaving (start-plain e mine step.plain ∙ b) (step.at_stage ∙ ap closing_stage i)
+        (d ∙ ap ends i ∙ ap (Closes (last_command mine) (call_number s mine)) (sym (leaving-then s p e mine step.plain ∙ i)) ∙ sym (same-call s mine e (leaving_at s p (e ∷ mine)) step.plain))
+    finish d Quit i k = at_rest (step.at_stage ∙ ap closing_stage i) (d ∙ ap ends i)
+    finish d _ i k = absurd (true≢false (sym (ap is_unit i) ∙ k))
 
 -- a step of a memory unit
 pub settling-goes : (s : Setup) → IsGood s → (events : List Event) (p : ℕ) (flick : Bool) (e : Entry)
@@ -104,10 +104,7 @@ pub settling-goes : (s : Setup) → IsGood s → (events : List Event) (p : ℕ)
     let mine : Past = own p past in
     last_start mine ≡ Some Failed → stage p past ≡ stages.Settling → doing s p past ≡ Closes (last_command mine) (call_number s mine) (failing_at s p mine) →
     stepped s past p flick ≡ Some e → Goes s past p e (doing s p past) (then_doing s past p e)
-settling-goes s g events p flick e b st does h = record {
-  happens = a_closing (last_command mine) (call_number s mine) at value n does told access (closing-same c at value (read_value (opening_bit s n.access) (moves_of n.access past) value) n told) (ap (λ (e : Entry). e.marks) (sym step.is)) d';
-  does = finish to refl (keeps-kind c (failing c cut) (value ∷ fs) ∙ failing-kind c cut);
-}
+settling-goes s g events p flick e b st does h = closing-goes s past p flick e at step does (λ d. finish d to refl (keeps-kind c (failing c cut) (value_written e ∷ map value_written (since is_failed mine)) ∙ failing-kind c cut))
   where
     past : Past
     past = past_of s events
@@ -121,52 +118,27 @@ settling-goes s g events p flick e b st does h = record {
     cut : Past
     cut = before is_failed mine
 
-    fs : List Bool
-    fs = map value_written (since is_failed mine)
-
     at : Closing
     at = failing_at s p mine
 
     step : ClosingStep s past p flick e at
     step = unit-step s g events p flick e b st h
 
-    n : Next
-    n = step.next
-
-    access : e.access ≡ Some n.access
-    access = step.access
-
-    plain : has starts e ≡ false
-    plain = step.plain
-
-    value : Bool
-    value = value_written e
-
-    told : closing_next c at value ≡ Some n
-    told = step.told
-
     to : Closing
-    to = closing_after c at value
+    to = closing_after c at (value_written e)
 
-    d' : then_doing s past p e ≡ closes (last_command mine) (call_number s mine) to
-    d' = then-closing s past p e (last_command mine) (call_number s mine) at n.access plain access does
+    ends : Closing → Doing
+    ends = closes (last_command mine) (call_number s mine)
 
-    place : failing_at s p (e ∷ mine) ≡ to
-    place = failing-then s p e mine plain
-
-    at_stage : fold stage_after (stage p past) e.marks ≡ closing_stage to
-    at_stage = step.at_stage
-
-    on : (x : Closing) → to ≡ x → closing_stage x ≡ stages.Settling → closes (last_command mine) (call_number s mine) x ≡ Closes (last_command mine) (call_number s mine) x →
+    on : then_doing s past p e ≡ ends to → (x : Closing) → to ≡ x → closing_stage x ≡ stages.Settling → ends x ≡ Closes (last_command mine) (call_number s mine) x →
         Does s p (e ∷ mine) (fold stage_after (stage p past) e.marks) (then_doing s past p e)
-    on x i k l = settling (start-plain e mine plain ∙ b) (at_stage ∙ ap closing_stage i ∙ k)
-        (d' ∙ ap (closes (last_command mine) (call_number s mine)) i ∙ l ∙ ap (Closes (last_command mine) (call_number s mine)) (sym (place ∙ i))
-        ∙ sym (λ j. Closes (command-plain e mine plain j) (cond (s.version == 2) (calls-plain e mine plain j) 0) (failing_at s p (e ∷ mine))))
+    on d x i k l = settling (start-plain e mine step.plain ∙ b) (step.at_stage ∙ ap closing_stage i ∙ k)
+        (d ∙ ap ends i ∙ l ∙ ap (Closes (last_command mine) (call_number s mine)) (sym (failing-then s p e mine step.plain ∙ i)) ∙ sym (same-call s mine e (failing_at s p (e ∷ mine)) step.plain))
 
-    finish : (x : Closing) → to ≡ x → is_unit to ≡ true → Does s p (e ∷ mine) (fold stage_after (stage p past) e.marks) (then_doing s past p e)
-    finish (Settles field bit begun taken is t) i k = on (Settles field bit begun taken is t) i refl refl
-    finish (Frees is q) i k = on (Frees is q) i refl refl
-    finish (Lowers q) i k = on (Lowers q) i refl refl
-    finish Ended i k = lying (at_stage ∙ ap closing_stage i) (d' ∙ ap (closes (last_command mine) (call_number s mine)) i)
-    finish (Withdraws q) i k = absurd (true≢false (sym k ∙ ap is_unit i))
-    finish Quit i k = absurd (true≢false (sym k ∙ ap is_unit i))
+    finish : then_doing s past p e ≡ ends to → (x : Closing) → to ≡ x → is_unit to ≡ true → Does s p (e ∷ mine) (fold stage_after (stage p past) e.marks) (then_doing s past p e)
+    finish d (Settles field bit begun taken is t) i k = on d (Settles field bit begun taken is t) i refl refl
+    finish d (Frees is q) i k = on d (Frees is q) i refl refl
+    finish d (Lowers q) i k = on d (Lowers q) i refl refl
+    finish d Ended i k = lying (step.at_stage ∙ ap closing_stage i) (d ∙ ap ends i)
+    finish d (Withdraws q) i k = absurd (true≢false (sym k ∙ ap is_unit i))
+    finish d Quit i k = absurd (true≢false (sym k ∙ ap is_unit i))

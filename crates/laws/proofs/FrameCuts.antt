@@ -41,10 +41,7 @@ last-made e mine x h =
   where
     go : (m : Move) → elim m as (λ _. Option Access) [ BeginWrite v ↦ Some x | EndWrite ↦ Some x | Settle v ↦ Some x | BeginRead ↦ last_write mine | EndRead v ↦ last_write mine ] ≡ cond (is_write m) (Some x) (last_write mine)
     go (BeginWrite v) = refl
-    go EndWrite = refl
-    go (Settle v) = refl
-    go BeginRead = refl
-    go (EndRead v) = refl
+    go _ = refl
 
 -- Of a write.
 

@@ -7,7 +7,7 @@ use Rattle.record.specs.safe_bit.declared.Move.{Move}
 use Rattle.record.specs.safe_bit.declared.Move.TheVariants.{BeginWrite, EndWrite, BeginRead, EndRead}
 use Rattle.record.specs.declared.access.Access.{Access}
 use Rattle.record.specs.declared.access.Field.{Field}
-use Rattle.record.specs.declared.access.Field.TheVariants.{Choosing, Ticket, Commit, Stamp0, Stamp1, Image0, Image1}
+use Rattle.record.specs.declared.access.Field.TheVariants.{Choosing}
 use Rattle.record.specs.safe_number.Runs.{NumberWrite}
 use Rattle.plain_store.specs.declared.Command.{Command}
 use Rattle.plain_store.specs.declared.Setup.{Setup}
@@ -20,7 +20,7 @@ use Rattle.record.specs.Closings.{Closing, Withdraws, Settles, Frees, Lowers, Qu
 use Rattle.record.specs.Doorways.{begins_doorway, raises}
 use Rattle.record.specs.Entries.{Entry, Past, own}
 use Rattle.record.specs.Moves.{ended, ended_with, moves_of}
-use Rattle.record.specs.Parts.{Part, Raises, Asks, TakesTicket, Refuses, Waits, AsksCommit, AsksStamp, AsksImage, WritesImage, WritesStamp, WritesCommit, Clears, Over, is_read, is_over, read_at, written_at}
+use Rattle.record.specs.Parts.{Part, Raises, TakesTicket, Refuses, WritesImage, WritesStamp, WritesCommit, Clears, is_read, is_over, read_at, written_at}
 use Rattle.record.specs.Parts as part
 use Rattle.record.specs.Places.{Run, Writing, Reading, bit_written, is_fresh, is_running, access_at}
 use Rattle.record.specs.Program.{version_of, image_field, stamp_field}
@@ -52,9 +52,7 @@ pub record LooksBack (s : Setup) (p : ℕ) (mine : Past) (st : Stage) (d : Doing
 abbrev pub begins_at : Doing → Access → Bool
 begins_at (Runs command number at) a = is_raising at.part && is_fresh at.run
 begins_at (Closes command number (Settles f bit begun taken is t)) a = (a.reader == 0) && raises f a.how
-begins_at (Closes command number _) a = false
-begins_at Rests a = false
-begins_at Lies a = false
+begins_at _ a = false
 
 abbrev pub begins_with : Option Access → Doing → Bool
 begins_with None d = false
@@ -66,13 +64,7 @@ raises_by a = (a.reader == 0) && raises a.field a.how
 
 raises-read : (f : Field) (v b : Bool) → raises f (ended v (cond b (EndRead false) BeginRead)) ≡ false
 raises-read Choosing v true = refl
-raises-read Choosing v false = refl
-raises-read Ticket v b = refl
-raises-read Commit v b = refl
-raises-read Stamp0 v b = refl
-raises-read Stamp1 v b = refl
-raises-read Image0 v b = refl
-raises-read Image1 v b = refl
+raises-read _ v _ = refl
 
 read-raises : (x : Part) → is_read x ≡ true → is_raising x ≡ false
 read-raises Raises h = cc
@@ -108,12 +100,7 @@ one_bit n b w on = omega (arith, on.goes.inside, on.goes.width)
 
 other-begins : (f : Field) (r : ℕ) (m : Move) → f ≢ Choosing → ((r == 0) && raises f m) ≡ false
 other-begins Choosing r m h = absurd (h refl)
-other-begins Ticket r m h = and_false (r == 0)
-other-begins Commit r m h = and_false (r == 0)
-other-begins Stamp0 r m h = and_false (r == 0)
-other-begins Stamp1 r m h = and_false (r == 0)
-other-begins Image0 r m h = and_false (r == 0)
-other-begins Image1 r m h = and_false (r == 0)
+other-begins _ r m h = and_false (r == 0)
 
 other-field : (a : Access) → a.field ≢ Choosing → raises_by a ≡ false
 other-field a h = other-begins a.field a.reader a.how h
@@ -139,12 +126,7 @@ part-begins c (Clears a) w v o r on = other-field (ended_with v (access_at c (Cl
 part-begins c (WritesImage vs st) w v o r on = other-field (ended_with v (access_at c (WritesImage vs st) (Writing w))) (not-choosing (not (version_of vs c.process))).0
 part-begins c (WritesStamp vs st) w v o r on = other-field (ended_with v (access_at c (WritesStamp vs st) (Writing w))) (not-choosing (not (version_of vs c.process))).1
 part-begins c (WritesCommit vs st) w v o r on = other-field (ended_with v (access_at c (WritesCommit vs st) (Writing w))) (λ h. cc)
-part-begins c (Asks j js ts) w v o r on = cc
-part-begins c (Waits t q ws) w v o r on = cc
-part-begins c (AsksCommit k ks vs) w v o r on = cc
-part-begins c (AsksStamp k ks vs b) w v o r on = cc
-part-begins c (AsksImage vs) w v o r on = cc
-part-begins c Over w v o r on = cc
+part-begins c _ w v o r on = cc
 
 place-begins : (c : Call) (torn : Option Access) (x : Part) (run : Run) (v : Bool) → is_over x ≡ false → LeftRun c torn x run → raises_by (ended_with v (access_at c x run)) ≡ (is_raising x && is_fresh run)
 place-begins c torn x (Writing w) v o l = part-begins c x w v o l.0 l.1

@@ -10,7 +10,7 @@ use Rattle.record.specs.declared.marks.Mark.TheVariants.{Called, Failed, Withdre
 use Rattle.record.specs.declared.stages.Stage.{Stage}
 use Rattle.record.specs.declared.stages.Stage.TheVariants as stages
 use Rattle.record.specs.Calls.{last_command, call_number}
-use Rattle.record.specs.Closings.{Closing, Withdraws, Settles, Frees, Lowers, Quit, Ended, closing_stage}
+use Rattle.record.specs.Closings.{Closing, Withdraws, Lowers, closing_stage}
 use Rattle.record.specs.Entries.{Entry, Past, own}
 use Rattle.record.specs.Parts.{Part, Waits}
 use Rattle.record.specs.Parts as part
@@ -55,10 +55,7 @@ pub is-waiting : (p : ℕ) (st : Stage) → refused_at (event.Withdraw p) st ≡
 is-waiting p stages.Idle h = cc
 is-waiting p stages.Doorway h = cc
 is-waiting p stages.Waiting h = refl
-is-waiting p stages.Inside h = cc
-is-waiting p stages.Leaving h = cc
-is-waiting p stages.Settling h = cc
-is-waiting p stages.Down h = cc
+is-waiting p _ h = cc
 
 -- who waits is at a part D
 waits-part : (x : Part) (f : Bool) → part.stage_of x f ≡ stages.Waiting → (t : ℕ) × (w : Wait) × (ws : List Wait) × (x ≡ Waits t w ws)
@@ -81,11 +78,7 @@ waits-part part.Over f h = cc
 -- a withdrawal goes on, or is over
 leaving-fails : (command : Command) (number : ℕ) (x : Closing) → closing_stage x ≡ stages.Leaving → may_fail (Closes command number x) ≡ true
 leaving-fails command number (Withdraws w) h = refl
-leaving-fails command number (Settles f bit begun taken is t) h = cc
-leaving-fails command number (Frees is w) h = cc
-leaving-fails command number (Lowers w) h = cc
-leaving-fails command number Quit h = cc
-leaving-fails command number Ended h = cc
+leaving-fails command number _ h = cc
 
 same-place : (x : Place) (q : Part) → x.part ≡ q → x ≡ record { part = q; run = x.run }
 same-place x q h = λ i. record { part = h i; run = x.run }

@@ -101,11 +101,7 @@ inside-last c (AsksImage vs) v = go (changes (store_read c v) c.command) ∙ ins
     go : (b : Bool) → fold inside_after true (cond b [] (Taken 0 (reply c (store_read c v)) ∷ [])) ≡ true
     go true = refl
     go false = refl
-inside-last c (WritesImage vs st) v = refl
-inside-last c (WritesStamp vs st) v = refl
-inside-last c (WritesCommit vs st) v = refl
-inside-last c (Clears a) v = refl
-inside-last c Over v = refl
+inside-last c _ v = refl
 
 plain_first : (was then : Bool) (last : List Mark) (b1 b2 : Bool) → fold inside_after was last ≡ then → fold inside_after was (cond b1 [] [] ++ cond b2 last []) ≡ cond b2 then was
 plain_first was then last true true h = h
@@ -182,11 +178,7 @@ inside-place c at v = inside-marks c at.part (bits_with at.run v) (is_fresh at.r
 
 inside-closes : (command : Command) (number : ℕ) (at : Closing) → is_inside (closes command number at) ≡ is_inside_closing at
 inside-closes command number (Withdraws w) = refl
-inside-closes command number (Settles f bit begun taken is t) = refl
-inside-closes command number (Frees is w) = refl
-inside-closes command number (Lowers w) = refl
-inside-closes command number Quit = refl
-inside-closes command number Ended = refl
+inside-closes command number _ = refl
 
 abbrev marks_in : Option Next → List Mark
 marks_in None = []

@@ -15,7 +15,7 @@ use Rattle.record.specs.declared.marks.Mark.TheVariants.{Called, Waiting, Entere
 use Rattle.record.specs.Closings.{Closing, Withdraws, Settles, Frees, Lowers, Quit, Ended, no_ticket, is_unwritten, is_last_written, is_last_settled, closing_next, settled_marks}
 use Rattle.record.specs.Entries.{Entry, Past, has, is_called, is_waiting, is_entered}
 use Rattle.record.specs.Histories.{history}
-use Rattle.record.specs.Parts.{Part, Raises, Asks, TakesTicket, Refuses, Waits, AsksCommit, AsksStamp, AsksImage, WritesImage, WritesStamp, WritesCommit, Clears, Over, first_marks, last_marks, part_after, to_d, to_e}
+use Rattle.record.specs.Parts.{Part, Raises, Refuses, Waits, AsksImage, WritesCommit, Clears, first_marks, last_marks, part_after, to_d, to_e}
 use Rattle.record.specs.Parts as part
 use Rattle.record.specs.Places.{Place, enter, is_fresh, is_last, bits_with, run_after, place_after, marks_of, value_of}
 use Rattle.record.specs.Program.{Wait, entered_if_none, lets_by, reply, store_read, waits_of}
@@ -105,14 +105,7 @@ waiting-part c (AsksImage vs) v b1 b2 = any_first is_waiting [] _ b1 b2 refl (im
 waiting-part c (Refuses f) v b1 b2 = any_first is_waiting [] _ b1 b2 refl refl
 waiting-part c (WritesCommit vs st) v b1 b2 = any_first is_waiting [] _ b1 b2 refl refl
 waiting-part c (Clears a) v b1 b2 = any_first is_waiting (Left ∷ []) (Answered a ∷ []) b1 b2 refl refl
-waiting-part c Raises v b1 b2 = any_first is_waiting [] [] b1 b2 refl refl
-waiting-part c (Asks j js ts) v b1 b2 = any_first is_waiting [] [] b1 b2 refl refl
-waiting-part c (TakesTicket t) v b1 b2 = any_first is_waiting [] [] b1 b2 refl refl
-waiting-part c (AsksCommit k ks vs) v b1 b2 = any_first is_waiting [] [] b1 b2 refl refl
-waiting-part c (AsksStamp k ks vs b) v b1 b2 = any_first is_waiting [] [] b1 b2 refl refl
-waiting-part c (WritesImage vs st) v b1 b2 = any_first is_waiting [] [] b1 b2 refl refl
-waiting-part c (WritesStamp vs st) v b1 b2 = any_first is_waiting [] [] b1 b2 refl refl
-waiting-part c Over v b1 b2 = any_first is_waiting [] [] b1 b2 refl refl
+waiting-part c _ v b1 b2 = any_first is_waiting [] [] b1 b2 refl refl
 
 abbrev marks_in : Option Next → List Mark
 marks_in None = []
@@ -229,14 +222,7 @@ entered-part c (AsksImage vs) v b1 b2 h = absurd (no_entry [] _ b1 b2 refl (imag
 entered-part c (Refuses f) v b1 b2 h = absurd (no_entry [] (Answered (answer.TicketsFull f) ∷ []) b1 b2 refl refl h)
 entered-part c (WritesCommit vs st) v b1 b2 h = absurd (no_entry [] (Taken 0 (reply c st) ∷ []) b1 b2 refl refl h)
 entered-part c (Clears a) v b1 b2 h = absurd (no_entry (Left ∷ []) (Answered a ∷ []) b1 b2 refl refl h)
-entered-part c Raises v b1 b2 h = absurd (no_entry [] [] b1 b2 refl refl h)
-entered-part c (Asks j js ts) v b1 b2 h = absurd (no_entry [] [] b1 b2 refl refl h)
-entered-part c (TakesTicket t) v b1 b2 h = absurd (no_entry [] [] b1 b2 refl refl h)
-entered-part c (AsksCommit k ks vs) v b1 b2 h = absurd (no_entry [] [] b1 b2 refl refl h)
-entered-part c (AsksStamp k ks vs b) v b1 b2 h = absurd (no_entry [] [] b1 b2 refl refl h)
-entered-part c (WritesImage vs st) v b1 b2 h = absurd (no_entry [] [] b1 b2 refl refl h)
-entered-part c (WritesStamp vs st) v b1 b2 h = absurd (no_entry [] [] b1 b2 refl refl h)
-entered-part c Over v b1 b2 h = absurd (no_entry [] [] b1 b2 refl refl h)
+entered-part c _ v b1 b2 h = absurd (no_entry [] [] b1 b2 refl refl h)
 
 entered-place : (command : Command) (number : ℕ) (c : Call) (at : Place) (v : Bool) → list_any is_entered (marks_of c at v) ≡ true →
     (is_inside (Runs command number at) ≡ false) × (is_inside (runs command number (place_after c at v)) ≡ true)

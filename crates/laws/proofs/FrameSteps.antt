@@ -51,10 +51,7 @@ ended-write v (EndRead b) h = cc
 
 pub is_write-ended : (v : Bool) (m : Move) → is_write (ended v m) ≡ is_write m
 is_write-ended v (BeginWrite b) = refl
-is_write-ended v EndWrite = refl
-is_write-ended v (Settle b) = refl
-is_write-ended v BeginRead = refl
-is_write-ended v (EndRead b) = refl
+is_write-ended v _ = refl
 
 -- a write's access is as it is told, whatever the cell holds
 pub valued-write : (s : Setup) (past : Past) (flick : Bool) (x : Access) → is_write x.how ≡ true → valued s past flick x ≡ x
@@ -161,11 +158,7 @@ cut-is s p c mine torn Rests may i l = doings.at_rest (begins-clear c mine torn 
 cut-is s p c mine torn Lies may i l = cc
 cut-is s p c mine torn (Runs command number at) may i l = cut-run s p c mine torn command number at.part at.run i l
 cut-is s p c mine torn (Closes command number (Withdraws w)) may i l = cut-withdrawal s p c mine torn command number w i l.1
-cut-is s p c mine torn (Closes command number (Settles f bit begun taken is t)) may i l = cc
-cut-is s p c mine torn (Closes command number (Frees is w)) may i l = cc
-cut-is s p c mine torn (Closes command number (Lowers w)) may i l = cc
-cut-is s p c mine torn (Closes command number Quit) may i l = cc
-cut-is s p c mine torn (Closes command number Ended) may i l = cc
+cut-is s p c mine torn _ may i l = cc
 
 step-from : (s : Setup) (past : Past) (p : ℕ) (e : Entry) (d d' : Doing) → Happens s past p e d d' → inside p past ≡ is_inside d → LeftIn s p (left s (own p past)) d → Step s past p e d d'
 step-from s past p e d d' (a_call command number was none marks then) i l = calls command number was none then

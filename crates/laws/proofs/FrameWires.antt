@@ -36,17 +36,11 @@ touched_after w was (Settle v) = was
 
 pub wire-moved : (c : Cell) (m : Move) → wire (bit.cell_after c m) ≡ wire_after (wire c) m
 wire-moved c (BeginWrite v) = refl
-wire-moved c EndWrite = refl
-wire-moved c BeginRead = refl
-wire-moved c (EndRead v) = refl
-wire-moved c (Settle v) = refl
+wire-moved c _ = refl
 
 pub touched-moved : (c : Cell) (m : Move) → (bit.cell_after c m).touched ≡ touched_after (wire c) c.touched m
 touched-moved c (BeginWrite v) = refl
-touched-moved c EndWrite = refl
-touched-moved c BeginRead = refl
-touched-moved c (EndRead v) = refl
-touched-moved c (Settle v) = refl
+touched-moved c _ = refl
 
 read-keeps : (w : Wire) (m : Move) → is_write m ≡ false → wire_after w m ≡ w
 read-keeps w (BeginWrite v) h = cc

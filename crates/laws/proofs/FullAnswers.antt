@@ -161,11 +161,7 @@ knows-written s g p command number (WritesStamp vs st) values r h = tt
 knows-written s g p command number (WritesCommit vs st) values r h = refl
 knows-written s g p command number (Clears a) values r h = tt
 knows-written s g p command number Over values r h = tt
-knows-written s g p command number (Asks j js ts) values r h = absurd (true≢false r)
-knows-written s g p command number (Waits t w ws) values r h = absurd (true≢false r)
-knows-written s g p command number (AsksCommit k ks vs) values r h = absurd (true≢false r)
-knows-written s g p command number (AsksStamp k ks vs b) values r h = absurd (true≢false r)
-knows-written s g p command number (AsksImage vs) values r h = absurd (true≢false r)
+knows-written s g p command number _ values r h = absurd (true≢false r)
 
 -- after the last access of a part that reads
 knows-read : (s : Setup) → IsGood s → (p : ℕ) (command : Command) (number : ℕ) (part : Part) (values : Numbers) (value : List Bool) → is_read part ≡ true → KnowsTickets s p part values →
@@ -176,15 +172,7 @@ knows-read s g p command number (Waits t w ws) values value r h long = let c = c
 knows-read s g p command number (AsksCommit k ks vs) values value r h long = tt
 knows-read s g p command number (AsksStamp k ks vs b) values value r h long = knows-to_e s p ks (vs ++ (b, number_of_bits value) ∷ []) (values ++ value ∷ [])
 knows-read s g p command number (AsksImage vs) values value r h long = let c = call s p command number in knows-to_g s p c vs (store_read c value) (values ++ value ∷ [])
-knows-read s g p command number Raises values value r h long = absurd (true≢false (sym r))
-knows-read s g p command number (TakesTicket t) values value r h long = absurd (true≢false (sym r))
-knows-read s g p command number (Lowers t) values value r h long = absurd (true≢false (sym r))
-knows-read s g p command number (Refuses f) values value r h long = absurd (true≢false (sym r))
-knows-read s g p command number (WritesImage vs st) values value r h long = absurd (true≢false (sym r))
-knows-read s g p command number (WritesStamp vs st) values value r h long = absurd (true≢false (sym r))
-knows-read s g p command number (WritesCommit vs st) values value r h long = absurd (true≢false (sym r))
-knows-read s g p command number (Clears a) values value r h long = absurd (true≢false (sym r))
-knows-read s g p command number Over values value r h long = absurd (true≢false (sym r))
+knows-read s g p command number _ values value r h long = absurd (true≢false (sym r))
 
 -- The next access.
 

@@ -94,10 +94,7 @@ reading-dropped s past e a h n =
 
 without-moved : (c : Cell) (m : Move) → without_read (cell_after (without_read c) m) ≡ without_read (cell_after c m)
 without-moved c (BeginWrite v) = refl
-without-moved c EndWrite = refl
-without-moved c BeginRead = refl
-without-moved c (EndRead v) = refl
-without-moved c (Settle v) = refl
+without-moved c _ = refl
 
 both-moved : (c d : Cell) (m : Move) → without_read c ≡ without_read d → without_read (cell_after c m) ≡ without_read (cell_after d m)
 both-moved c d m h = sym (without-moved c m) ∙ ap (λ (x : Cell). without_read (cell_after x m)) h ∙ without-moved d m

@@ -10,7 +10,7 @@ use Rattle.plain_store.specs.declared.Command.{Command}
 use Rattle.plain_store.specs.declared.Setup.{Setup}
 use Rattle.plain_store.specs.Store.{Contents, changes}
 use Rattle.record.specs.declared.events.Event.{Event}
-use Rattle.record.specs.Parts.{Part, Raises, Asks, TakesTicket, Lowers, Refuses, Waits, AsksCommit, AsksStamp, AsksImage, WritesImage, WritesStamp, WritesCommit, Clears, Over, is_read, read_at, part_after, to_b, to_c, to_d, to_e, to_g}
+use Rattle.record.specs.Parts.{Part, Raises, Asks, TakesTicket, Lowers, Refuses, Waits, AsksCommit, AsksStamp, AsksImage, WritesImage, Clears, is_read, read_at, part_after, to_b, to_c, to_d, to_e, to_g}
 use Rattle.record.specs.Places.{Place, bits_with, is_last, place_after, enter, run_after, value_of}
 use Rattle.record.specs.Program.{Version, Wait, first_full, greatest, lets_by, max_of, newest_process, newest_stamp, place_of, reply, store_read, waits_of}
 use Rattle.record.specs.Records.{past_of}
@@ -68,15 +68,7 @@ owner-there c n (Waits t w ws) r h = h.0
 owner-there c n (AsksCommit k ks vs) r h = h.0.0
 owner-there c n (AsksStamp k ks vs b) r h = h.0.0
 owner-there c n (AsksImage vs) r h = h
-owner-there c n Raises r h = cc
-owner-there c n (TakesTicket t) r h = cc
-owner-there c n (Lowers t) r h = cc
-owner-there c n (Refuses f) r h = cc
-owner-there c n (WritesImage vs st) r h = cc
-owner-there c n (WritesStamp vs st) r h = cc
-owner-there c n (WritesCommit vs st) r h = cc
-owner-there c n (Clears a) r h = cc
-owner-there c n Over r h = cc
+owner-there c n _ r h = cc
 
 -- The parts that come next.
 
@@ -137,11 +129,7 @@ part-there c g (AsksStamp k ks vs b) value h =
     let size = length_push vs (b, number_of_bits value) in let room = h.1 in
     to_e-there c.setup.processes ks (vs ++ (b, number_of_bits value) ∷ []) (omega (arith, g.processes_is)) h.0.1 (omega (arith, size, room))
 part-there c g (AsksImage vs) value h = to_g-there c c.setup.processes vs (store_read c value)
-part-there c g (WritesImage vs st) value h = tt
-part-there c g (WritesStamp vs st) value h = tt
-part-there c g (WritesCommit vs st) value h = tt
-part-there c g (Clears a) value h = tt
-part-there c g Over value h = tt
+part-there c g _ value h = tt
 
 pub after-there : (c : Call) → IsGood c.setup → (at : Place) (v : Bool) → OwnersThere c.setup.processes at.part → OwnersThere c.setup.processes (place_after c at v).part
 after-there c g at v h = go (is_last c at.part at.run)

@@ -9,7 +9,7 @@ use Rattle.plain_store.specs.declared.Command.{Command}
 use Rattle.plain_store.specs.declared.Setup.{Setup}
 use Rattle.record.specs.declared.events.Event.{Event}
 use Rattle.record.specs.declared.marks.Mark.TheVariants.{Called, Failed, Withdrew, Restarted}
-use Rattle.record.specs.Closings.{Closing, Withdraws, Settles, Frees, Lowers, Quit, Ended, closing_after}
+use Rattle.record.specs.Closings.{Closing, Withdraws, closing_after}
 use Rattle.record.specs.Entries.{Entry, Past}
 use Rattle.record.specs.Headline.{ends_read}
 use Rattle.record.specs.Induction.{past-induction}
@@ -62,11 +62,7 @@ runs-none s p a command number at h = go (is_over at.part)
 
 closes-none : (s : Setup) (p : ℕ) (a : Access) (command : Command) (number : ℕ) (at : Closing) → reads_now s p a (closes command number at) ≡ false
 closes-none s p a command number (Withdraws w) = refl
-closes-none s p a command number (Settles f bit begun taken is t) = refl
-closes-none s p a command number (Frees is w) = refl
-closes-none s p a command number (Lowers w) = refl
-closes-none s p a command number Quit = refl
-closes-none s p a command number Ended = refl
+closes-none s p a command number _ = refl
 
 -- the place after an access has none open, where the number access that goes on has none
 after-none : (c : Call) (part : Part) (run : Run) (v : Bool) (a : Access) → open_read c part (run_after c part run v) a ≡ false

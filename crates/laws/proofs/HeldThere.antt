@@ -119,10 +119,7 @@ settles-from c g mine (Some a) h = go (is_finished c.setup.processes a)
 closes-there : (s : Setup) (command : Command) (number : ℕ) (at : Closing) → SettlesThere s at → ClosesThere s (closes command number at)
 closes-there s command number (Withdraws w) h = tt
 closes-there s command number (Settles f bit begun taken is t) h = h
-closes-there s command number (Frees is w) h = tt
-closes-there s command number (Lowers w) h = tt
-closes-there s command number Quit h = tt
-closes-there s command number Ended h = tt
+closes-there s command number _ h = tt
 
 runs-there : (s : Setup) (command : Command) (number : ℕ) (at : Place) → ClosesThere s (runs command number at)
 runs-there s command number at = go (is_over at.part)

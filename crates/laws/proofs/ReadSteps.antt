@@ -10,7 +10,7 @@ use Rattle.plain_store.specs.declared.Command.{Command}
 use Rattle.plain_store.specs.declared.Setup.{Setup}
 use Rattle.record.specs.Entries.{Entry, Past}
 use Rattle.record.specs.Moves.{valued}
-use Rattle.record.specs.Parts.{Part, Raises, Asks, TakesTicket, Lowers, Refuses, Waits, AsksCommit, AsksStamp, AsksImage, WritesImage, WritesStamp, WritesCommit, Clears, Over, is_read, read_at, to_d}
+use Rattle.record.specs.Parts.{Part, Asks, Waits, AsksCommit, AsksStamp, AsksImage, is_read, read_at, to_d}
 use Rattle.record.specs.Places.{Run, Writing, Reading, access_at, bits_with, enter, is_fresh, is_last, place_after, value_of}
 use Rattle.record.specs.Program.{Version, Wait, is_below, is_one, store_read}
 use Rattle.record.proofs.Width.{IsGood}
@@ -142,15 +142,7 @@ read_moves s g past p command number (Waits t w ws) bits begun v touched h acces
 read_moves s g past p command number (AsksCommit k ks vs) bits begun v touched h access = commit_steps s g past p command number k ks vs bits begun v touched h access.others
 read_moves s g past p command number (AsksStamp k ks vs b) bits begun v touched h access = stamp_steps s g past p command number k ks vs b bits begun v touched h access.others
 read_moves s g past p command number (AsksImage vs) bits begun v touched h access = image_steps s g past p command number vs bits begun v touched h access.others
-read_moves s g past p command number Raises bits begun v touched h access = not_reading s past p command number _ bits begun h refl
-read_moves s g past p command number (TakesTicket t) bits begun v touched h access = not_reading s past p command number _ bits begun h refl
-read_moves s g past p command number (Lowers t) bits begun v touched h access = not_reading s past p command number _ bits begun h refl
-read_moves s g past p command number (Refuses f) bits begun v touched h access = not_reading s past p command number _ bits begun h refl
-read_moves s g past p command number (WritesImage vs st) bits begun v touched h access = not_reading s past p command number _ bits begun h refl
-read_moves s g past p command number (WritesStamp vs st) bits begun v touched h access = not_reading s past p command number _ bits begun h refl
-read_moves s g past p command number (WritesCommit vs st) bits begun v touched h access = not_reading s past p command number _ bits begun h refl
-read_moves s g past p command number (Clears a) bits begun v touched h access = not_reading s past p command number _ bits begun h refl
-read_moves s g past p command number Over bits begun v touched h access = not_reading s past p command number _ bits begun h refl
+read_moves s g past p command number _ bits begun v touched h access = not_reading s past p command number _ bits begun h refl
 
 -- The entry of a read.
 

@@ -1,7 +1,7 @@
 -- Each read of a record ends with the value of the safe rule, and else with the flick of its event.
 use Rattle.std.proofs.Common.{◌≡◌, Bool, if◌then◌else◌, List, Some, None, refl, sym, ap, subst, ◌∙◌, length, ℕ}
 use Rattle.record.specs.safe_bit.declared.Move.{Move}
-use Rattle.record.specs.safe_bit.declared.Move.TheVariants.{BeginWrite, EndWrite, BeginRead, EndRead, Settle}
+use Rattle.record.specs.safe_bit.declared.Move.TheVariants.{EndRead}
 use Rattle.record.specs.safe_bit.SafeRule.{MayEndWith, read_value, last_written, before_read}
 use Rattle.record.specs.declared.access.Access.{Access}
 use Rattle.plain_store.specs.declared.Setup.{Setup}
@@ -17,10 +17,7 @@ use Rattle.record.proofs.World.{entry-accepted}
 
 end-value : (u v : Bool) (m : Move) → ended u m ≡ EndRead v → v ≡ u
 end-value u v (EndRead w) h = cc
-end-value u v (BeginWrite w) h = cc
-end-value u v EndWrite h = cc
-end-value u v BeginRead h = cc
-end-value u v (Settle w) h = cc
+end-value u v _ h = cc
 
 -- a read that a step ends
 step-ends : (s : Setup) (past : Past) (p : ℕ) (flick : Bool) (e : Entry) (a : Access) (v : Bool) → stepped s past p flick ≡ Some e → e.access ≡ Some a → a.how ≡ EndRead v →

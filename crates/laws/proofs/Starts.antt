@@ -6,7 +6,7 @@ use Rattle.plain_store.specs.declared.Command.{Command}
 use Rattle.plain_store.specs.declared.Setup.{Setup}
 use Rattle.record.specs.Closings.{Closing, withdrawing}
 use Rattle.record.specs.Entries.{Past}
-use Rattle.record.specs.Parts.{Part, Raises, Asks, TakesTicket, Lowers, Refuses, Waits, AsksCommit, AsksStamp, AsksImage, WritesImage, WritesStamp, WritesCommit, Clears, Over, is_read, written_at}
+use Rattle.record.specs.Parts.{Part, Raises, TakesTicket, Lowers, Refuses, WritesImage, WritesStamp, WritesCommit, Clears, Over, is_read, written_at}
 use Rattle.record.specs.Places.{enter, is_fresh}
 use Rattle.record.specs.Program.{image_field, stamp_field, version_of}
 use Rattle.record.specs.Scripts.{Call}
@@ -59,11 +59,7 @@ part_settles s p c n (WritesStamp vs store) w st = stamp_settles (not (version_o
 part_settles s p c n (WritesCommit vs store) w st = tt
 part_settles s p c n (Clears a) w st = st refl
 part_settles s p c n Over w st = absurd st
-part_settles s p c n (Asks j js ts) w st = cc
-part_settles s p c n (Waits t0 a ws) w st = cc
-part_settles s p c n (AsksCommit k ks vs) w st = cc
-part_settles s p c n (AsksStamp k ks vs b) w st = cc
-part_settles s p c n (AsksImage vs) w st = cc
+part_settles s p c n _ w st = cc
 
 -- the unit begins where p was: inside if p was, and with a ticket that is untouched, or not held
 pub cut_stands : (s : Setup) (p : ℕ) (c : Call) (cl : Closing) (d : Doing) (n : Notes) (m : Wires) → IsCut s p c cl d → Stands s p n m d → (is_inside_closing cl ≡ is_inside d) × StandsClosing n.holds cl

@@ -12,7 +12,7 @@ use Rattle.record.specs.declared.events.Event.TheVariants as event
 use Rattle.record.specs.declared.marks.Mark.TheVariants.{Called}
 use Rattle.record.specs.declared.stages.Stage.TheVariants as stages
 use Rattle.record.specs.Calls.{last_call, last_command, call_number}
-use Rattle.record.specs.Closings.{Closing, Withdraws, Settles, Frees, Lowers, Quit, Ended, withdrawing, failing, settling_from, freeing, is_last_settled, closing_next, closing_after, closing_of, closing_entry}
+use Rattle.record.specs.Closings.{Closing, Withdraws, Settles, withdrawing, failing, settling_from, freeing, is_last_settled, closing_next, closing_after, closing_of, closing_entry}
 use Rattle.record.specs.Entries.{Entry, Past, own, has, since, before, starts, is_failed}
 use Rattle.record.specs.Histories.{history}
 use Rattle.record.specs.Moves.{valued}
@@ -101,10 +101,7 @@ settled_on c field bit begun taken is t v = cond (is_last_settled c t v) (freein
 after-free : (c : Call) (at : Closing) → IsChosen at → (w flick : Bool) → closing_after c at w ≡ closing_after c at flick
 after-free c (Withdraws x) h w flick = refl
 after-free c (Settles field bit begun taken is t) h w flick = ap (settled_on c field bit begun taken is t) (ap (λ o. unwrap_or o w) h.1 ∙ sym (ap (λ o. unwrap_or o flick) h.1))
-after-free c (Frees is x) h w flick = refl
-after-free c (Lowers x) h w flick = refl
-after-free c Quit h w flick = refl
-after-free c Ended h w flick = refl
+after-free c _ h w flick = refl
 
 abbrev how-of : Option Next → Move
 how-of None = EndWrite

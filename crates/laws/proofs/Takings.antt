@@ -15,7 +15,7 @@ use Rattle.record.specs.Closings.{Closing, Withdraws, Settles, Frees, Lowers, Qu
 use Rattle.record.specs.Entries.{Entry, Past, has}
 use Rattle.record.specs.Headline.{is_version}
 use Rattle.record.specs.Histories.{history}
-use Rattle.record.specs.Parts.{Part, Raises, Asks, TakesTicket, Refuses, Waits, AsksCommit, AsksStamp, AsksImage, WritesImage, WritesStamp, WritesCommit, Clears, Over, last_marks}
+use Rattle.record.specs.Parts.{Part, Waits, AsksImage, WritesCommit, last_marks}
 use Rattle.record.specs.Parts as part
 use Rattle.record.specs.Places.{is_fresh, is_last, bits_with, marks_of, value_of}
 use Rattle.record.specs.Program.{Wait, entered_if_none, lets_by, waits_of}
@@ -52,16 +52,7 @@ part-takes c (Waits t w ws) bits fresh h = absurd (true≢false (sym h ∙ go (l
     go : (b : Bool) → list_any is_taken (cond b (entered_if_none ws) []) ≡ false
     go true = entered-taken ws
     go false = refl
-part-takes c (Refuses f) bits fresh h = absurd (true≢false (sym h))
-part-takes c (Clears a) bits fresh h = absurd (true≢false (sym h))
-part-takes c Raises bits fresh h = absurd (true≢false (sym h))
-part-takes c (Asks j js ts) bits fresh h = absurd (true≢false (sym h))
-part-takes c (TakesTicket t) bits fresh h = absurd (true≢false (sym h))
-part-takes c (AsksCommit k ks vs) bits fresh h = absurd (true≢false (sym h))
-part-takes c (AsksStamp k ks vs b) bits fresh h = absurd (true≢false (sym h))
-part-takes c (WritesImage vs st) bits fresh h = absurd (true≢false (sym h))
-part-takes c (WritesStamp vs st) bits fresh h = absurd (true≢false (sym h))
-part-takes c Over bits fresh h = absurd (true≢false (sym h))
+part-takes c _ bits fresh h = absurd (true≢false (sym h))
 
 commit-version : (f : Field) → is_commit f ≡ true → is_version f ≡ true
 commit-version Commit h = refl

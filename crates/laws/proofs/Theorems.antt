@@ -8,11 +8,11 @@ use Rattle.plain_store.specs.declared.Setup.{Setup}
 use Rattle.plain_store.specs.Store.{changes}
 use Rattle.record.specs.declared.events.Event.{Event}
 use Rattle.record.specs.declared.marks.Mark.TheVariants.{Taken}
-use Rattle.record.specs.Closings.{Closing, Withdraws, Settles, Frees, Quit, Ended}
+use Rattle.record.specs.Closings.{Closing, Withdraws}
 use Rattle.record.specs.Closings as closing
 use Rattle.record.specs.Doorways.{doorway_begin, doorway_end, is_before, is_waiting_stage, is_ahead}
 use Rattle.record.specs.Entries.{Entry, Past, has, is_entered}
-use Rattle.record.specs.Parts.{Part, Lowers, Refuses, Waits, AsksImage, WritesCommit, Clears, last_marks, part_after, to_d, to_e}
+use Rattle.record.specs.Parts.{Part, Lowers, Waits, AsksImage, Clears, last_marks, part_after, to_d, to_e}
 use Rattle.record.specs.Parts as part
 use Rattle.record.specs.Places.{Place, is_fresh, is_last, bits_with, enter, place_after, value_of, run_after}
 use Rattle.record.specs.Program.{Version, Wait, entered_if_none, lets_by, reply, store_read, waits_of}
@@ -120,11 +120,7 @@ waiting-part _ fresh h = absurd (true≢false (sym h))
 
 waiting-closing : (at : Closing) → is_waiting_stage (closing.closing_stage at) ≡ false
 waiting-closing (Withdraws w) = refl
-waiting-closing (Settles f bit begun taken is t) = refl
-waiting-closing (Frees is w) = refl
-waiting-closing (closing.Lowers w) = refl
-waiting-closing Quit = refl
-waiting-closing Ended = refl
+waiting-closing _ = refl
 
 pub waiting-at : (d : Doing) → is_waiting_stage (stage_of d) ≡ true → WaitsAt d
 waiting-at Rests h = absurd (true≢false (sym h))
@@ -209,9 +205,6 @@ entered-last c (AsksImage vs) bits h = absurd (true≢false (sym h ∙ go (chang
     go : (b : Bool) → list_any is_entered (cond b [] (Taken 0 (reply c (store_read c bits)) ∷ [])) ≡ false
     go true = refl
     go false = refl
-entered-last c (Refuses f) bits h = absurd (true≢false (sym h))
-entered-last c (WritesCommit vs st) bits h = absurd (true≢false (sym h))
-entered-last c (Clears a) bits h = absurd (true≢false (sym h))
 entered-last c _ bits h = absurd (true≢false (sym h))
 
 pub enters : (s : Setup) (past : Past) (p : ℕ) (e : Entry) → Happens s past p e (doing s p past) (doing s p (e ∷ past)) → has is_entered e ≡ true → Enters s past p e

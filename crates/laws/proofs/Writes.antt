@@ -76,12 +76,7 @@ part_breaks s past p command number (WritesStamp vs store) fresh n m m' t t' w o
 part_breaks s past p command number (WritesCommit vs store) fresh n m m' t t' w o st one r =
     ready_breaks s past p _ true true n n.announced n.holds n.began m m' t t' (nothing_breaks _ true n commit_of_section r.senior.held) one r.times.began_past r
 part_breaks s past p command number (Clears a) fresh n m m' t t' w o st one r = ready_breaks s past p Ticket fresh false n n.announced false n.began m m' t t' (ticket_breaks n fresh) one r.times.began_past r
-part_breaks s past p command number (Asks j js ts) fresh n m m' t t' w o st one r = cc
-part_breaks s past p command number (Waits t0 a ws) fresh n m m' t t' w o st one r = cc
-part_breaks s past p command number (AsksCommit k ks vs) fresh n m m' t t' w o st one r = cc
-part_breaks s past p command number (AsksStamp k ks vs b) fresh n m m' t t' w o st one r = cc
-part_breaks s past p command number (AsksImage vs) fresh n m m' t t' w o st one r = cc
-part_breaks s past p command number Over fresh n m m' t t' w o st one r = cc
+part_breaks s past p command number _ fresh n m m' t t' w o st one r = cc
 
 -- within a write p knows what it knew
 pub part_stands : (s : Setup) (p : ℕ) (c : Call) (now : ℕ) (part : Part) (fresh : Bool) (n : Notes) → is_read part ≡ false → StandsAt s p n part fresh → StandsAt s p (still c now part fresh n) part false

@@ -10,7 +10,7 @@ use Rattle.plain_store.specs.declared.Answer.TheVariants as answer
 use Rattle.plain_store.specs.declared.Command.{Command}
 use Rattle.plain_store.specs.declared.Setup.{Setup}
 use Rattle.record.specs.Entries.{Past}
-use Rattle.record.specs.Parts.{Part, Raises, Asks, TakesTicket, Lowers, Refuses, Waits, AsksCommit, AsksStamp, AsksImage, WritesImage, WritesStamp, WritesCommit, Clears, Over, is_read, is_over, written_at, part_after, to_b}
+use Rattle.record.specs.Parts.{Part, Raises, TakesTicket, Lowers, Refuses, WritesImage, WritesStamp, WritesCommit, Clears, is_read, is_over, written_at, part_after, to_b}
 use Rattle.record.specs.Places.{Writing, is_fresh, is_last, enter, place_after, write_moved}
 use Rattle.record.specs.Program.{greatest, reply}
 use Rattle.record.specs.Registers.{others}
@@ -142,12 +142,7 @@ part_wrote s g past p command number (WritesCommit vs store) fresh n m t w o bel
     (answer.Reply (reply (call s p command number) store))
 part_wrote s g past p command number (Clears a) fresh n m t w o below inv r st whole =
     rests s past p (noted (call s p command number) (next_time past) (Clears a) fresh true [] n) m t (ready_later s past p false (still (call s p command number) (next_time past) (Clears a) fresh n) n.ended (next_time past) m t r.times.ended_past (omega arith) r) refl
-part_wrote s g past p command number (Asks j js ts) fresh n m t w o below inv r st whole = cc
-part_wrote s g past p command number (Waits t0 a ws) fresh n m t w o below inv r st whole = cc
-part_wrote s g past p command number (AsksCommit k ks vs) fresh n m t w o below inv r st whole = cc
-part_wrote s g past p command number (AsksStamp k ks vs b) fresh n m t w o below inv r st whole = cc
-part_wrote s g past p command number (AsksImage vs) fresh n m t w o below inv r st whole = cc
-part_wrote s g past p command number Over fresh n m t w o below inv r st whole = cc
+part_wrote s g past p command number _ fresh n m t w o below inv r st whole = cc
 
 -- Every access of a write of a part.
 pub part_writes : (s : Setup) → IsGood s → (past : Past) (p : ℕ) (command : Command) (number : ℕ) (part : Part) (w : NumberWrite) (v : Bool) (n : Notes) (m m' : Wires) (t t' : ℕ → ℕ → Touches)

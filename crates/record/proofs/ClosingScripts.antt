@@ -196,34 +196,22 @@ step c g Ended v flick on fit = cc
 pub over-next : (c : Call) (at : Closing) (flick : Bool) → goes_on at ≡ false → closing_next c at flick ≡ None
 over-next c Quit flick o = refl
 over-next c Ended flick o = refl
-over-next c (Withdraws w) flick o = cc
-over-next c (Settles field bit begun taken is t) flick o = cc
-over-next c (Frees is w) flick o = cc
-over-next c (Lowers w) flick o = cc
+over-next c _ flick o = cc
 
 over-after : (c : Call) (at : Closing) (flick : Bool) → goes_on at ≡ false → closing_after c at flick ≡ at
 over-after c Quit flick o = refl
 over-after c Ended flick o = refl
-over-after c (Withdraws w) flick o = cc
-over-after c (Settles field bit begun taken is t) flick o = cc
-over-after c (Frees is w) flick o = cc
-over-after c (Lowers w) flick o = cc
+over-after c _ flick o = cc
 
 over-left : (c : Call) (at : Closing) (v : Bool) → goes_on at ≡ false → left c at v ≡ []
 over-left c Quit v o = refl
 over-left c Ended v o = refl
-over-left c (Withdraws w) v o = cc
-over-left c (Settles field bit begun taken is t) v o = cc
-over-left c (Frees is w) v o = cc
-over-left c (Lowers w) v o = cc
+over-left c _ v o = cc
 
 over-fit : (c : Call) (at : Closing) (v flick : Bool) → goes_on at ≡ false → Fit c at v flick
 over-fit c Quit v flick o = tt
 over-fit c Ended v flick o = tt
-over-fit c (Withdraws w) v flick o = cc
-over-fit c (Settles field bit begun taken is t) v flick o = cc
-over-fit c (Frees is w) v flick o = cc
-over-fit c (Lowers w) v flick o = cc
+over-fit c _ v flick o = cc
 
 get-past : {X : Type 0} (xs : List X) (k : ℕ) → drop k xs ≡ [] → slice_get xs k ≡ None
 get-past [] zero h = refl

@@ -222,10 +222,7 @@ flick-free c (Settles field bit begun taken is t) h w flick =
       access = Rattle.record.specs.Accesses.access_of c.process field (bit, copies.next_settle t v);
       marks = cond (is_last_settled c t v) (Rattle.record.specs.Closings.settled_marks begun taken v) [];
     } in n)) (ap (λ o. unwrap_or o w) h.1 ∙ sym (ap (λ o. unwrap_or o flick) h.1))
-flick-free c (Frees is x) h w flick = refl
-flick-free c (Lowers x) h w flick = refl
-flick-free c Quit h w flick = refl
-flick-free c Ended h w flick = refl
+flick-free c _ h w flick = refl
 
 -- the first access of a unit tells the flick that it was made with
 first-flick : (s : Setup) (past : Past) (c : Call) (mine : Past) (flick : Bool) (n : Next) → closing_next c (failing c mine) flick ≡ Some n →

@@ -112,11 +112,7 @@ cut-late c mine at same value k = from-torn c mine (unfinished c.setup.processes
   where
     go : (at : Closing) (t : TornBit) → torn_closing at ≡ Some t → reply_with c t.field (read_last c mine) ≡ taken_with t.field None
     go (Withdraws w) t h = subst (λ f. reply_with c f (read_last c mine) ≡ taken_with f None) (sym (torn-field Ticket w t h)) refl
-    go (Settles field bit begun taken is s) t h = cc
-    go (Frees is w) t h = cc
-    go (Lowers w) t h = cc
-    go Quit t h = cc
-    go Ended t h = cc
+    go _ t h = cc
 
 -- a process that runs its call
 pub running-cut : (s : Setup) → IsGood s → (events : List Event) (p : ℕ) (command : Command)
@@ -223,11 +219,7 @@ withdrawal-bit c g flicks t = go (closing_of c (withdrawing c) flicks) (withdraw
   where
     go : (at : Closing) → Fit c at (first_flick flicks false) false → torn_closing at ≡ Some t → IsTornOf c.setup t
     go (Withdraws w) fit h = torn-there c.setup g Ticket (no_ticket c) w t fit (ticket_width c) h
-    go (Settles field bit begun taken is s) fit h = cc
-    go (Frees is w) fit h = cc
-    go (Lowers w) fit h = cc
-    go Quit fit h = cc
-    go Ended fit h = cc
+    go _ fit h = cc
 
 -- a part that writes the commit bit writes that of the pending change
 commit-written : (c : Call) (part : Part) (w : NumberWrite) → (written_at c part).0 ≡ Commit → w.bit < length (written_at c part).1 →

@@ -5,7 +5,7 @@ use Rattle.record.specs.declared.access.Access.{Access}
 use Rattle.plain_store.specs.Store.{Contents, changes}
 use Rattle.record.specs.Calls.{ReadSoFar, with_access}
 use Rattle.record.specs.Moves.{ended_with}
-use Rattle.record.specs.Parts.{Part, Raises, Asks, TakesTicket, Lowers, Refuses, Waits, AsksCommit, AsksStamp, AsksImage, WritesImage, WritesStamp, WritesCommit, Clears, Over, is_read, is_over, read_at, written_at, part_after, to_b, to_c, to_d, to_e, to_g}
+use Rattle.record.specs.Parts.{Part, Raises, Asks, TakesTicket, Lowers, Refuses, Waits, AsksCommit, AsksStamp, AsksImage, WritesImage, WritesStamp, WritesCommit, Clears, is_read, is_over, read_at, written_at, part_after, to_b, to_c, to_d, to_e, to_g}
 use Rattle.record.specs.Places.{Run, Writing, Reading, Place, bit_written, write_moved, enter, is_last, run_after, place_after, access_at, value_of}
 use Rattle.record.specs.Program.{Version, Wait, greatest, max_of, newest_stamp, lets_by, waits_of, store_read}
 use Rattle.record.specs.Registers.{others, width}
@@ -68,11 +68,7 @@ knows-read c (Waits t w ws) value f r = knows-d c t (cond (lets_by c t w value) 
 knows-read c (AsksCommit k ks vs) value f r = tt
 knows-read c (AsksStamp k ks vs b) value f r = knows-e c ks (vs ++ (b, Rattle.safe_number.specs.Bytes.number_of_bits value) ∷ []) (f ++ value ∷ [])
 knows-read c (AsksImage vs) value f r = knows-g c vs (store_read c value) (f ++ value ∷ []) (ap (store_read c) (sym (last-read f value)))
-knows-read c (WritesImage vs store) value f r = cc
-knows-read c (WritesStamp vs store) value f r = cc
-knows-read c (WritesCommit vs store) value f r = cc
-knows-read c (Clears a) value f r = cc
-knows-read c Over value f r = cc
+knows-read c _ value f r = cc
 
 -- a write leaves it
 knows-write : (c : Call) (part : Part) (f : Numbers) → is_read part ≡ false → Knows c part f → Knows c (part_after c part []) f
@@ -87,9 +83,7 @@ knows-write c (AsksStamp k ks vs b) f r h = cc
 knows-write c (AsksImage vs) f r h = cc
 knows-write c (WritesImage vs store) f r h = h
 knows-write c (WritesStamp vs store) f r h = h
-knows-write c (WritesCommit vs store) f r h = tt
-knows-write c (Clears a) f r h = tt
-knows-write c Over f r h = tt
+knows-write c _ f r h = tt
 
 writes-of : (even v : Bool) → is_write (cond even (BeginWrite v) EndWrite) ≡ true
 writes-of true v = refl

@@ -313,10 +313,7 @@ withdrawal-begun c mine e (Withdraws w) flick n u h k same t = go (is_last_writt
     go true now l = cc
     go false now l = begun-write c.setup.processes c.process mine e Ticket (no_ticket c) w (k ∙ ap (λ o. Some (access_in o)) (sym h)) same t.torn t.begun now l
 withdrawal-begun c mine e (Settles field bit begun taken i s) flick n u h k same t = cc
-withdrawal-begun c mine e (Frees i w) flick n u h k same t = cc
-withdrawal-begun c mine e (Lowers w) flick n u h k same t = cc
-withdrawal-begun c mine e Quit flick n u h k same t = cc
-withdrawal-begun c mine e Ended flick n u h k same t = cc
+withdrawal-begun c mine e _ flick n u h k same t = cc
 
 pub closing-torn : (c : Call) (mine : Past) (e : Entry) (at : Closing) (v flick : Bool) (n : Next) → Fit c at v flick → closing_next c at flick ≡ Some n → e.access ≡ Some n.access →
     ((a : Access) → opened mine a ≡ open_closing c at a) → IsWriting at → Torn c.setup.processes c.process (e ∷ mine) (torn_late (closing_after c at flick))
@@ -332,9 +329,7 @@ closing-torn c mine e (Lowers w) v flick n fit h k same is =
     let going : (Rattle.record.specs.Places.bit_written (false ∷ []) w).made < 2 * c.setup.processes = fit.going in
     torn-write c.setup.processes c.process mine e _ (open_closing c (Lowers w)) _
     (left-written c.setup.processes c.process Choosing (false ∷ []) w ∙ late-after c Choosing (false ∷ []) w Ended (Lowers (write_moved c.setup.processes (false ∷ []) w)) fit.inside refl refl) (k ∙ ap (λ o. Some (access_in o)) (sym h)) refl (omega arith) same (write-kind c.process Choosing (false ∷ []) w)
-closing-torn c mine e (Settles field bit begun taken i t) v flick n fit h k same is = absurd is
-closing-torn c mine e Quit v flick n fit h k same is = absurd is
-closing-torn c mine e Ended v flick n fit h k same is = absurd is
+closing-torn c mine e _ v flick n fit h k same is = absurd is
 
 pub withdraws-writes : (c : Call) (at : Closing) (flick : Bool) (n : Next) → is_unit at ≡ false → closing_next c at flick ≡ Some n → IsWriting at
 withdraws-writes c (Withdraws w) flick n k h = tt

@@ -74,11 +74,7 @@ rest-unread c (Waits t w ws) h = refl
 rest-unread c (AsksCommit k ks vs) h = refl
 rest-unread c (AsksStamp k ks vs b) h = refl
 rest-unread c (AsksImage vs) h = refl
-rest-unread c (WritesImage vs st) h = cc
-rest-unread c (WritesStamp vs st) h = cc
-rest-unread c (WritesCommit vs st) h = cc
-rest-unread c (Clears a) h = cc
-rest-unread c Over h = cc
+rest-unread c _ h = cc
 
 pub rest-read : (c : Call) (part : Part) (v : List Bool) (more : Numbers) → is_read part ≡ true → rest c part (v ∷ more) ≡ portion c part v ∷ rest c (part_after c part v) more
 rest-read c Raises v more h = cc
@@ -90,11 +86,7 @@ rest-read c (Waits t w ws) v more h = ap (λ r. portion c (Waits t w ws) v ∷ r
 rest-read c (AsksCommit k ks vs) v more h = refl
 rest-read c (AsksStamp k ks vs b) v more h = ap (λ r. portion c (AsksStamp k ks vs b) v ∷ r) (sym (rest-to_e c ks (vs ++ (b, number_of_bits v) ∷ []) more))
 rest-read c (AsksImage vs) v more h = ap (λ r. portion c (AsksImage vs) v ∷ r) (sym (rest-to_g c vs (store_read c v) more))
-rest-read c (WritesImage vs st) v more h = cc
-rest-read c (WritesStamp vs st) v more h = cc
-rest-read c (WritesCommit vs st) v more h = cc
-rest-read c (Clears a) v more h = cc
-rest-read c Over v more h = cc
+rest-read c _ v more h = cc
 
 pub rest-write : (c : Call) (part : Part) (more : Numbers) → is_read part ≡ false → is_over part ≡ false → rest c part more ≡ portion c part [] ∷ rest c (part_after c part []) more
 rest-write c Raises more h o = ap (λ r. portion c Raises [] ∷ r) (sym (rest-to_b c (others c.setup c.process) [] more))

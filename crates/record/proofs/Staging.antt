@@ -61,11 +61,7 @@ stage-last c (AsksImage vs) v f = go (changes (store_read c v) c.command) ∙ st
     go : (b : Bool) → fold stage_after Inside (cond b [] (Taken 0 (reply c (store_read c v)) ∷ [])) ≡ Inside
     go true = refl
     go false = refl
-stage-last c (WritesImage vs st) v f = refl
-stage-last c (WritesStamp vs st) v f = refl
-stage-last c (WritesCommit vs st) v f = refl
-stage-last c (Clears a) v f = refl
-stage-last c Over v f = refl
+stage-last c _ v f = refl
 
 pub plain_first : (st last_st : Stage) (last : List Mark) (b1 b2 : Bool) → fold stage_after st last ≡ last_st → fold stage_after st (cond b1 [] [] ++ cond b2 last []) ≡ cond b2 last_st st
 plain_first st last_st last true true h = h
@@ -117,9 +113,6 @@ no_start-last c (AsksImage vs) v = go (changes (store_read c v) c.command)
     go : (b : Bool) → list_any starts (cond b [] (Taken 0 (reply c (store_read c v)) ∷ [])) ≡ false
     go true = refl
     go false = refl
-no_start-last c (Refuses q) v = refl
-no_start-last c (WritesCommit vs st) v = refl
-no_start-last c (Clears a) v = refl
 no_start-last c _ v = refl
 
 pub no_start-first : (part : Part) → list_any starts (first_marks part) ≡ false

@@ -19,7 +19,7 @@ use Rattle.record.specs.Scripts.{Call}
 use Rattle.record.proofs.Cursors.{drop-map, drop-more, get-drop, length-drop, left_written, left_read, left-next, left-new, left-done, write-moves, Goes, Moved, read-begins, read-ends}
 use Rattle.record.proofs.Follow.{Spot, moved_on, more_bits, spot_of, stands, not_over, next_access}
 use Rattle.safe_bit.specs.declared.Move.{Move}
-use Rattle.safe_bit.specs.declared.Move.TheVariants.{BeginWrite, EndWrite, BeginRead, EndRead, Settle}
+use Rattle.safe_bit.specs.declared.Move.TheVariants.{BeginWrite, EndWrite}
 use Rattle.record.proofs.Marking.{spot_marks}
 use Rattle.record.proofs.Width.{IsGood, width-pos}
 
@@ -268,10 +268,7 @@ tied-next c g at spot o t = ap (λ part. slice_get (doing c part) spot.made) t.p
 -- an end has the value that it was ended with
 pub end-value : (v : Bool) (m : Move) → ended (value_of (ended v m)) m ≡ ended v m
 end-value v (BeginWrite w) = refl
-end-value v EndWrite = refl
-end-value v BeginRead = refl
-end-value v (EndRead w) = refl
-end-value v (Settle w) = refl
+end-value v _ = refl
 
 pub end-with : (v : Bool) (x : Access) → ended_with v x ≡ ended_with (value_of (ended v x.how)) x
 end-with v x = λ i. record { owner = x.owner; field = x.field; bit = x.bit; reader = x.reader; how = sym (end-value v x.how) i }

@@ -13,7 +13,7 @@ use Rattle.record.specs.declared.events.Event.TheVariants.{Call as Calls, Step, 
 use Rattle.record.specs.declared.marks.Mark.{Mark}
 use Rattle.record.specs.declared.marks.Mark.TheVariants.{Called, Failed, Withdrew, Restarted}
 use Rattle.record.specs.declared.stages.Stage.{Stage}
-use Rattle.record.specs.declared.stages.Stage.TheVariants.{Idle, Doorway, Waiting, Inside, Leaving, Settling, Down}
+use Rattle.record.specs.declared.stages.Stage.TheVariants.{Idle, Doorway, Waiting, Leaving, Settling, Down}
 use Rattle.record.specs.Calls.{last_call}
 use Rattle.record.specs.Closings.{settling_from}
 use Rattle.record.specs.Cuts.{torn_at, torn_run}
@@ -92,30 +92,17 @@ no_turn mine p m a x h same = let f : None ≡ Some x = h in cc
 
 busy : (p : ℕ) (c : Rattle.plain_store.specs.declared.Command.Command) (st : Stage) → is_running st ≡ true → refused_at (Calls p c) st ≡ None → ⊥
 busy p c Idle r h = cc
-busy p c Doorway r h = cc
-busy p c Waiting r h = cc
-busy p c Inside r h = cc
-busy p c Leaving r h = cc
-busy p c Settling r h = cc
-busy p c Down r h = cc
+busy p c _ r h = cc
 
 not_down : (p : ℕ) (st : Stage) → is_running st ≡ true → refused_at (Restart p) st ≡ None → ⊥
 not_down p Idle r h = cc
-not_down p Doorway r h = cc
-not_down p Waiting r h = cc
-not_down p Inside r h = cc
-not_down p Leaving r h = cc
-not_down p Settling r h = cc
-not_down p Down r h = cc
+not_down p _ r h = cc
 
 is-waiting : (p : ℕ) (st : Stage) → refused_at (Withdraw p) st ≡ None → st ≡ Waiting
 is-waiting p Idle h = cc
 is-waiting p Doorway h = cc
 is-waiting p Waiting h = refl
-is-waiting p Inside h = cc
-is-waiting p Leaving h = cc
-is-waiting p Settling h = cc
-is-waiting p Down h = cc
+is-waiting p _ h = cc
 
 -- every event of a process
 added-out : (s : Setup) → IsGood s → (events : List Event) (event : Event) (e : Entry)

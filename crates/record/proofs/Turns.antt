@@ -93,19 +93,14 @@ done-closed n p f bits w a on done = go (run.made + 1 == 2 * n) done
 
 settled_turn : (b r o f was : Bool) (m : Move) → (r ≡ true → Turn was m) → (b && r && o && f) ≡ true → Turn ((b && o && f) && was) m
 settled_turn true true true true was m h e = h refl
-settled_turn true true true false was m h e = cc
-settled_turn true true false f was m h e = cc
-settled_turn true false o f was m h e = cc
-settled_turn false r o f was m h e = cc
+settled_turn _ _ _ _ was m h e = cc
 
 settled_after : (b r o f was then : Bool) (m : Move) → (r ≡ true → then ≡ open_after was true m) → (r ≡ false → then ≡ was) → ((b && o && f) && then) ≡ open_after ((b && o && f) && was) (b && r && o && f) m
 settled_after true true true true was then m h k = h refl
 settled_after true true true false was then m h k = refl
 settled_after true true false f was then m h k = refl
 settled_after true false true true was then m h k = k refl
-settled_after true false true false was then m h k = refl
-settled_after true false false f was then m h k = refl
-settled_after false r o f was then m h k = refl
+settled_after _ _ _ _ was then m h k = refl
 
 -- what a settling does to the copy of its reader, and to the others
 record CopiesBy (t : copies.Settling) (m : Move) (to : copies.Settling) : Type 0 where

@@ -220,9 +220,7 @@ entry-accepted s past event e h = go (nat_lt (process_of event) s.processes) ref
     go : (b : Bool) → nat_lt (process_of event) s.processes ≡ b → (r : Option Refusal) → refused_at event (stage (process_of event) past) ≡ r → (f : Bool) →
         Entered b r f ≡ Some e → (nat_lt (process_of event) s.processes ≡ true) × (refused_at event (stage (process_of event) past) ≡ None) × (added s past event ≡ Some e)
     go true i None j false h = (i, j, h)
-    go true i None j true h = cc
-    go true i (Some x) j f h = cc
-    go false i r j f h = cc
+    go _ i _ j _ h = cc
 
 -- in every run each process has a view
 pub view : (s : Setup) → IsGood s → (events : List Event) (p : ℕ) → View s p (own p (past_of s events)) (stage p (past_of s events))

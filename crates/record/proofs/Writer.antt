@@ -149,10 +149,7 @@ own-valued p v a h = go a.how h
   where
     go : (m : Move) → (is_write m ≡ true → a.owner ≡ p) → is_write (ended v m) ≡ true → a.owner ≡ p
     go (BeginWrite w) h = h
-    go EndWrite h = h
-    go (Settle w) h = h
-    go BeginRead h = h
-    go (EndRead w) h = h
+    go _ h = h
 
 pub doing-own : (c : Rattle.record.specs.Scripts.Call) (at : Spot) → AllOwn c.process (doing c at.part)
 doing-own c at = go (is_read at.part)

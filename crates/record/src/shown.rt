@@ -19,16 +19,16 @@ impl fmt::Display for Mark {
         match self {
             Mark::Called(command) => write!(f, "call {command}"),
             Mark::Waiting(ticket) => write!(f, "wait {ticket}"),
-            Mark::Entered => write!(f, "enter"),
+            Mark::Entered => f.write_str("enter"),
             Mark::Taken(place, reply) => write!(f, "taken {place} {reply}"),
-            Mark::Left => write!(f, "leave"),
+            Mark::Left => f.write_str("leave"),
             Mark::Answered(answer) => write!(f, "answer {answer}"),
-            Mark::Failed => write!(f, "fail"),
-            Mark::Settled(false) => write!(f, "settled 0"),
-            Mark::Settled(true) => write!(f, "settled 1"),
-            Mark::Down => write!(f, "down"),
-            Mark::Withdrew => write!(f, "withdraw"),
-            Mark::Restarted => write!(f, "restart"),
+            Mark::Failed => f.write_str("fail"),
+            Mark::Settled(false) => f.write_str("settled 0"),
+            Mark::Settled(true) => f.write_str("settled 1"),
+            Mark::Down => f.write_str("down"),
+            Mark::Withdrew => f.write_str("withdraw"),
+            Mark::Restarted => f.write_str("restart"),
         }
     }
 }
