@@ -1,12 +1,12 @@
 -- At the door it makes no difference which command a call has, and which number.
-use Rattle.std.proofs.Common.{◌≡◌, ℕ, Bool, cond, List, [], ◌∷◌, ◌++◌, refl, ◌∙◌}
+use Rattle.std.proofs.Common.{◌≡◌, ℕ, ◌+◌, ◌==◌, ◌&&◌, Bool, cond, List, [], ◌∷◌, ◌++◌, length, refl, ap, ◌∙◌}
 use Rattle.plain_store.specs.declared.Command.TheVariants.{Ask}
-use Rattle.record.specs.Parts.{Part, Raises, Asks, TakesTicket, Lowers, Refuses, Waits, AsksCommit, AsksStamp, AsksImage, WritesImage, WritesStamp, WritesCommit, Clears, Over, first_marks, last_marks, part_after, to_b, to_d}
-use Rattle.record.specs.Places.{Place, Run, Writing, Reading, access_at, bits_with, enter, is_fresh, is_last, marks_of, new_run, place_after, run_after}
+use Rattle.record.specs.declared.access.Field.{Field}
+use Rattle.record.specs.Parts.{Part, Raises, Asks, TakesTicket, Lowers, Refuses, Waits, AsksCommit, AsksStamp, AsksImage, WritesImage, WritesStamp, WritesCommit, Clears, Over, first_marks, last_marks, part_after, read_at, to_b, to_d, written_at}
+use Rattle.record.specs.Places.{Place, Run, Writing, Reading, bits_with, enter, is_fresh, is_last, marks_of, new_run, place_after, run_after, write_moved}
 use Rattle.record.specs.Program.{Wait, lets_by, waits_of}
-use Rattle.record.specs.Registers.{others}
+use Rattle.record.specs.Registers.{others, width}
 use Rattle.record.specs.Scripts.{Call}
-use Rattle.record.specs.Cuts.{torn_run}
 use Rattle.process.specs.laws.Doings.{call}
 use Rattle.bakery.proofs.AtDoor.{AtDoor, raises, asks, takes, lowers, refuses, waits}
 
@@ -14,61 +14,22 @@ use Rattle.bakery.proofs.AtDoor.{AtDoor, raises, asks, takes, lowers, refuses, w
 abbrev pub some_call : Call → Call
 some_call c = call c.setup c.process Ask 0
 
-pub same-access : (c : Call) (part : Part) → AtDoor part → (run : Run) → access_at (some_call c) part run ≡ access_at c part run
-same-access c part raises (Writing w) = refl
-same-access c part raises (Reading bits begun) = refl
-same-access c part (asks j js ts) (Writing w) = refl
-same-access c part (asks j js ts) (Reading bits begun) = refl
-same-access c part (takes t) (Writing w) = refl
-same-access c part (takes t) (Reading bits begun) = refl
-same-access c part (lowers t) (Writing w) = refl
-same-access c part (lowers t) (Reading bits begun) = refl
-same-access c part (refuses full) (Writing w) = refl
-same-access c part (refuses full) (Reading bits begun) = refl
-same-access c part (waits t w ws) (Writing u) = refl
-same-access c part (waits t w ws) (Reading bits begun) = refl
-
-pub same-torn : (c : Call) (part : Part) → AtDoor part → (run : Run) → torn_run (some_call c) part run ≡ torn_run c part run
-same-torn c part raises (Writing w) = refl
-same-torn c part raises (Reading bits begun) = refl
-same-torn c part (asks j js ts) (Writing w) = refl
-same-torn c part (asks j js ts) (Reading bits begun) = refl
-same-torn c part (takes t) (Writing w) = refl
-same-torn c part (takes t) (Reading bits begun) = refl
-same-torn c part (lowers t) (Writing w) = refl
-same-torn c part (lowers t) (Reading bits begun) = refl
-same-torn c part (refuses full) (Writing w) = refl
-same-torn c part (refuses full) (Reading bits begun) = refl
-same-torn c part (waits t w ws) (Writing u) = refl
-same-torn c part (waits t w ws) (Reading bits begun) = refl
+-- its parts read and write the same
+same-does : (c : Call) (part : Part) → AtDoor part → (read_at (some_call c) part ≡ read_at c part) × (written_at (some_call c) part ≡ written_at c part)
+same-does c part raises = (refl, refl)
+same-does c part (asks j js ts) = (refl, refl)
+same-does c part (takes t) = (refl, refl)
+same-does c part (lowers t) = (refl, refl)
+same-does c part (refuses full) = (refl, refl)
+same-does c part (waits t w ws) = (refl, refl)
 
 same-last : (c : Call) (part : Part) → AtDoor part → (run : Run) → is_last (some_call c) part run ≡ is_last c part run
-same-last c part raises (Writing w) = refl
-same-last c part raises (Reading bits begun) = refl
-same-last c part (asks j js ts) (Writing w) = refl
-same-last c part (asks j js ts) (Reading bits begun) = refl
-same-last c part (takes t) (Writing w) = refl
-same-last c part (takes t) (Reading bits begun) = refl
-same-last c part (lowers t) (Writing w) = refl
-same-last c part (lowers t) (Reading bits begun) = refl
-same-last c part (refuses full) (Writing w) = refl
-same-last c part (refuses full) (Reading bits begun) = refl
-same-last c part (waits t w ws) (Writing u) = refl
-same-last c part (waits t w ws) (Reading bits begun) = refl
+same-last c part door (Writing w) = ap (λ (own : Field × List Bool). (write_moved c.setup.processes own.1 w).bit == w.width) (same-does c part door).1
+same-last c part door (Reading bits begun) = ap (λ (register : ℕ × Field). begun && (length bits + 1 == width c.setup register.1)) (same-does c part door).0
 
 same-run : (c : Call) (part : Part) → AtDoor part → (run : Run) (v : Bool) → run_after (some_call c) part run v ≡ run_after c part run v
-same-run c part raises (Writing w) v = refl
-same-run c part raises (Reading bits begun) v = refl
-same-run c part (asks j js ts) (Writing w) v = refl
-same-run c part (asks j js ts) (Reading bits begun) v = refl
-same-run c part (takes t) (Writing w) v = refl
-same-run c part (takes t) (Reading bits begun) v = refl
-same-run c part (lowers t) (Writing w) v = refl
-same-run c part (lowers t) (Reading bits begun) v = refl
-same-run c part (refuses full) (Writing w) v = refl
-same-run c part (refuses full) (Reading bits begun) v = refl
-same-run c part (waits t w ws) (Writing u) v = refl
-same-run c part (waits t w ws) (Reading bits begun) v = refl
+same-run c part door (Writing w) v = ap (λ (own : Field × List Bool). Writing (write_moved c.setup.processes own.1 w)) (same-does c part door).1
+same-run c part door (Reading bits begun) v = refl
 
 -- a number access of which nothing is made, of any part
 same-new : (c : Call) (part : Part) → new_run (some_call c) part ≡ new_run c part

@@ -2,17 +2,16 @@
 use Rattle.std.proofs.Common.{◌≡◌, ℕ, Bool, true, Option, refl, sym, ap, subst, ◌∙◌}
 use Rattle.plain_store.specs.declared.Command.TheVariants.{Ask}
 use Rattle.record.specs.declared.stages.Stage.{Stage}
-use Rattle.record.specs.Cuts.{torn_at}
 use Rattle.record.specs.Doorways.{is_queued, is_waiting_stage}
-use Rattle.record.specs.Places.{Place, access_at, is_fresh, marks_of, place_after, stage_at}
+use Rattle.record.specs.Places.{Place, is_fresh, marks_of, place_after, stage_at}
 use Rattle.record.specs.Scripts.{Call}
 use Rattle.process.specs.laws.Doings.{Doing, Rests, Lies, Runs, Closes, call, runs}
 use Rattle.record.specs.Closings as closing
-use Rattle.process.specs.Alone.{full_at, full_of, ticket_at, ticket_of, torn_of}
+use Rattle.process.specs.Alone.{full_at, full_of, ticket_at, ticket_of}
 use Rattle.process.specs.Places.{ProcessState, marks_on, may_step, stage_doing, stepped}
-use Rattle.process.specs.Serving.{next_at}
+use Rattle.bakery.specs.declared.door_progress.DoorProgress.{DoorProgress}
 use Rattle.bakery.specs.Doors.{door_at, goes_on, is_going, is_waiting, marks_told, progress_on, tells_wait, told_at}
-use Rattle.bakery.proofs.AnyCall.{same-access, same-after, same-marked, same-torn}
+use Rattle.bakery.proofs.AnyCall.{same-after, same-marked}
 use Rattle.bakery.proofs.AtDoor.{AtDoor, at-door, said, stage-runs}
 
 -- a process at its door goes
@@ -23,7 +22,7 @@ going-by (Runs command number at) queued = refl
 going-by (Closes command number at) queued = refl
 
 -- what is told of its step
-pub record IsTold (d : ProcessState) (flick v : Bool) : Type 0 where
+record IsTold (d : ProcessState) (flick v : Bool) : Type 0 where
   pub going : is_going (stepped d flick v) ≡ goes_on (progress_on d (stepped d flick v))
   pub waiting : is_waiting (stepped d flick v) ≡ tells_wait (progress_on d (stepped d flick v))
   pub marks : marks_told (stage_doing d.doing) (progress_on d (stepped d flick v)) ≡ marks_on d flick v
@@ -47,22 +46,35 @@ told-by d (Runs command number at) flick v queued =
       marks = subst (λ stage. marks_told (stage_at at) (told_at stage (ticket_at at.part) (full_at at.part)) ≡ marks_of c at v) (sym next) (sym s.marks);
     }
 
-pub told : (d : ProcessState) (flick v : Bool) → is_going d ≡ true → IsTold d flick v
+told : (d : ProcessState) (flick v : Bool) → is_going d ≡ true → IsTold d flick v
 told d flick v queued = told-by d d.doing flick v queued
 
 -- as the code finds it
-pub told-is : {s : Stage} {ticket full : Option ℕ} (d place then : ProcessState) (flick v : Bool) → place ≡ d → then ≡ stepped d flick v → s ≡ stage_doing then.doing → ticket ≡ ticket_of place.doing → full ≡ full_of place.doing → told_at s ticket full ≡ progress_on d (stepped d flick v)
-told-is d place then flick v same goes stage ticket full =
-    (λ i. told_at (stage i) (ticket i) (full i))
-    ∙ (λ i. told_at (stage_doing (goes i).doing) (ticket_of (same i).doing) (full_of (same i).doing))
+pub record Tells (d then : ProcessState) (progress : DoorProgress) (flick v : Bool) : Type 0 where
+  pub is : progress ≡ progress_on d (stepped d flick v)
+  pub going : is_going then ≡ goes_on progress
+  pub waiting : is_waiting then ≡ tells_wait progress
+  pub marks : marks_told (stage_doing d.doing) progress ≡ marks_on d flick v
+
+pub tells : {s : Stage} {ticket full : Option ℕ} {progress : DoorProgress} {place then : ProcessState} {given v : Bool} (d : ProcessState) (flick : Bool) → place ≡ d → then ≡ stepped place flick given → given ≡ v → s ≡ stage_doing then.doing → ticket ≡ ticket_of place.doing → full ≡ full_of place.doing → progress ≡ told_at s ticket full → is_going d ≡ true → Tells d then progress flick v
+tells {s} {ticket} {full} {progress} {place} {then} {given} {v} d flick same goes gives stage has refused at queued =
+    let went : then ≡ stepped d flick v = goes ∙ (λ i. stepped (same i) flick (gives i)) in
+    let t = told d flick v queued in
+    let is : progress ≡ progress_on d (stepped d flick v) =
+    at
+    ∙ (λ i. told_at (stage i) (has i) (refused i))
+    ∙ (λ i. told_at (stage_doing (went i).doing) (ticket_of (same i).doing) (full_of (same i).doing)) in
+    record {
+      is = is;
+      going = ap is_going went ∙ t.going ∙ sym (ap goes_on is);
+      waiting = ap is_waiting went ∙ t.waiting ∙ sym (ap tells_wait is);
+      marks = ap (marks_told (stage_doing d.doing)) is ∙ t.marks;
+    }
 
 -- ANY CALL
 
 queued-at : (c : Call) (at : Place) (d : ProcessState) → d ≡ door_at c at → is_going d ≡ true → AtDoor at.part
 queued-at c at d is queued = at-door at.part (is_fresh at.run) (sym (ap (λ (x : ProcessState). is_queued (stage_doing x.doing)) is) ∙ queued)
-
-pub any-access : (c : Call) (at : Place) (d : ProcessState) (flick : Bool) → d ≡ door_at c at → is_going d ≡ true → next_at d flick ≡ access_at c at.part at.run
-any-access c at d flick is queued = ap (λ x. next_at x flick) is ∙ same-access c at.part (queued-at c at d is queued) at.run
 
 pub any-after : (c : Call) (at : Place) (d : ProcessState) (flick v : Bool) → d ≡ door_at c at → is_going d ≡ true → (let then : ProcessState = record d { doing = runs Ask 0 (place_after c at v) } in stepped d flick v ≡ then)
 any-after c at d flick v is queued =
@@ -76,6 +88,3 @@ any-marks c at d flick v is queued =
     ∙ sym (ap (λ x. marks_on x flick v) is)
     ∙ sym (told d flick v queued).marks
     ∙ ap (λ (x : ProcessState). marks_told (stage_doing x.doing) (progress_on d (stepped d flick v))) is
-
-pub any-torn : (c : Call) (at : Place) (d : ProcessState) → d ≡ door_at c at → is_going d ≡ true → torn_of d.setup d.process d.doing ≡ torn_at c at
-any-torn c at d is queued = ap (λ (x : ProcessState). torn_of x.setup x.process x.doing) is ∙ same-torn c at.part (queued-at c at d is queued) at.run

@@ -1,56 +1,20 @@
 -- The newest of some versions, with one more.
-use Rattle.std.proofs.Common.{◌≡◌, ℕ, ◌+◌, ◌<◌, ◌≤◌, ◌⊎◌, max, Bool, false, List, [], ◌∷◌, ◌++◌, length, map, fold, cond, refl, sym, ap, ◌∙◌, arith, inl, inr}
-use Rattle.std.proofs.lemmas.Bool.{cases_eq, ne_eqb}
-use Rattle.std.proofs.lemmas.Bool.Decides.{nat_tests}
+use Rattle.std.proofs.Common.{◌≡◌, ℕ, ◌+◌, ◌<◌, ◌≤◌, ◌⊎◌, max, Bool, false, List, [], ◌∷◌, ◌++◌, length, map, fold, refl, sym, ap, ◌∙◌, arith, inl, inr}
+use Rattle.std.proofs.lemmas.Bool.{cases_eq}
 use Rattle.std.proofs.lemmas.List.{map-append, get_or_append_left}
 use Rattle.std.proofs.lemmas.List.Sums.{fold-append}
 use Rattle.std.proofs.Math.Seq.{get_or-append_seam}
 use Rattle.std.proofs.lemmas.List.{length-map}
+use Rattle.process.proofs.Greatest.{fold-least, greatest-there, place-here, place-later}
 use Rattle.record.specs.Program.{Version, newest_stamp, newest_process, version_of, place_of}
 use Rattle.bakery.specs.declared.newest.Newest.{Newest}
 use Rattle.bakery.specs.Newest.{newest_of}
-
--- the place of the item that comes next
-place-here : (n x : ℕ) (xs : List ℕ) → x ≡ n → place_of n (x ∷ xs) ≡ 0
-place-here n x xs same = grind (arith, nat_tests)
-
-place-later : (n x : ℕ) (xs : List ℕ) → (x ≡ n → ⊥) → place_of n (x ∷ xs) ≡ 1 + place_of n xs
-place-later n x xs other = ap (λ b. cond b 0 (1 + place_of n xs)) (ne_eqb x n other)
-
--- a fold by max is no less than where it began
-fold-ge : (a : ℕ) (xs : List ℕ) → a ≤ fold max a xs
-fold-ge a [] = omega arith
-fold-ge a (x ∷ xs) = let more = fold-ge (max a x) xs in omega arith
-
--- the greatest stands among the items, or is where the fold began
-place-greatest : (a : ℕ) (xs : List ℕ) → (fold max a xs ≡ a) ⊎ (place_of (fold max a xs) xs < length xs)
-place-greatest a [] = inl refl
-place-greatest a (x ∷ xs) = elim (cases_eq x (fold max (max a x) xs)) [
-  | inl same ↦ let here = place-here (fold max (max a x) xs) x xs same in inr (omega (arith, here))
-  | inr other ↦
-      let later = place-later (fold max (max a x) xs) x xs other in
-      elim (place-greatest (max a x) xs) [
-        | inl first ↦ inl (omega (arith, first, other, fold-ge (max a x) xs))
-        | inr there ↦ inr (omega (arith, there, later))
-      ]
-]
-
--- it stands among them, where there are some
-greatest-there : (xs : List ℕ) → 0 < length xs → place_of (fold max 0 xs) xs < length xs
-greatest-there [] some = absurd (omega arith)
-greatest-there (x ∷ xs) some = elim (place-greatest 0 (x ∷ xs)) [
-  | inl none ↦
-      let more = fold-ge (max 0 x) xs in
-      let here : x ≡ fold max 0 (x ∷ xs) = omega (arith, none) in
-      omega (arith, place-here (fold max 0 (x ∷ xs)) x xs here)
-  | inr there ↦ there
-]
 
 -- what is greater than all stands nowhere
 place-above : (n a : ℕ) (xs : List ℕ) → fold max a xs < n → place_of n xs ≡ length xs
 place-above n a [] above = refl
 place-above n a (x ∷ xs) above =
-    let bound = fold-ge (max a x) xs in
+    let bound = fold-least (max a x) xs in
     let other : x ≡ n → ⊥ = λ same. omega (arith, same) in
     let rest = place-above n (max a x) xs above in
     omega (arith, place-later n x xs other, rest)

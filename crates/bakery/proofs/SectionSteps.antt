@@ -2,24 +2,19 @@
 use Rattle.std.proofs.Common.{◌≡◌, ℕ, ◌==◌, Bool, true, false, cond, List, [], ◌∷◌, ◌++◌, Option, is_some, refl, sym, ap, subst, ◌∙◌}
 use Rattle.plain_store.specs.declared.Answer.{Answer}
 use Rattle.plain_store.specs.declared.Answer.TheVariants as answer
-use Rattle.plain_store.specs.declared.Setup.{Setup}
 use Rattle.plain_store.specs.Store.{Contents, changes}
-use Rattle.record.specs.declared.access.Access.{Access}
-use Rattle.record.specs.declared.access.Field.{Field}
 use Rattle.record.specs.declared.marks.Mark.{Mark}
 use Rattle.record.specs.declared.marks.Mark.TheVariants as mark
 use Rattle.record.specs.Cuts.{pending_at}
 use Rattle.record.specs.Parts.{Part, Raises, Asks, TakesTicket, Lowers, Refuses, Waits, AsksCommit, AsksStamp, AsksImage, WritesImage, WritesStamp, WritesCommit, Clears, Over, first_marks, is_over, last_marks, part_after, to_e, to_g}
 use Rattle.record.specs.Places.{Place, bits_with, enter, is_fresh, is_last, marks_of, place_after, run_after}
-use Rattle.record.specs.Program.{Version, image_field, max_of, newest_stamp, reply, stamp_field, store_read}
+use Rattle.record.specs.Program.{Version, max_of, newest_stamp, reply, store_read}
 use Rattle.record.specs.Scripts.{Call}
 use Rattle.process.specs.laws.Doings.{Doing, Rests, Lies, Runs, Closes, call, runs}
-use Rattle.process.specs.laws.Held.{IsThere}
-use Rattle.process.specs.Alone.{IsOfRegister, answer_at, answer_of, change_of, register_at}
+use Rattle.process.specs.Alone.{answer_at, answer_of, change_of}
 use Rattle.process.specs.Places.{ProcessState, changes_at, changes_read, marks_on, may_step, stepped}
 use Rattle.bakery.specs.declared.section_progress.SectionProgress.{SectionProgress}
-use Rattle.bakery.specs.Registers.{is_data}
-use Rattle.bakery.specs.Sections.{goes, goes_on, is_going, is_of_data, marks_told, progress_on, told_at, IsInRange}
+use Rattle.bakery.specs.Sections.{goes, goes_on, is_going, is_of_data, marks_told, progress_on, told_at}
 
 -- a part from E to G
 data OfData : Part → Type 0 where
@@ -142,30 +137,3 @@ pub told-is : {changes : ℕ} {a : Option Answer} {writes : Bool} (now place the
 told-is now place then flick v same goes changes a writes =
     (λ i. told_at (changes i) (a i) (writes i))
     ∙ (λ i. told_at (changes_read (same i).doing) (answer_of (goes i).doing) (is_some (change_of (goes i).setup (goes i).process (goes i).doing)))
-
--- ITS ACCESSES ARE TO DATA
-
-stamp-data : (b : Bool) → is_data (stamp_field b) ≡ true
-stamp-data true = refl
-stamp-data false = refl
-
-image-data : (b : Bool) → is_data (image_field b) ≡ true
-image-data true = refl
-image-data false = refl
-
-register-data : (c : Call) (part : Part) → OfData part → is_data (register_at c part).1 ≡ true
-register-data c part (commit k ks vs) = refl
-register-data c part (stamp k ks vs b) = stamp-data b
-register-data c part (image vs) = image-data _
-register-data c part (new_image vs st) = image-data _
-register-data c part (new_stamp vs st) = stamp-data _
-register-data c part (new_commit vs st) = refl
-
-data-by : (s : Setup) (p : ℕ) (d : Doing) (a : Access) → goes d ≡ true → IsOfRegister s p d a → is_data a.field ≡ true
-data-by s p Rests a going of = absurd (cc)
-data-by s p Lies a going of = absurd (cc)
-data-by s p (Closes command number at) a going of = absurd (cc)
-data-by s p (Runs command number at) a going of = ap (λ (register : ℕ × Field). is_data register.1) of ∙ register-data (call s p command number) at.part (of-data at.part going)
-
-pub in-range : (now : ProcessState) (a : Access) → is_going now ≡ true → IsThere now.setup a → IsOfRegister now.setup now.process now.doing a → IsInRange now.setup a
-in-range now a going there of = record { owner = there.owner; field = data-by now.setup now.process now.doing a going of; bit = there.bit; reader = there.reader }

@@ -58,12 +58,15 @@ impl Data {
         requires { checked setup.now ≡ Ok tt }
         ensures { IfOk result (λ d. d ≡ data_from zero_cell setup.now 0) }
     {
+        let commit = register(alloc, setup, Field::Commit)?;
+        let (stamp0, image0) = version(alloc, setup, Field::Stamp0, Field::Image0)?;
+        let (stamp1, image1) = version(alloc, setup, Field::Stamp1, Field::Image1)?;
         Ok(Data {
-            commit: register(alloc, setup, Field::Commit)?,
-            stamp0: register(alloc, setup, Field::Stamp0)?,
-            stamp1: register(alloc, setup, Field::Stamp1)?,
-            image0: register(alloc, setup, Field::Image0)?,
-            image1: register(alloc, setup, Field::Image1)?,
+            commit,
+            stamp0,
+            stamp1,
+            image0,
+            image1,
         })
     }
 
@@ -155,6 +158,20 @@ fn opening_image(setup: &Setup) -> Result<Image, AllocError>
     ensures { IfOk result (λ image. image ≡ opening_store setup.now) }
 {
     plain_store::opened(Image::empty(setup.slots, setup.callers()), setup)
+}
+
+/// The registers of a version, a stamp and an image, that are 0.
+fn version(
+    alloc: Global,
+    setup: &Setup,
+    stamp: Field,
+    image: Field,
+) -> Result<(Register, Register), AllocError>
+    requires { checked setup.now ≡ Ok tt }
+    ensures { IfOk result (λ version. version ≡ (register_from zero_cell setup.now 0 stamp, register_from zero_cell setup.now 0 image)) }
+{
+    let stamp = register(alloc, setup, stamp)?;
+    Ok((stamp, register(alloc, setup, image)?))
 }
 
 /// A register of a setup that is 0.

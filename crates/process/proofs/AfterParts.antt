@@ -1,18 +1,18 @@
 -- What comes after a part, by what is kept of it.
-use Rattle.std.proofs.Common.{◌≡◌, ◌≢◌, ℕ, suc, ◌+◌, ◌-◌, ◌^◌, ◌<◌, ◌≤◌, ◌==◌, ◌||◌, Bool, true, false, cond, List, [], ◌∷◌, flat_map, length, take, None, Some, sym, ap, ◌∙◌, arith}
+use Rattle.std.proofs.Common.{◌≡◌, ◌≢◌, ℕ, suc, ◌+◌, ◌-◌, ◌^◌, ◌<◌, ◌≤◌, ◌==◌, Bool, true, false, List, [], ◌∷◌, flat_map, length, take, None, Some, sym, ap, ◌∙◌, subst, arith}
 use Rattle.std.proofs.Math.Pow.{pow_mono}
 use Rattle.std.proofs.lemmas.Bool.{eq-eqb, ne_eqb}
 use Rattle.std.specs.List.{range_with_len}
-use Rattle.record.specs.safe_number.Bytes.{number_of_bits}
 use Rattle.record.specs.declared.access.Field.TheVariants.{Choosing, Ticket}
 use Rattle.plain_store.specs.declared.Answer.TheVariants as answer
 use Rattle.plain_store.specs.Store.{Contents, changes}
 use Rattle.record.specs.Parts.{Part, Asks, TakesTicket, Refuses, WritesImage, Clears, part_after, to_b, to_c, to_d, to_e, to_g}
-use Rattle.record.specs.Program.{Version, Wait, first_full, greatest, is_below, max_of, newest_stamp, place_of, reply}
+use Rattle.record.specs.Program.{Version, Wait, first_full, greatest, max_of, newest_stamp, place_of, reply}
 use Rattle.record.specs.Registers.{processes}
 use Rattle.record.specs.Scripts.{Call}
 use Rattle.process.specs.Others.{first_other, other_numbered}
-use Rattle.process.specs.Seen.{IsCall, all_from, others_of, part_at, tickets_seen, versions_seen, waits_from}
+use Rattle.process.specs.Seen.{Holds, IsCall, KeepsPart, all_from, others_of, part_at, tickets_seen, versions_seen, waits_from}
+use Rattle.process.specs.declared.part.ProcessPart.{ProcessPart}
 use Rattle.process.specs.declared.part.ProcessPart.TheVariants as at
 use Rattle.process.specs.declared.seen.Seen.{Seen}
 use Rattle.process.proofs.Greatest.{greatest-there}
@@ -65,9 +65,17 @@ pub awaits-some : (c : Call) (seen : Seen) (t first j : ℕ) → first ≤ c.set
 awaits-some c seen t first j within is =
     sym (ap (λ js. to_d c t (flat_map (λ k. (let w : Wait = (k, Choosing) in w) ∷ (k, Ticket) ∷ []) js)) (others-from c.setup.processes c.process first within ∙ ap (listed c.setup.processes c.process) is))
 
--- a ticket that is waited for
-pub waited-by : (c : Call) (seen : Seen) (t j : ℕ) (bits : List Bool) → ((number_of_bits bits == 0) || is_below t c.process (number_of_bits bits) j) ≡ true → to_d c t (waits_from c (j + 1)) ≡ part_after c (part_at c seen (at.AwaitsTicket t j)) bits
-waited-by c seen t j bits by = sym (ap (λ b. to_d c t (cond b (waits_from c (j + 1)) ((j, Ticket) ∷ waits_from c (j + 1)))) by)
+pub awaits-none : (c : Call) (seen : Seen) (t first : ℕ) → first ≤ c.setup.processes → first_other c.setup.processes c.process first ≡ None → to_e (all_from c 0) (versions_seen 0 seen) ≡ to_d c t (waits_from c first)
+awaits-none c seen t first within is =
+    ap (λ ks. to_e ks []) (all-all c)
+    ∙ sym (ap (λ js. to_d c t (flat_map (λ k. (let w : Wait = (k, Choosing) in w) ∷ (k, Ticket) ∷ []) js)) (others-from c.setup.processes c.process first within ∙ ap (listed c.setup.processes c.process) is))
+
+-- the part after one that is known, and what holds there
+abbrev pub part-then : Call → Seen → List Bool → ProcessPart → Part
+part-then c seen bits part = part_after c (part_at c seen part) bits
+
+pub keeps-then : (c : Call) (seen : Seen) (part known next : ProcessPart) → KeepsPart c seen part → part ≡ known → (Holds c seen known → Holds c seen next) → KeepsPart c seen next
+keeps-then c seen part known next keeps is holds = record { call = keeps.call; room = keeps.room; holds = holds (subst (Holds c seen) is keeps.holds) }
 
 pub g-full : (c : Call) (vs : List Version) (st : Contents) → changes st c.command ≡ true → newest_stamp vs ≡ max_of c.setup.stamp_bits → Clears answer.StampsFull ≡ to_g c vs st
 g-full c vs st some full =

@@ -1,5 +1,5 @@
 -- A withdrawal, and the memory unit's writes, go on by their cursor.
-use Rattle.std.proofs.Common.{◌≡◌, ◌&&◌, Bool, true, false, cond, List, [], ◌∷◌, refl, sym, ap, ◌∙◌, subst, arith}
+use Rattle.std.proofs.Common.{◌≡◌, ◌==◌, ◌&&◌, Bool, false, cond, List, [], ◌∷◌, refl, sym, ap, ◌∙◌, subst, arith}
 use Rattle.plain_store.specs.declared.Answer.TheVariants.{Withdrawn}
 use Rattle.record.specs.declared.access.Field.{Field}
 use Rattle.record.specs.declared.access.Field.TheVariants.{Choosing, Ticket}
@@ -7,11 +7,12 @@ use Rattle.record.specs.declared.marks.Mark.{Mark}
 use Rattle.record.specs.declared.marks.Mark.TheVariants as mark
 use Rattle.record.specs.Closings as closing
 use Rattle.record.specs.Closings.{Closing, no_ticket}
+use Rattle.record.specs.Places.{write_moved}
 use Rattle.record.specs.Registers.{width}
 use Rattle.record.specs.safe_number.Bytes.{bits_of_number}
-use Rattle.record.specs.safe_number.Runs.{new_write}
+use Rattle.record.specs.safe_number.Runs.{NumberWrite, new_write}
 use Rattle.laws.specs.Doings.{closes}
-use Rattle.registers.specs.AtParts.{WritesAt}
+use Rattle.registers.specs.AtParts.{WritesAt, moved}
 use Rattle.registers.specs.Begins.{writing}
 use Rattle.registers.specs.Cursors.{CursorState, is_over}
 use Rattle.registers.specs.Rows.{write_kept}
@@ -43,82 +44,56 @@ clears-choosing k is = record {
   working = record { run = refl; at = refl; reader = refl; copies = refl; wide = refl; bits = refl; copy = omega (arith, is.process); going = omega arith };
 }
 
--- A WITHDRAWAL
+-- WHAT A WRITE LEADS TO
 
-withdraws-on : (k : PartState) (flick value : Bool) (before cur : CursorState) (fresh : Bool) → HasMoved k work.Withdraws flick value before cur fresh →
-    stepped (state_at k work.Withdraws before) flick value ≡ then_closes k (cond (is_over cur) closing.Quit (closing.Withdraws (write_kept cur)))
-withdraws-on k flick value before cur fresh h =
-    let e = ends k.call.setup k.call.process (Ticket, no_ticket k.call) before value h.keeps.working in
-    (λ i. then_closes k (cond (e.last i) closing.Quit (closing.Withdraws (e.run i))))
-    ∙ ap (λ c. then_closes k (cond (is_over c) closing.Quit (closing.Withdraws (write_kept c)))) (sym h.moves)
+-- the write after its next access
+abbrev then_written : PartState → Field × List Bool → CursorState → NumberWrite
+then_written k own before = write_moved k.call.setup.processes own.1 (write_kept before)
 
-pub withdraws-within : (k : PartState) (flick value : Bool) (before cur : CursorState) (fresh : Bool) → HasMoved k work.Withdraws flick value before cur fresh → is_over cur ≡ false → state_at k work.Withdraws cur ≡ stepped (state_at k work.Withdraws before) flick value
-withdraws-within k flick value before cur fresh h more = sym (withdraws-on k flick value before cur fresh h ∙ ap (λ b. then_closes k (cond b closing.Quit (closing.Withdraws (write_kept cur)))) more)
+goes-to : (k : PartState) (own : Field × List Bool) (value : Bool) {over : Bool} {before cur : CursorState} (done : Closing) (on : NumberWrite → Closing) → WritesAt k.call.setup k.call.process own before → cur ≡ moved before value → is_over cur ≡ over →
+    then_closes k (cond over done (on (write_kept cur))) ≡ then_closes k (cond ((then_written k own before).bit == before.width) done (on (then_written k own before)))
+goes-to k own value {over} {before} {cur} done on at moves is =
+    let e = ends k.call.setup k.call.process own before value at in
+    sym ((λ i. then_closes k (cond (e.last i) done (on (e.run i))))
+    ∙ ap (λ c. then_closes k (cond (is_over c) done (on (write_kept c)))) (sym moves)
+    ∙ ap (λ b. then_closes k (cond b done (on (write_kept cur)))) is)
 
-pub withdraws-over : (k : PartState) (flick value : Bool) (before cur : CursorState) (fresh : Bool) → HasMoved k work.Withdraws flick value before cur fresh → is_over cur ≡ true → state_at k work.Rests cur ≡ stepped (state_at k work.Withdraws before) flick value
-withdraws-over k flick value before cur fresh h over = sym (withdraws-on k flick value before cur fresh h ∙ ap (λ b. then_closes k (cond b closing.Quit (closing.Withdraws (write_kept cur)))) over)
+marked-by : (k : PartState) (own : Field × List Bool) (value : Bool) {over : Bool} {before cur : CursorState} (marks : List Mark) → WritesAt k.call.setup k.call.process own before → cur ≡ moved before value → is_over cur ≡ over →
+    cond over marks [] ≡ cond ((then_written k own before).bit == before.width) marks []
+marked-by k own value {over} {before} marks at moves is = sym (ap (λ b. cond b marks []) ((ends k.call.setup k.call.process own before value at).last ∙ sym (ap is_over moves) ∙ is))
 
-pub withdraws-marks : (k : PartState) (flick value : Bool) (before cur : CursorState) (fresh : Bool) → HasMoved k work.Withdraws flick value before cur fresh → (let answered : List Mark = mark.Answered Withdrawn ∷ [] in cond (is_over cur) answered []) ≡ marks_on (state_at k work.Withdraws before) flick value
-withdraws-marks k flick value before cur fresh h =
-    let e = ends k.call.setup k.call.process (Ticket, no_ticket k.call) before value h.keeps.working in
-    let answered : List Mark = mark.Answered Withdrawn ∷ [] in
-    sym (ap (λ b. cond b answered []) e.last ∙ ap (λ c. cond (is_over c) answered []) (sym h.moves))
+still-at : (k : PartState) (own : Field × List Bool) (value : Bool) {before cur : CursorState} → WritesAt k.call.setup k.call.process own before → cur ≡ moved before value → is_over cur ≡ false → WritesAt k.call.setup k.call.process own cur
+still-at k own value {before} at moves more = subst (WritesAt k.call.setup k.call.process own) (sym moves) ((ends k.call.setup k.call.process own before value at).stays (ap is_over (sym moves) ∙ more))
 
-pub still-withdraws : (k : PartState) (flick value : Bool) (before cur : CursorState) (fresh : Bool) → HasMoved k work.Withdraws flick value before cur fresh → is_over cur ≡ false → KeepsPlace k work.Withdraws cur
-still-withdraws k flick value before cur fresh h more = record {
-  call = h.keeps.call;
-  working = subst (WritesAt k.call.setup k.call.process (Ticket, no_ticket k.call)) (sym h.moves) ((ends k.call.setup k.call.process (Ticket, no_ticket k.call) before value h.keeps.working).stays (ap is_over (sym h.moves) ∙ more));
-}
+module _ {k : PartState} {flick value fresh : Bool} {before cur : CursorState} where
+  -- a withdrawal
+  pub withdraws-to : {over : Bool} → HasMoved k work.Withdraws flick value before cur fresh → is_over cur ≡ over → then_closes k (cond over closing.Quit (closing.Withdraws (write_kept cur))) ≡ stepped (state_at k work.Withdraws before) flick value
+  withdraws-to h is = goes-to k (Ticket, no_ticket k.call) value closing.Quit closing.Withdraws h.keeps.working h.moves is
 
--- THE UNIT WRITES `Ticket` 0
+  pub withdraws-marks : {over : Bool} → HasMoved k work.Withdraws flick value before cur fresh → is_over cur ≡ over → (let answered : List Mark = mark.Answered Withdrawn ∷ [] in cond over answered []) ≡ marks_on (state_at k work.Withdraws before) flick value
+  withdraws-marks h is = marked-by k (Ticket, no_ticket k.call) value (mark.Answered Withdrawn ∷ []) h.keeps.working h.moves is
 
-frees-on : (k : PartState) (inside flick value : Bool) (before cur : CursorState) (fresh : Bool) → HasMoved k (work.Frees inside) flick value before cur fresh →
-    stepped (state_at k (work.Frees inside) before) flick value ≡ then_closes k (cond (is_over cur) (closing.Lowers (new_write 1)) (closing.Frees inside (write_kept cur)))
-frees-on k inside flick value before cur fresh h =
-    let e = ends k.call.setup k.call.process (Ticket, no_ticket k.call) before value h.keeps.working in
-    (λ i. then_closes k (cond (e.last i) (closing.Lowers (new_write 1)) (closing.Frees inside (e.run i))))
-    ∙ ap (λ c. then_closes k (cond (is_over c) (closing.Lowers (new_write 1)) (closing.Frees inside (write_kept c)))) (sym h.moves)
+  pub still-withdraws : HasMoved k work.Withdraws flick value before cur fresh → is_over cur ≡ false → KeepsPlace k work.Withdraws cur
+  still-withdraws h more = record { call = h.keeps.call; working = still-at k (Ticket, no_ticket k.call) value h.keeps.working h.moves more }
 
-pub frees-within : (k : PartState) (inside flick value : Bool) (before cur : CursorState) (fresh : Bool) → HasMoved k (work.Frees inside) flick value before cur fresh → is_over cur ≡ false → state_at k (work.Frees inside) cur ≡ stepped (state_at k (work.Frees inside) before) flick value
-frees-within k inside flick value before cur fresh h more = sym (frees-on k inside flick value before cur fresh h ∙ ap (λ b. then_closes k (cond b (closing.Lowers (new_write 1)) (closing.Frees inside (write_kept cur)))) more)
+  -- the unit writes `Ticket` 0
+  pub frees-to : {inside over : Bool} → HasMoved k (work.Frees inside) flick value before cur fresh → is_over cur ≡ over → then_closes k (cond over (closing.Lowers (new_write 1)) (closing.Frees inside (write_kept cur))) ≡ stepped (state_at k (work.Frees inside) before) flick value
+  frees-to {inside} h is = goes-to k (Ticket, no_ticket k.call) value (closing.Lowers (new_write 1)) (closing.Frees inside) h.keeps.working h.moves is
 
-pub frees-over : (k : PartState) (inside flick value : Bool) (before cur : CursorState) (fresh : Bool) → HasMoved k (work.Frees inside) flick value before cur fresh → is_over cur ≡ true → state_at k work.Lowers (clearing k Choosing) ≡ stepped (state_at k (work.Frees inside) before) flick value
-frees-over k inside flick value before cur fresh h over = sym (frees-on k inside flick value before cur fresh h ∙ ap (λ b. then_closes k (cond b (closing.Lowers (new_write 1)) (closing.Frees inside (write_kept cur)))) over)
+  pub frees-marks : {inside : Bool} → HasMoved k (work.Frees inside) flick value before cur fresh → (let left : List Mark = mark.Left ∷ [] in cond (inside && fresh) left []) ≡ marks_on (state_at k (work.Frees inside) before) flick value
+  frees-marks {inside} h =
+      let left : List Mark = mark.Left ∷ [] in
+      ap (λ b. cond (inside && b) left []) (h.first ∙ sym (unwritten k.call.setup k.call.process (Ticket, no_ticket k.call) before h.keeps.working))
 
-pub frees-marks : (k : PartState) (inside flick value : Bool) (before cur : CursorState) (fresh : Bool) → HasMoved k (work.Frees inside) flick value before cur fresh → (let left : List Mark = mark.Left ∷ [] in cond (inside && fresh) left []) ≡ marks_on (state_at k (work.Frees inside) before) flick value
-frees-marks k inside flick value before cur fresh h =
-    let left : List Mark = mark.Left ∷ [] in
-    ap (λ b. cond (inside && b) left []) (h.first ∙ sym (unwritten k.call.setup k.call.process (Ticket, no_ticket k.call) before h.keeps.working))
+  pub still-frees : {inside : Bool} → HasMoved k (work.Frees inside) flick value before cur fresh → is_over cur ≡ false → KeepsPlace k (work.Frees inside) cur
+  still-frees h more = record { call = h.keeps.call; working = still-at k (Ticket, no_ticket k.call) value h.keeps.working h.moves more }
 
-pub still-frees : (k : PartState) (inside flick value : Bool) (before cur : CursorState) (fresh : Bool) → HasMoved k (work.Frees inside) flick value before cur fresh → is_over cur ≡ false → KeepsPlace k (work.Frees inside) cur
-still-frees k inside flick value before cur fresh h more = record {
-  call = h.keeps.call;
-  working = subst (WritesAt k.call.setup k.call.process (Ticket, no_ticket k.call)) (sym h.moves) ((ends k.call.setup k.call.process (Ticket, no_ticket k.call) before value h.keeps.working).stays (ap is_over (sym h.moves) ∙ more));
-}
+  -- it writes `Choosing` 0
+  pub lowers-to : {over : Bool} → HasMoved k work.Lowers flick value before cur fresh → is_over cur ≡ over → then_closes k (cond over closing.Ended (closing.Lowers (write_kept cur))) ≡ stepped (state_at k work.Lowers before) flick value
+  lowers-to h is = goes-to k (Choosing, false ∷ []) value closing.Ended closing.Lowers h.keeps.working h.moves is
 
--- THE UNIT WRITES `Choosing` 0
+  pub lowers-marks : {over : Bool} → HasMoved k work.Lowers flick value before cur fresh → is_over cur ≡ over → (let down : List Mark = mark.Down ∷ [] in cond over down []) ≡ marks_on (state_at k work.Lowers before) flick value
+  lowers-marks h is = marked-by k (Choosing, false ∷ []) value (mark.Down ∷ []) h.keeps.working h.moves is
 
-lowers-on : (k : PartState) (flick value : Bool) (before cur : CursorState) (fresh : Bool) → HasMoved k work.Lowers flick value before cur fresh →
-    stepped (state_at k work.Lowers before) flick value ≡ then_closes k (cond (is_over cur) closing.Ended (closing.Lowers (write_kept cur)))
-lowers-on k flick value before cur fresh h =
-    let e = ends k.call.setup k.call.process (Choosing, false ∷ []) before value h.keeps.working in
-    (λ i. then_closes k (cond (e.last i) closing.Ended (closing.Lowers (e.run i))))
-    ∙ ap (λ c. then_closes k (cond (is_over c) closing.Ended (closing.Lowers (write_kept c)))) (sym h.moves)
-
-pub lowers-within : (k : PartState) (flick value : Bool) (before cur : CursorState) (fresh : Bool) → HasMoved k work.Lowers flick value before cur fresh → is_over cur ≡ false → state_at k work.Lowers cur ≡ stepped (state_at k work.Lowers before) flick value
-lowers-within k flick value before cur fresh h more = sym (lowers-on k flick value before cur fresh h ∙ ap (λ b. then_closes k (cond b closing.Ended (closing.Lowers (write_kept cur)))) more)
-
-pub lowers-over : (k : PartState) (flick value : Bool) (before cur : CursorState) (fresh : Bool) → HasMoved k work.Lowers flick value before cur fresh → is_over cur ≡ true → state_at k work.Lies cur ≡ stepped (state_at k work.Lowers before) flick value
-lowers-over k flick value before cur fresh h over = sym (lowers-on k flick value before cur fresh h ∙ ap (λ b. then_closes k (cond b closing.Ended (closing.Lowers (write_kept cur)))) over)
-
-pub lowers-marks : (k : PartState) (flick value : Bool) (before cur : CursorState) (fresh : Bool) → HasMoved k work.Lowers flick value before cur fresh → (let down : List Mark = mark.Down ∷ [] in cond (is_over cur) down []) ≡ marks_on (state_at k work.Lowers before) flick value
-lowers-marks k flick value before cur fresh h =
-    let e = ends k.call.setup k.call.process (Choosing, false ∷ []) before value h.keeps.working in
-    let down : List Mark = mark.Down ∷ [] in
-    sym (ap (λ b. cond b down []) e.last ∙ ap (λ c. cond (is_over c) down []) (sym h.moves))
-
-pub still-lowers : (k : PartState) (flick value : Bool) (before cur : CursorState) (fresh : Bool) → HasMoved k work.Lowers flick value before cur fresh → is_over cur ≡ false → KeepsPlace k work.Lowers cur
-still-lowers k flick value before cur fresh h more = record {
-  call = h.keeps.call;
-  working = subst (WritesAt k.call.setup k.call.process (Choosing, false ∷ [])) (sym h.moves) ((ends k.call.setup k.call.process (Choosing, false ∷ []) before value h.keeps.working).stays (ap is_over (sym h.moves) ∙ more));
-}
+  pub still-lowers : HasMoved k work.Lowers flick value before cur fresh → is_over cur ≡ false → KeepsPlace k work.Lowers cur
+  still-lowers h more = record { call = h.keeps.call; working = still-at k (Choosing, false ∷ []) value h.keeps.working h.moves more }

@@ -3,14 +3,14 @@ use Rattle.std.proofs.Common.{◌≡◌, ℕ, ◌+◌, ◌<◌, ◌≤◌, ◌�
 use Rattle.std.proofs.lemmas.Bool.{cases_eq, ne_eqb, eq-eqb}
 use Rattle.record.specs.Program.{place_of}
 
-place-here : (n x : ℕ) (xs : List ℕ) → x ≡ n → place_of n (x ∷ xs) ≡ 0
+pub place-here : (n x : ℕ) (xs : List ℕ) → x ≡ n → place_of n (x ∷ xs) ≡ 0
 place-here n x xs same = ap (λ b. cond b 0 (1 + place_of n xs)) (eq-eqb x n same)
 
-place-later : (n x : ℕ) (xs : List ℕ) → (x ≡ n → ⊥) → place_of n (x ∷ xs) ≡ 1 + place_of n xs
+pub place-later : (n x : ℕ) (xs : List ℕ) → (x ≡ n → ⊥) → place_of n (x ∷ xs) ≡ 1 + place_of n xs
 place-later n x xs other = ap (λ b. cond b 0 (1 + place_of n xs)) (ne_eqb x n other)
 
 -- a fold by max is no less than where it began
-fold-least : (a : ℕ) (xs : List ℕ) → a ≤ fold max a xs
+pub fold-least : (a : ℕ) (xs : List ℕ) → a ≤ fold max a xs
 fold-least a [] = omega arith
 fold-least a (x ∷ xs) = let more = fold-least (max a x) xs in omega arith
 

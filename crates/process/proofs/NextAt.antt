@@ -17,7 +17,7 @@ use Rattle.process.specs.declared.work.ProcessWork.TheVariants as work
 use Rattle.process.specs.CallParts.{PartState}
 use Rattle.process.specs.Places.{ProcessState, changes_at, changes_read, marks_on, may_step, stepped}
 use Rattle.process.specs.Serving.{next_at}
-use Rattle.process.specs.Working.{AreMarksOn, IsMoved, IsStepped, HasMoved, KeepsPlace, SettlesAt, doing_at, given, reply_taken, settling_at, state_at, with_doing}
+use Rattle.process.specs.Working.{AreMarksOn, IsStepped, HasMoved, KeepsPlace, SettlesAt, doing_at, given, reply_taken, settling_at, state_at, with_doing}
 
 settling-next : (k : PartState) (inside flick : Bool) (taken : Option (Bool × Reply)) (cur : CursorState) → SettlesAt k.call.setup k.call.process taken cur →
     next_access cur flick ≡ next_at (state_at k (work.Settles inside taken) cur) flick
@@ -44,7 +44,7 @@ pub shown-idle : (k : PartState) (w : ProcessWork) (cur : CursorState) (now : Pr
 shown-idle k w cur now shows goes = idle-goes k w cur (ap (λ (s : ProcessState). may_step s.doing) shows ∙ goes)
 
 -- the cursor has made it, at work that is this
-has-moved : {k : PartState} {was : ProcessWork} {g fresh : Bool} {a : Access} {before cur : CursorState} (w : ProcessWork) (flick value : Bool) → KeepsPlace k was before → was ≡ w → g ≡ given was flick value → a ≡ next_access before g → cur ≡ cursor_after before a.how → fresh ≡ is_fresh before →
+pub has-moved : {k : PartState} {was : ProcessWork} {g fresh : Bool} {a : Access} {before cur : CursorState} (w : ProcessWork) (flick value : Bool) → KeepsPlace k was before → was ≡ w → g ≡ given was flick value → a ≡ next_access before g → cur ≡ cursor_after before a.how → fresh ≡ is_fresh before →
     HasMoved k w flick value before cur fresh
 has-moved {k} {was} {g} {fresh} {a} {before} {cur} w flick value keeps same gives is goes first = record {
   keeps = subst (λ w. KeepsPlace k w before) same keeps;
@@ -52,24 +52,19 @@ has-moved {k} {was} {g} {fresh} {a} {before} {cur} w flick value keeps same give
   first = first;
 }
 
-pub is-moved : {k : PartState} {was : ProcessWork} {g fresh : Bool} {a : Access} {before cur : CursorState} (w : ProcessWork) (flick value : Bool) → KeepsPlace k was before → was ≡ w → g ≡ given was flick value → a ≡ next_access before g → cur ≡ cursor_after before a.how → fresh ≡ is_fresh before →
-    IsMoved k w cur fresh
-is-moved {k} {was} {g} {fresh} {a} {before} {cur} w flick value keeps same gives is goes first = (flick, value, before, has-moved w flick value keeps same gives is goes first)
-
 -- so the process has gone on from what it was
-pub then-stepped : {k : PartState} {was : ProcessWork} {g fresh : Bool} {a : Access} {before cur : CursorState} {now next : ProcessState} (w : ProcessWork) (flick value : Bool) → KeepsPlace k was before → state_at k was before ≡ now → was ≡ w → g ≡ given was flick value → a ≡ next_access before g → cur ≡ cursor_after before a.how → fresh ≡ is_fresh before →
-    IsStepped k w cur fresh next → next ≡ stepped now flick value
-then-stepped {k} {was} {g} {fresh} {a} {before} {cur} {now} {next} w flick value keeps shows same gives is goes first steps =
-    steps flick value before (has-moved w flick value keeps same gives is goes first)
-    ∙ ap (λ w. stepped (state_at k w before) flick value) (sym same)
-    ∙ ap (λ (s : ProcessState). stepped s flick value) shows
+module _ {k : PartState} {was w : ProcessWork} {flick value fresh : Bool} {before cur : CursorState} {now : ProcessState} (h : HasMoved k w flick value before cur fresh) (same : was ≡ w) (shows : state_at k was before ≡ now) where
+  pub then-stepped : {next : ProcessState} → IsStepped k w cur fresh next → next ≡ stepped now flick value
+  then-stepped steps =
+      steps flick value before h
+      ∙ ap (λ w. stepped (state_at k w before) flick value) (sym same)
+      ∙ ap (λ (s : ProcessState). stepped s flick value) shows
 
-pub then-marks : {k : PartState} {was : ProcessWork} {g fresh : Bool} {a : Access} {before cur : CursorState} {now : ProcessState} {marks : List Mark} (w : ProcessWork) (flick value : Bool) → KeepsPlace k was before → state_at k was before ≡ now → was ≡ w → g ≡ given was flick value → a ≡ next_access before g → cur ≡ cursor_after before a.how → fresh ≡ is_fresh before →
-    AreMarksOn k w cur fresh marks → marks ≡ marks_on now flick value
-then-marks {k} {was} {g} {fresh} {a} {before} {cur} {now} {marks} w flick value keeps shows same gives is goes first are =
-    are flick value before (has-moved w flick value keeps same gives is goes first)
-    ∙ ap (λ w. marks_on (state_at k w before) flick value) (sym same)
-    ∙ ap (λ (s : ProcessState). marks_on s flick value) shows
+  pub then-marks : {marks : List Mark} → AreMarksOn k w cur fresh marks → marks ≡ marks_on now flick value
+  then-marks are =
+      are flick value before h
+      ∙ ap (λ w. marks_on (state_at k w before) flick value) (sym same)
+      ∙ ap (λ (s : ProcessState). marks_on s flick value) shows
 
 -- the changes that it tells of are those that it has read, of a call that runs; otherwise it tells of none
 pub runs-changes : (k : PartState) (was : ProcessWork) (before : CursorState) (now : ProcessState) (told : Option ℕ) → state_at k was before ≡ now → was ≡ work.Runs → IfSome told (λ n. n ≡ changes_at k.part) → IfSome told (λ n. n ≡ changes_read now.doing)

@@ -91,12 +91,6 @@ below-none n p k e inside within = elim (cases_eq k p) [
       omega (arith, past, below-past p k (omega (arith, past)))
 ]
 
-pub below-more : (p j : ℕ) → j ≢ p → others_below p (j + 1) ≡ others_below p j + 1
-below-more p j other = elim (cases_lt p j) [
-  | inl past ↦ omega (arith, below-past p j past, below-past p (j + 1) (omega arith))
-  | inr at ↦ (let above : j < p = omega (arith, other) in omega (arith, below-at p j at, below-at p (j + 1) (omega arith)))
-]
-
 -- behind p they stand at their own place
 past-own : (p k m i : ℕ) → p < k → i < m → get_or (others_in p k m) i 0 ≡ k + i
 past-own p k zero i past inside = absurd (omega arith)

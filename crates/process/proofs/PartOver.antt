@@ -2,7 +2,7 @@
 use Rattle.std.proofs.Common.{◌≡◌, ℕ, zero, suc, ◌*◌, ◌/◌, ◌%◌, ◌≤◌, ◌==◌, Bool, true, false, cond, not, List, [], ◌∷◌, ◌++◌, get_or, replicate, refl, sym, ap, ◌∙◌, arith}
 use Rattle.record.specs.declared.access.Field.{Field}
 use Rattle.record.specs.Parts.{Part, Raises, Asks, TakesTicket, Lowers, Refuses, Waits, AsksCommit, AsksStamp, AsksImage, WritesImage, WritesStamp, WritesCommit, Clears, Over, is_read, last_marks, part_after, read_at, written_at}
-use Rattle.record.specs.Program.{image_field, newest_process, version_of}
+use Rattle.record.specs.Program.{image_field, version_of}
 use Rattle.record.specs.Registers.{image_bytes, width}
 use Rattle.record.specs.Scripts.{Call}
 use Rattle.plain_store.specs.declared.Setup.{Setup}
@@ -14,7 +14,7 @@ use Rattle.registers.specs.Begins.{reading, writing}
 use Rattle.registers.specs.Cursors.{CursorState}
 use Rattle.registers.specs.declared.cursor.NumberRun.TheVariants.{Reads, Writes}
 use Rattle.registers.proofs.CursorRuns.{same-after, same-marks}
-use Rattle.process.specs.CallParts.{IsOutcome, reads_image, writes_image}
+use Rattle.process.specs.CallParts.{IsOutcome, writes_image}
 
 -- the bits that a part has read, none if it writes
 abbrev pub bits_read : Part → CursorState → List Bool
@@ -53,22 +53,6 @@ narrow-read c part cur done narrow run = by (is_read part) refl
 pub width-image : (s : Setup) (b : Bool) → width s (image_field b) ≡ 8 * image_bytes s
 width-image s true = refl
 width-image s false = refl
-
-pub image-read : (c : Call) (part : Part) → reads_image part ≡ true → (is_read part ≡ true) × (width c.setup (read_at c part).1 ≡ 8 * image_bytes c.setup)
-image-read c Raises reads = absurd (cc)
-image-read c (Asks j js ts) reads = absurd (cc)
-image-read c (TakesTicket t) reads = absurd (cc)
-image-read c (Lowers t) reads = absurd (cc)
-image-read c (Refuses full) reads = absurd (cc)
-image-read c (Waits t w ws) reads = absurd (cc)
-image-read c (AsksCommit k ks vs) reads = absurd (cc)
-image-read c (AsksStamp k ks vs b) reads = absurd (cc)
-image-read c (AsksImage vs) reads = (refl, width-image c.setup (version_of vs (newest_process vs)))
-image-read c (WritesImage vs st) reads = absurd (cc)
-image-read c (WritesStamp vs st) reads = absurd (cc)
-image-read c (WritesCommit vs st) reads = absurd (cc)
-image-read c (Clears a) reads = absurd (cc)
-image-read c Over reads = absurd (cc)
 
 pub image-written : (c : Call) (part : Part) → writes_image part ≡ true → (is_read part ≡ false) × (width c.setup (written_at c part).0 ≡ 8 * image_bytes c.setup)
 image-written c Raises writes = absurd (cc)

@@ -1,32 +1,15 @@
 -- What a process has read, with one number more.
-use Rattle.std.proofs.Common.{◌≡◌, ◌≢◌, ℕ, ◌+◌, ◌<◌, ◌≤◌, max, Bool, List, [], ◌∷◌, ◌++◌, set, take, sym, ap, ◌∙◌, subst, arith}
+use Rattle.std.proofs.Common.{◌≡◌, ℕ, ◌+◌, ◌<◌, ◌≤◌, max, Bool, List, [], ◌∷◌, ◌++◌, take, sym, ◌∙◌, subst, arith}
 use Rattle.std.proofs.lemmas.List.{length-set, take_more_set}
 use Rattle.std.proofs.lemmas.List.Sums.{fold-append}
 use Rattle.record.specs.Program.{greatest, max_of}
-use Rattle.process.specs.Others.{others_below}
-use Rattle.process.specs.Seen.{Fit, HasRoom, tickets_seen}
+use Rattle.process.specs.Seen.{Fit, HasRoom}
 use Rattle.process.specs.declared.seen.Seen.{Seen}
-use Rattle.process.proofs.OthersFrom.{below-more}
 use Rattle.process.proofs.VersionsSeen.{with_version}
 
 -- the greatest with one more
 more-fits : (ts : List ℕ) (v most : ℕ) → greatest ts ≤ most → v ≤ most → greatest (ts ++ v ∷ []) ≤ most
 more-fits ts v most old new = let both : greatest (ts ++ v ∷ []) ≡ max (greatest ts) v = fold-append max 0 ts (v ∷ []) in omega arith
-
--- a ticket
-abbrev pub with_ticket : Seen → ℕ → ℕ → Seen
-with_ticket seen k v = record seen { numbers = set seen.numbers k v }
-
-pub tickets-more : (seen : Seen) (p j k v : ℕ) → HasRoom seen → j ≢ p → k ≡ others_below p j → k < 16 → tickets_seen p (j + 1) (with_ticket seen k v) ≡ tickets_seen p j seen ++ v ∷ []
-tickets-more seen p j k v room other is inside =
-    let next : others_below p (j + 1) ≡ k + 1 = omega (arith, below-more p j other, is) in
-    ap (λ n. take n (set seen.numbers k v)) next
-    ∙ take_more_set seen.numbers k v (omega (arith, room.numbers))
-    ∙ ap (λ n. take n seen.numbers ++ v ∷ []) is
-
-pub ticket-fits : (seen : Seen) (p j k v bits : ℕ) → HasRoom seen → j ≢ p → k ≡ others_below p j → k < 16 → Fit (others_below p j) bits seen → v ≤ max_of bits → Fit (others_below p (j + 1)) bits (with_ticket seen k v)
-ticket-fits seen p j k v bits room other is inside old new =
-    subst (λ ts. greatest ts ≤ max_of bits) (sym (tickets-more seen p j k v room other is inside)) (more-fits (tickets_seen p j seen) v (max_of bits) old new)
 
 -- a version
 pub version-room : (seen : Seen) (k : ℕ) (b : Bool) (v : ℕ) → HasRoom seen → HasRoom (with_version seen k b v)

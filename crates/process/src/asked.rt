@@ -11,7 +11,7 @@ use crate::seen::Seen;
 use record::Field;
 
 /// What a part of a call does.
-#[derive(Clone, Copy, Debug)]
+#[derive(Clone, Copy)]
 pub enum Asked {
     /// Nothing is left to be done.
     Nothing,

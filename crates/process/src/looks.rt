@@ -3,7 +3,7 @@
 use record::Field;
 
 /// What is known of the ticket of a process in its doorway.
-#[derive(Clone, Copy, Debug, PartialEq, Eq)]
+#[derive(Clone, Copy)]
 pub enum TicketKnown {
     /// It will be greater than this one.
     Above(u32),
@@ -12,7 +12,7 @@ pub enum TicketKnown {
 }
 
 /// A bit that a memory unit settles.
-#[derive(Clone, Copy, Debug, PartialEq, Eq)]
+#[derive(Clone, Copy)]
 pub struct Settling {
     pub field: Field,
     pub bit: u16,

@@ -10,7 +10,7 @@ use smallvec::SmallVec;
 use std::alloc::Global;
 
 /// What a step of a process, or of its memory unit, leads to.
-#[derive(Clone, Copy, Debug)]
+#[derive(Clone, Copy)]
 pub enum StepTold {
     Nothing,
     /// The doorway is finished, with this ticket.
@@ -30,7 +30,7 @@ pub enum StepTold {
 
 /// What an event leads to. Nearly all events are steps, so that what those lead to is a type of its own: it is small,
 /// with no room for a command.
-#[derive(Clone, Copy, Debug)]
+#[derive(Clone, Copy)]
 pub enum Effect {
     Steps(StepTold),
     Calls(Command),
@@ -97,7 +97,7 @@ impl Effect {
 }
 
 /// What an event has made: the access of a step, and what the event leads to.
-#[derive(Clone, Copy, Debug)]
+#[derive(Clone, Copy)]
 pub struct EventMade {
     pub access: Option<Access>,
     pub effect: Effect,

@@ -68,37 +68,27 @@ write-step s p written cur at =
     ∙ write-kept cur at.copy
 
 -- what a write leads to does not depend on what was read
+same-next : (c : Call) (part : Part) (a b : List Bool) → is_read part ≡ false → (part_after c part a ≡ part_after c part b) × (last_marks c part a ≡ last_marks c part b)
+same-next c Raises a b writes = (refl, refl)
+same-next c (Asks j js ts) a b writes = absurd (cc)
+same-next c (TakesTicket t) a b writes = (refl, refl)
+same-next c (Lowers t) a b writes = (refl, refl)
+same-next c (Refuses full) a b writes = (refl, refl)
+same-next c (Waits t w ws) a b writes = absurd (cc)
+same-next c (AsksCommit k ks vs) a b writes = absurd (cc)
+same-next c (AsksStamp k ks vs commit) a b writes = absurd (cc)
+same-next c (AsksImage vs) a b writes = absurd (cc)
+same-next c (WritesImage vs st) a b writes = (refl, refl)
+same-next c (WritesStamp vs st) a b writes = (refl, refl)
+same-next c (WritesCommit vs st) a b writes = (refl, refl)
+same-next c (Clears answer) a b writes = (refl, refl)
+same-next c Over a b writes = (refl, refl)
+
 pub same-after : (c : Call) (part : Part) (a b : List Bool) → is_read part ≡ false → part_after c part a ≡ part_after c part b
-same-after c Raises a b writes = refl
-same-after c (Asks j js ts) a b writes = absurd (cc)
-same-after c (TakesTicket t) a b writes = refl
-same-after c (Lowers t) a b writes = refl
-same-after c (Refuses full) a b writes = refl
-same-after c (Waits t w ws) a b writes = absurd (cc)
-same-after c (AsksCommit k ks vs) a b writes = absurd (cc)
-same-after c (AsksStamp k ks vs commit) a b writes = absurd (cc)
-same-after c (AsksImage vs) a b writes = absurd (cc)
-same-after c (WritesImage vs st) a b writes = refl
-same-after c (WritesStamp vs st) a b writes = refl
-same-after c (WritesCommit vs st) a b writes = refl
-same-after c (Clears answer) a b writes = refl
-same-after c Over a b writes = refl
+same-after c part a b writes = (same-next c part a b writes).0
 
 pub same-marks : (c : Call) (part : Part) (a b : List Bool) → is_read part ≡ false → last_marks c part a ≡ last_marks c part b
-same-marks c Raises a b writes = refl
-same-marks c (Asks j js ts) a b writes = absurd (cc)
-same-marks c (TakesTicket t) a b writes = refl
-same-marks c (Lowers t) a b writes = refl
-same-marks c (Refuses full) a b writes = refl
-same-marks c (Waits t w ws) a b writes = absurd (cc)
-same-marks c (AsksCommit k ks vs) a b writes = absurd (cc)
-same-marks c (AsksStamp k ks vs commit) a b writes = absurd (cc)
-same-marks c (AsksImage vs) a b writes = absurd (cc)
-same-marks c (WritesImage vs st) a b writes = refl
-same-marks c (WritesStamp vs st) a b writes = refl
-same-marks c (WritesCommit vs st) a b writes = refl
-same-marks c (Clears answer) a b writes = refl
-same-marks c Over a b writes = refl
+same-marks c part a b writes = (same-next c part a b writes).1
 
 -- WHETHER NOTHING OF IT IS MADE
 

@@ -41,13 +41,6 @@ next-kept c =
     ap (λ (w : copies.Writing). (c.bit, copies.next_write w)) (bit-kept c)
     ∙ (λ i. (c.bit, record { reader = copy-of c.copy c.begun i; how = move-of c.copy c.begun v i }))
 
-ends-at : (n copy : ℕ) (begun : Bool) → copy < n → (made_at copy begun + 1 == 2 * n) ≡ (begun && (copy + 1 == n))
-ends-at n copy false inside = ne_eqb (made_at copy false + 1) (2 * n) (omega arith)
-ends-at n copy true inside = elim (cases_eq (copy + 1) n) [
-  | inl e ↦ eq-eqb (made_at copy true + 1) (2 * n) (omega arith) ∙ sym (eq-eqb (copy + 1) n e)
-  | inr e ↦ ne_eqb (made_at copy true + 1) (2 * n) (omega arith) ∙ sym (ne_eqb (copy + 1) n e)
-]
-
 -- a write of the bit that has begun
 kept-begun : (made : ℕ) (v : Bool) → made ≢ 0 → bit_begun made v ≡ Some (writing v made)
 kept-begun made v some = ap (λ b. cond b None (Some (writing v made))) (ne_eqb made 0 some)

@@ -4,7 +4,7 @@ use record::Access;
 
 /// An access that was made, and whether it ended a read that a write overlapped: one was open as the read began, or has
 /// begun since.
-#[derive(Clone, Copy, Debug, PartialEq, Eq)]
+#[derive(Clone, Copy)]
 pub struct AccessMade {
     /// The access.
     pub access: Access,

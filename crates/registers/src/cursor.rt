@@ -20,7 +20,7 @@ use record::{Access, Field, Move, TornBit};
 use std::marker::Model;
 
 /// What a number access does.
-#[derive(Clone, Copy, Debug, PartialEq, Eq)]
+#[derive(Clone, Copy)]
 pub enum NumberRun {
     /// It reads each bit: begin and end on the reader's own copy.
     Reads,
@@ -36,7 +36,7 @@ pub enum NumberRun {
 }
 
 /// One number access: it reads, writes or settles a register, bit 0 first.
-#[derive(Debug, Drop)]
+#[derive(Drop)]
 pub struct Cursor {
     register: RegisterName,
     /// The reader whose copies are read; of a write or a settling 0.

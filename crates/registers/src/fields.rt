@@ -8,7 +8,7 @@ use plain_store::Setup;
 use record::Field;
 
 /// One register: whose it is, and which of its owner's registers.
-#[derive(Clone, Copy, Debug, PartialEq, Eq)]
+#[derive(Clone, Copy)]
 pub struct RegisterName {
     /// The process that writes it.
     pub owner: u8,

@@ -1,9 +1,9 @@
-use Rattle.std.proofs.Common.{◌≡◌, sym, ap, ◌∙◌, arith}
-use Rattle.record.specs.Parts.{Refuses}
+use Rattle.std.proofs.Common.{◌≡◌, ◌+◌, sym, ap, ◌∙◌, arith}
+use Rattle.record.specs.Parts.{Refuses, TakesTicket}
 use Rattle.record.specs.Program.{greatest, max_of, place_of}
 use Rattle.process.specs.Others.{other_numbered}
 use Rattle.process.specs.Seen.{call_of}
-use Rattle.process.proofs.AfterParts.{chosen-full, refuses}
+use Rattle.process.proofs.AfterParts.{chosen-full, refuses, takes}
 use Rattle.process.proofs.after.choose.Goals as goal
 
 pub other_numbered-requires : goal.other_numbered-requires
@@ -20,3 +20,12 @@ returns-then-most-most_of-clause-part c = λ seen.
     let full : greatest ts ≡ max_of call.setup.ticket_bits = sym c.greatest-most.ensures ∙ c.if-most-most_of.true ∙ c.most_of.ensures in
     let here : c.place_of.result ≡ place_of (greatest ts) ts = c.place_of.ensures ∙ ap (λ n. place_of n ts) c.greatest-most.ensures in
     ap Refuses (c.other_numbered.ensures ∙ ap (other_numbered call.process) here) ∙ refuses call ts c.requires.call c.requires.all full
+
+pub returns-else-most-most_of : goal.returns-else-most-most_of
+returns-else-most-most_of c =
+    let ts = c.args.tickets.now in
+    let most = c.greatest-most.ensures in
+    record {
+      part = λ seen. ap (λ n. TakesTicket (n + 1)) most ∙ takes (call_of c.args.call.now) ts (λ full. c.if-most-most_of.false (most ∙ full ∙ sym c.most_of.ensures));
+      holds = λ seen. tt;
+    }

@@ -1,8 +1,9 @@
-use Rattle.std.proofs.Common.{◌≤◌, refl, subst}
+use Rattle.std.proofs.Common.{◌≤◌, refl, sym, ap, ◌∙◌, subst}
 use Rattle.record.specs.Program.{max_of}
 use Rattle.process.specs.CallParts.{IsOutcome}
 use Rattle.process.specs.Seen.{call_of, part_at}
 use Rattle.process.specs.declared.part.ProcessPart.TheVariants as at
+use Rattle.process.proofs.AfterParts.{keeps-then, part-then}
 use Rattle.process.proofs.Outcomes.{outcome-fits, width-stamp}
 use Rattle.process.proofs.after.part_after.Goals as goal
 
@@ -26,3 +27,24 @@ returns-in-Lowers-clause-keeps c = record { call = c.requires.keeps.call; room =
 
 pub returns-in-AwaitsTicket-clause-keeps : goal.returns-in-AwaitsTicket-clause-keeps
 returns-in-AwaitsTicket-clause-keeps c = record { call = c.requires.keeps.call; room = c.requires.keeps.room; holds = c.after_wait.ensures.holds c.args.seen.now }
+
+pub returns-in-WritesImage : goal.returns-in-WritesImage
+returns-in-WritesImage c =
+    let call = call_of c.args.call.now in
+    let seen = c.args.seen.now in
+    record {
+      part = λ bits out. sym (ap (part-then call seen bits) c.in-WritesImage.is);
+      keeps = keeps-then call seen c.args.part.now at.WritesImage at.WritesStamp c.requires.keeps c.in-WritesImage.is (λ h. h);
+    }
+
+pub returns-in-WritesStamp : goal.returns-in-WritesStamp
+returns-in-WritesStamp c =
+    let call = call_of c.args.call.now in
+    let seen = c.args.seen.now in
+    record {
+      part = λ bits out. sym (ap (part-then call seen bits) c.in-WritesStamp.is);
+      keeps = keeps-then call seen c.args.part.now at.WritesStamp at.WritesCommit c.requires.keeps c.in-WritesStamp.is (λ h. h);
+    }
+
+pub returns-in-WritesCommit-clause-part : goal.returns-in-WritesCommit-clause-part
+returns-in-WritesCommit-clause-part c = λ bits out. (cc) ∙ sym (ap (part-then (call_of c.args.call.now) c.args.seen.now bits) c.in-WritesCommit.is)

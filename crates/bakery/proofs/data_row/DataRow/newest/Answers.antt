@@ -13,40 +13,21 @@ use Rattle.bakery.proofs.Committed.{part-is, readable, values-wide, versions-mor
 use Rattle.bakery.proofs.Widths.{ranges}
 use Rattle.bakery.proofs.data_row.DataRow.newest.Goals as goal
 
-pub version-commit-requires-clause-commit : goal.version-commit-requires-clause-commit
-version-commit-requires-clause-commit c =
+pub version-commit-requires : goal.version-commit-requires
+version-commit-requires c =
     let row : DataRow = c.args.self.now in
-    let inside : c.loop-process.process < row.setup.processes = omega (arith, c.loop-process-test.true, ap (λ (r : DataRow). r.setup.processes) c.self.view_is) in
-    let part = part-is row c.self.inside.setup c.self.inside.parts.items c.index.result.now c.from.result c.loop-process.process c.self.view_is c.index.ensures c.from.ensures (omega (arith, inside, c.requires.fits.parts)) in
-    subst (λ (d : Data). IsReadable d.commit 1) (sym part) (readable row.setup row c.loop-process.process Commit c.requires.fits c.requires.quiet inside refl)
-
-pub version-commit-requires-clause-stamp0 : goal.version-commit-requires-clause-stamp0
-version-commit-requires-clause-stamp0 c =
-    let row : DataRow = c.args.self.now in
-    let inside : c.loop-process.process < row.setup.processes = omega (arith, c.loop-process-test.true, ap (λ (r : DataRow). r.setup.processes) c.self.view_is) in
-    let part = part-is row c.self.inside.setup c.self.inside.parts.items c.index.result.now c.from.result c.loop-process.process c.self.view_is c.index.ensures c.from.ensures (omega (arith, inside, c.requires.fits.parts)) in
-    subst (λ n. IsReadable c.index.result.now.stamp0 n) (ap (λ (r : DataRow). r.setup.stamp_bits) (sym c.self.view_is)) (subst (λ (d : Data). IsReadable d.stamp0 row.setup.stamp_bits) (sym part) (readable row.setup row c.loop-process.process Stamp0 c.requires.fits c.requires.quiet inside refl))
-
-pub version-commit-requires-clause-stamp1 : goal.version-commit-requires-clause-stamp1
-version-commit-requires-clause-stamp1 c =
-    let row : DataRow = c.args.self.now in
-    let inside : c.loop-process.process < row.setup.processes = omega (arith, c.loop-process-test.true, ap (λ (r : DataRow). r.setup.processes) c.self.view_is) in
-    let part = part-is row c.self.inside.setup c.self.inside.parts.items c.index.result.now c.from.result c.loop-process.process c.self.view_is c.index.ensures c.from.ensures (omega (arith, inside, c.requires.fits.parts)) in
-    subst (λ n. IsReadable c.index.result.now.stamp1 n) (ap (λ (r : DataRow). r.setup.stamp_bits) (sym c.self.view_is)) (subst (λ (d : Data). IsReadable d.stamp1 row.setup.stamp_bits) (sym part) (readable row.setup row c.loop-process.process Stamp1 c.requires.fits c.requires.quiet inside refl))
-
-pub version-commit-requires-clause-width0 : goal.version-commit-requires-clause-width0
-version-commit-requires-clause-width0 c =
-    let row : DataRow = c.args.self.now in
-    let inside : c.loop-process.process < row.setup.processes = omega (arith, c.loop-process-test.true, ap (λ (r : DataRow). r.setup.processes) c.self.view_is) in
-    let part = part-is row c.self.inside.setup c.self.inside.parts.items c.index.result.now c.from.result c.loop-process.process c.self.view_is c.index.ensures c.from.ensures (omega (arith, inside, c.requires.fits.parts)) in
-    ap (λ (d : Data). length (values_of d.stamp0)) part ∙ values-wide row.setup row c.loop-process.process Stamp0 c.requires.fits inside refl ∙ ap (λ (r : DataRow). r.setup.stamp_bits) (sym c.self.view_is)
-
-pub version-commit-requires-clause-width1 : goal.version-commit-requires-clause-width1
-version-commit-requires-clause-width1 c =
-    let row : DataRow = c.args.self.now in
-    let inside : c.loop-process.process < row.setup.processes = omega (arith, c.loop-process-test.true, ap (λ (r : DataRow). r.setup.processes) c.self.view_is) in
-    let part = part-is row c.self.inside.setup c.self.inside.parts.items c.index.result.now c.from.result c.loop-process.process c.self.view_is c.index.ensures c.from.ensures (omega (arith, inside, c.requires.fits.parts)) in
-    ap (λ (d : Data). length (values_of d.stamp1)) part ∙ values-wide row.setup row c.loop-process.process Stamp1 c.requires.fits inside refl ∙ ap (λ (r : DataRow). r.setup.stamp_bits) (sym c.self.view_is)
+    let p : ℕ = c.loop-process.process in
+    let inside : p < row.setup.processes = omega (arith, c.loop-process-test.true, ap (λ (r : DataRow). r.setup.processes) c.self.view_is) in
+    let part = part-is row c.self.inside.setup c.self.inside.parts.items c.index.result.now c.from.result p c.self.view_is c.index.ensures c.from.ensures (omega (arith, inside, c.requires.fits.parts)) in
+    let same : row.setup.stamp_bits ≡ c.self.inside.setup.stamp_bits = ap (λ (r : DataRow). r.setup.stamp_bits) (sym c.self.view_is) in
+    record {
+      bits = (ranges c.self.inside.setup c.self.invariant).few_bits;
+      commit = subst (λ (d : Data). IsReadable d.commit 1) (sym part) (readable row.setup row p Commit c.requires.fits c.requires.quiet inside refl);
+      stamp0 = subst (λ n. IsReadable c.index.result.now.stamp0 n) same (subst (λ (d : Data). IsReadable d.stamp0 row.setup.stamp_bits) (sym part) (readable row.setup row p Stamp0 c.requires.fits c.requires.quiet inside refl));
+      stamp1 = subst (λ n. IsReadable c.index.result.now.stamp1 n) same (subst (λ (d : Data). IsReadable d.stamp1 row.setup.stamp_bits) (sym part) (readable row.setup row p Stamp1 c.requires.fits c.requires.quiet inside refl));
+      width0 = ap (λ (d : Data). length (values_of d.stamp0)) part ∙ values-wide row.setup row p Stamp0 c.requires.fits inside refl ∙ same;
+      width1 = ap (λ (d : Data). length (values_of d.stamp1)) part ∙ values-wide row.setup row p Stamp1 c.requires.fits inside refl ∙ same;
+    }
 
 pub loop-process-preserved : goal.loop-process-preserved
 loop-process-preserved c =
@@ -66,8 +47,8 @@ index-requires-2 c =
     let some = (ranges c.self.inside.setup c.self.invariant).some_processes in
     omega (arith, newest-inside row c.loop-process.process (omega (arith, c.loop-process-test.false, some)), ap (λ (n : Newest). n.process) c.loop-process.invariant, c.from-2.ensures, all, c.requires.fits.parts, ap (λ (r : DataRow). length r.parts) c.self.view_is, c.self.inside.parts.ok.0)
 
-pub image-bytes-requires-clause-image0 : goal.image-bytes-requires-clause-image0
-image-bytes-requires-clause-image0 c =
+pub image-bytes-requires : goal.image-bytes-requires
+image-bytes-requires c =
     let row : DataRow = c.args.self.now in
     let q : ℕ = c.loop-process.newest.process in
     let all : c.loop-process.process ≡ row.setup.processes = omega (arith, c.loop-process-test.false, c.loop-process.auto.process-end, ap (λ (r : DataRow). r.setup.processes) c.self.view_is) in
@@ -75,18 +56,11 @@ image-bytes-requires-clause-image0 c =
     let inside : q < row.setup.processes = omega (arith, newest-inside row c.loop-process.process (omega (arith, c.loop-process-test.false, some)), ap (λ (n : Newest). n.process) c.loop-process.invariant, all) in
     let part = part-is row c.self.inside.setup c.self.inside.parts.items c.index-2.result.now c.from-2.result q c.self.view_is c.index-2.ensures c.from-2.ensures (omega (arith, inside, c.requires.fits.parts)) in
     let count : c.image_bytes-count.result ≡ image_bytes row.setup = c.image_bytes-count.ensures.bytes ∙ ap (λ (r : DataRow). image_bytes r.setup) c.self.view_is in
-    subst (λ n. IsReadable c.index-2.result.now.image0 (8 * n)) (sym count) (subst (λ (d : Data). IsReadable d.image0 (8 * image_bytes row.setup)) (sym part) (readable row.setup row q Image0 c.requires.fits c.requires.quiet inside refl))
-
-pub image-bytes-requires-clause-image1 : goal.image-bytes-requires-clause-image1
-image-bytes-requires-clause-image1 c =
-    let row : DataRow = c.args.self.now in
-    let q : ℕ = c.loop-process.newest.process in
-    let all : c.loop-process.process ≡ row.setup.processes = omega (arith, c.loop-process-test.false, c.loop-process.auto.process-end, ap (λ (r : DataRow). r.setup.processes) c.self.view_is) in
-    let some = (ranges c.self.inside.setup c.self.invariant).some_processes in
-    let inside : q < row.setup.processes = omega (arith, newest-inside row c.loop-process.process (omega (arith, c.loop-process-test.false, some)), ap (λ (n : Newest). n.process) c.loop-process.invariant, all) in
-    let part = part-is row c.self.inside.setup c.self.inside.parts.items c.index-2.result.now c.from-2.result q c.self.view_is c.index-2.ensures c.from-2.ensures (omega (arith, inside, c.requires.fits.parts)) in
-    let count : c.image_bytes-count.result ≡ image_bytes row.setup = c.image_bytes-count.ensures.bytes ∙ ap (λ (r : DataRow). image_bytes r.setup) c.self.view_is in
-    subst (λ n. IsReadable c.index-2.result.now.image1 (8 * n)) (sym count) (subst (λ (d : Data). IsReadable d.image1 (8 * image_bytes row.setup)) (sym part) (readable row.setup row q Image1 c.requires.fits c.requires.quiet inside refl))
+    record {
+      few = c.image_bytes-count.ensures.most;
+      image0 = subst (λ n. IsReadable c.index-2.result.now.image0 (8 * n)) (sym count) (subst (λ (d : Data). IsReadable d.image0 (8 * image_bytes row.setup)) (sym part) (readable row.setup row q Image0 c.requires.fits c.requires.quiet inside refl));
+      image1 = subst (λ n. IsReadable c.index-2.result.now.image1 (8 * n)) (sym count) (subst (λ (d : Data). IsReadable d.image1 (8 * image_bytes row.setup)) (sym part) (readable row.setup row q Image1 c.requires.fits c.requires.quiet inside refl));
+    }
 
 pub returns : goal.returns
 returns c =

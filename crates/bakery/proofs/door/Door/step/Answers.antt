@@ -1,9 +1,8 @@
-use Rattle.std.proofs.Common.{◌≡◌, Bool, sym, ap, ◌∙◌}
-use Rattle.record.specs.Places.{value_of}
-use Rattle.process.specs.Places.{ProcessState, stage_doing, stepped}
-use Rattle.bakery.specs.Doors.{goes_on, is_going, is_waiting, marks_told, progress_on, tells_wait}
-use Rattle.record.specs.Places as places
-use Rattle.bakery.proofs.DoorSteps.{any-after, any-marks, told, told-is}
+use Rattle.std.proofs.Common.{Bool, sym, ap, ◌∙◌}
+use Rattle.record.specs.Places.{stage_at, value_of}
+use Rattle.process.specs.Places.{stepped}
+use Rattle.bakery.specs.Doors.{marks_told}
+use Rattle.bakery.proofs.DoorSteps.{any-after, any-marks, tells}
 use Rattle.bakery.proofs.door.Door.step.Goals as goal
 
 pub returns-clause-any_door : goal.returns-clause-any_door
@@ -13,37 +12,15 @@ returns-clause-any_door c = λ call at is.
     ∙ any-after call at c.args.self.now c.args.flick v is c.requires.going
 
 pub returns-clause-marks : goal.returns-clause-marks
-returns-clause-marks c =
-    let d : ProcessState = c.args.self.now in
-    let v : Bool = value_of c.answered-access.result.how in
-    let then = c.advance-told.ensures.process ∙ (λ i. stepped (c.self.view_is i) c.args.flick (c.given.ensures i)) in
-    let progress : c.at.result ≡ progress_on d (stepped d c.args.flick v) =
-    c.at.ensures ∙ told-is d c.self.inside.place _ c.args.flick v c.self.view_is then c.stage.ensures c.ticket-ticket.ensures c.full-full.ensures in
-    ap (marks_told (stage_doing d.doing)) progress ∙ (told d c.args.flick v c.requires.going).marks
+returns-clause-marks c = (tells c.args.self.now c.args.flick c.self.view_is c.advance-told.ensures.process c.given.ensures c.stage.ensures c.ticket-ticket.ensures c.full-full.ensures c.at.ensures c.requires.going).marks
 
 pub returns-clause-any_marks : goal.returns-clause-any_marks
 returns-clause-any_marks c = λ call at is.
-    let d : ProcessState = c.args.self.now in
-    let v : Bool = value_of c.answered-access.result.how in
-    let then = c.advance-told.ensures.process ∙ (λ i. stepped (c.self.view_is i) c.args.flick (c.given.ensures i)) in
-    let progress : c.at.result ≡ progress_on d (stepped d c.args.flick v) =
-    c.at.ensures ∙ told-is d c.self.inside.place _ c.args.flick v c.self.view_is then c.stage.ensures c.ticket-ticket.ensures c.full-full.ensures in
-    any-marks call at d c.args.flick v is c.requires.going ∙ sym (ap (marks_told (places.stage_at at)) progress)
+    let t = tells c.args.self.now c.args.flick c.self.view_is c.advance-told.ensures.process c.given.ensures c.stage.ensures c.ticket-ticket.ensures c.full-full.ensures c.at.ensures c.requires.going in
+    any-marks call at c.args.self.now c.args.flick (value_of c.answered-access.result.how) is c.requires.going ∙ sym (ap (marks_told (stage_at at)) t.is)
 
 pub returns-clause-going : goal.returns-clause-going
-returns-clause-going c =
-    let d : ProcessState = c.args.self.now in
-    let v : Bool = value_of c.answered-access.result.how in
-    let then = c.advance-told.ensures.process ∙ (λ i. stepped (c.self.view_is i) c.args.flick (c.given.ensures i)) in
-    let progress : c.at.result ≡ progress_on d (stepped d c.args.flick v) =
-    c.at.ensures ∙ told-is d c.self.inside.place _ c.args.flick v c.self.view_is then c.stage.ensures c.ticket-ticket.ensures c.full-full.ensures in
-    ap is_going then ∙ (told d c.args.flick v c.requires.going).going ∙ sym (ap goes_on progress)
+returns-clause-going c = (tells c.args.self.now c.args.flick c.self.view_is c.advance-told.ensures.process c.given.ensures c.stage.ensures c.ticket-ticket.ensures c.full-full.ensures c.at.ensures c.requires.going).going
 
 pub returns-clause-waiting : goal.returns-clause-waiting
-returns-clause-waiting c =
-    let d : ProcessState = c.args.self.now in
-    let v : Bool = value_of c.answered-access.result.how in
-    let then = c.advance-told.ensures.process ∙ (λ i. stepped (c.self.view_is i) c.args.flick (c.given.ensures i)) in
-    let progress : c.at.result ≡ progress_on d (stepped d c.args.flick v) =
-    c.at.ensures ∙ told-is d c.self.inside.place _ c.args.flick v c.self.view_is then c.stage.ensures c.ticket-ticket.ensures c.full-full.ensures in
-    ap is_waiting then ∙ (told d c.args.flick v c.requires.going).waiting ∙ sym (ap tells_wait progress)
+returns-clause-waiting c = (tells c.args.self.now c.args.flick c.self.view_is c.advance-told.ensures.process c.given.ensures c.stage.ensures c.ticket-ticket.ensures c.full-full.ensures c.at.ensures c.requires.going).waiting

@@ -1,30 +1,26 @@
-use Rattle.std.proofs.Common.{[], ◌∷◌, cond, sym, ap, ◌∙◌, subst}
-use Rattle.record.specs.declared.marks.Mark.TheVariants.{Down}
+use Rattle.std.proofs.Common.{sym, ap, ◌∙◌, subst, refl}
 use Rattle.process.specs.Working.{KeepsPlace, state_at}
-use Rattle.process.proofs.ClosingsOn.{lowers-marks, lowers-over, lowers-within, still-lowers}
+use Rattle.process.proofs.ClosingsOn.{still-lowers, lowers-marks, lowers-to}
 use Rattle.process.proofs.process.advance.lower_on.Goals as goal
 
-pub returns-then-not-is_over-clause-doing : goal.returns-then-not-is_over-clause-doing
-returns-then-not-is_over-clause-doing c = λ fresh flick value before h.
-    ap (λ w. state_at c.args.called.now w c.args.cursor.now) c.requires.lowers
-    ∙ lowers-within c.args.called.now flick value before c.args.cursor.now fresh h (sym c.is_over.ensures ∙ c.if-not-is_over.true)
-
-pub returns-then-not-is_over-clause-marks : goal.returns-then-not-is_over-clause-marks
-returns-then-not-is_over-clause-marks c = λ fresh flick value before h.
-    ap (λ b. cond b (Down ∷ []) []) (sym c.if-not-is_over.true ∙ c.is_over.ensures)
-    ∙ lowers-marks c.args.called.now flick value before c.args.cursor.now fresh h
-
-pub returns-then-not-is_over-clause-keeps : goal.returns-then-not-is_over-clause-keeps
-returns-then-not-is_over-clause-keeps c =
-    let m = c.requires.moved.1 in
+pub returns-then-not-is_over : goal.returns-then-not-is_over
+returns-then-not-is_over c =
     let k = c.args.called.now in
     let cur = c.args.cursor.now in
-    subst (λ w. KeepsPlace k w cur) (sym c.requires.lowers) (still-lowers k m.0 m.1 m.2 cur c.requires.moved.0 m.3 (sym c.is_over.ensures ∙ c.if-not-is_over.true))
+    let more = sym c.is_over.ensures ∙ c.if-not-is_over.true in
+    record {
+      doing = λ fresh flick value before h. ap (λ w. state_at k w cur) c.requires.lowers ∙ lowers-to h more;
+      marks = λ fresh flick value before h. lowers-marks h more;
+      changes = refl;
+      keeps = subst (λ w. KeepsPlace k w cur) (sym c.requires.lowers) (still-lowers c.requires.moved.1.3 more);
+    }
 
-pub returns-clause-doing : goal.returns-clause-doing
-returns-clause-doing c = λ fresh flick value before h. lowers-over c.args.called.now flick value before c.args.cursor.now fresh h (sym c.is_over.ensures ∙ c.if-not-is_over.false)
-
-pub returns-clause-marks : goal.returns-clause-marks
-returns-clause-marks c = λ fresh flick value before h.
-    ap (λ b. cond b (Down ∷ []) []) (sym c.if-not-is_over.false ∙ c.is_over.ensures)
-    ∙ lowers-marks c.args.called.now flick value before c.args.cursor.now fresh h
+pub returns : goal.returns
+returns c =
+    let over = sym c.is_over.ensures ∙ c.if-not-is_over.false in
+    record {
+      doing = λ fresh flick value before h. lowers-to h over;
+      marks = λ fresh flick value before h. lowers-marks h over;
+      changes = refl;
+      keeps = record { call = c.requires.moved.1.3.keeps.call; working = tt };
+    }

@@ -1,0 +1,15 @@
+use Rattle.std.proofs.Common.{true, sym, ap, ◌∙◌, subst}
+use Rattle.process.specs.declared.work.ProcessWork.TheVariants as work
+use Rattle.process.specs.Places.{withdrawn}
+use Rattle.process.specs.Working.{KeepsPlace, state_at}
+use Rattle.process.proofs.ClosingsOn.{clears-ticket}
+use Rattle.process.proofs.process.Process.clear_ticket.Goals as goal
+
+pub invariant_of-self : goal.invariant_of-self
+invariant_of-self c =
+    let k = c.self.inside.called in
+    let call = c.self.invariant.call in
+    subst (KeepsPlace k work.Withdraws) (sym c.clear.ensures) (record { call = call; working = (clears-ticket k true call).working })
+
+pub returns : goal.returns
+returns c = ap (state_at c.self.inside.called work.Withdraws) c.clear.ensures ∙ ap withdrawn c.self.view_is

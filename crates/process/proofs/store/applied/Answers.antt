@@ -1,0 +1,16 @@
+use Rattle.std.proofs.Common.{◌≡◌}
+use Rattle.std.proofs.lemmas.Result.{IfOk-at_ok}
+use Rattle.plain_store.specs.declared.Reply.{Reply}
+use Rattle.plain_store.specs.Store.{after}
+use Rattle.record.specs.Program.{reply}
+use Rattle.record.specs.Scripts.{caller}
+use Rattle.process.specs.Seen.{call_of}
+use Rattle.process.proofs.store.applied.Goals as goal
+
+pub returns : goal.returns
+returns c =
+    let call = call_of c.args.call.now in
+    record {
+      store = IfOk-at_ok (λ (r : Reply). c.apply.new.self ≡ after c.args.read.now call.command (caller call)) c.unwrap-reply.ensures c.apply.ensures.ok;
+      reply = IfOk-at_ok (λ (r : Reply). r ≡ reply call c.args.read.now) c.unwrap-reply.ensures c.apply.ensures.reply;
+    }
