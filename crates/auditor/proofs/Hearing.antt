@@ -86,85 +86,62 @@ pub record StepMade (a : AuditorState) (past : Past) (e : Entry) (access : Acces
   pub none : event_in e ≡ None
   pub adds : (taken : List Taken) → Adds (with_history a.core taken) (event.Step e.process (flick_in e.access)) e.process (act_of (length taken) (record { access = Some access; effect = Steps told }))
 
-made_try : (a : AuditorState) (past : Past) (e : Entry) (access : Access) (told : StepTold) (h : StepMade a past e access told) →
-    IsTried a.core.setup h.heard.events e (step_told (length (history a.core.setup past)) e.process access told)
-made_try a past e access told h = record {
-  good = h.heard.shows.good;
-  given = h.heard.shows.given;
-  adds = h.adds (history a.core.setup past) h.heard.events h.heard.shows;
-}
-
 pub heard_refused : (a : AuditorState) (past : Past) (e : Entry) (r : Refusal) → HasHeard a past → event_in e ≡ None → CoreRefuses a.core (event.Step e.process (flick_in e.access)) (Some r) → BreaksNext law.Program a.core.setup past e
 heard_refused a past e r h none refuses = subst (λ past. BreaksNext law.Program a.core.setup past e) h.past_is
     (refused_step a.core.setup h.shows.good h.events e r (refuses (history a.core.setup past) h.events h.shows) none)
-
-pub heard_wrong : (a : AuditorState) (past : Past) (e : Entry) (access : Access) (told : StepTold) (settles : Bool) → (h : StepMade a past e access told) → (IsAlike e (stepped_as e.process access told) → ⊥) →
-    (nat_lt e.process a.core.setup.processes ≡ true → IsTrue settles ↔ (stage e.process (past_of a.core.setup h.heard.events) ≡ stages.Settling)) → BreaksNext (law_of_wrong (has tells_event e) settles) a.core.setup past e
-heard_wrong a past e access told settles h wrong at = subst (λ past. BreaksNext (law_of_wrong (has tells_event e) settles) s past e) h.heard.past_is (go (has tells_event e) refl settles refl)
-  where
-    s : Setup
-    s = a.core.setup
-
-    n : ℕ
-    n = length (history s past)
-
-    t : IsTried s h.heard.events e (step_told n e.process access told)
-    t = made_try a past e access told h
-
-    no_match : IsAlike e (step_told n e.process access told) → ⊥
-    no_match k = wrong (alike-open n e access told k)
-
-    settling : IsTrue settles ↔ (stage e.process (past_of s h.heard.events) ≡ stages.Settling)
-    settling = at (tried s h.heard.events e (step_told n e.process access told) t).0
-
-    go : (b : Bool) → has tells_event e ≡ b → (c : Bool) → settles ≡ c → BreaksNext (law_of_wrong b c) s (past_of s h.heard.events) e
-    go true k c l = wrong_event s h.heard.events e (step_told n e.process access told) t (λ same. no_match (subst (IsAlike e) same (record { process = refl; access = refl; marks = refl }))) h.none k
-    go false k true l = wrong_unit s h.heard.events e (step_told n e.process access told) t no_match k (settling.0 l)
-    go false k false l = wrong_step s h.heard.events e (step_told n e.process access told) t no_match k (λ st. true≢false (sym (settling.1 st) ∙ l))
-
-pub heard_misplaced : (a : AuditorState) (past : Past) (e : Entry) (access : Access) (told : StepTold) → StepMade a past e access told → IsAlike e (stepped_as e.process access told) → (AreAt (length (history a.core.setup past)) e.marks → ⊥) →
-    BreaksNext (law_of_misplaced (has tells_event e)) a.core.setup past e
-heard_misplaced a past e access told h alike wrong = subst (λ past. BreaksNext (law_of_misplaced (has tells_event e)) s past e) h.heard.past_is (go (has tells_event e) refl)
-  where
-    s : Setup
-    s = a.core.setup
-
-    n : ℕ
-    n = length (history s past)
-
-    t : IsTried s h.heard.events e (step_told n e.process access told)
-    t = made_try a past e access told h
-
-    same_place : length (history s (past_of s h.heard.events)) ≡ n
-    same_place = ap (λ l. length (history s l)) h.heard.past_is
-
-    go : (b : Bool) → has tells_event e ≡ b → BreaksNext (law_of_misplaced b) s (past_of s h.heard.events) e
-    go true k = wrong_event s h.heard.events e (step_told n e.process access told) t (λ same. wrong (subst (λ (x : Entry). AreAt n x.marks) (sym same) (at-placed n (marks_told told)))) h.none k
-    go false k = wrong_place s h.heard.events e (step_told n e.process access told) t (alike-placed n e access told alike) k (λ at. wrong (subst (λ m. AreAt m e.marks) same_place at))
 
 count-more : (taken : List Taken) (p : ℕ) (command : Rattle.plain_store.specs.declared.Command.Command) (number : ℕ) (o : Option Reply) → with_reply (length taken) o ≡ length (with_taken taken p command number o)
 count-more taken p command number None = refl
 count-more taken p command number (Some r) = sym (length_push taken (record { process = p; command = command; reply = r; number = number }))
 
-pub heard_step : (a : AuditorState) (past : Past) (e : Entry) (access : Access) (told : StepTold) (new : CoreState) (after : Option ℕ) → StepMade a past e access told → IsAlike e (stepped_as e.process access told) → AreAt (length (history a.core.setup past)) e.marks →
-    new.setup ≡ a.core.setup → CoreSteps a.core e.process (flick_in e.access) told new → ((n : ℕ) → IsCount a.taken n → IsCount after (with_reply n (reply_taken (marks_told told)))) →
-    IsHeard a.core.setup past e (record { core = new; taken = after }) None
-heard_step a past e access told new after h alike at same steps counts =
-    heard_on a.core new a.taken after past h.heard (event.Step e.process (flick_in e.access)) e (with_taken (history s past) e.process (call_in new.seats e.process).0 (call_in new.seats e.process).1 (reply_taken (marks_told told)))
-    same (t.adds ∙ ap Some (sym is)) (steps.goes (history s past) h.heard.events h.heard.shows)
-    (subst (IsCount after) (count-more (history s past) e.process (call_in new.seats e.process).0 (call_in new.seats e.process).1 (reply_taken (marks_told told))) (counts n h.heard.counted))
-  where
-    s : Setup
-    s = a.core.setup
+module _ (a : AuditorState) (past : Past) (e : Entry) (access : Access) (told : StepTold) (h : StepMade a past e access told) where
+  abbrev setup : Setup
+  setup = a.core.setup
 
-    n : ℕ
-    n = length (history s past)
+  abbrev place : ℕ
+  place = length (history a.core.setup past)
 
-    t : IsTried s h.heard.events e (step_told n e.process access told)
-    t = made_try a past e access told h
+  abbrev stepped : Entry
+  stepped = step_told (length (history a.core.setup past)) e.process access told
 
-    is : e ≡ step_told n e.process access told
-    is = right_place s h.heard.events e (step_told n e.process access told) t (alike-placed n e access told alike) (subst (λ m. AreAt m e.marks) (sym (ap (λ l. length (history s l)) h.heard.past_is)) at)
+  step_tried : IsTried setup h.heard.events e stepped
+  step_tried = record { good = h.heard.shows.good; given = h.heard.shows.given; adds = h.adds (history setup past) h.heard.events h.heard.shows }
+
+  same_place : length (history setup (past_of setup h.heard.events)) ≡ place
+  same_place = ap (λ l. length (history setup l)) h.heard.past_is
+
+  pub heard_wrong : (settles : Bool) → (IsAlike e (stepped_as e.process access told) → ⊥) → (nat_lt e.process setup.processes ≡ true → IsTrue settles ↔ (stage e.process (past_of setup h.heard.events) ≡ stages.Settling)) →
+      BreaksNext (law_of_wrong (has tells_event e) settles) setup past e
+  heard_wrong settles wrong at = subst (λ past. BreaksNext (law_of_wrong (has tells_event e) settles) setup past e) h.heard.past_is (go (has tells_event e) refl settles refl)
+    where
+      no_match : IsAlike e stepped → ⊥
+      no_match k = wrong (alike-open place e access told k)
+
+      settling : IsTrue settles ↔ (stage e.process (past_of setup h.heard.events) ≡ stages.Settling)
+      settling = at (tried setup h.heard.events e stepped step_tried).0
+
+      go : (b : Bool) → has tells_event e ≡ b → (c : Bool) → settles ≡ c → BreaksNext (law_of_wrong b c) setup (past_of setup h.heard.events) e
+      go true k c l = wrong_event setup h.heard.events e stepped step_tried (λ same. no_match (subst (IsAlike e) same (record { process = refl; access = refl; marks = refl }))) h.none k
+      go false k true l = wrong_unit setup h.heard.events e stepped step_tried no_match k (settling.0 l)
+      go false k false l = wrong_step setup h.heard.events e stepped step_tried no_match k (λ st. true≢false (sym (settling.1 st) ∙ l))
+
+  pub heard_misplaced : IsAlike e (stepped_as e.process access told) → (AreAt place e.marks → ⊥) → BreaksNext (law_of_misplaced (has tells_event e)) setup past e
+  heard_misplaced alike wrong = subst (λ past. BreaksNext (law_of_misplaced (has tells_event e)) setup past e) h.heard.past_is (go (has tells_event e) refl)
+    where
+      go : (b : Bool) → has tells_event e ≡ b → BreaksNext (law_of_misplaced b) setup (past_of setup h.heard.events) e
+      go true k = wrong_event setup h.heard.events e stepped step_tried (λ same. wrong (subst (λ (x : Entry). AreAt place x.marks) (sym same) (at-placed place (marks_told told)))) h.none k
+      go false k = wrong_place setup h.heard.events e stepped step_tried (alike-placed place e access told alike) k (λ at. wrong (subst (λ m. AreAt m e.marks) same_place at))
+
+  pub heard_step : (new : CoreState) (after : Option ℕ) → IsAlike e (stepped_as e.process access told) → AreAt place e.marks →
+      new.setup ≡ setup → CoreSteps a.core e.process (flick_in e.access) told new → ((n : ℕ) → IsCount a.taken n → IsCount after (with_reply n (reply_taken (marks_told told)))) →
+      IsHeard setup past e (record { core = new; taken = after }) None
+  heard_step new after alike at same steps counts =
+      heard_on a.core new a.taken after past h.heard (event.Step e.process (flick_in e.access)) e (with_taken (history setup past) e.process (call_in new.seats e.process).0 (call_in new.seats e.process).1 (reply_taken (marks_told told)))
+      same (step_tried.adds ∙ ap Some (sym is)) (steps.goes (history setup past) h.heard.events h.heard.shows)
+      (subst (IsCount after) (count-more (history setup past) e.process (call_in new.seats e.process).0 (call_in new.seats e.process).1 (reply_taken (marks_told told))) (counts place h.heard.counted))
+    where
+      is : e ≡ stepped
+      is = right_place setup h.heard.events e stepped step_tried (alike-placed place e access told alike) (subst (λ m. AreAt m e.marks) (sym same_place) at)
 
 -- An event that is no step.
 

@@ -34,7 +34,7 @@ same_heard a past p flick made new m h =
 -- and one with another access breaks a law
 other_heard : (a : AuditorState) (past : Past) (p : ℕ) (access made : Access) (new : CoreState) → MadeWithin a.core p (flick_in (Some access)) made new → HasHeard a past → (made ≡ access → ⊥) → BreaksNext (law_of_wrong false false) a.core.setup past (access_entry p access)
 other_heard a past p access made new m h wrong =
-    heard_wrong a past (access_entry p access) made Nothing false (record { heard = h; none = refl; adds = m.adds })
+    heard_wrong a past (access_entry p access) made Nothing (record { heard = h; none = refl; adds = m.adds }) false
     (λ alike. let both : Some access ≡ Some made = alike.access in wrong (cc))
     (λ below. (λ is. absurd (true≢false (sym is)), λ settling. absurd (within-unsettled (with_history a.core (history a.core.setup past)) h.events p h.shows m.within settling)))
 

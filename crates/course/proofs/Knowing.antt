@@ -1,5 +1,5 @@
 -- The newest event is known: a Step is refused only where none has passed by before it.
-use Rattle.std.proofs.Common.{◌≡◌, ℕ, zero, suc, ◌<◌, nat_lt, Bool, true, false, cond, List, [], ◌∷◌, filter, length, slice_index, Option, None, Some, ap, arith, inl, inr, refl, subst, sym, ◌∙◌}
+use Rattle.std.proofs.Common.{◌≡◌, ◌==◌, ℕ, zero, suc, ◌-◌, ◌<◌, nat_lt, Bool, true, false, cond, List, [], ◌∷◌, filter, length, slice_index, Option, None, Some, ap, arith, inl, inr, refl, subst, sym, ◌∙◌}
 use Rattle.std.specs.Prelude.{◌⊎◌, slice_index_or}
 use Rattle.std.specs.List.{range_with_len}
 use Rattle.std.proofs.lemmas.Bool.Decides.{nat_tests}
@@ -25,6 +25,10 @@ use Rattle.course.specs.declared.told.Told.{Told}
 use Rattle.course.specs.declared.told.Told.TheVariants as told
 use Rattle.course.proofs.Refusals.{entry_by, not_refused}
 use Rattle.course.proofs.Wanders.{stage_quiet}
+
+-- a turn that is not the last leaves more than the floor
+pub turns_above : (floor left : ℕ) → floor < left → (left - 1 == floor) ≡ false → floor < left - 1
+turns_above floor left some more = grind (arith, nat_tests)
 
 -- Who may step.
 

@@ -11,14 +11,13 @@ use Rattle.world.specs.Shows.{Shows, WorldState}
 use Rattle.world.specs.Walks.{StepsQuietly}
 use Rattle.course.specs.Courses.{CourseState, Follows, IsQuiet, Makes, QuietTurns, course}
 use Rattle.course.specs.Happenings.{Happening, Tries, tried}
-use Rattle.course.specs.Listening.{ComesOn, ComesTo, HearsFrom, HearsStep, PassQuietly, TellsStep}
+use Rattle.course.specs.Listening.{ComesOn, ComesTo, HearsFrom, HearsStep, TellsStep}
 use Rattle.course.specs.Runs.{Run, next_step, past_in, stepped}
 use Rattle.course.specs.Telling.{AddsMarks, Tells, TellsOf}
 use Rattle.course.specs.Turns.{Turn, made_turn, rest_of, turn_of, turns_in}
 use Rattle.course.specs.declared.told.Told.{Told}
 use Rattle.course.proofs.Grows.{Grows, rest_grows}
 use Rattle.course.proofs.TurnLaw.{turn_less, turn_on}
-use Rattle.course.proofs.Underways.{Turned, One, Nothing, turned}
 
 -- Turns without a mark.
 
@@ -40,18 +39,6 @@ rest_quiet s line (suc quiet) left run left' run' few (first, more) =
     let less = turn_less s line left run in
     let next = rest_quiet s line quiet (turn_of s line left run).left (turn_of s line left run).run left' run' (omega (arith, less, few)) more in
     (next.0, turn_on s line left run few ∙ next.1)
-
--- they are passed by
-pub quiet_passes : (s : Setup) (line : Line) (quiet left : ℕ) (run : Run) (left' : ℕ) (run' : Run) → QuietTurns s line quiet left run left' run' → PassQuietly s quiet run.happened run'.happened
-quiet_passes s line zero left run left' run' (same, at) = ap (λ (r : Run). r.happened) at
-quiet_passes s line (suc quiet) left run left' run' (first, more) = by (turned s line left run) (quiet_passes s line quiet (turn_of s line left run).left (turn_of s line left run).run left' run' more)
-  where
-    t : Turn
-    t = turn_of s line left run
-
-    by : Turned t run.happened → PassQuietly s quiet t.run.happened run'.happened → PassQuietly s (suc quiet) run.happened run'.happened
-    by (Nothing none ended same) rest = absurd (subst (λ o. IsQuiet s (past_in s run) o) none first)
-    by (One this some same) rest = (this, subst (λ o. IsQuiet s (past_in s run) o) some first, subst (λ l. PassQuietly s quiet l run'.happened) same rest)
 
 -- A Step.
 

@@ -2,8 +2,13 @@
 //! process fails, is restarted, all go on and the calls are made again, each audited while it is made. Every run of every sweep
 //! is good, which is a law here; whether one met its limits is what is found.
 //!
+//! A sweep of a checked setup, events, and the calls that follow each failure, made once more where memory was wanting:
+//!
 //! ```rust
-//! let found = sweep(rt.alloc(), &setup_of_lone_write(), &events, &calls)?;
+//! match sweep(alloc, setup, events, calls) {
+//!     Ok(found) => Ok(found),
+//!     Err(AllocError) => sweep(alloc, setup, events, calls),
+//! }
 //! ```
 #![tactic(auto)]
 

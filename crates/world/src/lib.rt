@@ -6,9 +6,15 @@
 //! let mut world = World::new(rt.alloc(), setup)?;
 //! ```
 //!
+//! An event, as `Event::Call(0, Command::Ask)` or `Event::Step(0, false)`, is made so, and the marks of its act are printed:
+//!
 //! ```rust
-//! make(rt, world, Event::Call(0, Command::Add(counter, 1)))?;
-//! make(rt, world, Event::Call(1, Command::Add(counter, 10)))?;
+//! let Ok(act) = world.event(event) else {
+//!     bail!("an event is refused");
+//! };
+//! for mark in &act.marks {
+//!     println!(rt; "{} {mark}", event.process())?;
+//! }
 //! ```
 #![tactic(auto)]
 

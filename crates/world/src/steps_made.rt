@@ -2,7 +2,7 @@
 
 /// How many steps were made, and how many of them ended a read that a write overlapped: one was open as the read began, or
 /// has begun since.
-#[derive(Clone, Copy, Debug, PartialEq, Eq)]
+#[derive(Clone, Copy)]
 pub struct StepsMade {
     /// How many there are.
     pub steps: u32,

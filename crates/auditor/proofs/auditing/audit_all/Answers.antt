@@ -33,6 +33,12 @@ pub returns-clause-good : goal.returns-clause-good
 returns-clause-good c = λ is. true_record c.loop-number.auditor c.args.setup.now c.args.entries.now c.loop-number.invariant.setup
     (subst (λ (l : List Entry). HasHeard c.loop-number.auditor (reverse l)) (take_all c.loop-number.number c.args.entries.now c.loop-number-test.false) c.loop-number.invariant.heard)
 
+pub returns-in-Some-clause-good : goal.returns-in-Some-clause-good
+returns-in-Some-clause-good c = λ is. absurd (cc)
+
+pub returns-clause-verdict : goal.returns-clause-verdict
+returns-clause-verdict c = subst (λ (l : List Entry). AllKeep c.args.setup.now (reverse l)) (take_all c.loop-number.number c.args.entries.now c.loop-number-test.false) c.loop-number.invariant.kept
+
 pub returns-clause-of_events : goal.returns-clause-of_events
 returns-clause-of_events c = λ events same given. refl
 

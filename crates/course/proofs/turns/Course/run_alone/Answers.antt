@@ -1,5 +1,4 @@
 use Rattle.std.proofs.Common.{Some, refl, ◌==◌, ◌≤◌, ◌+◌, ◌-◌, ◌∙◌, ℕ, ap, arith, inl, subst, sym}
-use Rattle.std.proofs.lemmas.Bool.Decides.{nat_tests}
 use Rattle.scenario.specs.declared.lines.Line.{Line}
 use Rattle.world.specs.flicks.Flicks.{flick_of}
 use Rattle.course.specs.Courses.{CourseState, Follows, course}
@@ -9,7 +8,7 @@ use Rattle.course.specs.Runs.{Run}
 use Rattle.course.specs.Steppers.{IsAlone}
 use Rattle.course.specs.Turns.{rest_of, turns_in}
 use Rattle.course.proofs.Alone.{KnowsAlone, MakesMore, alone_ended, alone_on, alone_passed, alone_stops, alone_told}
-use Rattle.course.proofs.Knowing.{quiet_steps, step_knows, step_needs}
+use Rattle.course.proofs.Knowing.{quiet_steps, step_knows, step_needs, turns_above}
 use Rattle.course.proofs.Played.{no_value, on_fault}
 use Rattle.course.proofs.Runnings.{comes_start, comes_stop, comes_then, comes_to}
 use Rattle.course.proofs.turns.Course.run_alone.Goals as goal
@@ -58,7 +57,7 @@ steps-preserved g c =
     let knows : HearsStep (HearsFrom Hears (KnowsOr Knows (MaySteps p)) (KnowsAlone Knows p floor (left - 1))) w p c.flick-flick.result c.step.new.world c.pass_by.new.listener c.step.new.listener =
     step_knows Hears Knows w c.step.new.world p c.flick-flick.result c.pass_by.new.listener c.step.new.listener (KnowsOr Knows (MaySteps p)) (MakesMore p floor (left - 1)) (left - 1 == floor) heard
     (λ last. subst (λ told. MakesStep (Learns Knows) w p c.flick-flick.result told c.step.new.world c.pass_by.new.listener c.step.new.listener) c.in_default.is (c.in_ok-step.ensures.knows last))
-    (λ more before shows. (grind (arith, nat_tests, c.pass_by.ensures.above), quiet_steps w.setup p c.flick-flick.result before (Some heard.step.access, heard.step.adds (tried before) shows))) in
+    (λ more before shows. (turns_above floor left c.pass_by.ensures.above more, quiet_steps w.setup p c.flick-flick.result before (Some heard.step.access, heard.step.adds (tried before) shows))) in
     record {
       on = λ line run follows next.
           let v = alone_passed Hears Knows s line had p floor run c.args.listener.now c.steps.listener (course i.world i.flicks i.left) (c.steps.invariant.on line run follows next) laws.hears_on (course w flicks left) c.pass_by.new.listener c.pass_by.ensures.on in
@@ -75,8 +74,8 @@ steps-preserved g c =
           laws.room_less c.step.new.listener (more + (left - 1)) (more + (left - 1) + 0) (omega arith) (wants (more + (left - 1)) (laws.room_less c.pass_by.new.listener (more + (left - 1) + 1) (more + left) (omega (arith, c.pass_by.ensures.above)) (c.pass_by.ensures.room more (c.steps.invariant.room more room))));
     }
 
-pub returns-in_err-step-clause-cut : goal.returns-in_err-step-clause-cut
-returns-in_err-step-clause-cut g c =
+pub returns-in_err-step : goal.returns-in_err-step
+returns-in_err-step g c =
     let laws = g.met.L.Listener in
     let Hears = g.L.Listener.Hears in
     let Knows = g.L.Listener.Knows in
@@ -89,12 +88,19 @@ returns-in_err-step-clause-cut g c =
     let w = c.pass_by.new.world in
     let flicks = c.pass_by.new.flicks in
     let left : ℕ = c.pass_by.new.left in
-    on_fault c.from_residual.result c.in_err-step.field-0.0 (λ fault. (l : Line) (run : Run) → Follows c.args.self.now run → IsAlone p floor s l run → had ≤ turns_in l → Stops c.args.listener.now s run.happened (rest_of s l had run).happened fault c.step.new.listener) c.from_residual.ensures.1
-    (λ l run follows next few.
-    let v = alone_passed Hears Knows s l had p floor run c.args.listener.now c.steps.listener (course i.world i.flicks i.left) (c.steps.invariant.on l run follows next) laws.hears_on (course w flicks left) c.pass_by.new.listener c.pass_by.ensures.on in
-    comes_stop Hears laws.hears_on Knows (KnowsOr Knows (MaySteps p)) s l had run c.args.listener.now c.pass_by.new.listener c.step.new.listener (course w flicks left) (IsAlone p floor) v Stops laws.stops_on c.in_err-step.field-0.0 few
-    (λ run follows next few. alone_stops w c.step.new.world l left p floor c.flick-flick.result run flicks c.flick-flick.new.self c.pass_by.ensures.above c.flick-flick.ensures.flick c.flick-flick.ensures.after follows next Stops c.pass_by.new.listener c.step.new.listener c.in_err-step.field-0.0 laws.stops_before
-    c.in_err-step.ensures.cut few))
+    let fault = c.in_err-step.field-0.0 in
+    record {
+      left = no_value c.from_residual.result fault _ c.from_residual.ensures.1;
+      ended = no_value c.from_residual.result fault _ c.from_residual.ensures.1;
+      ok = no_value c.from_residual.result fault _ c.from_residual.ensures.1;
+      room = no_value c.from_residual.result fault _ c.from_residual.ensures.1;
+      cut = on_fault c.from_residual.result fault (λ fault. (l : Line) (run : Run) → Follows c.args.self.now run → IsAlone p floor s l run → had ≤ turns_in l → Stops c.args.listener.now s run.happened (rest_of s l had run).happened fault c.step.new.listener) c.from_residual.ensures.1
+          (λ l run follows next few.
+          let v = alone_passed Hears Knows s l had p floor run c.args.listener.now c.steps.listener (course i.world i.flicks i.left) (c.steps.invariant.on l run follows next) laws.hears_on (course w flicks left) c.pass_by.new.listener c.pass_by.ensures.on in
+          comes_stop Hears laws.hears_on Knows (KnowsOr Knows (MaySteps p)) s l had run c.args.listener.now c.pass_by.new.listener c.step.new.listener (course w flicks left) (IsAlone p floor) v Stops laws.stops_on fault few
+          (λ run follows next few. alone_stops w c.step.new.world l left p floor c.flick-flick.result run flicks c.flick-flick.new.self c.pass_by.ensures.above c.flick-flick.ensures.flick c.flick-flick.ensures.after follows next Stops c.pass_by.new.listener c.step.new.listener fault laws.stops_before
+          c.in_err-step.ensures.cut few));
+    }
 
 pub returns-in-Some-clause-ok : goal.returns-in-Some-clause-ok
 returns-in-Some-clause-ok g c = subst (λ told. RunsAlone g.L.Listener.Hears g.L.Listener.Knows c.args.self.now c.args.process c.args.floor (course c.step.new.world c.flick-flick.new.self c.left_after-self-inside.result) c.args.listener.now c.step.new.listener told) (sym c.in-Some.is) (λ l run follows next.
@@ -125,15 +131,3 @@ returns-clause-ok g c = λ l run follows next.
     let i = c.steps.self-inside in
     alone_ended g.L.Listener.Hears g.L.Listener.Knows c.args.self.now.world.setup l c.args.self.now.left c.args.process c.args.floor run c.args.listener.now c.steps.listener (course i.world i.flicks i.left) (c.steps.invariant.on l run follows next)
     (omega (arith, c.steps-test.false))
-
-pub returns-in_err-step-clause-left : goal.returns-in_err-step-clause-left
-returns-in_err-step-clause-left g c = no_value c.from_residual.result c.in_err-step.field-0.0 _ c.from_residual.ensures.1
-
-pub returns-in_err-step-clause-ended : goal.returns-in_err-step-clause-ended
-returns-in_err-step-clause-ended g c = no_value c.from_residual.result c.in_err-step.field-0.0 _ c.from_residual.ensures.1
-
-pub returns-in_err-step-clause-ok : goal.returns-in_err-step-clause-ok
-returns-in_err-step-clause-ok g c = no_value c.from_residual.result c.in_err-step.field-0.0 _ c.from_residual.ensures.1
-
-pub returns-in_err-step-clause-room : goal.returns-in_err-step-clause-room
-returns-in_err-step-clause-room g c = no_value c.from_residual.result c.in_err-step.field-0.0 _ c.from_residual.ensures.1

@@ -1,5 +1,4 @@
 use Rattle.std.proofs.Common.{Some, refl, None, ◌≡◌, ◌==◌, ◌<◌, ◌≤◌, ◌+◌, ◌-◌, ◌∙◌, ℕ, List, ap, arith, inl, inr, length, set, sym, subst, slice_index}
-use Rattle.std.proofs.lemmas.Bool.Decides.{nat_tests}
 use Rattle.scenario.specs.declared.lines.Line.TheVariants.{Wander as WanderLine}
 use Rattle.world.specs.flicks.Flicks.{FlickState, after_flick, after_pick, flick_of, pick_of}
 use Rattle.world.specs.Walks.{left_in}
@@ -9,7 +8,7 @@ use Rattle.course.specs.Listening.{Comes, ComesOn, ComesTo, HearsFrom, HearsStep
 use Rattle.course.specs.Runs.{Run, movers, past_in}
 use Rattle.course.specs.Turns.{rest_of, turn_of}
 use Rattle.course.proofs.Counted.{counted_put, none_known}
-use Rattle.course.proofs.Knowing.{nothing_yet, pick_steps, step_knows, step_needs}
+use Rattle.course.proofs.Knowing.{nothing_yet, pick_steps, step_knows, step_needs, turns_above}
 use Rattle.course.proofs.Movers.{none_left, some_left}
 use Rattle.course.proofs.Played.{no_value, on_fault}
 use Rattle.course.proofs.Runnings.{at_once, comes_as, comes_end, comes_start, comes_stop, comes_then, comes_to}
@@ -64,7 +63,7 @@ steps-preserved g c =
     let knows : HearsStep (HearsFrom Hears (KnowsWhile Knows c.steps.left) (KnowsWhile Knows (c.steps.left - 1))) i.world c.steps.next.0 c.steps.next.1 c.step.new.world c.steps.listener c.step.new.listener =
     step_knows Hears Knows i.world c.step.new.world c.steps.next.0 c.steps.next.1 c.steps.listener c.step.new.listener (KnowsWhile Knows c.steps.left) (λ s x. 0 < c.steps.left - 1) (c.steps.left - 1 == 0) heard
     (λ last. subst (λ told. MakesStep (Learns Knows) i.world c.steps.next.0 c.steps.next.1 told c.step.new.world c.steps.listener c.step.new.listener) c.in_default.is (c.in_ok-step.ensures.knows last))
-    (λ more before shows. grind (arith, nat_tests)) in
+    (λ more before shows. turns_above 0 c.steps.left c.steps-test.true more) in
     let same : c.steps.ahead ≡ c.copy_from.new.self = sym c.copy_from.ensures in
     let ps = c.as_slice-movers.result.now in
     let some : 0 < length ps = subst (λ (l : List ℕ). 0 < length l) (sym c.as_slice-movers.ensures) (some_left c.movers-movers.result.items (sym c.is_empty.ensures ∙ c.if-is_empty.false)) in
@@ -85,8 +84,8 @@ steps-preserved g c =
           laws.room_less c.step.new.listener (more + (c.steps.left - 1)) (more + (c.steps.left - 1) + 0) (omega arith) (wants (more + (c.steps.left - 1)) (laws.room_less c.steps.listener (more + (c.steps.left - 1) + 1) (more + c.steps.left) (omega (arith, c.steps-test.true)) (c.steps.invariant.room more room)));
     }
 
-pub returns-in_err-step-clause-cut : goal.returns-in_err-step-clause-cut
-returns-in_err-step-clause-cut g c =
+pub returns-in_err-step : goal.returns-in_err-step
+returns-in_err-step g c =
     let laws = g.met.L.Listener in
     let Hears = g.L.Listener.Hears in
     let Knows = g.L.Listener.Knows in
@@ -96,11 +95,17 @@ returns-in_err-step-clause-cut g c =
     let i = c.steps.self-inside in
     let ps = c.as_slice-movers.result.now in
     let some : 0 < length ps = subst (λ (l : List ℕ). 0 < length l) (sym c.as_slice-movers.ensures) (some_left c.movers-movers.result.items (sym c.is_empty.ensures ∙ c.if-is_empty.false)) in
-    on_fault c.from_residual.result c.in_err-step.field-0.0 (λ fault. (steps : ℕ) (run : Run) → Follows c.args.self.now run → had ≤ steps → Stops c.args.listener.now s run.happened (rest_of s (WanderLine steps) had run).happened fault c.step.new.listener) c.from_residual.ensures.1
-    (λ steps run follows few.
-    comes_stop Hears laws.hears_on Knows (KnowsWhile Knows c.steps.left) s (WanderLine steps) had run c.args.listener.now c.steps.listener c.step.new.listener (course i.world c.steps.flicks c.steps.left) (ArePicked ps) (c.steps.invariant.on steps run follows) Stops laws.stops_on c.in_err-step.field-0.0 few
-    (λ run follows are few. picked_stops i.world c.step.new.world steps c.steps.left c.steps.next.0 ps c.steps.next.1 run c.steps.flicks c.copy_from.new.self (λ none. omega (arith, none, c.steps-test.true)) some c.steps.invariant.process c.steps.invariant.flick (c.copy_from.ensures ∙ c.steps.invariant.ahead)
-    follows are Stops c.steps.listener c.step.new.listener c.in_err-step.field-0.0 laws.stops_before c.in_err-step.ensures.cut few))
+    let fault = c.in_err-step.field-0.0 in
+    record {
+      left = no_value c.from_residual.result fault _ c.from_residual.ensures.1;
+      ok = no_value c.from_residual.result fault _ c.from_residual.ensures.1;
+      room = no_value c.from_residual.result fault _ c.from_residual.ensures.1;
+      cut = on_fault c.from_residual.result fault (λ fault. (steps : ℕ) (run : Run) → Follows c.args.self.now run → had ≤ steps → Stops c.args.listener.now s run.happened (rest_of s (WanderLine steps) had run).happened fault c.step.new.listener) c.from_residual.ensures.1
+          (λ steps run follows few.
+          comes_stop Hears laws.hears_on Knows (KnowsWhile Knows c.steps.left) s (WanderLine steps) had run c.args.listener.now c.steps.listener c.step.new.listener (course i.world c.steps.flicks c.steps.left) (ArePicked ps) (c.steps.invariant.on steps run follows) Stops laws.stops_on fault few
+          (λ run follows are few. picked_stops i.world c.step.new.world steps c.steps.left c.steps.next.0 ps c.steps.next.1 run c.steps.flicks c.copy_from.new.self (λ none. omega (arith, none, c.steps-test.true)) some c.steps.invariant.process c.steps.invariant.flick (c.copy_from.ensures ∙ c.steps.invariant.ahead)
+          follows are Stops c.steps.listener c.step.new.listener fault laws.stops_before c.in_err-step.ensures.cut few));
+    }
 
 pub returns-in-Some-clause-ok : goal.returns-in-Some-clause-ok
 returns-in-Some-clause-ok g c = subst (λ told. (steps : ℕ) → Comes g.L.Listener.Hears g.L.Listener.Knows c.args.self.now (WanderLine steps) (course c.step.new.world c.copy_from.new.self (c.steps.left - 1)) c.args.listener.now c.step.new.listener told) (sym c.in-Some.is) (λ steps run follows.
@@ -152,15 +157,6 @@ step-requires-clause-untold g c = c.steps.invariant.untold
 
 pub invariant_of-self-in_err-step : goal.invariant_of-self-in_err-step
 invariant_of-self-in_err-step g c = record { are = c.steps.invariant.kept.are ∙ ap (λ s. s.processes) (sym c.step.ensures.setup); few = c.steps.invariant.kept.few }
-
-pub returns-in_err-step-clause-left : goal.returns-in_err-step-clause-left
-returns-in_err-step-clause-left g c = no_value c.from_residual.result c.in_err-step.field-0.0 _ c.from_residual.ensures.1
-
-pub returns-in_err-step-clause-ok : goal.returns-in_err-step-clause-ok
-returns-in_err-step-clause-ok g c = no_value c.from_residual.result c.in_err-step.field-0.0 _ c.from_residual.ensures.1
-
-pub returns-in_err-step-clause-room : goal.returns-in_err-step-clause-room
-returns-in_err-step-clause-room g c = no_value c.from_residual.result c.in_err-step.field-0.0 _ c.from_residual.ensures.1
 
 pub invariant_of-self-in-Some : goal.invariant_of-self-in-Some
 invariant_of-self-in-Some g c = record { are = c.steps.invariant.kept.are ∙ ap (λ s. s.processes) (sym c.step.ensures.setup); few = c.steps.invariant.kept.few }

@@ -9,6 +9,7 @@ use Rattle.sweeper.proofs.Dues.{few_made, few_seats}
 use Rattle.auditor.specs.read_law.Entries.{entry_by}
 use Rattle.sweeper.proofs.Making.{IsAnswered, IsMade, follows_made, follows_refused, made_accepted, none_broken, refused_left}
 use Rattle.sweeper.proofs.runner.Runner.make.Goals as goal
+use Rattle.sweeper.proofs.runner.Runner.make.Goals.{After-more-self-inside}
 
 pub returns-in_default-clause-follows : goal.returns-in_default-clause-follows
 returns-in_default-clause-follows c =
@@ -26,42 +27,45 @@ returns-in_default-clause-accepted c =
     let family : RunnerState → Type 0 = λ r. (events : List Event) → Follows r events → false ≡ is_accepted r.core.setup events c.args.event.now in
     subst family c.self.view_is (λ events follows. sym (refused_left old c.args.event.now c.in_default.field-0 c.in_default.ensures.refused events follows))
 
+abbrev before : After-more-self-inside → RunnerState
+before c = let i = c.self.inside in record { core = i.core; auditor = i.auditor; taken = i.taken }
+
+made : (c : After-more-self-inside) → IsMade (before c) c.args.event.now c.in-Ok.access c.event.new.effect c.event.new.self
+made c = record { adds = c.in-Ok.ensures.accepted; makes = c.in-Ok.ensures.shows; setup = c.in-Ok.ensures.setup }
+
+answered : (c : After-more-self-inside) → IsAnswered c.self.inside.auditor (entry_by c.process.result c.in-Ok.access c.deref.result.now) c.hear_parts-law.result c.hear_parts-law.new.self
+answered c = record { heard = c.hear_parts-law.ensures.heard; setup = c.hear_parts-law.ensures.setup }
+
+-- the runner goes on by the event
+goes : (c : After-more-self-inside) (events : List Event) → Follows (before c) events →
+    Follows (record { core = c.event.new.self; auditor = c.hear_parts-law.new.self; taken = c.more-self-inside.result }) (c.args.event.now ∷ events)
+goes c events follows =
+    follows_made (before c) c.args.event.now c.in-Ok.access c.event.new.effect c.event.new.self (made c) events follows c.process.result c.deref.result.now c.hear_parts-law.result c.hear_parts-law.new.self c.more-self-inside.result
+    c.process.ensures (c.deref.ensures ∙ c.marks-marks.ensures) c.more-self-inside.ensures (answered c)
+
 pub invariant_of-self-2 : goal.invariant_of-self-2
 invariant_of-self-2 c =
-    let i = c.self.inside in
     let kept = c.self.invariant in
-    let old : RunnerState = record { core = i.core; auditor = i.auditor; taken = i.taken } in
-    let made : IsMade old c.args.event.now c.in-Ok.access c.event.new.effect c.event.new.self = record { adds = c.in-Ok.ensures.accepted; makes = c.in-Ok.ensures.shows; setup = c.in-Ok.ensures.setup } in
-    let answered : IsAnswered i.auditor (entry_by c.process.result c.in-Ok.access c.deref.result.now) c.hear_parts-law.result c.hear_parts-law.new.self = record { heard = c.hear_parts-law.ensures.heard; setup = c.hear_parts-law.ensures.setup } in
-    let none : c.hear_parts-law.result ≡ None = none_broken old c.args.event.now c.in-Ok.access c.event.new.effect c.event.new.self made kept.events kept.follows c.process.result c.deref.result.now c.hear_parts-law.result c.hear_parts-law.new.self
-    c.process.ensures (c.deref.ensures ∙ c.marks-marks.ensures) answered in
+    let b = (goal.at.invariant_of-self-2 c).After-more-self-inside in
+    let none : c.hear_parts-law.result ≡ None = none_broken (before b) c.args.event.now c.in-Ok.access c.event.new.effect c.event.new.self (made b) kept.events kept.follows c.process.result c.deref.result.now c.hear_parts-law.result c.hear_parts-law.new.self
+    c.process.ensures (c.deref.ensures ∙ c.marks-marks.ensures) (answered b) in
     record {
       events = c.args.event.now ∷ kept.events;
-      follows = follows_made old c.args.event.now c.in-Ok.access c.event.new.effect c.event.new.self made kept.events kept.follows c.process.result c.deref.result.now c.hear_parts-law.result c.hear_parts-law.new.self c.more-self-inside.result
-          c.process.ensures (c.deref.ensures ∙ c.marks-marks.ensures) c.more-self-inside.ensures answered;
+      follows = goes b kept.events kept.follows;
       processes = kept.processes ∙ ap (λ (s : Setup). s.processes) (sym c.in-Ok.ensures.setup);
       none_bad = c.first_bad-self-inside.ensures none ∙ kept.none_bad;
     }
 
 pub returns-clause-follows : goal.returns-clause-follows
 returns-clause-follows c =
-    let i = c.self.inside in
-    let old : RunnerState = record { core = i.core; auditor = i.auditor; taken = i.taken } in
     let then : RunnerState = record { core = c.event.new.self; auditor = c.hear_parts-law.new.self; taken = c.more-self-inside.result } in
-    let made : IsMade old c.args.event.now c.in-Ok.access c.event.new.effect c.event.new.self = record { adds = c.in-Ok.ensures.accepted; makes = c.in-Ok.ensures.shows; setup = c.in-Ok.ensures.setup } in
-    let answered : IsAnswered i.auditor (entry_by c.process.result c.in-Ok.access c.deref.result.now) c.hear_parts-law.result c.hear_parts-law.new.self = record { heard = c.hear_parts-law.ensures.heard; setup = c.hear_parts-law.ensures.setup } in
-    let family : RunnerState → Type 0 = λ r. RunsOn r then (λ events. c.args.event.now ∷ events) in
-    subst family c.self.view_is (λ events follows.
-    follows_made old c.args.event.now c.in-Ok.access c.event.new.effect c.event.new.self made events follows c.process.result c.deref.result.now c.hear_parts-law.result c.hear_parts-law.new.self c.more-self-inside.result
-    c.process.ensures (c.deref.ensures ∙ c.marks-marks.ensures) c.more-self-inside.ensures answered)
+    subst (λ (r : RunnerState). RunsOn r then (λ events. c.args.event.now ∷ events)) c.self.view_is (goes (goal.at.returns-clause-follows c).After-more-self-inside)
 
 pub returns-clause-accepted : goal.returns-clause-accepted
 returns-clause-accepted c =
-    let i = c.self.inside in
-    let old : RunnerState = record { core = i.core; auditor = i.auditor; taken = i.taken } in
-    let made : IsMade old c.args.event.now c.in-Ok.access c.event.new.effect c.event.new.self = record { adds = c.in-Ok.ensures.accepted; makes = c.in-Ok.ensures.shows; setup = c.in-Ok.ensures.setup } in
+    let b = (goal.at.returns-clause-accepted c).After-more-self-inside in
     let family : RunnerState → Type 0 = λ r. (events : List Event) → Follows r events → true ≡ is_accepted r.core.setup events c.args.event.now in
-    subst family c.self.view_is (λ events follows. sym (made_accepted old c.args.event.now c.in-Ok.access c.event.new.effect c.event.new.self made events follows))
+    subst family c.self.view_is (λ events follows. sym (made_accepted (before b) c.args.event.now c.in-Ok.access c.event.new.effect c.event.new.self (made b) events follows))
 
 pub returns-clause-few : goal.returns-clause-few
 returns-clause-few c =

@@ -12,6 +12,7 @@ use Rattle.sweeper.specs.Sweeps.{is_accepted}
 use Rattle.auditor.specs.read_law.Entries.{entry_by}
 use Rattle.sweeper.proofs.Making.{IsAnswered, IsMade, follows_made, follows_refused, made_accepted, none_broken, refused_left}
 use Rattle.sweeper.proofs.runner.Runner.step.Goals as goal
+use Rattle.sweeper.proofs.runner.Runner.step.Goals.{After-more-self-inside}
 
 pub returns-in_default-clause-follows : goal.returns-in_default-clause-follows
 returns-in_default-clause-follows c =
@@ -31,43 +32,45 @@ returns-in_default-clause-accepted c =
     let family : RunnerState → Type 0 = λ r. (events : List Event) → Follows r events → false ≡ is_accepted r.core.setup events step in
     subst family c.self.view_is (λ events follows. sym (refused_left old step c.in_default.field-0 c.in_default.ensures.refused events follows))
 
+abbrev before : After-more-self-inside → RunnerState
+before c = let i = c.self.inside in record { core = i.core; auditor = i.auditor; taken = i.taken }
+
+abbrev marks : After-more-self-inside → List Mark
+marks c = map (placed c.self.inside.taken) (marks_told c.step.new.told)
+
+made : (c : After-more-self-inside) → IsMade (before c) (Step c.args.process c.args.value) (Some c.in-Ok.made.access) (Steps c.step.new.told) c.step.new.self
+made c = record { adds = c.in-Ok.ensures.accepted; makes = c.in-Ok.ensures.shows; setup = c.in-Ok.ensures.setup }
+
+answered : (c : After-more-self-inside) → IsAnswered c.self.inside.auditor (entry_by c.args.process (Some c.in-Ok.made.access) (marks c)) c.hear_step-law.result c.hear_step-law.new.auditor
+answered c = record { heard = c.hear_step-law.ensures.heard; setup = c.hear_step-law.ensures.setup }
+
+-- the runner goes on by the step
+goes : (c : After-more-self-inside) (events : List Event) → Follows (before c) events →
+    Follows (record { core = c.step.new.self; auditor = c.hear_step-law.new.auditor; taken = c.more-self-inside.result }) (Step c.args.process c.args.value ∷ events)
+goes c events follows =
+    follows_made (before c) (Step c.args.process c.args.value) (Some c.in-Ok.made.access) (Steps c.step.new.told) c.step.new.self (made c) events follows c.args.process (marks c) c.hear_step-law.result c.hear_step-law.new.auditor c.more-self-inside.result
+    refl refl c.more-self-inside.ensures (answered c)
+
 pub invariant_of-self-2 : goal.invariant_of-self-2
 invariant_of-self-2 c =
-    let i = c.self.inside in
     let kept = c.self.invariant in
-    let step : Event = Step c.args.process c.args.value in
-    let marks : List Mark = map (placed i.taken) (marks_told c.step.new.told) in
-    let old : RunnerState = record { core = i.core; auditor = i.auditor; taken = i.taken } in
-    let made : IsMade old step (Some c.in-Ok.made.access) (Steps c.step.new.told) c.step.new.self = record { adds = c.in-Ok.ensures.accepted; makes = c.in-Ok.ensures.shows; setup = c.in-Ok.ensures.setup } in
-    let answered : IsAnswered i.auditor (entry_by c.args.process (Some c.in-Ok.made.access) marks) c.hear_step-law.result c.hear_step-law.new.auditor = record { heard = c.hear_step-law.ensures.heard; setup = c.hear_step-law.ensures.setup } in
-    let none : c.hear_step-law.result ≡ None = none_broken old step (Some c.in-Ok.made.access) (Steps c.step.new.told) c.step.new.self made kept.events kept.follows c.args.process marks c.hear_step-law.result c.hear_step-law.new.auditor refl refl answered in
+    let b = (goal.at.invariant_of-self-2 c).After-more-self-inside in
+    let none : c.hear_step-law.result ≡ None = none_broken (before b) (Step c.args.process c.args.value) (Some c.in-Ok.made.access) (Steps c.step.new.told) c.step.new.self (made b) kept.events kept.follows c.args.process (marks b) c.hear_step-law.result c.hear_step-law.new.auditor refl refl (answered b) in
     record {
-      events = step ∷ kept.events;
-      follows = follows_made old step (Some c.in-Ok.made.access) (Steps c.step.new.told) c.step.new.self made kept.events kept.follows c.args.process marks c.hear_step-law.result c.hear_step-law.new.auditor c.more-self-inside.result
-          refl refl c.more-self-inside.ensures answered;
+      events = Step c.args.process c.args.value ∷ kept.events;
+      follows = goes b kept.events kept.follows;
       processes = kept.processes ∙ ap (λ (s : Setup). s.processes) (sym c.in-Ok.ensures.setup);
       none_bad = c.first_bad-self-inside.ensures none ∙ kept.none_bad;
     }
 
 pub returns-clause-follows : goal.returns-clause-follows
 returns-clause-follows c =
-    let i = c.self.inside in
-    let step : Event = Step c.args.process c.args.value in
-    let marks : List Mark = map (placed i.taken) (marks_told c.step.new.told) in
-    let old : RunnerState = record { core = i.core; auditor = i.auditor; taken = i.taken } in
     let then : RunnerState = record { core = c.step.new.self; auditor = c.hear_step-law.new.auditor; taken = c.more-self-inside.result } in
-    let made : IsMade old step (Some c.in-Ok.made.access) (Steps c.step.new.told) c.step.new.self = record { adds = c.in-Ok.ensures.accepted; makes = c.in-Ok.ensures.shows; setup = c.in-Ok.ensures.setup } in
-    let answered : IsAnswered i.auditor (entry_by c.args.process (Some c.in-Ok.made.access) marks) c.hear_step-law.result c.hear_step-law.new.auditor = record { heard = c.hear_step-law.ensures.heard; setup = c.hear_step-law.ensures.setup } in
-    let family : RunnerState → Type 0 = λ r. RunsOn r then (λ events. step ∷ events) in
-    subst family c.self.view_is (λ events follows.
-    follows_made old step (Some c.in-Ok.made.access) (Steps c.step.new.told) c.step.new.self made events follows c.args.process marks c.hear_step-law.result c.hear_step-law.new.auditor c.more-self-inside.result
-    refl refl c.more-self-inside.ensures answered)
+    subst (λ (r : RunnerState). RunsOn r then (λ events. Step c.args.process c.args.value ∷ events)) c.self.view_is (goes (goal.at.returns-clause-follows c).After-more-self-inside)
 
 pub returns-clause-accepted : goal.returns-clause-accepted
 returns-clause-accepted c =
-    let i = c.self.inside in
     let step : Event = Step c.args.process c.args.value in
-    let old : RunnerState = record { core = i.core; auditor = i.auditor; taken = i.taken } in
-    let made : IsMade old step (Some c.in-Ok.made.access) (Steps c.step.new.told) c.step.new.self = record { adds = c.in-Ok.ensures.accepted; makes = c.in-Ok.ensures.shows; setup = c.in-Ok.ensures.setup } in
+    let b = (goal.at.returns-clause-accepted c).After-more-self-inside in
     let family : RunnerState → Type 0 = λ r. (events : List Event) → Follows r events → true ≡ is_accepted r.core.setup events step in
-    subst family c.self.view_is (λ events follows. sym (made_accepted old step (Some c.in-Ok.made.access) (Steps c.step.new.told) c.step.new.self made events follows))
+    subst family c.self.view_is (λ events follows. sym (made_accepted (before b) step (Some c.in-Ok.made.access) (Steps c.step.new.told) c.step.new.self (made b) events follows))

@@ -1,4 +1,4 @@
-use Rattle.std.proofs.Common.{◌≡◌, ◌∙◌, ap, Some, length, drop, refl, slice_set, arith}
+use Rattle.std.proofs.Common.{◌≡◌, ◌++◌, ◌∙◌, ap, Some, length, take, drop, refl, slice_set, arith}
 use Rattle.std.proofs.lemmas.List.{length-set}
 use Rattle.record.specs.declared.access.Access.{Access}
 use Rattle.record.specs.declared.events.Event.TheVariants.{Step}
@@ -8,14 +8,16 @@ use Rattle.process.specs.declared.told.Effect.TheVariants.{Steps}
 use Rattle.process.specs.Places.{marks_on, stepped}
 use Rattle.world.specs.Changes.{told}
 use Rattle.world.specs.Cores.{CoreState}
-use Rattle.world.specs.Going.{registers_after, seat_after}
+use Rattle.world.specs.Going.{core_after, registers_after, seat_after}
 use Rattle.world.specs.Seats.{is_waiting, seat_stepped}
 use Rattle.world.proofs.CoreCode.{seated, step-may, told-after}
 use Rattle.world.proofs.CoreKeeps.{IsNext, core_in, next-at, next-goes, next-keeps}
 use Rattle.world.proofs.CoreOverlaps.{tells-overlapped}
 use Rattle.world.proofs.CoreWalks.{next-others}
+use Rattle.world.proofs.WorldOpen.{IsSeated}
 use Rattle.world.proofs.WorldTelling.{told-back}
 use Rattle.world.proofs.cores.Core.make_step.Goals as goal
+use Rattle.world.proofs.cores.Core.make_step.Goals.{After-index_mut-seat, After-tell}
 
 pub index_mut-seat-requires : goal.index_mut-seat-requires
 index_mut-seat-requires c =
@@ -24,73 +26,60 @@ index_mut-seat-requires c =
     let inside = core_in core c.args.self.now (Step c.args.process c.args.flick) c.self.invariant c.self.view_is c.requires in
     omega (arith, inside, c.from.ensures, i.seats.ok.0)
 
+abbrev core : After-index_mut-seat → CoreState
+core c = let i = c.self.inside in record { setup = i.setup; registers = i.registers; seats = i.seats.items }
+
+next : (c : After-index_mut-seat) → IsNext (core c) (Step c.args.process c.args.flick) c.index_mut-seat.result.now
+next c = next-at (core c) c.args.self.now (Step c.args.process c.args.flick) c.from.result c.index_mut-seat.result.now c.self.invariant c.self.view_is c.requires refl c.from.ensures c.index_mut-seat.ensures.value
+
+own : (c : After-index_mut-seat) → IsSeated (core c) c.args.process c.index_mut-seat.result.now
+own c = seated (core c) c.args.process c.index_mut-seat.result.now c.self.invariant (next c).there
+
 pub step-made-requires : goal.step-made-requires
 step-made-requires c =
-    let i = c.self.inside in
-    let core : CoreState = record { setup = i.setup; registers = i.registers; seats = i.seats.items } in
-    let seat = c.index_mut-seat.result.now in
-    let n : IsNext core (Step c.args.process c.args.flick) c.index_mut-seat.result.now = next-at core c.args.self.now (Step c.args.process c.args.flick) c.from.result c.index_mut-seat.result.now c.self.invariant c.self.view_is c.requires refl c.from.ensures c.index_mut-seat.ensures.value in
-    record { goes = step-may core c.args.process c.args.flick seat c.self.invariant n; registers = (seated core c.args.process seat c.self.invariant n.there).registers }
+    let a = (goal.at.step-made-requires c).After-index_mut-seat in
+    record { goes = step-may (core a) a.args.process a.args.flick a.index_mut-seat.result.now a.self.invariant (next a); registers = (own a).registers }
 
 pub tell-requires : goal.tell-requires
-tell-requires c =
+tell-requires c = (own (goal.at.tell-requires c).After-index_mut-seat).few
+
+-- what is left
+left : (c : After-tell) → (let i = c.self.inside in let long = i.seats.len in let then = slice_set i.seats.items c.from.result c.step-made.new.self in
+    let new : CoreState = record { setup = i.setup; registers = c.step-made.new.registers; seats = take long (c.tell.new.seats ++ drop (length c.tell.new.seats) then) } in
+    new ≡ core_after (record { setup = i.setup; registers = i.registers; seats = i.seats.items }) c.index_mut-seat.result.now (Step c.args.process c.args.flick))
+left c =
     let i = c.self.inside in
     let core : CoreState = record { setup = i.setup; registers = i.registers; seats = i.seats.items } in
     let seat = c.index_mut-seat.result.now in
-    let n : IsNext core (Step c.args.process c.args.flick) c.index_mut-seat.result.now = next-at core c.args.self.now (Step c.args.process c.args.flick) c.from.result c.index_mut-seat.result.now c.self.invariant c.self.view_is c.requires refl c.from.ensures c.index_mut-seat.ensures.value in
-    (seated core c.args.process seat c.self.invariant n.there).few
+    let then = c.step-made.new.self in
+    let seats = slice_set i.seats.items c.from.result then in
+    let same = told-back (told c.args.process c.is_waiting-waited.result c.is_waiting-waits.result) i.seats.len c.tell.new.seats c.deref_mut.result.now seats (drop (length c.tell.new.seats) seats) c.tell.ensures c.deref_mut.ensures.value (let long = length-set i.seats.items c.from.result then in omega (arith, long, i.seats.ok.0)) in
+    let a = c.step-made.ensures.access in
+    let stepped_is : then ≡ seat_after core seat (Step c.args.process c.args.flick) = c.step-made.ensures.seat ∙ ap (λ (a : Access). seat_stepped (stepped seat.process c.args.flick (value_of a.how)) seat) a in
+    let registers_are : c.step-made.new.registers ≡ registers_after core seat (Step c.args.process c.args.flick) = c.step-made.ensures.registers ∙ ap (applied seat.process.setup.processes i.registers) a in
+    told-after core (Step c.args.process c.args.flick) seat then c.step-made.new.registers _ c.is_waiting-waited.result c.is_waiting-waits.result c.from.result c.args.process c.from.ensures refl stepped_is registers_are c.is_waiting-waited.ensures (c.is_waiting-waits.ensures ∙ ap is_waiting stepped_is) same
 
 pub invariant_of-self : goal.invariant_of-self
 invariant_of-self c =
-    let i = c.self.inside in
-    let core : CoreState = record { setup = i.setup; registers = i.registers; seats = i.seats.items } in
-    let seat = c.index_mut-seat.result.now in
-    let n : IsNext core (Step c.args.process c.args.flick) c.index_mut-seat.result.now = next-at core c.args.self.now (Step c.args.process c.args.flick) c.from.result c.index_mut-seat.result.now c.self.invariant c.self.view_is c.requires refl c.from.ensures c.index_mut-seat.ensures.value in
-    let then = c.step-made.new.self in
-    let long = length-set i.seats.items c.from.result then in
-    let same = told-back (told c.args.process c.is_waiting-waited.result c.is_waiting-waits.result) i.seats.len c.tell.new.seats c.deref_mut.result.now (slice_set i.seats.items c.from.result then) (drop (length c.tell.new.seats) (slice_set i.seats.items c.from.result then)) c.tell.ensures c.deref_mut.ensures.value (omega (arith, long, i.seats.ok.0)) in
-    let a = c.step-made.ensures.access in
-    let stepped_is : then ≡ seat_after core seat (Step c.args.process c.args.flick) = c.step-made.ensures.seat ∙ ap (λ (a : Access). seat_stepped (stepped seat.process c.args.flick (value_of a.how)) seat) a in
-    let registers_are : c.step-made.new.registers ≡ registers_after core seat (Step c.args.process c.args.flick) = c.step-made.ensures.registers ∙ ap (applied seat.process.setup.processes i.registers) a in
-    let is = told-after core (Step c.args.process c.args.flick) seat then c.step-made.new.registers _ c.is_waiting-waited.result c.is_waiting-waits.result c.from.result c.args.process c.from.ensures refl stepped_is registers_are c.is_waiting-waited.ensures (c.is_waiting-waits.ensures ∙ ap is_waiting stepped_is) same in
-    next-keeps core _ (Step c.args.process c.args.flick) seat c.self.invariant n is
+    let b = (goal.at.invariant_of-self c).After-index_mut-seat in
+    next-keeps (core b) _ (Step b.args.process b.args.flick) b.index_mut-seat.result.now b.self.invariant (next b) (left (goal.at.invariant_of-self c).After-tell)
 
 pub returns-clause-goes : goal.returns-clause-goes
 returns-clause-goes c =
-    let i = c.self.inside in
-    let core : CoreState = record { setup = i.setup; registers = i.registers; seats = i.seats.items } in
+    let b = (goal.at.returns-clause-goes c).After-index_mut-seat in
     let seat = c.index_mut-seat.result.now in
-    let n : IsNext core (Step c.args.process c.args.flick) c.index_mut-seat.result.now = next-at core c.args.self.now (Step c.args.process c.args.flick) c.from.result c.index_mut-seat.result.now c.self.invariant c.self.view_is c.requires refl c.from.ensures c.index_mut-seat.ensures.value in
-    let then = c.step-made.new.self in
-    let long = length-set i.seats.items c.from.result then in
-    let same = told-back (told c.args.process c.is_waiting-waited.result c.is_waiting-waits.result) i.seats.len c.tell.new.seats c.deref_mut.result.now (slice_set i.seats.items c.from.result then) (drop (length c.tell.new.seats) (slice_set i.seats.items c.from.result then)) c.tell.ensures c.deref_mut.ensures.value (omega (arith, long, i.seats.ok.0)) in
     let a = c.step-made.ensures.access in
-    let stepped_is : then ≡ seat_after core seat (Step c.args.process c.args.flick) = c.step-made.ensures.seat ∙ ap (λ (a : Access). seat_stepped (stepped seat.process c.args.flick (value_of a.how)) seat) a in
-    let registers_are : c.step-made.new.registers ≡ registers_after core seat (Step c.args.process c.args.flick) = c.step-made.ensures.registers ∙ ap (applied seat.process.setup.processes i.registers) a in
-    let is = told-after core (Step c.args.process c.args.flick) seat then c.step-made.new.registers _ c.is_waiting-waited.result c.is_waiting-waits.result c.from.result c.args.process c.from.ensures refl stepped_is registers_are c.is_waiting-waited.ensures (c.is_waiting-waits.ensures ∙ ap is_waiting stepped_is) same in
-    next-goes core c.args.self.now _ (Step c.args.process c.args.flick) (Steps c.step-made.new.leads) (Some c.step-made.result.access) seat c.self.view_is n (ap Some a)
-    (c.step-made.ensures.marks ∙ ap (λ (a : Access). marks_on seat.process c.args.flick (value_of a.how)) a) is
+    next-goes (core b) c.args.self.now _ (Step c.args.process c.args.flick) (Steps c.step-made.new.leads) (Some c.step-made.result.access) seat c.self.view_is (next b) (ap Some a)
+    (c.step-made.ensures.marks ∙ ap (λ (a : Access). marks_on seat.process c.args.flick (value_of a.how)) a) (left (goal.at.returns-clause-goes c).After-tell)
 
 pub returns-clause-overlapped : goal.returns-clause-overlapped
 returns-clause-overlapped c =
-    let i = c.self.inside in
-    let core : CoreState = record { setup = i.setup; registers = i.registers; seats = i.seats.items } in
-    let seat = c.index_mut-seat.result.now in
-    let n : IsNext core (Step c.args.process c.args.flick) c.index_mut-seat.result.now = next-at core c.args.self.now (Step c.args.process c.args.flick) c.from.result c.index_mut-seat.result.now c.self.invariant c.self.view_is c.requires refl c.from.ensures c.index_mut-seat.ensures.value in
+    let b = (goal.at.returns-clause-overlapped c).After-index_mut-seat in
     let made = c.step-made.result in
-    tells-overlapped core c.args.self.now c.args.process c.args.flick made.access (Steps c.step-made.new.leads) made.overlapped seat.process.setup c.self.view_is (seated core c.args.process seat c.self.invariant n.there).setup c.step-made.ensures.overlapped
+    tells-overlapped (core b) c.args.self.now c.args.process c.args.flick made.access (Steps c.step-made.new.leads) made.overlapped c.index_mut-seat.result.now.process.setup c.self.view_is (own b).setup c.step-made.ensures.overlapped
     (returns-clause-goes c).adds
 
 pub returns-clause-others : goal.returns-clause-others
 returns-clause-others c =
-    let i = c.self.inside in
-    let core : CoreState = record { setup = i.setup; registers = i.registers; seats = i.seats.items } in
-    let seat = c.index_mut-seat.result.now in
-    let then = c.step-made.new.self in
-    let long = length-set i.seats.items c.from.result then in
-    let same = told-back (told c.args.process c.is_waiting-waited.result c.is_waiting-waits.result) i.seats.len c.tell.new.seats c.deref_mut.result.now (slice_set i.seats.items c.from.result then) (drop (length c.tell.new.seats) (slice_set i.seats.items c.from.result then)) c.tell.ensures c.deref_mut.ensures.value (omega (arith, long, i.seats.ok.0)) in
-    let a = c.step-made.ensures.access in
-    let stepped_is : then ≡ seat_after core seat (Step c.args.process c.args.flick) = c.step-made.ensures.seat ∙ ap (λ (a : Access). seat_stepped (stepped seat.process c.args.flick (value_of a.how)) seat) a in
-    let registers_are : c.step-made.new.registers ≡ registers_after core seat (Step c.args.process c.args.flick) = c.step-made.ensures.registers ∙ ap (applied seat.process.setup.processes i.registers) a in
-    let is = told-after core (Step c.args.process c.args.flick) seat then c.step-made.new.registers _ c.is_waiting-waited.result c.is_waiting-waits.result c.from.result c.args.process c.from.ensures refl stepped_is registers_are c.is_waiting-waited.ensures (c.is_waiting-waits.ensures ∙ ap is_waiting stepped_is) same in
-    next-others core c.args.self.now _ c.args.process c.args.flick seat c.self.view_is is
+    let b = (goal.at.returns-clause-others c).After-index_mut-seat in
+    next-others (core b) c.args.self.now _ c.args.process c.args.flick c.index_mut-seat.result.now c.self.view_is (left (goal.at.returns-clause-others c).After-tell)
