@@ -126,17 +126,9 @@ overtakes_nobody s past e all kept enters j apart = elim (cases_lt j s.processes
 
 still_inside : (ms : List Mark) (b : Bool) → list_any is_entered ms ≡ false → fold inside_after b ms ≡ true → b ≡ true
 still_inside [] b none h = h
-still_inside (mark.Called c ∷ ms) b none h = still_inside ms b none h
-still_inside (mark.Waiting t ∷ ms) b none h = still_inside ms b none h
 still_inside (mark.Entered ∷ ms) b none h = absurd (true≢false none)
-still_inside (mark.Taken n r ∷ ms) b none h = still_inside ms b none h
 still_inside (mark.Left ∷ ms) b none h = absurd (true≢false (sym (still_inside ms false none h)))
-still_inside (mark.Answered a ∷ ms) b none h = still_inside ms b none h
-still_inside (mark.Failed ∷ ms) b none h = still_inside ms b none h
-still_inside (mark.Settled v ∷ ms) b none h = still_inside ms b none h
-still_inside (mark.Down ∷ ms) b none h = still_inside ms b none h
-still_inside (mark.Withdrew ∷ ms) b none h = still_inside ms b none h
-still_inside (mark.Restarted ∷ ms) b none h = still_inside ms b none h
+still_inside (_ ∷ ms) b none h = still_inside ms b none h
 
 -- one that enters, or stays inside, beside another
 beside : (s : Setup) (past : Past) (e : Entry) → AllKeep s past → Keeps s past e → IsAlone past → (j : ℕ) → j ≢ e.process → inside e.process (e ∷ past) ≡ true → inside j past ≡ true → e.process ≡ j

@@ -97,13 +97,9 @@ answers_not stage.Leaving h = (refl, refl)
 answers_not _ h = absurd (true≢false h)
 
 calls_idle : (x : Stage) → is_running x ≡ false → (is_settling x || is_down x) ≡ false → holds x ≡ false
-calls_idle stage.Idle a b = refl
-calls_idle stage.Doorway a b = refl
-calls_idle stage.Waiting a b = refl
 calls_idle stage.Inside a b = absurd (true≢false a)
-calls_idle stage.Leaving a b = refl
 calls_idle stage.Settling a b = absurd (true≢false b)
-calls_idle stage.Down a b = refl
+calls_idle _ a b = refl
 
 clash : (b : Bool) → b ≡ true → b ≡ false → ⊥
 clash b t f = true≢false (sym t ∙ f)
@@ -163,16 +159,10 @@ is_cut p past = list_any (has is_failed) (its_call p past)
 same_cut : (cut : Bool) (ms : List Mark) → list_any stands_alone ms ≡ false → fold cut_after cut ms ≡ cut
 same_cut cut [] plain = refl
 same_cut cut (mark.Called c ∷ ms) plain = absurd (true≢false plain)
-same_cut cut (mark.Waiting t ∷ ms) plain = same_cut cut ms plain
-same_cut cut (mark.Entered ∷ ms) plain = same_cut cut ms plain
-same_cut cut (mark.Taken n r ∷ ms) plain = same_cut cut ms plain
-same_cut cut (mark.Left ∷ ms) plain = same_cut cut ms plain
-same_cut cut (mark.Answered a ∷ ms) plain = same_cut cut ms plain
 same_cut cut (mark.Failed ∷ ms) plain = absurd (true≢false plain)
-same_cut cut (mark.Settled v ∷ ms) plain = same_cut cut ms plain
-same_cut cut (mark.Down ∷ ms) plain = same_cut cut ms plain
 same_cut cut (mark.Withdrew ∷ ms) plain = absurd (true≢false plain)
 same_cut cut (mark.Restarted ∷ ms) plain = absurd (true≢false plain)
+same_cut cut (_ ∷ ms) plain = same_cut cut ms plain
 
 cut_plain : (p : ℕ) (o : Option Access) (ms : List Mark) (past : Past) → list_any stands_alone ms ≡ false → is_cut p (with_marks p o ms ∷ past) ≡ is_cut p past
 cut_plain p o ms past plain = ap (list_any (has is_failed)) (since-mine p o ms past plain) ∙ ap (λ b. b || is_cut p past) (none_of is_failed no_failure ms plain)
@@ -185,13 +175,7 @@ cut_alone p (mark.Called c) past h = ap (λ l. list_any (has is_failed) (since i
 cut_alone p mark.Failed past h = ap (λ l. list_any (has is_failed) (since is_called l)) (own-mine p (with_marks p None (mark.Failed ∷ [])) past refl)
 cut_alone p mark.Withdrew past h = ap (λ l. list_any (has is_failed) (since is_called l)) (own-mine p (with_marks p None (mark.Withdrew ∷ [])) past refl)
 cut_alone p mark.Restarted past h = ap (λ l. list_any (has is_failed) (since is_called l)) (own-mine p (with_marks p None (mark.Restarted ∷ [])) past refl)
-cut_alone p (mark.Waiting t) past h = absurd (true≢false (sym h))
-cut_alone p mark.Entered past h = absurd (true≢false (sym h))
-cut_alone p (mark.Taken n r) past h = absurd (true≢false (sym h))
-cut_alone p mark.Left past h = absurd (true≢false (sym h))
-cut_alone p (mark.Answered a) past h = absurd (true≢false (sym h))
-cut_alone p (mark.Settled v) past h = absurd (true≢false (sym h))
-cut_alone p mark.Down past h = absurd (true≢false (sym h))
+cut_alone p _ past h = absurd (true≢false (sym h))
 
 cut_on : (p : ℕ) (past : Past) (o : Option Access) (ms : List Mark) → Orderly o p ms → CutGoesOn p past o ms
 cut_on p past o ms fine = go (list_any stands_alone ms) refl

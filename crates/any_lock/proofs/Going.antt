@@ -41,45 +41,18 @@ slice_get-replicate n i x within = slice_get-get_or (replicate n x) i x (subst (
 
 pub taken_reply : (ms : List Mark) → list_any is_taken ms ≡ is_some (reply_taken ms)
 taken_reply [] = refl
-taken_reply (mark.Called c ∷ ms) = taken_reply ms
-taken_reply (mark.Waiting t ∷ ms) = taken_reply ms
-taken_reply (mark.Entered ∷ ms) = taken_reply ms
 taken_reply (mark.Taken n r ∷ ms) = refl
-taken_reply (mark.Left ∷ ms) = taken_reply ms
-taken_reply (mark.Answered a ∷ ms) = taken_reply ms
-taken_reply (mark.Failed ∷ ms) = taken_reply ms
-taken_reply (mark.Settled v ∷ ms) = taken_reply ms
-taken_reply (mark.Down ∷ ms) = taken_reply ms
-taken_reply (mark.Withdrew ∷ ms) = taken_reply ms
-taken_reply (mark.Restarted ∷ ms) = taken_reply ms
+taken_reply (_ ∷ ms) = taken_reply ms
 
 pub taken_rightly : (n : ℕ) (r : Reply) (ms : List Mark) → list_all (is_taken_as n r) ms ≡ list_all (is_that n r) (takings ms)
 taken_rightly n r [] = refl
-taken_rightly n r (mark.Called c ∷ ms) = taken_rightly n r ms
-taken_rightly n r (mark.Waiting t ∷ ms) = taken_rightly n r ms
-taken_rightly n r (mark.Entered ∷ ms) = taken_rightly n r ms
 taken_rightly n r (mark.Taken k q ∷ ms) = ap (λ b. is_taken_as n r (mark.Taken k q) && b) (taken_rightly n r ms)
-taken_rightly n r (mark.Left ∷ ms) = taken_rightly n r ms
-taken_rightly n r (mark.Answered a ∷ ms) = taken_rightly n r ms
-taken_rightly n r (mark.Failed ∷ ms) = taken_rightly n r ms
-taken_rightly n r (mark.Settled v ∷ ms) = taken_rightly n r ms
-taken_rightly n r (mark.Down ∷ ms) = taken_rightly n r ms
-taken_rightly n r (mark.Withdrew ∷ ms) = taken_rightly n r ms
-taken_rightly n r (mark.Restarted ∷ ms) = taken_rightly n r ms
+taken_rightly n r (_ ∷ ms) = taken_rightly n r ms
 
 pub none_taken : (n : ℕ) (r : Reply) (ms : List Mark) → list_any is_taken ms ≡ false → list_all (is_that n r) (takings ms) ≡ true
 none_taken n r [] h = refl
-none_taken n r (mark.Called c ∷ ms) h = none_taken n r ms h
-none_taken n r (mark.Waiting t ∷ ms) h = none_taken n r ms h
-none_taken n r (mark.Entered ∷ ms) h = none_taken n r ms h
 none_taken n r (mark.Taken k q ∷ ms) h = absurd (true≢false h)
-none_taken n r (mark.Left ∷ ms) h = none_taken n r ms h
-none_taken n r (mark.Answered a ∷ ms) h = none_taken n r ms h
-none_taken n r (mark.Failed ∷ ms) h = none_taken n r ms h
-none_taken n r (mark.Settled v ∷ ms) h = none_taken n r ms h
-none_taken n r (mark.Down ∷ ms) h = none_taken n r ms h
-none_taken n r (mark.Withdrew ∷ ms) h = none_taken n r ms h
-none_taken n r (mark.Restarted ∷ ms) h = none_taken n r ms h
+none_taken n r (_ ∷ ms) h = none_taken n r ms h
 
 -- The history with an entry.
 

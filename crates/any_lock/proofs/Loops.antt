@@ -1,12 +1,12 @@
--- What is left of a list in a loop, and what is refused of marks.
-use Rattle.std.proofs.Common.{◌≡◌, ℕ, suc, ◌+◌, ◌<◌, ◌≤◌, List, [], ◌∷◌, Option, None, Some, length, get_or, drop, sym, ap, ◌∙◌, add-one, drop-cons}
+-- What is left of a list in a loop, and what is refused of marks and accesses.
+use Rattle.std.proofs.Common.{◌≡◌, ℕ, suc, ◌+◌, ◌<◌, ◌≤◌, Bool, true, false, List, [], ◌∷◌, ◌++◌, Option, None, Some, length, get_or, drop, refl, sym, ap, ◌∙◌, add-one, drop-cons}
 use Rattle.std.proofs.lemmas.List.{drop_all}
 use Rattle.plain_store.specs.declared.Setup.{Setup}
 use Rattle.record.specs.declared.marks.Mark.{Mark}
 use Rattle.any_lock.specs.declared.refusals.MarkRefusal.{MarkRefusal}
 use Rattle.any_lock.specs.declared.standings.Standing.{Standing}
 use Rattle.any_lock.specs.Keeping.{marked, refusal_on}
-use Rattle.any_lock.specs.Refusals.{mark_refusal}
+use Rattle.any_lock.specs.Refusals.{first_that, mark_refusal}
 
 -- one less is left
 pub dropped_more : {A : Type 0} (xs : List A) (i : ℕ) (x : A) → i < length xs → x ≡ get_or xs i x → drop i xs ≡ x ∷ drop (i + 1) xs
@@ -22,3 +22,9 @@ refused_here s entry k m marks r h = ap (λ o. elim o as (λ _. Option MarkRefus
 
 pub refused_later : (s : Setup) (entry : ℕ) (k : Standing) (m : Mark) (marks : List Mark) → mark_refusal k m ≡ None → refusal_on s entry k (m ∷ marks) ≡ refusal_on s entry (marked s entry k m) marks
 refused_later s entry k m marks h = ap (λ o. elim o as (λ _. Option MarkRefusal) [ Some q ↦ Some q | None ↦ refusal_on s entry (marked s entry k m) marks ]) h
+
+-- the first of two tables that refuses
+pub first_of_two : {R : Type 0} (rows more : List (Bool × R)) → first_that (rows ++ more) ≡ elim (first_that rows) as (λ _. Option R) [ Some r ↦ Some r | None ↦ first_that more ]
+first_of_two [] more = refl
+first_of_two ((true, r) ∷ rows) more = refl
+first_of_two ((false, r) ∷ rows) more = first_of_two rows more

@@ -19,7 +19,7 @@ use Rattle.any_lock.specs.Keeping.{marked}
 use Rattle.any_lock.specs.declared.refusals.MarkRefusal.TheVariants as refusal
 use Rattle.any_lock.specs.Refusals.{first_that, mark_refusal, stands_alone}
 use Rattle.any_lock.specs.Standings.{begun_by, has_access, is_withdrawal, left_open, opened, reply_in, standing}
-use Rattle.any_lock.proofs.Steps.{if_there, inside-mine, number-called, number-mine, opened-mine, own-mine, stage-mine, standing_by, torn-mine}
+use Rattle.any_lock.proofs.Steps.{first_none, if_there, inside-mine, number-called, number-mine, opened-mine, own-mine, stage-mine, standing_by, torn-mine}
 
 -- Marks that need not stand alone.
 
@@ -55,16 +55,7 @@ no_withdrawal _ h = refl
 not_called : (ms : List Mark) → list_any is_called ms ≡ false → called_in ms ≡ None
 not_called [] h = refl
 not_called (mark.Called c ∷ ms) h = absurd (true≢false h)
-not_called (mark.Waiting t ∷ ms) h = not_called ms h
-not_called (mark.Entered ∷ ms) h = not_called ms h
-not_called (mark.Taken n r ∷ ms) h = not_called ms h
-not_called (mark.Left ∷ ms) h = not_called ms h
-not_called (mark.Answered a ∷ ms) h = not_called ms h
-not_called (mark.Failed ∷ ms) h = not_called ms h
-not_called (mark.Settled v ∷ ms) h = not_called ms h
-not_called (mark.Down ∷ ms) h = not_called ms h
-not_called (mark.Withdrew ∷ ms) h = not_called ms h
-not_called (mark.Restarted ∷ ms) h = not_called ms h
+not_called (_ ∷ ms) h = not_called ms h
 
 -- the first of two replies that is there
 abbrev pub reply_or : Option Reply → Option Reply → Option Reply
@@ -72,17 +63,8 @@ reply_or o more = elim o as (λ _. Option Reply) [ Some r ↦ Some r | None ↦ 
 
 reply-append : (ms ns : List Mark) → reply_taken (ms ++ ns) ≡ reply_or (reply_taken ms) (reply_taken ns)
 reply-append [] ns = refl
-reply-append (mark.Called c ∷ ms) ns = reply-append ms ns
-reply-append (mark.Waiting t ∷ ms) ns = reply-append ms ns
-reply-append (mark.Entered ∷ ms) ns = reply-append ms ns
 reply-append (mark.Taken n r ∷ ms) ns = refl
-reply-append (mark.Left ∷ ms) ns = reply-append ms ns
-reply-append (mark.Answered a ∷ ms) ns = reply-append ms ns
-reply-append (mark.Failed ∷ ms) ns = reply-append ms ns
-reply-append (mark.Settled v ∷ ms) ns = reply-append ms ns
-reply-append (mark.Down ∷ ms) ns = reply-append ms ns
-reply-append (mark.Withdrew ∷ ms) ns = reply-append ms ns
-reply-append (mark.Restarted ∷ ms) ns = reply-append ms ns
+reply-append (_ ∷ ms) ns = reply-append ms ns
 
 -- An entry with plain marks.
 
@@ -191,10 +173,6 @@ moved n k m = record k {
   enters = first_of k.enters (if_there (is_entered m) n);
 }
 
-first_nil : (o : Option ℕ) → first_of o None ≡ o
-first_nil None = refl
-first_nil (Some k) = refl
-
 module _ (s : Setup) (p : ℕ) (o : Option Access) (ms : List Mark) (m : Mark) (past : Past) (plain : ArePlain ms) (is : stands_alone m ≡ false) where
   moved_to : reply_in (since is_called (own p (with_marks p o (ms ++ m ∷ []) ∷ past))) ≡ reply_by (reply_in (since is_called (own p (with_marks p o ms ∷ past)))) m →
       standing s p (with_marks p o (ms ++ m ∷ []) ∷ past) ≡ moved (length past) (standing s p (with_marks p o ms ∷ past)) m
@@ -235,23 +213,20 @@ standing-marked s p o ms m past plain is allowed = by m is allowed
 
     -- the two entries of a mark that begins neither
     same : (n : Standing) → n ≡ record n { waits = first_of n.waits None; enters = first_of n.enters None }
-    same n = standing_by n (record n { waits = first_of n.waits None; enters = first_of n.enters None }) refl refl refl refl refl refl refl refl refl (sym (first_nil n.waits)) (sym (first_nil n.enters))
+    same n = standing_by n (record n { waits = first_of n.waits None; enters = first_of n.enters None }) refl refl refl refl refl refl refl refl refl (sym (first_none n.waits)) (sym (first_none n.enters))
 
     by : (m : Mark) → stands_alone m ≡ false → mark_refusal k m ≡ None → standing s p (with_marks p o (ms ++ m ∷ []) ∷ past) ≡ marked s (length past) k m
-    by (mark.Called c) is h = absurd (true≢false is)
     by (mark.Waiting t) is h = moved_to s p o ms (mark.Waiting t) past plain is (reply-same p o ms (mark.Waiting t) past plain is refl)
-        ∙ ap (λ x. record (marked s (length past) k (mark.Waiting t)) { enters = x }) (first_nil k.enters)
+        ∙ ap (λ x. record (marked s (length past) k (mark.Waiting t)) { enters = x }) (first_none k.enters)
     by mark.Entered is h = moved_to s p o ms mark.Entered past plain is (reply-same p o ms mark.Entered past plain is refl)
-        ∙ ap (λ x. record (marked s (length past) k mark.Entered) { waits = x }) (first_nil k.waits)
+        ∙ ap (λ x. record (marked s (length past) k mark.Entered) { waits = x }) (first_none k.waits)
     by (mark.Taken n r) is h = moved_to s p o ms (mark.Taken n r) past plain is (reply-taken p o ms n r past plain (untaken k n r h))
         ∙ sym (same (marked s (length past) k (mark.Taken n r)))
     by mark.Left is h = moved_to s p o ms mark.Left past plain is (reply-same p o ms mark.Left past plain is refl) ∙ sym (same (marked s (length past) k mark.Left))
     by (mark.Answered a) is h = moved_to s p o ms (mark.Answered a) past plain is (reply-same p o ms (mark.Answered a) past plain is refl) ∙ sym (same (marked s (length past) k (mark.Answered a)))
-    by mark.Failed is h = absurd (true≢false is)
     by (mark.Settled v) is h = moved_to s p o ms (mark.Settled v) past plain is (reply-same p o ms (mark.Settled v) past plain is refl) ∙ sym (same (marked s (length past) k (mark.Settled v)))
     by mark.Down is h = moved_to s p o ms mark.Down past plain is (reply-same p o ms mark.Down past plain is refl) ∙ sym (same (marked s (length past) k mark.Down))
-    by mark.Withdrew is h = absurd (true≢false is)
-    by mark.Restarted is h = absurd (true≢false is)
+    by _ is h = absurd (true≢false is)
 
 -- One mark that stands alone.
 
@@ -279,45 +254,6 @@ standing-alone s p m past is = by m is
         (number-called p has_access (with_marks p None (mark.Called c ∷ [])) past refl refl)
         (number-called p (has is_waiting) (with_marks p None (mark.Called c ∷ [])) past refl refl)
         (number-called p (has is_entered) (with_marks p None (mark.Called c ∷ [])) past refl refl)
-    by mark.Failed h = let mine = own-mine p (with_marks p None (mark.Failed ∷ [])) past refl in
-        standing_by (standing s p (with_marks p None (mark.Failed ∷ []) ∷ past)) (marked s (length past) k mark.Failed)
-        (stage-mine p (with_marks p None (mark.Failed ∷ [])) past refl)
-        (inside-mine p (with_marks p None (mark.Failed ∷ [])) past refl)
-        (ap (λ l. list_any (has is_withdrawal) (since is_called l)) mine)
-        (ap (call_number s) mine)
-        (ap last_command mine)
-        (ap (λ l. reply_in (since is_called l)) mine)
-        (opened-mine p (with_marks p None (mark.Failed ∷ [])) past refl)
-        (torn-mine p (with_marks p None (mark.Failed ∷ [])) past refl true refl)
-        (number-mine p has_access (with_marks p None (mark.Failed ∷ [])) past refl refl false refl ∙ first_nil k.doorway)
-        (number-mine p (has is_waiting) (with_marks p None (mark.Failed ∷ [])) past refl refl false refl ∙ first_nil k.waits)
-        (number-mine p (has is_entered) (with_marks p None (mark.Failed ∷ [])) past refl refl false refl ∙ first_nil k.enters)
-    by mark.Withdrew h = let mine = own-mine p (with_marks p None (mark.Withdrew ∷ [])) past refl in
-        standing_by (standing s p (with_marks p None (mark.Withdrew ∷ []) ∷ past)) (marked s (length past) k mark.Withdrew)
-        (stage-mine p (with_marks p None (mark.Withdrew ∷ [])) past refl)
-        (inside-mine p (with_marks p None (mark.Withdrew ∷ [])) past refl)
-        (ap (λ l. list_any (has is_withdrawal) (since is_called l)) mine)
-        (ap (call_number s) mine)
-        (ap last_command mine)
-        (ap (λ l. reply_in (since is_called l)) mine)
-        (opened-mine p (with_marks p None (mark.Withdrew ∷ [])) past refl)
-        (torn-mine p (with_marks p None (mark.Withdrew ∷ [])) past refl false refl)
-        (number-mine p has_access (with_marks p None (mark.Withdrew ∷ [])) past refl refl false refl ∙ first_nil k.doorway)
-        (number-mine p (has is_waiting) (with_marks p None (mark.Withdrew ∷ [])) past refl refl false refl ∙ first_nil k.waits)
-        (number-mine p (has is_entered) (with_marks p None (mark.Withdrew ∷ [])) past refl refl false refl ∙ first_nil k.enters)
-    by mark.Restarted h = let mine = own-mine p (with_marks p None (mark.Restarted ∷ [])) past refl in
-        standing_by (standing s p (with_marks p None (mark.Restarted ∷ []) ∷ past)) (marked s (length past) k mark.Restarted)
-        (stage-mine p (with_marks p None (mark.Restarted ∷ [])) past refl)
-        (inside-mine p (with_marks p None (mark.Restarted ∷ [])) past refl)
-        (ap (λ l. list_any (has is_withdrawal) (since is_called l)) mine)
-        (ap (call_number s) mine)
-        (ap last_command mine)
-        (ap (λ l. reply_in (since is_called l)) mine)
-        (opened-mine p (with_marks p None (mark.Restarted ∷ [])) past refl)
-        (torn-mine p (with_marks p None (mark.Restarted ∷ [])) past refl false refl)
-        (number-mine p has_access (with_marks p None (mark.Restarted ∷ [])) past refl refl false refl ∙ first_nil k.doorway)
-        (number-mine p (has is_waiting) (with_marks p None (mark.Restarted ∷ [])) past refl refl false refl ∙ first_nil k.waits)
-        (number-mine p (has is_entered) (with_marks p None (mark.Restarted ∷ [])) past refl refl false refl ∙ first_nil k.enters)
     by (mark.Waiting t) h = absurd (true≢false (sym h))
     by mark.Entered h = absurd (true≢false (sym h))
     by (mark.Taken n r) h = absurd (true≢false (sym h))
@@ -325,3 +261,16 @@ standing-alone s p m past is = by m is
     by (mark.Answered a) h = absurd (true≢false (sym h))
     by (mark.Settled v) h = absurd (true≢false (sym h))
     by mark.Down h = absurd (true≢false (sym h))
+    by m h = let mine = own-mine p (with_marks p None (m ∷ [])) past refl in
+        standing_by (standing s p (with_marks p None (m ∷ []) ∷ past)) (marked s (length past) k m)
+        (stage-mine p (with_marks p None (m ∷ [])) past refl)
+        (inside-mine p (with_marks p None (m ∷ [])) past refl)
+        (ap (λ l. list_any (has is_withdrawal) (since is_called l)) mine)
+        (ap (call_number s) mine)
+        (ap last_command mine)
+        (ap (λ l. reply_in (since is_called l)) mine)
+        (opened-mine p (with_marks p None (m ∷ [])) past refl)
+        (torn-mine p (with_marks p None (m ∷ [])) past refl (is_failed m) refl)
+        (number-mine p has_access (with_marks p None (m ∷ [])) past refl refl false refl ∙ first_none k.doorway)
+        (number-mine p (has is_waiting) (with_marks p None (m ∷ [])) past refl refl false refl ∙ first_none k.waits)
+        (number-mine p (has is_entered) (with_marks p None (m ∷ [])) past refl refl false refl ∙ first_none k.enters)

@@ -85,10 +85,7 @@ with_other_value s past e c breaks may = by e.access refl breaks may
         elim (elim m as (λ _. Option Bool) [ EndRead v ↦ Some v | BeginWrite v ↦ None | EndWrite ↦ None | BeginRead ↦ None | Settle v ↦ None ]) as (λ _. Option Remedy) [ None ↦ None | Some v ↦ cond (is_none (broken_later s past (with_value (not v) e))) (Some (Value (not v))) None ] ≡ Some c →
         first_broken s past (changed c e) ≡ None
     ending a (EndRead v) how is breaks may = told v (ap (λ (o : Option Access). safe_of (ends_with (not v) o)) is ∙ other_is_right (opening_bit s a) (moves_of a past) v breaks) (is_none (broken_later s past (with_value (not v) e))) refl may
-    ending a (BeginWrite v) how is breaks may = absurd (true≢false (sym breaks))
-    ending a EndWrite how is breaks may = absurd (true≢false (sym breaks))
-    ending a BeginRead how is breaks may = absurd (true≢false (sym breaks))
-    ending a (Settle v) how is breaks may = absurd (true≢false (sym breaks))
+    ending a _ how is breaks may = absurd (true≢false (sym breaks))
 
     by : (o : Option Access) → e.access ≡ o → safe_of o ≡ true →
         elim (value_in o) as (λ _. Option Remedy) [ None ↦ None | Some v ↦ cond (is_none (broken_later s past (with_value (not v) e))) (Some (Value (not v))) None ] ≡ Some c → first_broken s past (changed c e) ≡ None
@@ -100,26 +97,16 @@ with_other_value s past e c breaks may = by e.access refl breaks may
 -- a reply is the same as itself
 pub same_as_itself : (r : Reply) → same_reply r r ≡ true
 same_as_itself (reply.Value x) = (same_value-Decides x x).1 refl
-same_as_itself reply.Done = refl
 same_as_itself (reply.Sum n) = (Decides-int_eq n n).1 refl
-same_as_itself reply.Swapped = refl
 same_as_itself (reply.Kept x) = (same_value-Decides x x).1 refl
-same_as_itself reply.NoName = refl
-same_as_itself reply.NotCounter = refl
-same_as_itself reply.Overflow = refl
-same_as_itself reply.StoreFull = refl
 same_as_itself (reply.Last n) = grind (arith, nat_tests)
+same_as_itself _ = refl
 
 -- an entry that breaks `History` first breaks no other law
 none_but_history : (a b c d f h : Bool) → (if a then Some law.Safe else if b then Some law.Access else if c then Some law.Marks else first_that ((d, law.Together) ∷ (f, law.Overtaken) ∷ (h, law.History) ∷ [])) ≡ Some law.History →
     (a ≡ false) × (b ≡ false) × (c ≡ false) × (d ≡ false) × (f ≡ false) × (h ≡ true)
-none_but_history true b c d f h is = absurd (cc)
-none_but_history false true c d f h is = absurd (cc)
-none_but_history false false true d f h is = absurd (cc)
-none_but_history false false false true f h is = absurd (cc)
-none_but_history false false false false true h is = absurd (cc)
 none_but_history false false false false false true is = (refl, refl, refl, refl, refl, refl)
-none_but_history false false false false false false is = absurd (cc)
+none_but_history _ _ _ _ _ _ is = absurd (cc)
 
 module _ (n : ℕ) (r : Reply) where
   abbrev put : Mark → Mark
@@ -130,57 +117,22 @@ module _ (n : ℕ) (r : Reply) where
   put_any test same (m ∷ ms) = ap (λ b. b || list_any test (map put ms)) (same m) ∙ ap (λ b. test m || b) (put_any test same ms)
 
   alone_same : (m : Mark) → stands_alone (put m) ≡ stands_alone m
-  alone_same (mark.Called c) = refl
-  alone_same (mark.Waiting t) = refl
-  alone_same mark.Entered = refl
-  alone_same (mark.Taken j q) = refl
-  alone_same mark.Left = refl
   alone_same (mark.Answered (answer.Reply q)) = refl
-  alone_same (mark.Answered (answer.TicketsFull j)) = refl
-  alone_same (mark.Answered answer.StampsFull) = refl
-  alone_same (mark.Answered answer.Withdrawn) = refl
-  alone_same mark.Failed = refl
-  alone_same (mark.Settled v) = refl
-  alone_same mark.Down = refl
-  alone_same mark.Withdrew = refl
-  alone_same mark.Restarted = refl
+  alone_same _ = refl
 
   entered_same : (m : Mark) → is_entered (put m) ≡ is_entered m
-  entered_same (mark.Called c) = refl
-  entered_same (mark.Waiting t) = refl
-  entered_same mark.Entered = refl
-  entered_same (mark.Taken j q) = refl
-  entered_same mark.Left = refl
   entered_same (mark.Answered (answer.Reply q)) = refl
-  entered_same (mark.Answered (answer.TicketsFull j)) = refl
-  entered_same (mark.Answered answer.StampsFull) = refl
-  entered_same (mark.Answered answer.Withdrawn) = refl
-  entered_same mark.Failed = refl
-  entered_same (mark.Settled v) = refl
-  entered_same mark.Down = refl
-  entered_same mark.Withdrew = refl
-  entered_same mark.Restarted = refl
+  entered_same _ = refl
 
   -- all that is taken is taken so
   put_taken : (ms : List Mark) → list_all (is_that n r) (takings (map put ms)) ≡ true
   put_taken [] = refl
-  put_taken (mark.Called c ∷ ms) = put_taken ms
-  put_taken (mark.Waiting t ∷ ms) = put_taken ms
-  put_taken (mark.Entered ∷ ms) = put_taken ms
   put_taken (mark.Taken j q ∷ ms) =
       let place : (n == n) ≡ true = grind (arith, nat_tests) in
       ap (λ b. (b && same_reply r r) && list_all (is_that n r) (takings (map put ms))) place
       ∙ ap (λ b. b && list_all (is_that n r) (takings (map put ms))) (same_as_itself r) ∙ put_taken ms
-  put_taken (mark.Left ∷ ms) = put_taken ms
   put_taken (mark.Answered (answer.Reply q) ∷ ms) = put_taken ms
-  put_taken (mark.Answered (answer.TicketsFull j) ∷ ms) = put_taken ms
-  put_taken (mark.Answered answer.StampsFull ∷ ms) = put_taken ms
-  put_taken (mark.Answered answer.Withdrawn ∷ ms) = put_taken ms
-  put_taken (mark.Failed ∷ ms) = put_taken ms
-  put_taken (mark.Settled v ∷ ms) = put_taken ms
-  put_taken (mark.Down ∷ ms) = put_taken ms
-  put_taken (mark.Withdrew ∷ ms) = put_taken ms
-  put_taken (mark.Restarted ∷ ms) = put_taken ms
+  put_taken (_ ∷ ms) = put_taken ms
 
   -- where its process stands, with this reply
   abbrev replied : Standing → Standing
@@ -212,19 +164,15 @@ module _ (n : ℕ) (r : Reply) where
 
   goes_on_so : (s : Setup) (j : ℕ) (k : Standing) (q0 : Reply) (m : Mark) → k.reply ≡ Some q0 → stands_alone m ≡ false → mark_refusal k m ≡ None → GoesOnSo s j k m
   goes_on_so s j k q0 (mark.Called c) some plain none = absurd (true≢false plain)
-  goes_on_so s j k q0 (mark.Waiting t) some plain none = (none, refl, refl)
-  goes_on_so s j k q0 mark.Entered some plain none = (none, refl, refl)
   goes_on_so s j k q0 (mark.Taken i q) some plain none = let both : Some q0 ≡ None = sym some ∙ untaken k i q none in absurd (cc)
-  goes_on_so s j k q0 mark.Left some plain none = (none, refl, refl)
   goes_on_so s j k q0 (mark.Answered (answer.Reply q)) some plain none = (answers_so k q q0 some none, refl, refl)
   goes_on_so s j k q0 (mark.Answered (answer.TicketsFull i)) some plain none = absurd (never k (answer.TicketsFull i) q0 some refl none)
   goes_on_so s j k q0 (mark.Answered answer.StampsFull) some plain none = absurd (never k answer.StampsFull q0 some refl none)
   goes_on_so s j k q0 (mark.Answered answer.Withdrawn) some plain none = absurd (never k answer.Withdrawn q0 some refl none)
   goes_on_so s j k q0 mark.Failed some plain none = absurd (true≢false plain)
-  goes_on_so s j k q0 (mark.Settled v) some plain none = (none, refl, refl)
-  goes_on_so s j k q0 mark.Down some plain none = (none, refl, refl)
   goes_on_so s j k q0 mark.Withdrew some plain none = absurd (true≢false plain)
   goes_on_so s j k q0 mark.Restarted some plain none = absurd (true≢false plain)
+  goes_on_so s j k q0 _ some plain none = (none, refl, refl)
 
   marks_after : (s : Setup) (j : ℕ) (ms : List Mark) (k : Standing) (q0 : Reply) → k.reply ≡ Some q0 → ArePlain ms → refusal_on s j k ms ≡ None → refusal_on s j (replied k) (map put ms) ≡ None
   marks_after s j [] k q0 some plain none = refl
@@ -256,10 +204,7 @@ module _ (n : ℕ) (r : Reply) where
       by on mark.Left apart first more takes = refused_later s j k mark.Left (map put ms) first ∙ on mark.Left first more takes
       by on (mark.Settled v) apart first more takes = refused_later s j k (mark.Settled v) (map put ms) first ∙ on (mark.Settled v) first more takes
       by on mark.Down apart first more takes = refused_later s j k mark.Down (map put ms) first ∙ on mark.Down first more takes
-      by on (mark.Called c) apart first more takes = absurd (true≢false apart)
-      by on mark.Failed apart first more takes = absurd (true≢false apart)
-      by on mark.Withdrew apart first more takes = absurd (true≢false apart)
-      by on mark.Restarted apart first more takes = absurd (true≢false apart)
+      by on _ apart first more takes = absurd (true≢false apart)
 
 -- a mark that stands alone takes nothing
 alone_takes_none : (m : Mark) → stands_alone m ≡ true → takings (m ∷ []) ≡ []
@@ -267,13 +212,7 @@ alone_takes_none (mark.Called c) is = refl
 alone_takes_none mark.Failed is = refl
 alone_takes_none mark.Withdrew is = refl
 alone_takes_none mark.Restarted is = refl
-alone_takes_none (mark.Waiting t) is = absurd (true≢false (sym is))
-alone_takes_none mark.Entered is = absurd (true≢false (sym is))
-alone_takes_none (mark.Taken i q) is = absurd (true≢false (sym is))
-alone_takes_none mark.Left is = absurd (true≢false (sym is))
-alone_takes_none (mark.Answered a) is = absurd (true≢false (sym is))
-alone_takes_none (mark.Settled v) is = absurd (true≢false (sym is))
-alone_takes_none mark.Down is = absurd (true≢false (sym is))
+alone_takes_none _ is = absurd (true≢false (sym is))
 
 with_right_taking : (s : Setup) (past : Past) (e : Entry) → AllKeep s past → first_broken s past e ≡ Some law.History → first_broken s past (changed (Taking (length (history s past)) (right_reply s past e.process)) e) ≡ None
 with_right_taking s past e all breaks =

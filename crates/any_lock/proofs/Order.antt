@@ -50,19 +50,13 @@ never_waits : (x : Stage) → rests x ≡ true → not (is_waiting_stage x) ≡ 
 never_waits stage.Idle is = refl
 never_waits stage.Settling is = refl
 never_waits stage.Down is = refl
-never_waits stage.Doorway is = absurd (true≢false (sym is))
-never_waits stage.Waiting is = absurd (true≢false (sym is))
-never_waits stage.Inside is = absurd (true≢false (sym is))
-never_waits stage.Leaving is = absurd (true≢false (sym is))
+never_waits _ is = absurd (true≢false (sym is))
 
 never_chooses : (x : Stage) → rests x ≡ true → not (is_in_doorway x) ≡ true
 never_chooses stage.Idle is = refl
 never_chooses stage.Settling is = refl
 never_chooses stage.Down is = refl
-never_chooses stage.Doorway is = absurd (true≢false (sym is))
-never_chooses stage.Waiting is = absurd (true≢false (sym is))
-never_chooses stage.Inside is = absurd (true≢false (sym is))
-never_chooses stage.Leaving is = absurd (true≢false (sym is))
+never_chooses _ is = absurd (true≢false (sym is))
 
 -- a mark that begins no call leaves it so, and takes nothing
 over_marked : (s : Setup) (n : ℕ) (k : Standing) (m : Mark) → is_called m ≡ false → mark_refusal k m ≡ None → IsOver k → IsOver (marked s n k m) × (takings (m ∷ []) ≡ [])
@@ -72,25 +66,14 @@ over_marked s n k mark.Entered uncalled none over = absurd (clash (not (is_waiti
 over_marked s n k (mark.Taken j r) uncalled none over = absurd (clash (not k.inside) (ap not over.out) (none_if (not k.inside) refusal.NotInside _ none))
 over_marked s n k mark.Left uncalled none over = absurd (clash (not k.inside) (ap not over.out) (none_if (not k.inside) refusal.NotInside _ none))
 over_marked s n k (mark.Answered a) uncalled none over = absurd (clash (rests k.stage) over.rest (answers_not k.stage (none_if (not (is_in_doorway k.stage || is_leaving k.stage)) refusal.NotLeaving _ none)).1)
-over_marked s n k mark.Failed uncalled none over = (record { rest = refl; out = over.out }, refl)
 over_marked s n k (mark.Settled v) uncalled none over = (over, refl)
-over_marked s n k mark.Down uncalled none over = (record { rest = refl; out = over.out }, refl)
 over_marked s n k mark.Withdrew uncalled none over = absurd (clash (not (is_waiting_stage k.stage)) (never_waits k.stage over.rest) (none_if (not (is_waiting_stage k.stage)) refusal.NotWaiting _ none))
-over_marked s n k mark.Restarted uncalled none over = (record { rest = refl; out = over.out }, refl)
+over_marked s n k _ uncalled none over = (record { rest = refl; out = over.out }, refl)
 
 -- what marks take
 takings_more : (m : Mark) (ms : List Mark) → takings (m ∷ ms) ≡ takings (m ∷ []) ++ takings ms
-takings_more (mark.Called c) ms = refl
-takings_more (mark.Waiting t) ms = refl
-takings_more mark.Entered ms = refl
 takings_more (mark.Taken j r) ms = refl
-takings_more mark.Left ms = refl
-takings_more (mark.Answered a) ms = refl
-takings_more mark.Failed ms = refl
-takings_more (mark.Settled v) ms = refl
-takings_more mark.Down ms = refl
-takings_more mark.Withdrew ms = refl
-takings_more mark.Restarted ms = refl
+takings_more _ ms = refl
 
 over_all : (s : Setup) (n : ℕ) (ms : List Mark) (k : Standing) → list_any is_called ms ≡ false → refusal_on s n k ms ≡ None → IsOver k → IsOver (marked_all s n k ms) × (takings ms ≡ [])
 over_all s n [] k uncalled none over = (over, refl)
@@ -227,17 +210,8 @@ takes_no_more s p (e ∷ newer) between rest all ended = go (cases_eq e.process 
 -- nothing is taken by marks that tell no reply
 nothing_taken : (ms : List Mark) → reply_taken ms ≡ None → takings ms ≡ []
 nothing_taken [] none = refl
-nothing_taken (mark.Called c ∷ ms) none = nothing_taken ms none
-nothing_taken (mark.Waiting t ∷ ms) none = nothing_taken ms none
-nothing_taken (mark.Entered ∷ ms) none = nothing_taken ms none
 nothing_taken (mark.Taken j r ∷ ms) none = absurd (cc)
-nothing_taken (mark.Left ∷ ms) none = nothing_taken ms none
-nothing_taken (mark.Answered a ∷ ms) none = nothing_taken ms none
-nothing_taken (mark.Failed ∷ ms) none = nothing_taken ms none
-nothing_taken (mark.Settled v ∷ ms) none = nothing_taken ms none
-nothing_taken (mark.Down ∷ ms) none = nothing_taken ms none
-nothing_taken (mark.Withdrew ∷ ms) none = nothing_taken ms none
-nothing_taken (mark.Restarted ∷ ms) none = nothing_taken ms none
+nothing_taken (_ ∷ ms) none = nothing_taken ms none
 
 -- an entry adds to the history at most, and does where it takes
 history_grows : (s : Setup) (past : Past) (e : Entry) → (length (history s past) ≤ length (history s (e ∷ past))) × ((t : ℕ × Reply) → Contains (takings e.marks) t → length (history s past) < length (history s (e ∷ past)))

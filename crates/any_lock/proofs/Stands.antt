@@ -61,17 +61,8 @@ TakenStands s past p = (r : Reply) → reply_in (its_call p past) ≡ Some r →
 -- marks with a reply take a command with it
 taking_of : (ms : List Mark) (r : Reply) → reply_taken ms ≡ Some r → (n : ℕ) × Contains (takings ms) (n, r)
 taking_of [] r h = absurd (let both : None ≡ Some r = h in cc)
-taking_of (mark.Called c ∷ ms) r h = taking_of ms r h
-taking_of (mark.Waiting t ∷ ms) r h = taking_of ms r h
-taking_of (mark.Entered ∷ ms) r h = taking_of ms r h
 taking_of (mark.Taken n q ∷ ms) r h = let same : q ≡ r = cc in (n, (0, omega arith, ap (λ x. (n, x)) same))
-taking_of (mark.Left ∷ ms) r h = taking_of ms r h
-taking_of (mark.Answered a ∷ ms) r h = taking_of ms r h
-taking_of (mark.Failed ∷ ms) r h = taking_of ms r h
-taking_of (mark.Settled v ∷ ms) r h = taking_of ms r h
-taking_of (mark.Down ∷ ms) r h = taking_of ms r h
-taking_of (mark.Withdrew ∷ ms) r h = taking_of ms r h
-taking_of (mark.Restarted ∷ ms) r h = taking_of ms r h
+taking_of (_ ∷ ms) r h = taking_of ms r h
 
 -- the history with one more entry goes on from the one before
 goes_on : (s : Setup) (past : Past) (e : Entry) (c : Call) (r : Reply) (k : ℕ) → StandsAt s (history s past) c r k → StandsAt s (history s (e ∷ past)) c r k
@@ -134,13 +125,7 @@ mine_alone s past p m alone before r is = by m alone is
     by mark.Failed h is = let mine = own-mine p (with_marks p None (mark.Failed ∷ [])) past refl in kept mark.Failed mine (sym (ap (λ l. reply_in (since is_called l)) mine) ∙ is) refl
     by mark.Withdrew h is = let mine = own-mine p (with_marks p None (mark.Withdrew ∷ [])) past refl in kept mark.Withdrew mine (sym (ap (λ l. reply_in (since is_called l)) mine) ∙ is) refl
     by mark.Restarted h is = let mine = own-mine p (with_marks p None (mark.Restarted ∷ [])) past refl in kept mark.Restarted mine (sym (ap (λ l. reply_in (since is_called l)) mine) ∙ is) refl
-    by (mark.Waiting t) h is = absurd (true≢false (sym h))
-    by mark.Entered h is = absurd (true≢false (sym h))
-    by (mark.Taken n q) h is = absurd (true≢false (sym h))
-    by mark.Left h is = absurd (true≢false (sym h))
-    by (mark.Answered a) h is = absurd (true≢false (sym h))
-    by (mark.Settled v) h is = absurd (true≢false (sym h))
-    by mark.Down h is = absurd (true≢false (sym h))
+    by _ h is = absurd (true≢false (sym h))
 
 mine : (s : Setup) (past : Past) (p : ℕ) (o : Option Access) (ms : List Mark) → Keeps s past (with_marks p o ms) → TakenStands s past p → TakenStands s (with_marks p o ms ∷ past) p
 mine s past p o ms kept before = go (list_any stands_alone ms) refl

@@ -84,37 +84,29 @@ torn-mine p e past h false failed =
 abbrev pub if_there : Bool → ℕ → Option ℕ
 if_there b n = elim b as (λ _. Option ℕ) [ true ↦ Some n | false ↦ None ]
 
+own-number : (p : ℕ) (test : Entry → Bool) (e : Entry) (past : Past) → e.process ≡ p → (called : Bool) → has is_called e ≡ called →
+    number_in_call p test (e ∷ past) ≡ elim called as (λ _. Option ℕ) [ true ↦ None | false ↦ first_of (number_in_call p test past) (if_there (test e) (length past)) ]
+own-number p test e past h called is =
+    ap (λ t. elim t as (λ _. Option ℕ) [
+      | false ↦ number_in_call p test past
+      | true ↦ elim (has is_called e) as (λ _. Option ℕ) [
+        | true ↦ None
+        | false ↦ first_of (number_in_call p test past) (if_there (test e) (length past))
+      ]
+    ]) (eq-eqb e.process p h)
+    ∙ ap (λ t. elim t as (λ _. Option ℕ) [
+      | true ↦ None
+      | false ↦ first_of (number_in_call p test past) (if_there (test e) (length past))
+    ]) is
+
 pub number-mine : (p : ℕ) (test : Entry → Bool) (e : Entry) (past : Past) → e.process ≡ p → has is_called e ≡ false → (b : Bool) → test e ≡ b →
     number_in_call p test (e ∷ past) ≡ first_of (number_in_call p test past) (if_there b (length past))
-number-mine p test e past h called b is =
-    ap (λ t. elim t as (λ _. Option ℕ) [
-      | false ↦ number_in_call p test past
-      | true ↦ elim (has is_called e) as (λ _. Option ℕ) [
-        | true ↦ None
-        | false ↦ first_of (number_in_call p test past) (if_there (test e) (length past))
-      ]
-    ]) (eq-eqb e.process p h)
-    ∙ ap (λ t. elim t as (λ _. Option ℕ) [
-      | true ↦ None
-      | false ↦ first_of (number_in_call p test past) (if_there (test e) (length past))
-    ]) called
-    ∙ ap (λ t. first_of (number_in_call p test past) (if_there t (length past))) is
+number-mine p test e past h called b is = own-number p test e past h false called ∙ ap (λ t. first_of (number_in_call p test past) (if_there t (length past))) is
 
 pub number-called : (p : ℕ) (test : Entry → Bool) (e : Entry) (past : Past) → e.process ≡ p → has is_called e ≡ true → number_in_call p test (e ∷ past) ≡ None
-number-called p test e past h called =
-    ap (λ t. elim t as (λ _. Option ℕ) [
-      | false ↦ number_in_call p test past
-      | true ↦ elim (has is_called e) as (λ _. Option ℕ) [
-        | true ↦ None
-        | false ↦ first_of (number_in_call p test past) (if_there (test e) (length past))
-      ]
-    ]) (eq-eqb e.process p h)
-    ∙ ap (λ t. elim t as (λ _. Option ℕ) [
-      | true ↦ None
-      | false ↦ first_of (number_in_call p test past) (if_there (test e) (length past))
-    ]) called
+number-called p test e past h called = own-number p test e past h true called
 
-first_none : (o : Option ℕ) → first_of o None ≡ o
+pub first_none : (o : Option ℕ) → first_of o None ≡ o
 first_none None = refl
 first_none (Some k) = refl
 

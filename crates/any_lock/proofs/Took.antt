@@ -41,33 +41,27 @@ Takes (Some r) ts = (k : ℕ) × (ts ≡ (k, r) ∷ [])
 -- behind a command that was taken none is
 takes_no_more : (s : Setup) (n : ℕ) (ms : List Mark) (k : Standing) (r : Reply) → refusal_on s n k ms ≡ None → ArePlain ms → k.reply ≡ Some r → (takings ms ≡ []) × (reply_taken ms ≡ None)
 takes_no_more s n [] k r none plain is = (refl, refl)
-takes_no_more s n (mark.Called c ∷ ms) k r none plain is = absurd (true≢false plain)
 takes_no_more s n (mark.Waiting t ∷ ms) k r none plain is = takes_no_more s n ms (marked s n k (mark.Waiting t)) r (rest_unrefused s n k (mark.Waiting t) ms none) plain is
 takes_no_more s n (mark.Entered ∷ ms) k r none plain is = takes_no_more s n ms (marked s n k mark.Entered) r (rest_unrefused s n k mark.Entered ms none) plain is
 takes_no_more s n (mark.Taken j q ∷ ms) k r none plain is = absurd (let both : None ≡ Some r = sym (untaken k j q (first_unrefused s n k (mark.Taken j q) ms none)) ∙ is in cc)
 takes_no_more s n (mark.Left ∷ ms) k r none plain is = takes_no_more s n ms (marked s n k mark.Left) r (rest_unrefused s n k mark.Left ms none) plain is
 takes_no_more s n (mark.Answered a ∷ ms) k r none plain is = takes_no_more s n ms (marked s n k (mark.Answered a)) r (rest_unrefused s n k (mark.Answered a) ms none) plain is
-takes_no_more s n (mark.Failed ∷ ms) k r none plain is = absurd (true≢false plain)
 takes_no_more s n (mark.Settled v ∷ ms) k r none plain is = takes_no_more s n ms (marked s n k (mark.Settled v)) r (rest_unrefused s n k (mark.Settled v) ms none) plain is
 takes_no_more s n (mark.Down ∷ ms) k r none plain is = takes_no_more s n ms (marked s n k mark.Down) r (rest_unrefused s n k mark.Down ms none) plain is
-takes_no_more s n (mark.Withdrew ∷ ms) k r none plain is = absurd (true≢false plain)
-takes_no_more s n (mark.Restarted ∷ ms) k r none plain is = absurd (true≢false plain)
+takes_no_more s n (_ ∷ ms) k r none plain is = absurd (true≢false plain)
 
 -- and else one at most
 takes_one : (s : Setup) (n : ℕ) (ms : List Mark) (k : Standing) → refusal_on s n k ms ≡ None → ArePlain ms → Takes (reply_taken ms) (takings ms)
 takes_one s n [] k none plain = refl
-takes_one s n (mark.Called c ∷ ms) k none plain = absurd (true≢false plain)
 takes_one s n (mark.Waiting t ∷ ms) k none plain = takes_one s n ms (marked s n k (mark.Waiting t)) (rest_unrefused s n k (mark.Waiting t) ms none) plain
 takes_one s n (mark.Entered ∷ ms) k none plain = takes_one s n ms (marked s n k mark.Entered) (rest_unrefused s n k mark.Entered ms none) plain
 takes_one s n (mark.Taken j q ∷ ms) k none plain =
     (j, ap (λ (l : List (ℕ × Reply)). (j, q) ∷ l) (takes_no_more s n ms (marked s n k (mark.Taken j q)) q (rest_unrefused s n k (mark.Taken j q) ms none) plain refl).0)
 takes_one s n (mark.Left ∷ ms) k none plain = takes_one s n ms (marked s n k mark.Left) (rest_unrefused s n k mark.Left ms none) plain
 takes_one s n (mark.Answered a ∷ ms) k none plain = takes_one s n ms (marked s n k (mark.Answered a)) (rest_unrefused s n k (mark.Answered a) ms none) plain
-takes_one s n (mark.Failed ∷ ms) k none plain = absurd (true≢false plain)
 takes_one s n (mark.Settled v ∷ ms) k none plain = takes_one s n ms (marked s n k (mark.Settled v)) (rest_unrefused s n k (mark.Settled v) ms none) plain
 takes_one s n (mark.Down ∷ ms) k none plain = takes_one s n ms (marked s n k mark.Down) (rest_unrefused s n k mark.Down ms none) plain
-takes_one s n (mark.Withdrew ∷ ms) k none plain = absurd (true≢false plain)
-takes_one s n (mark.Restarted ∷ ms) k none plain = absurd (true≢false plain)
+takes_one s n (_ ∷ ms) k none plain = absurd (true≢false plain)
 
 -- What a call takes.
 
@@ -107,13 +101,7 @@ call_alone past p mark.Withdrew h before = subst (λ l. Takes (reply_in (since i
     (subst (λ l. Takes (reply_in (its_call p past)) l) (sym (append-nil (all_takings (its_call p past)))) before)
 call_alone past p mark.Restarted h before = subst (λ l. Takes (reply_in (since is_called l)) (all_takings (since is_called l))) (sym (own-mine p (with_marks p None (mark.Restarted ∷ [])) past refl))
     (subst (λ l. Takes (reply_in (its_call p past)) l) (sym (append-nil (all_takings (its_call p past)))) before)
-call_alone past p (mark.Waiting t) h before = absurd (true≢false (sym h))
-call_alone past p mark.Entered h before = absurd (true≢false (sym h))
-call_alone past p (mark.Taken n q) h before = absurd (true≢false (sym h))
-call_alone past p mark.Left h before = absurd (true≢false (sym h))
-call_alone past p (mark.Answered a) h before = absurd (true≢false (sym h))
-call_alone past p (mark.Settled v) h before = absurd (true≢false (sym h))
-call_alone past p mark.Down h before = absurd (true≢false (sym h))
+call_alone past p _ h before = absurd (true≢false (sym h))
 
 call_mine : (s : Setup) (past : Past) (p : ℕ) (o : Option Access) (ms : List Mark) → Keeps s past (with_marks p o ms) → CallTakes p past → CallTakes p (with_marks p o ms ∷ past)
 call_mine s past p o ms kept before = go (list_any stands_alone ms) refl
@@ -145,17 +133,14 @@ at_rest_none s n k (m ∷ ms) idle out none plain = absurd (by m (first_unrefuse
     clashes b f t = true≢false (sym t ∙ f)
 
     by : (m : Mark) → mark_refusal k m ≡ None → stands_alone m ≡ false → ⊥
-    by (mark.Called c) h apart = true≢false apart
     by (mark.Waiting t) h apart = clashes (not (is_in_doorway k.stage)) (none_if (not (is_in_doorway k.stage)) refusal.NotInDoorway _ h) (ap (λ x. not (is_in_doorway x)) idle)
     by mark.Entered h apart = clashes (not (is_waiting_stage k.stage)) (none_if (not (is_waiting_stage k.stage)) refusal.NotWaiting _ h) (ap (λ x. not (is_waiting_stage x)) idle)
     by (mark.Taken j q) h apart = clashes (not k.inside) (none_if (not k.inside) refusal.NotInside _ h) (ap not out)
     by mark.Left h apart = clashes (not k.inside) (none_if (not k.inside) refusal.NotInside _ h) (ap not out)
     by (mark.Answered a) h apart = clashes (not (is_in_doorway k.stage || is_leaving k.stage)) (none_if (not (is_in_doorway k.stage || is_leaving k.stage)) refusal.NotLeaving _ h) (ap (λ x. not (is_in_doorway x || is_leaving x)) idle)
-    by mark.Failed h apart = true≢false apart
     by (mark.Settled v) h apart = clashes (not (is_settling k.stage)) (none_if (not (is_settling k.stage)) refusal.NotSettling _ h) (ap (λ x. not (is_settling x)) idle)
     by mark.Down h apart = clashes (not (is_settling k.stage)) (none_if (not (is_settling k.stage)) refusal.NotSettling _ h) (ap (λ x. not (is_settling x)) idle)
-    by mark.Withdrew h apart = true≢false apart
-    by mark.Restarted h apart = true≢false apart
+    by _ h apart = true≢false apart
 
 -- it comes where nothing was taken
 pub unreplied : (o : Option Reply) (a : Answer) → is_reply a ≡ false → has_other_reply o a ≡ false → o ≡ None

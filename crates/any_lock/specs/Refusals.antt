@@ -104,20 +104,28 @@ abbrev pub is_end_of : Option Begun → Access → Bool
 is_end_of None a = false
 is_end_of (Some b) a = same_bit b.access a && same_truth (reads a.how) (reads b.access.how)
 
--- The table of refusals of an access that p makes where it stands so.
-abbrev pub access_refusal : Setup → ℕ → Standing → Access → Option AccessRefusal
-access_refusal s p k a = first_that (
+-- The tables of refusals of an access: by who makes it, and by where its process stands.
+abbrev pub maker_refusals : Setup → ℕ → Access → List (Bool × AccessRefusal)
+maker_refusals s p a =
     (not (nat_lt p s.processes), access.NoProcess)
     ∷ (not (is_there s a), access.NoBit)
     ∷ (not (reads a.how) && not (a.owner == p), access.NotOwner)
     ∷ (reads a.how && not (a.reader == p), access.NotReader)
-    ∷ (settles a.how && not (is_settling k.stage), access.NotSettling)
+    ∷ []
+
+abbrev pub move_refusals : Standing → Access → List (Bool × AccessRefusal)
+move_refusals k a =
+    (settles a.how && not (is_settling k.stage), access.NotSettling)
     ∷ (not (may_move k.stage a.how), access.NotRunning)
     ∷ (ends a.how && not (is_end_of k.opened a), access.NotOpen)
     ∷ (not (ends a.how) && is_some k.opened, access.AccessOpen)
     ∷ (settles a.how && not (is_of_bit k.torn a), access.NotTorn)
     ∷ (begins_write a.how && is_of_bit k.torn a, access.Torn)
-    ∷ [])
+    ∷ []
+
+-- of an access that p makes where it stands so
+abbrev pub access_refusal : Setup → ℕ → Standing → Access → Option AccessRefusal
+access_refusal s p k a = first_that (maker_refusals s p a ++ move_refusals k a)
 
 -- Answers.
 

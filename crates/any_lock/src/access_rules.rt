@@ -3,7 +3,7 @@ ghost use Rattle.std.specs.Prelude.{◌≡◌, Ok};
 ghost use Rattle.plain_store.specs.Setups.{checked};
 ghost use Rattle.record.specs.Moves.{same_bit as same};
 ghost use Rattle.record.specs.Registers.{width as width_of};
-ghost use Rattle.any_lock.specs.Refusals.{access_refusal, begins_write, ends, is_end_of, is_of_bit, is_running as runs, is_settling as stage_settles, is_there as bit_is_there, may_move, reads};
+ghost use Rattle.any_lock.specs.Refusals.{access_refusal, begins_write, ends, first_that, is_end_of, is_of_bit, is_running as runs, is_settling as stage_settles, is_there as bit_is_there, maker_refusals, may_move, move_refusals, reads};
 
 use crate::refusals::AccessRefusal;
 use crate::standings::{Begun, Standing, is_settling};
@@ -22,16 +22,19 @@ impl Standing {
         requires { checked setup.now ≡ Ok tt }
         ensures { result ≡ access_refusal setup.now process self.now access.now }
     {
+        match refuses_maker(setup, process, access) {
+            Some(refusal) => Some(refusal),
+            None => self.refuses_move(access),
+        }
+    }
+
+    /// Why an access of its process is refused by where that stands, if it is.
+    #[inline]
+    fn refuses_move(&self, access: &Access) -> Option<AccessRefusal>
+        ensures { result ≡ first_that (move_refusals self.now access.now) }
+    {
         let how = access.how;
-        if process >= setup.processes {
-            Some(AccessRefusal::NoProcess)
-        } else if !is_there(setup, access) {
-            Some(AccessRefusal::NoBit)
-        } else if !reads(how) && access.owner != process {
-            Some(AccessRefusal::NotOwner)
-        } else if reads(how) && access.reader != process {
-            Some(AccessRefusal::NotReader)
-        } else if is_settling(how) && !settles(self.stage) {
+        if is_settling(how) && !settles(self.stage) {
             Some(AccessRefusal::NotSettling)
         } else if !may_move(self.stage, how) {
             Some(AccessRefusal::NotRunning)
@@ -46,6 +49,23 @@ impl Standing {
         } else {
             None
         }
+    }
+}
+
+/// Why an access of a process with this number is refused by who makes it, if it is.
+#[inline]
+fn refuses_maker(setup: &Setup, process: u8, access: &Access) -> Option<AccessRefusal>
+    requires { checked setup.now ≡ Ok tt }
+    ensures { result ≡ first_that (maker_refusals setup.now process access.now) }
+{
+    if process >= setup.processes {
+        Some(AccessRefusal::NoProcess)
+    } else if !is_there(setup, access) {
+        Some(AccessRefusal::NoBit)
+    } else if reads(access.how) {
+        (access.reader != process).then_some(AccessRefusal::NotReader)
+    } else {
+        (access.owner != process).then_some(AccessRefusal::NotOwner)
     }
 }
 

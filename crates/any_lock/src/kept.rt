@@ -46,14 +46,11 @@ impl Kept {
         ensures knows { IfOk result (λ k. Knows k []) }
     {
         let _nested: NestedTypes = None;
-        let mut standings = Vec::new(alloc);
-        for _process in 0..setup.processes {
-            standings.push(Standing::at_rest())?;
-        }
+        let store = opened(Image::empty(setup.slots, setup.callers()), setup)?;
         Ok(Kept {
             setup: *setup,
-            standings,
-            store: opened(Image::empty(setup.slots, setup.callers()), setup)?,
+            standings: vec![in alloc; Standing::at_rest(); usize::from(setup.processes)]?,
+            store,
             taken: 0,
             entries: 0,
         })

@@ -37,15 +37,10 @@ same_is a b h = absurd (cc)
 is_same : (a : Reply) → same_reply a a ≡ true
 unfolding same_reply
 is_same (Value v) = (same_value-Decides v v).1 refl
-is_same Done = refl
 is_same (Sum m) = (Decides-int_eq m m).1 refl
-is_same Swapped = refl
 is_same (Kept v) = (same_value-Decides v v).1 refl
-is_same NoName = refl
-is_same NotCounter = refl
-is_same Overflow = refl
-is_same StoreFull = refl
 is_same (Last m) = grind (arith, nat_tests)
+is_same _ = refl
 
 -- replies that don't differ are equal
 pub not_other : (a b : Reply) → (a ≢ b → ⊥) → a ≡ b

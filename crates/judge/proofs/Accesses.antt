@@ -95,9 +95,7 @@ unrefused s p k a h = λ i. first_that (
     read : (m : Move) → a.how ≡ m → (reads m && not (a.reader == p)) ≡ false
     read BeginRead is = ap not (eq-eqb a.reader p (h.by.reads (ap is_write is)))
     read (EndRead v) is = ap not (eq-eqb a.reader p (h.by.reads (ap is_write is)))
-    read (BeginWrite v) is = refl
-    read EndWrite is = refl
-    read (Settle v) is = refl
+    read _ is = refl
 
     ended_one : (b : Bool) → elim b as (λ _. Type 0) [ true ↦ is_end_of k.opened a ≡ true | false ↦ k.opened ≡ None ] → (b && not (is_end_of k.opened a)) ≡ false
     ended_one true f = ap not f
@@ -179,11 +177,9 @@ written_settles bits w = go ((bit_written bits w).made % 2 == 0)
     go false = refl
 
 not_reading : (m : Move) → is_write m ≡ true → reads m ≡ false
-not_reading (BeginWrite v) h = refl
-not_reading EndWrite h = refl
-not_reading (Settle v) h = refl
 not_reading BeginRead h = absurd (true≢false (sym h))
 not_reading (EndRead v) h = absurd (true≢false (sym h))
+not_reading _ h = refl
 
 settling_moves : (m : Move) → is_write m ≡ true → may_move stages.Settling m ≡ true
 settling_moves m h = ap (λ b. settles m || false || (true && not b)) (not_reading m h) ∙ go (settles m)
@@ -256,11 +252,9 @@ closing_torn s p command number at flick n torn next h below =
 
 closing_moves : (c : Call) (at : Closing) (flick : Bool) (n : Next) → closing_next c at flick ≡ Some n → is_write n.access.how ≡ true → may_move (closing_stage at) n.access.how ≡ true
 closing_moves c (Withdraws w) flick n next writes = running_moves stages.Leaving n.access.how refl
-closing_moves c (Settles f bit begun taken is t) flick n next writes = settling_moves n.access.how writes
-closing_moves c (Frees is w) flick n next writes = settling_moves n.access.how writes
-closing_moves c (Lowers w) flick n next writes = settling_moves n.access.how writes
 closing_moves c Quit flick n next writes = cc
 closing_moves c Ended flick n next writes = cc
+closing_moves c _ flick n next writes = settling_moves n.access.how writes
 
 -- An entry.
 

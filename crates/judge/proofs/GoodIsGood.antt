@@ -4,14 +4,14 @@ use Rattle.std.specs.Prelude.{if◌then◌else◌}
 use Rattle.plain_store.specs.declared.Setup.{Setup}
 use Rattle.plain_store.specs.Setups.{checked}
 use Rattle.record.specs.declared.events.Event.{Event}
-use Rattle.record.specs.Closings.{Withdraws, Settles, Frees, Lowers, Quit, Ended}
+use Rattle.record.specs.Closings.{Withdraws}
 use Rattle.record.specs.Doorways.{doorway_begin, number_in_call}
 use Rattle.record.specs.Entries.{Entry, Past}
 use Rattle.record.specs.Places.{is_running}
 use Rattle.record.specs.Records.{entry_of, past_of}
 use Rattle.record.specs.Stages.{stage}
 use Rattle.record.proofs.Width.{IsGood, is_good}
-use Rattle.any_lock.specs.read_law.laws.Doings.{Doing, Rests, Lies, Runs, Closes, doing}
+use Rattle.any_lock.specs.read_law.laws.Doings.{Doing, Runs, Closes, doing}
 use Rattle.any_lock.proofs.read_law.laws.Doings as laws
 use Rattle.any_lock.proofs.read_law.laws.FrameInside.{stage-is}
 use Rattle.judge.specs.auditor.Verdicts.{IsOfEvent, KeepsAll}
@@ -89,12 +89,6 @@ doorways_are_one s good past all p runs = subst (λ l. number_in_call p has_acce
     stands = ap is_running (sym (stage-is s g from.0 p)) ∙ ap (λ l. is_running (stage p l)) from.1 ∙ runs
 
     by : (d : Doing) → DoorwayOf (past_of s from.0) p d → is_running (laws.stage_of d) ≡ true → number_in_call p has_access (past_of s from.0) ≡ doorway_begin p (past_of s from.0)
-    by Rests h run = absurd (true≢false (sym run))
-    by Lies h run = absurd (true≢false (sym run))
     by (Runs command number at) h run = h.same
     by (Closes command number (Withdraws w)) h run = h.same
-    by (Closes command number (Settles f bit begun taken is t)) h run = absurd (true≢false (sym run))
-    by (Closes command number (Frees is w)) h run = absurd (true≢false (sym run))
-    by (Closes command number (Lowers w)) h run = absurd (true≢false (sym run))
-    by (Closes command number Quit) h run = absurd (true≢false (sym run))
-    by (Closes command number Ended) h run = absurd (true≢false (sym run))
+    by _ h run = absurd (true≢false (sym run))

@@ -73,10 +73,7 @@ write_begun entry x b h = go x.how refl (sym (open_write entry x) ∙ h)
 
     go : (m : Move) → x.how ≡ m → of_write at m ≡ Some b → (b.access ≡ x) × (is_begin m ≡ true)
     go (BeginWrite v) is same = let one : at ≡ b = cc in (ap (λ (y : Begun). y.access) (sym one), refl)
-    go EndWrite is same = cc
-    go BeginRead is same = cc
-    go (EndRead v) is same = cc
-    go (Settle v) is same = cc
+    go _ is same = cc
 
 -- an access that begins a write has it open
 pub begun_open : (entry : ℕ) (x : Access) → is_begin x.how ≡ true → write_of (open_by entry x) ≡ None → ⊥
@@ -91,10 +88,7 @@ begun_open entry x begun closed = go x.how begun (sym (open_write entry x) ∙ c
 
 begin_writes : (m : Move) → is_begin m ≡ true → is_write m ≡ true
 begin_writes (BeginWrite v) h = refl
-begin_writes EndWrite h = absurd (true≢false (sym h))
-begin_writes BeginRead h = absurd (true≢false (sym h))
-begin_writes (EndRead v) h = absurd (true≢false (sym h))
-begin_writes (Settle v) h = absurd (true≢false (sym h))
+begin_writes _ h = absurd (true≢false (sym h))
 
 -- an entry with an access
 pub access_last : (s : Setup) (past : Past) (e : Entry) (a : Access) → e.access ≡ Some a → ArePlain e.marks → ByProcess e.process a → a.reader < s.processes → OpenIsLast s e.process (opened e.process (e ∷ past)) (last_write (own e.process (e ∷ past)))
@@ -129,20 +123,9 @@ marked_last s past e m none marks before b is_open =
 
         go : (m : Move) → b.access.how ≡ m → write_of (w b.access.how) ≡ w b.access.how
         go (BeginWrite v) is = let at : w b.access.how ≡ Some b = ap w is in ap write_of at ∙ refl
-        go EndWrite is = let at : w b.access.how ≡ None = ap w is in ap write_of at ∙ sym at
-        go BeginRead is = let at : w b.access.how ≡ None = ap w is in ap write_of at ∙ sym at
-        go (EndRead v) is = let at : w b.access.how ≡ None = ap w is in ap write_of at ∙ sym at
-        go (Settle v) is = let at : w b.access.how ≡ None = ap w is in ap write_of at ∙ sym at
+        go _ is = let at : w b.access.how ≡ None = ap w is in ap write_of at ∙ sym at
 
     left_write : (o : Option Begun) (m : Mark) (b : Begun) → write_of (left_open o m) ≡ Some b → write_of o ≡ Some b
     left_write o mark.Failed b h = cc
     left_write o mark.Withdrew b h = sym (twice o) ∙ h
-    left_write o (mark.Called c) b h = h
-    left_write o (mark.Waiting t) b h = h
-    left_write o mark.Entered b h = h
-    left_write o (mark.Taken n r) b h = h
-    left_write o mark.Left b h = h
-    left_write o (mark.Answered a) b h = h
-    left_write o (mark.Settled v) b h = h
-    left_write o mark.Down b h = h
-    left_write o mark.Restarted b h = h
+    left_write o _ b h = h

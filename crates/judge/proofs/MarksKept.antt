@@ -12,7 +12,7 @@ use Rattle.record.specs.declared.refusals.Refusal.{Refusal}
 use Rattle.record.specs.declared.refusals.Refusal.TheVariants as refused_by
 use Rattle.record.specs.declared.stages.Stage.TheVariants as stages
 use Rattle.record.specs.Calls.{calls_in}
-use Rattle.record.specs.Closings.{Closing, Withdraws, Settles, Frees, Lowers, Quit, Ended, closing_after}
+use Rattle.record.specs.Closings.{Closing, Withdraws, Settles, Quit, Ended, closing_after}
 use Rattle.record.specs.Doorways.{is_waiting_stage}
 use Rattle.record.specs.Entries.{Entry, Past, is_failed, own, starts}
 use Rattle.record.specs.Histories.{history}
@@ -106,14 +106,9 @@ part_calm _ fresh = refl
 
 fails_at : (d : Doing) → may_fail d ≡ true → (is_settling (laws.stage_of d) || is_down (laws.stage_of d)) ≡ false
 fails_at Rests may = refl
-fails_at Lies may = absurd (true≢false (sym may))
 fails_at (Runs command number at) may = part_calm at.part (is_fresh at.run)
 fails_at (Closes command number (Withdraws w)) may = refl
-fails_at (Closes command number (Settles f bit begun taken is t)) may = absurd (true≢false (sym may))
-fails_at (Closes command number (Frees is w)) may = absurd (true≢false (sym may))
-fails_at (Closes command number (Lowers w)) may = absurd (true≢false (sym may))
-fails_at (Closes command number Quit) may = absurd (true≢false (sym may))
-fails_at (Closes command number Ended) may = absurd (true≢false (sym may))
+fails_at _ may = absurd (true≢false (sym may))
 
 -- An entry with an access.
 
@@ -139,12 +134,9 @@ rests_after s p command number at v last over =
     ∙ ap (λ b. is_resting (cond b Rests (Runs command number to))) over
 
 done_after : (command : Command) (number : ℕ) (at : Closing) → is_done at ≡ true → is_resting (closes command number at) ≡ true
-done_after command number (Withdraws w) h = absurd (true≢false (sym h))
-done_after command number (Settles f bit begun taken is t) h = absurd (true≢false (sym h))
-done_after command number (Frees is w) h = absurd (true≢false (sym h))
-done_after command number (Lowers w) h = absurd (true≢false (sym h))
 done_after command number Quit h = refl
 done_after command number Ended h = refl
+done_after command number _ h = absurd (true≢false (sym h))
 
 -- at rest nothing is open
 rest_closed : (s : Setup) (p : ℕ) (o : Option Begun) (d : Doing) → is_resting d ≡ true → FitsNext o (next_of s p d false) → o ≡ None
@@ -155,12 +147,8 @@ rest_closed s p o (Closes command number at) h fits = absurd (true≢false (sym 
 
 -- and without a unit that settles nothing is torn
 settler_torn : (s : Setup) (p : ℕ) (torn : Option Begun) (command : Command) (number : ℕ) (at : Closing) → is_settler at ≡ false → TornIn s p torn (closes command number at) → torn ≡ None
-settler_torn s p torn command number (Withdraws w) h t = t
 settler_torn s p torn command number (Settles f bit begun taken is r) h t = absurd (true≢false h)
-settler_torn s p torn command number (Frees is w) h t = t
-settler_torn s p torn command number (Lowers w) h t = t
-settler_torn s p torn command number Quit h t = t
-settler_torn s p torn command number Ended h t = t
+settler_torn s p torn command number _ h t = t
 
 -- No mark of the entry of an event is refused, where its call has taken what it has told before.
 pub keeps_marks : (s : Setup) → IsGood s → (events : List Event) (what : Event) (e : Entry) → entry_of s (past_of s events) what ≡ Some e → CallTakes e.process (past_of s events) → refusal_of_marks s (past_of s events) e ≡ None

@@ -24,6 +24,4 @@ only_steps_keep s past e a acc keeps =
         let made = option_map-some (entry_made s past p flick) _ e makes in
         (flick, subst (λ q. entry_of s past (event.Step q flick) ≡ Some e) (ap (λ (x : Entry). x.process) made.2) is)
     by (event.Call p c) makes is = cc
-    by (event.Fail p) makes is = cc
-    by (event.Withdraw p) makes is = cc
-    by (event.Restart p) makes is = cc
+    by _ makes is = cc

@@ -21,7 +21,7 @@ use Rattle.record.specs.Stages.{stage}
 use Rattle.record.specs.Unit.{last_write, unfinished}
 use Rattle.record.proofs.Turns.{and_false}
 use Rattle.record.proofs.Width.{IsGood}
-use Rattle.any_lock.specs.read_law.laws.Doings.{Doing, Rests, Lies, Runs, Closes, call, closes, doing, runs}
+use Rattle.any_lock.specs.read_law.laws.Doings.{Doing, Rests, Runs, Closes, call, closes, doing, runs}
 use Rattle.any_lock.proofs.read_law.laws.AtPlaces.{IsOfLock, any-closing, any-placed, own-induction}
 use Rattle.any_lock.proofs.read_law.laws.Frame.{Happens, a_call, a_withdrawal, a_failure, a_restart, a_step, a_closing, doing-other}
 use Rattle.any_lock.proofs.read_law.laws.FrameDoorways.{begins-is, begins_at, begins_with}
@@ -172,15 +172,9 @@ doorways s g = own-induction s (λ (past : Past) (p : ℕ). DoorwayOf past p (do
         record { same = any ∙ h.same ∙ sym own; begun = λ none. h.begun (sym any ∙ none) }
 
     each : (past : Past) (e : Entry) (p : ℕ) (d : Doing) → (e.process == p) ≡ false → DoorwayOf past p d → DoorwayOf (e ∷ past) p d
-    each past e p Rests apart h = tt
-    each past e p Lies apart h = tt
     each past e p (Runs command number at) apart h = kept past e p (is_raising at.part && is_fresh at.run) apart h
     each past e p (Closes command number (Withdraws w)) apart h = kept past e p false apart h
-    each past e p (Closes command number (Settles f bit begun taken is t)) apart h = tt
-    each past e p (Closes command number (Frees is w)) apart h = tt
-    each past e p (Closes command number (Lowers w)) apart h = tt
-    each past e p (Closes command number Quit) apart h = tt
-    each past e p (Closes command number Ended) apart h = tt
+    each past e p _ apart h = tt
 
     others : (past : Past) (e : Entry) (p : ℕ) → e.process ≢ p → DoorwayOf past p (doing s p past) → DoorwayOf (e ∷ past) p (doing s p (e ∷ past))
     others past e p apart h = subst (DoorwayOf (e ∷ past) p) (sym (doing-other s p e past apart)) (each past e p (doing s p past) (ne_eqb e.process p apart) h)

@@ -194,16 +194,10 @@ closing_fits s p command number at flick n torn entry u now next l same below =
 open_plain : (o : Option Begun) (ms : List Mark) → ArePlain ms → fold left_open o ms ≡ o
 open_plain o [] h = refl
 open_plain o (mark.Called c ∷ ms) h = absurd (true≢false h)
-open_plain o (mark.Waiting t ∷ ms) h = open_plain o ms h
-open_plain o (mark.Entered ∷ ms) h = open_plain o ms h
-open_plain o (mark.Taken n r ∷ ms) h = open_plain o ms h
-open_plain o (mark.Left ∷ ms) h = open_plain o ms h
-open_plain o (mark.Answered a ∷ ms) h = open_plain o ms h
 open_plain o (mark.Failed ∷ ms) h = absurd (true≢false h)
-open_plain o (mark.Settled v ∷ ms) h = open_plain o ms h
-open_plain o (mark.Down ∷ ms) h = open_plain o ms h
 open_plain o (mark.Withdrew ∷ ms) h = absurd (true≢false h)
 open_plain o (mark.Restarted ∷ ms) h = absurd (true≢false h)
+open_plain o (_ ∷ ms) h = open_plain o ms h
 
 -- what is open after the entry of an access is that access, if it begins
 pub opened_access : (past : Past) (e : Entry) (a : Access) → e.access ≡ Some a → ArePlain e.marks → opened e.process (e ∷ past) ≡ open_by (length past) a

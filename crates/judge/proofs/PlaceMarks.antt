@@ -51,10 +51,8 @@ only_last P false true ms none some = some refl
 only_last P false false ms none some = none
 
 not_withdrawn : (a : Answer) → answers_withdrawn (Clears a) ≡ false → is_withdrawn a ≡ false
-not_withdrawn (answer.Reply r) h = refl
-not_withdrawn (answer.TicketsFull j) h = refl
-not_withdrawn answer.StampsFull h = refl
 not_withdrawn answer.Withdrawn h = h
+not_withdrawn _ h = refl
 
 -- an answer of a call that was not withdrawn
 may_answer : (k : Standing) (ts : List (ℕ × Reply)) (a : Answer) → (is_in_doorway k.stage || is_leaving k.stage) ≡ true → k.withdrawn ≡ false → is_withdrawn a ≡ false → Takes k.reply ts → IsAnswerTo a ts → k.opened ≡ None → MayAnswer k a
@@ -99,14 +97,7 @@ module _ (s : Setup) (n place : ℕ) where
   part_fine k ts c (WritesCommit vs st) fresh last bits at = only_last (Fine s n place k) fresh last (Taken 0 (reply c st) ∷ []) refl
       (λ _. fine_one s n place k (Taken 0 (reply c st)) (takes k place (reply c st) at.inside (no_reply k.reply ts at.replies at.took)))
   part_fine k ts c (Clears a) fresh last bits at = clears_fine k ts c a fresh last bits at
-  part_fine k ts c Raises fresh last bits at = only_last (Fine s n place k) fresh last [] refl (λ _. refl)
-  part_fine k ts c (Asks j js ts') fresh last bits at = only_last (Fine s n place k) fresh last [] refl (λ _. refl)
-  part_fine k ts c (TakesTicket t) fresh last bits at = only_last (Fine s n place k) fresh last [] refl (λ _. refl)
-  part_fine k ts c (AsksCommit i is vs) fresh last bits at = only_last (Fine s n place k) fresh last [] refl (λ _. refl)
-  part_fine k ts c (AsksStamp i is vs b) fresh last bits at = only_last (Fine s n place k) fresh last [] refl (λ _. refl)
-  part_fine k ts c (WritesImage vs st) fresh last bits at = only_last (Fine s n place k) fresh last [] refl (λ _. refl)
-  part_fine k ts c (WritesStamp vs st) fresh last bits at = only_last (Fine s n place k) fresh last [] refl (λ _. refl)
-  part_fine k ts c Over fresh last bits at = only_last (Fine s n place k) fresh last [] refl (λ _. refl)
+  part_fine k ts c _ fresh last bits at = only_last (Fine s n place k) fresh last [] refl (λ _. refl)
 
 -- In a closing.
 

@@ -8,12 +8,7 @@ use Rattle.any_lock.specs.Refusals.{same_reply}
 
 pub same_as_itself : (r : Reply) → same_reply r r ≡ true
 same_as_itself (reply.Value x) = (same_value-Decides x x).1 refl
-same_as_itself reply.Done = refl
 same_as_itself (reply.Sum n) = grind arith
-same_as_itself reply.Swapped = refl
 same_as_itself (reply.Kept x) = (same_value-Decides x x).1 refl
-same_as_itself reply.NoName = refl
-same_as_itself reply.NotCounter = refl
-same_as_itself reply.Overflow = refl
-same_as_itself reply.StoreFull = refl
 same_as_itself (reply.Last n) = grind (arith, nat_tests)
+same_as_itself _ = refl

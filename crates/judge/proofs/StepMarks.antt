@@ -7,7 +7,7 @@ use Rattle.plain_store.specs.Store.{changes}
 use Rattle.record.specs.declared.marks.Mark.{Mark}
 use Rattle.record.specs.declared.marks.Mark.TheVariants.{Taken}
 use Rattle.record.specs.Closings.{Closing, closing_next}
-use Rattle.record.specs.Parts.{Part, Raises, Asks, TakesTicket, Lowers, Refuses, Waits, AsksCommit, AsksStamp, AsksImage, WritesImage, WritesStamp, WritesCommit, Clears, Over, last_marks}
+use Rattle.record.specs.Parts.{Part, Lowers, Waits, AsksImage, last_marks}
 use Rattle.record.specs.Places.{Place, bits_with, is_last, marks_of}
 use Rattle.record.specs.Program.{Wait, entered_if_none, lets_by, reply, store_read, waits_of}
 use Rattle.record.specs.Records.{placed}
@@ -36,17 +36,7 @@ last_plain : (c : Call) (part : Part) (bits : List Bool) → ArePlain (last_mark
 last_plain c (Lowers t) bits = entered_plain (waits_of c)
 last_plain c (Waits t w ws) bits = waited_plain (lets_by c t w bits) ws
 last_plain c (AsksImage vs) bits = taken_plain (changes (store_read c bits) c.command) (reply c (store_read c bits))
-last_plain c (Refuses f) bits = refl
-last_plain c (WritesCommit vs st) bits = refl
-last_plain c (Clears a) bits = refl
-last_plain c Raises bits = refl
-last_plain c (Asks j js ts) bits = refl
-last_plain c (TakesTicket t) bits = refl
-last_plain c (AsksCommit k ks vs) bits = refl
-last_plain c (AsksStamp k ks vs b) bits = refl
-last_plain c (WritesImage vs st) bits = refl
-last_plain c (WritesStamp vs st) bits = refl
-last_plain c Over bits = refl
+last_plain c _ bits = refl
 
 -- at a place
 pub plain_step : (c : Call) (at : Place) (v : Bool) (place : ℕ) (ms : List Mark) → ms ≡ map (placed place) (marks_of c at v) → ArePlain ms

@@ -7,7 +7,7 @@ use Rattle.plain_store.specs.declared.Setup.{Setup}
 use Rattle.record.specs.declared.events.Event.{Event}
 use Rattle.record.specs.declared.marks.Mark.TheVariants as mark
 use Rattle.record.specs.safe_bit.SafeRule.{read_value}
-use Rattle.record.specs.Closings.{Closing, Withdraws, Settles, Frees, Lowers, Quit, Ended, closing_after, failing, settling_from}
+use Rattle.record.specs.Closings.{Closing, Withdraws, closing_after, failing, settling_from}
 use Rattle.record.specs.Entries.{Entry, Past, has, is_failed, own}
 use Rattle.record.specs.Histories.{history}
 use Rattle.record.specs.Moves.{moves_of}
@@ -22,7 +22,7 @@ use Rattle.record.specs.Unit.{is_begin, is_finished, last_write, made_with, unfi
 use Rattle.record.proofs.Opens.{last-none}
 use Rattle.record.proofs.Singles.{is_write}
 use Rattle.record.proofs.Width.{IsGood}
-use Rattle.any_lock.specs.read_law.laws.Doings.{Doing, Rests, Lies, Runs, Closes, call, closes, doing, runs}
+use Rattle.any_lock.specs.read_law.laws.Doings.{Doing, Rests, Runs, Closes, call, closes, doing, runs}
 use Rattle.any_lock.specs.read_law.laws.Held.{IsThere}
 use Rattle.any_lock.proofs.read_law.laws.AtPlaces.{own-induction}
 use Rattle.any_lock.proofs.read_law.laws.Frame.{Happens, a_call, a_withdrawal, a_failure, a_restart, a_step, a_closing, doing-other, may_fail, own-other, own-own}
@@ -106,14 +106,9 @@ fails_torn s p command number mine o last open_last last_open = go last refl
 -- where a process may fail, its last write is open, if it is a begin
 may_cut : (s : Setup) (p : ℕ) (mine : Past) (o : Option Begun) (d : Doing) → may_fail d ≡ true → LeftIn s p (left s mine) d → LastIsOpenIn o (last_write mine) d → LastIsOpen o (last_write mine)
 may_cut s p mine o Rests may l h = finished s.processes (last_write mine) o l
-may_cut s p mine o Lies may l h = absurd (true≢false (sym may))
 may_cut s p mine o (Runs command number at) may l h = h
 may_cut s p mine o (Closes command number (Withdraws w)) may l h = h
-may_cut s p mine o (Closes command number (Settles f bit begun taken is t)) may l h = absurd (true≢false (sym may))
-may_cut s p mine o (Closes command number (Frees is w)) may l h = absurd (true≢false (sym may))
-may_cut s p mine o (Closes command number (Lowers w)) may l h = absurd (true≢false (sym may))
-may_cut s p mine o (Closes command number Quit) may l h = absurd (true≢false (sym may))
-may_cut s p mine o (Closes command number Ended) may l h = absurd (true≢false (sym may))
+may_cut s p mine o _ may l h = absurd (true≢false (sym may))
 
 -- The last write.
 
@@ -130,11 +125,7 @@ runs_last o last command number at h = go (is_over at.part)
 
 closes_last : (o : Option Begun) (last : Option Access) (command : Command) (number : ℕ) (at : Closing) → LastIsOpen o last → LastIsOpenIn o last (closes command number at)
 closes_last o last command number (Withdraws w) h = h
-closes_last o last command number (Settles f bit begun taken is t) h = tt
-closes_last o last command number (Frees is w) h = tt
-closes_last o last command number (Lowers w) h = tt
-closes_last o last command number Quit h = tt
-closes_last o last command number Ended h = tt
+closes_last o last command number _ h = tt
 
 -- with an access of a write
 written_last : (past : Past) (e : Entry) (a : Access) → e.access ≡ Some a → ArePlain e.marks → is_write a.how ≡ true → LastIsOpen (opened e.process (e ∷ past)) (last_write (own e.process (e ∷ past)))

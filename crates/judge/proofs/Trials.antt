@@ -6,7 +6,7 @@ use Rattle.files.specs.Files.{words_read}
 use Rattle.files.specs.Reads.{UnlessMemory}
 use Rattle.files.specs.Words.{words_of}
 use Rattle.files.specs.declared.faults.FaultKind.{FaultKind}
-use Rattle.files.specs.declared.faults.FaultKind.TheVariants.{NotFirst, Unknown, Words, Number, BadName, BadValue, BadSetup, TooLong, Memory}
+use Rattle.files.specs.declared.faults.FaultKind.TheVariants.{Memory}
 use Rattle.record.specs.Entries.{Entry}
 use Rattle.record_file.specs.Given.{is_entry}
 use Rattle.record_file.specs.Printing.{entry_words, step_entry}
@@ -21,15 +21,8 @@ use Rattle.judge.proofs.Lines.{Left, clear_twice, empty, first_left, later_left,
 
 -- what follows from a fact that is known unless memory ran out
 pub unless_then : (kind : FaultKind) {P Q : Type 0} → (P → Q) → UnlessMemory kind P → UnlessMemory kind Q
-unless_then NotFirst leads p = leads p
-unless_then Unknown leads p = leads p
-unless_then Words leads p = leads p
-unless_then Number leads p = leads p
-unless_then BadName leads p = leads p
-unless_then BadValue leads p = leads p
-unless_then BadSetup leads p = leads p
-unless_then TooLong leads p = leads p
 unless_then Memory leads p = p
+unless_then _ leads p = leads p
 
 module _ {H : Type 0} (HasHeard : H → Setup → List Entry → List ℕ → Type 0) where
   -- one that begins where there was none

@@ -60,11 +60,8 @@ to_d_not c t (w ∷ ws) = refl
 after_not : (c : Call) (x : Part) (value : List Bool) → answers_withdrawn (part_after c x value) ≡ false
 after_not c Raises value = to_b_not c (others c.setup c.process) []
 after_not c (Asks j js ts) value = to_b_not c js _
-after_not c (TakesTicket t) value = refl
 after_not c (part.Lowers t) value = to_d_not c t (waits_of c)
-after_not c (Refuses f) value = refl
 after_not c (Waits t w ws) value = to_d_not c t (cond (lets_by c t w value) ws (w ∷ ws))
-after_not c (AsksCommit k ks vs) value = refl
 after_not c (AsksStamp k ks vs b) value = to_e_not ks _
 after_not c (AsksImage vs) value = go (changes (store_read c value) c.command) (newest_stamp vs == max_of c.setup.stamp_bits)
   where
@@ -75,11 +72,7 @@ after_not c (AsksImage vs) value = go (changes (store_read c value) c.command) (
     go false full = refl
     go true true = refl
     go true false = refl
-after_not c (WritesImage vs st) value = refl
-after_not c (WritesStamp vs st) value = refl
-after_not c (WritesCommit vs st) value = refl
-after_not c (Clears a) value = refl
-after_not c Over value = refl
+after_not c _ value = refl
 
 place_not : (c : Call) (at : Place) (v : Bool) → answers_withdrawn at.part ≡ false → answers_withdrawn (place_after c at v).part ≡ false
 place_not c at v h = go (is_last c at.part at.run)

@@ -1,5 +1,7 @@
 //! A judge who tells the reasons of a bad verdict too.
-ghost use Rattle.std.specs.Prelude.{◌≡◌, ◌↔◌, ◌++◌, IfOk, IsTrue, OnOk, codes};
+ghost use Rattle.std.specs.Prelude.{◌≡◌, ◌↔◌, ◌++◌, [], IfOk, IsTrue, OnOk, codes};
+ghost use Rattle.record.specs.declared.events.Event.TheVariants.{Step};
+ghost use Rattle.record.specs.Records.{entry_of};
 ghost use Rattle.record.specs.Shown.{refusal_text as text_of_refusal};
 ghost use Rattle.auditor.specs.declared.verdicts.Verdict.TheVariants.{Good};
 ghost use Rattle.judge.specs.files.Texts.{GivesText};
@@ -150,9 +152,22 @@ fn push_may(
     ensures lines { OnOk result (Writes follower.old (λ s past. may_lines s past process)
         lines.old.items lines.new.items) }
 {
-    let with_0 = may_line(alloc, &follower.stepped(alloc, process, false))?;
-    let with_1 = may_line(alloc, &follower.stepped(alloc, process, true))?;
+    let with_0 = stepped_line(alloc, process, false, follower)?;
+    let with_1 = stepped_line(alloc, process, true, follower)?;
     push_both(&with_0, &with_1, lines)
+}
+
+/// The line of what a Step of a process adds by this flick.
+fn stepped_line(
+    alloc: Global,
+    process: u8,
+    flick: bool,
+    follower: &mut Follower,
+) -> Result<Vec<u8>, AllocError>
+    ensures same { follower.new ≡ follower.old }
+    ensures line { IfOk result (λ line. Writes follower.old (λ s past. line_of_may (entry_of s past (Step process flick))) [] line.items) }
+{
+    may_line(alloc, &follower.stepped(alloc, process, flick))
 }
 
 /// The line of an entry, if there is one.

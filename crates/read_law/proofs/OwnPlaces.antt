@@ -3,7 +3,7 @@ use Rattle.std.proofs.Common.{◌≡◌, ℕ, suc, ◌+◌, ◌*◌, ◌<◌, �
 use Rattle.std.proofs.lemmas.Nat.{div-mul-add}
 use Rattle.record.specs.declared.access.Access.{Access}
 use Rattle.record.specs.declared.access.Field.{Field}
-use Rattle.record.specs.declared.access.Field.TheVariants.{Choosing, Ticket, Commit, Stamp0, Stamp1, Image0, Image1}
+use Rattle.record.specs.declared.access.Field.TheVariants.{Choosing}
 use Rattle.plain_store.specs.declared.Setup.{Setup}
 use Rattle.record.specs.Moves.{field_number, same_bit}
 use Rattle.record.specs.Registers.{width}
@@ -13,12 +13,7 @@ use Rattle.laws.proofs.FrameCells.{OnCopy, field-same, on-copy}
 
 pub field_below : (f : Field) → field_number f < 7
 field_below Choosing = omega arith
-field_below Ticket = omega arith
-field_below Commit = omega arith
-field_below Stamp0 = omega arith
-field_below Stamp1 = omega arith
-field_below Image0 = omega arith
-field_below Image1 = omega arith
+field_below _ = omega arith
 
 -- a register tells its owner and its field
 pub same_owner : (a b : Access) → register_of a ≡ register_of b → a.owner ≡ b.owner

@@ -83,6 +83,10 @@ IfThere a told s past e = IsThere s a → TellsSafe told s past e
 abbrev pub IfAllThere : Bool → Setup → Past → Entry → Type 0
 IfAllThere told s past e = AllAreOfThere s past → TellsSafe told s past e
 
+-- the look is what the moves on the bit of an access leave
+abbrev pub TellsLook : WatchState → Access → Look → Type 0
+TellsLook w a look = (past : Past) → HasHeard w past → look ≡ look_of (opening_bit w.setup a) (moves_of a past)
+
 -- the answer tells whether an access ends a read that a write overlapped
 abbrev pub TellsEnd : WatchState → Access → Bool → Type 0
 TellsEnd w a told = (past : Past) → HasHeard w past → TellsOverlap told (moves_of a past) a.how

@@ -4,7 +4,7 @@ ghost use Rattle.store_image.specs.Image.{image_of};
 ghost use Rattle.record.specs.Registers.{width};
 ghost use Rattle.laws.specs.Held.{IsThere};
 ghost use Rattle.read_law.specs.Safe.{TellsSafe};
-ghost use Rattle.read_law.specs.Watching.{HasHeard, HearsOn, IfAllThere, IfThere, IsOpened, OfHeard, OpenAs, PassesStray, TellsBehind, TellsEnd, TellsEndThere, TellsHeld, TellsHeldThere, TellsThere};
+ghost use Rattle.read_law.specs.Watching.{HasHeard, HearsOn, IfAllThere, IfThere, IsOpened, OfHeard, OpenAs, PassesStray, TellsBehind, TellsEndThere, TellsHeldThere, TellsLook, TellsThere};
 
 use crate::look::Look;
 use crate::opening::bit_of;
@@ -106,7 +106,7 @@ impl Watch {
         ensures there { TellsEndThere self.now access.now result }
         ensures stray { (IsThere self.now.setup access.now → ⊥) → result ≡ false }
     {
-        is_there(&self.setup, access) && self.overlaps_there(access)
+        is_there(&self.setup, access) && self.look_at(access).overlaps(access.how)
     }
 
     /// What was last written to the bit of an access, or settled there; none while a write of it is open. Of a bit that is not
@@ -117,29 +117,17 @@ impl Watch {
         if !is_there(&self.setup, access) {
             return None;
         }
-        self.holds_there(access)
+        self.look_at(access).held()
     }
 
-    /// The same of a bit that there is.
+    /// What the moves of a bit that there is have left.
     #[inline]
-    fn holds_there(&self, access: &Access) -> Option<bool>
+    fn look_at(&self, access: &Access) -> Look
         requires { IsThere self.now.setup access.now }
-        ensures { TellsHeld self.now access.now result }
+        ensures { TellsLook self.now access.now result }
     {
         let place = copy_of(&self.setup, access);
-        let look = self.registers[register_of(access)].get(place);
-        look.held()
-    }
-
-    /// The same of a bit that there is.
-    #[inline]
-    fn overlaps_there(&self, access: &Access) -> bool
-        requires { IsThere self.now.setup access.now }
-        ensures { TellsEnd self.now access.now result }
-    {
-        let place = copy_of(&self.setup, access);
-        let look = self.registers[register_of(access)].get(place);
-        look.overlaps(access.how)
+        self.registers[register_of(access)].get(place)
     }
 
     /// One more access, of a bit that there is.

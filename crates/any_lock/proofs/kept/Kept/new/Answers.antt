@@ -1,16 +1,11 @@
-use Rattle.std.proofs.Common.{◌≡◌, List, [], ◌∷◌, ◌++◌, Some, length, slice_get, refl, sym, ap, ◌∙◌, arith}
-use Rattle.std.proofs.lemmas.List.{length-replicate, replicate_more}
+use Rattle.std.proofs.Common.{List, Some, length, slice_get, refl, sym, ap, ◌∙◌, arith}
+use Rattle.std.proofs.lemmas.List.{length-replicate}
 use Rattle.plain_store.specs.Store.{empty_store}
-use Rattle.any_lock.specs.Keeping.{at_rest}
 use Rattle.any_lock.specs.declared.standings.Standing.{Standing}
 use Rattle.any_lock.proofs.Going.{slice_get-replicate}
 use Rattle.any_lock.proofs.Rooms.{has_room}
 use Rattle.any_lock.proofs.Steps.{at_first}
 use Rattle.any_lock.proofs.kept.Kept.new.Goals as goal
-
-pub loop-process-preserved : goal.loop-process-preserved
-loop-process-preserved c =
-    c.in_ok-push.ensures.items ∙ (λ i. c.loop-process.invariant i ++ c.at_rest.ensures i ∷ []) ∙ replicate_more c.loop-process._process at_rest
 
 pub empty-requires-clause-some_slots : goal.empty-requires-clause-some_slots
 empty-requires-clause-some_slots c = (has_room c.args.setup.now c.requires).some_slots
@@ -28,21 +23,19 @@ pub opened-requires-clause-empty : goal.opened-requires-clause-empty
 opened-requires-clause-empty c = c.empty.ensures ∙ ap (empty_store c.args.setup.now.slots) c.callers.ensures
 
 pub invariant_of-result : goal.invariant_of-result
-invariant_of-result c =
-    let all : c.loop-process._process ≡ c.args.setup.now.processes = omega (arith, c.loop-process-test.false, c.loop-process.auto._process-end) in
-    record {
-      good = c.requires;
-      processes = ap (λ (l : List Standing). length l) c.loop-process.invariant ∙ length-replicate c.loop-process._process at_rest ∙ all;
-      few = omega arith;
-    }
+invariant_of-result c = record {
+  good = c.requires;
+  processes = ap (λ (l : List Standing). length l) (c.in_ok-vec.ensures.items_if_clones_equal (λ y e. e)) ∙ length-replicate c.from.result c.at_rest.result ∙ c.from.ensures;
+  few = omega arith;
+}
 
 pub returns-clause-knows : goal.returns-clause-knows
 returns-clause-knows c = record {
   standings = λ p below.
-      ap (λ (l : List Standing). slice_get l p) c.loop-process.invariant
-      ∙ slice_get-replicate c.loop-process._process p at_rest (omega (arith, below, c.loop-process-test.false))
-      ∙ ap Some (sym (at_first c.args.setup.now p));
-  store = c.in_ok-opened.ensures;
+      ap (λ (l : List Standing). slice_get l p) (c.in_ok-vec.ensures.items_if_clones_equal (λ y e. e))
+      ∙ slice_get-replicate c.from.result p c.at_rest.result (omega (arith, below, c.from.ensures))
+      ∙ ap Some (c.at_rest.ensures ∙ sym (at_first c.args.setup.now p));
+  store = c.in_ok-store.ensures;
   taken = refl;
   entries = refl;
 }
