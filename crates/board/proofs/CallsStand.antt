@@ -1,5 +1,5 @@
 -- The calls of each process stand in the list of changes, of every past.
-use Rattle.std.proofs.Common.{◌≡◌, ℕ, ◌+◌, ◌<◌, ◌==◌, ◌||◌, Bool, true, false, cond, List, [], ◌∷◌, ◌++◌, Option, Some, None, Ok, length, refl, sym, ap, subst, ◌∙◌, arith, eqb-true, Contains}
+use Rattle.std.proofs.Common.{◌≡◌, ℕ, ◌+◌, ◌<◌, ◌==◌, Bool, true, false, cond, List, [], ◌∷◌, ◌++◌, Option, Some, None, Ok, length, refl, sym, ap, subst, ◌∙◌, arith, eqb-true, Contains}
 use Rattle.std.specs.Prelude.{fold}
 use Rattle.std.specs.List.{list_any}
 use Rattle.std.proofs.lemmas.Bool.{eqb-false}
@@ -100,31 +100,24 @@ own_restarted s past e quiet is h = subst (λ (ms : List Mark). Stands s e.proce
     k : Known
     k = known s past e.process
 
-own_plain : (s : Setup) (past : Past) (e : Entry) → list_any tells e.marks ≡ false → Stands s e.process (known s past e.process) → Stands s e.process (known_then s past e)
-own_plain s past e none h = subst (Stands s p) (sym (known-uncalled s past e uncalled ∙ same)) (standing_on s p k.stage then k.number k.command k.taken k.list k.calls.done k.calls.now (plain-quiet k.stage e.marks none) h)
+-- What is known after an entry whose last marks begin no call and take nothing, and whose other marks tell nothing.
+known_after : (s : Setup) (past : Past) (e : Entry) (before last : List Mark) → list_any tells before ≡ false → e.marks ≡ before ++ last → list_any is_called last ≡ false → reply_taken last ≡ None → takings last ≡ [] →
+    known_then s past e ≡ record (known s past e.process) { stage = fold stage_after (stage e.process past) e.marks; calls = fold (calls_after (changes_taken s past)) (calls_of s e.process past) last }
+known_after s past e before last none is uncalled untaken nothing = known-uncalled s past e (ap (list_any is_called) is ∙ plain-uncalled before last none ∙ uncalled) ∙ (λ i. record k {
+  stage = fold stage_after k.stage e.marks;
+  taken = (ap (λ (l : List (ℕ × Reply)). k.taken ++ l) (ap takings is ∙ plain-takings before last none ∙ nothing) ∙ append-nil k.taken) i;
+  list = changes_none s past e (ap reply_taken is ∙ plain-reply before last none ∙ untaken) i;
+  calls = (ap (fold (calls_after (changes_taken s past)) k.calls) is ∙ plain-calls (changes_taken s past) k.calls before last none) i;
+})
   where
-    p : ℕ
-    p = e.process
-
     k : Known
-    k = known s past p
+    k = known s past e.process
 
-    then : Stage
-    then = fold stage_after k.stage e.marks
-
-    marks : e.marks ++ [] ≡ e.marks
-    marks = append-nil e.marks
-
-    uncalled : has is_called e ≡ false
-    uncalled = ap (list_any is_called) (sym marks) ∙ plain-uncalled e.marks [] none
-
-    same : record k { stage = then; taken = k.taken ++ takings e.marks; list = changes_of s (e ∷ past); calls = fold (calls_after (changes_taken s past)) k.calls e.marks } ≡ record k { stage = then }
-    same = λ i. record k {
-      stage = then;
-      taken = (ap (λ (l : List (ℕ × Reply)). k.taken ++ l) (ap takings (sym marks) ∙ plain-takings e.marks [] none) ∙ append-nil k.taken) i;
-      list = changes_none s past e (ap reply_taken (sym marks) ∙ plain-reply e.marks [] none) i;
-      calls = (ap (fold (calls_after (changes_taken s past)) k.calls) (sym marks) ∙ plain-calls (changes_taken s past) k.calls e.marks [] none) i;
-    }
+own_plain : (s : Setup) (past : Past) (e : Entry) → list_any tells e.marks ≡ false → Stands s e.process (known s past e.process) → Stands s e.process (known_then s past e)
+own_plain s past e none h =
+    let k : Known = known s past e.process in
+    subst (Stands s e.process) (sym (known_after s past e e.marks [] none (sym (append-nil e.marks)) refl refl refl))
+    (standing_on s e.process k.stage _ k.number k.command k.taken k.list k.calls.done k.calls.now (plain-quiet k.stage e.marks none) h)
 
 -- What the marks of an entry tell of its call's takings, where they begin no call.
 
@@ -208,38 +201,17 @@ own_takes s past e before j r none is told reply h = subst (Stands s p) (sym (kn
     }
 
 -- An entry that finishes a call.
-own_finishes : (s : Setup) (past : Past) (e : Entry) (before : List Mark) (m : Mark) → list_any tells before ≡ false → e.marks ≡ before ++ m ∷ [] → is_called m ≡ false → reply_taken (m ∷ []) ≡ None → takings (m ∷ []) ≡ [] →
-    known_then s past e ≡ record (known s past e.process) { stage = fold stage_after (stage e.process past) e.marks; calls = calls_after (changes_taken s past) (calls_of s e.process past) m }
-own_finishes s past e before m none is uncalled untaken nothing = known-uncalled s past e (ap (list_any is_called) is ∙ plain-uncalled before (m ∷ []) none ∙ ap (λ b. b || false) uncalled) ∙ same
-  where
-    p : ℕ
-    p = e.process
-
-    k : Known
-    k = known s past p
-
-    then : Stage
-    then = fold stage_after k.stage e.marks
-
-    same : record k { stage = then; taken = k.taken ++ takings e.marks; list = changes_of s (e ∷ past); calls = fold (calls_after (changes_taken s past)) k.calls e.marks } ≡ record k { stage = then; calls = calls_after (changes_taken s past) k.calls m }
-    same = λ i. record k {
-      stage = then;
-      taken = (ap (λ (l : List (ℕ × Reply)). k.taken ++ l) (ap takings is ∙ plain-takings before (m ∷ []) none ∙ nothing) ∙ append-nil k.taken) i;
-      list = changes_none s past e (ap reply_taken is ∙ plain-reply before (m ∷ []) none ∙ untaken) i;
-      calls = (ap (fold (calls_after (changes_taken s past)) k.calls) is ∙ plain-calls (changes_taken s past) k.calls before (m ∷ []) none) i;
-    }
-
 own_answers : (s : Setup) (past : Past) (e : Entry) (before : List Mark) (a : Answer) → list_any tells before ≡ false → e.marks ≡ before ++ mark.Answered a ∷ [] → SaysAfter s past e →
     Stands s e.process (known s past e.process) → Stands s e.process (known_then s past e)
 own_answers s past e before a none is told h =
     let k : Known = known s past e.process in
-    subst (Stands s e.process) (sym (own_finishes s past e before (mark.Answered a) none is refl refl refl))
+    subst (Stands s e.process) (sym (known_after s past e before (mark.Answered a ∷ []) none is refl refl refl))
     (standing_answered s e.process k.stage _ k.number k.command k.taken a k.list k.calls.done k.calls.now (answers_taken s past e before a none is told) h)
 
 own_downs : (s : Setup) (past : Past) (e : Entry) (before : List Mark) → list_any tells before ≡ false → e.marks ≡ before ++ mark.Down ∷ [] → Stands s e.process (known s past e.process) → Stands s e.process (known_then s past e)
 own_downs s past e before none is h =
     let k : Known = known s past e.process in
-    subst (Stands s e.process) (sym (own_finishes s past e before mark.Down none is refl refl refl))
+    subst (Stands s e.process) (sym (known_after s past e before (mark.Down ∷ []) none is refl refl refl))
     (standing_down s e.process k.stage _ k.number k.command k.taken k.list k.calls.done k.calls.now h)
 
 taking_among : (e : Entry) (before : List Mark) (j : ℕ) (r : Reply) → list_any tells before ≡ false → e.marks ≡ before ++ mark.Taken j r ∷ [] → Contains (takings e.marks) (j, r)

@@ -208,11 +208,8 @@ closes s id v words t image agree at same live zero_ still joined is = record {
     mine : v.own ≡ own_view s past 0
     mine = k.own ∙ ap (own_view s past) zero_
 
-    first : (id ≡ 0) × (f.seats.0 ≡ v)
-    first = is_first s events t.words t.views f id v at live zero_
-
     seats : KnowsSeats s past t.views v
-    seats = subst (KnowsSeats s past t.views) first.1 f.seats.1
+    seats = (is_first s events t.words t.views f id v at live zero_).1
 
     quiet : (p : ℕ) → p < s.processes → IsQuiet (doing s p past)
     quiet p below = dite (ℕ_discrete p 0)

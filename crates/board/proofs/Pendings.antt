@@ -1,5 +1,5 @@
 -- A port's process and what its seat knows, over an event without an access.
-use Rattle.std.proofs.Common.{◌≡◌, ℕ, ◌<◌, ◌==◌, arith, Bool, true, false, cond, [], ◌∷◌, refl, sym, ap, ◌∙◌, subst, Option, Some, None}
+use Rattle.std.proofs.Common.{◌≡◌, ℕ, ◌==◌, arith, Bool, true, false, cond, [], ◌∷◌, refl, sym, ap, ◌∙◌, subst, Option, Some, None}
 use Rattle.std.specs.Prelude.{Ok, Err, Result}
 use Rattle.plain_store.specs.Commands.{is_command}
 use Rattle.plain_store.specs.declared.Command.{Command}
@@ -12,11 +12,11 @@ use Rattle.record.specs.declared.stages.Stage.TheVariants as stage
 use Rattle.record.specs.declared.refusals.Refusal.TheVariants.{AlreadyFailed}
 use Rattle.record.specs.Records.{refused_at}
 use Rattle.laws.specs.Steps.{next_of}
-use Rattle.process.specs.Places.{ProcessState, may_fail, next_number, process_after}
+use Rattle.process.specs.Places.{ProcessState, next_number, process_after}
 use Rattle.process.specs.Places as places
 use Rattle.board.specs.declared.pending.Pending.{Pending}
 use Rattle.board.specs.Pending.{events_of, nothing}
-use Rattle.board.specs.Ports.{IsTied, IsUnended, PortState, answer_to, port_after, with_pending}
+use Rattle.board.specs.Ports.{IsTied, IsUnended, PortState, SamePort, answer_to, port_after, with_pending}
 use Rattle.board.specs.Views.{MayAllHappen, MayHappen, OwnView, ViewState, at_events, new_own, new_view, process_at, refusal_in, stage_in, with_event, with_events}
 use Rattle.board.specs.WordSteps.{IsBetween}
 use Rattle.board.proofs.Begins.{event_fresh}
@@ -34,12 +34,41 @@ answers_no port event refusal h = (
 pub is_accepted : (port : PortState) (event : Event) → answer_to port event ≡ Ok tt → refusal_in port.setup port.view.own event ≡ None
 is_accepted port event h = grind arith
 
-pub is_left : (port : PortState) (event : Event) (refusal : Refusal) → answer_to port event ≡ Err refusal → port_after port event ≡ port
-is_left port event refusal h = grind arith
+left : (port then : PortState) (o : Option Refusal) (refusal : Refusal) → Err refusal ≡ (elim o as (λ _. Result (Unit {0}) Refusal) [ Some x ↦ Err x | None ↦ Ok tt ]) → port ≡ (elim o as (λ _. PortState) [ Some x ↦ port | None ↦ then ])
+left port then (Some x) refusal h = refl
+left port then None refusal h = absurd (cc)
 
--- by its process
-pub answered_by : (port : PortState) (event : Event) (refusal : Option Refusal) (result : Result (Unit {0}) Refusal) → refusal ≡ refusal_in port.setup port.view.own event → result ≡ (elim refusal [ Some x ↦ Err x | None ↦ Ok tt ]) → result ≡ answer_to port event
-answered_by port event refusal result is h = h ∙ ap (λ r. elim r as (λ _. Result (Unit {0}) Refusal) [ Some x ↦ Err x | None ↦ Ok tt ]) is
+-- an event of its process that it refuses leaves it
+pub refused : (port : PortState) (event : ℕ → Event) (p : ℕ) (answer : Result (Unit {0}) Refusal) (refusal : Refusal) → answer ≡ Err refusal → answer ≡ answer_to port (event p) → p ≡ port.view.own.process →
+    (Err refusal ≡ answer_to port (event port.view.own.process)) × (port ≡ port_after port (event port.view.own.process))
+refused port event p answer refusal is told own =
+    let e = event port.view.own.process in
+    let no : Err refusal ≡ answer_to port e = sym is ∙ told ∙ ap (λ q. answer_to port (event q)) own in
+    (no, left port (record port { view = at_events port.setup port.view (e ∷ []) }) (refusal_in port.setup port.view.own e) refusal no)
+
+-- one that it accepts is not refused by what it was
+pub accepted : (port before : PortState) (event : ℕ → Event) (p : ℕ) (answer : Result (Unit {0}) Refusal) → before ≡ port → answer ≡ Ok tt → answer ≡ answer_to port (event p) → p ≡ port.view.own.process →
+    refusal_in before.setup before.view.own (event before.view.own.process) ≡ None
+accepted port before event p answer was is told own =
+    ap (λ (q : PortState). refusal_in q.setup q.view.own (event q.view.own.process)) was ∙ ap (λ q. refusal_in port.setup port.view.own (event q)) (sym own) ∙ is_accepted port (event p) (sym told ∙ is)
+
+-- one that it does not refuse happens to it
+pub happens : (port before new : PortState) (event : ℕ → Event) (p : ℕ) (answer : Result (Unit {0}) Refusal) → answer ≡ Ok tt → answer ≡ answer_to port (event p) → p ≡ port.view.own.process → before ≡ port →
+    new ≡ record before { view = at_events before.setup before.view (event before.view.own.process ∷ []) } →
+    SamePort port new × (Ok tt ≡ answer_to port (event port.view.own.process)) × (new ≡ port_after port (event port.view.own.process))
+happens port before new event p answer is told own was then =
+    let e = event port.view.own.process in
+    let yes : answer_to port e ≡ Ok tt = ap (λ q. answer_to port (event q)) (sym own) ∙ sym told ∙ is in
+    let now : new ≡ record port { view = at_events port.setup port.view (e ∷ []) } = then ∙ ap (λ (q : PortState). record q { view = at_events q.setup q.view (event q.view.own.process ∷ []) }) was in (
+      (
+        ap (λ (q : PortState). q.table_id) now,
+        ap (λ (q : PortState). q.id) now,
+        ap (λ (q : PortState). q.setup) now,
+        ap (λ (q : PortState). q.view.own.process) now ∙ same_process port.setup port.view.own e,
+      ),
+      sym yes,
+      now ∙ sym (ap (λ r. elim r as (λ _. PortState) [ Some refusal ↦ port | None ↦ record port { view = at_events port.setup port.view (e ∷ []) } ]) (is_accepted port e yes)),
+    )
 
 -- What is not refused is allowed by the stage.
 
@@ -49,27 +78,14 @@ stage_allows s o event h = grind arith
 idle_at : (p : ℕ) (command : Command) (st : Stage) → refused_at (event.Call p command) st ≡ None → st ≡ stage.Idle
 idle_at p command st h = grind arith
 
-waiting_at : (p : ℕ) (st : Stage) → refused_at (event.Withdraw p) st ≡ None → st ≡ stage.Waiting
-waiting_at p st h = grind arith
-
 down_at : (p : ℕ) (st : Stage) → refused_at (event.Restart p) st ≡ None → st ≡ stage.Down
 down_at p st h = grind arith
 
 idle : (s : Setup) (o : OwnView) (p : ℕ) (command : Command) → refusal_in s o (event.Call p command) ≡ None → stage_in s o ≡ stage.Idle
 idle s o p command h = idle_at p command (stage_in s o) (stage_allows s o (event.Call p command) h)
 
-pub waits : (s : Setup) (o : OwnView) (p : ℕ) → refusal_in s o (event.Withdraw p) ≡ None → stage_in s o ≡ stage.Waiting
-waits s o p h = waiting_at p (stage_in s o) (stage_allows s o (event.Withdraw p) h)
-
 pub down : (s : Setup) (o : OwnView) (p : ℕ) → refusal_in s o (event.Restart p) ≡ None → stage_in s o ≡ stage.Down
 down s o p h = down_at p (stage_in s o) (stage_allows s o (event.Restart p) h)
-
-pub fails : (s : Setup) (o : OwnView) (p : ℕ) → refusal_in s o (event.Fail p) ≡ None → may_fail o.doing ≡ true
-fails s o p h = grind arith
-
--- so does the number of calls
-pub few_calls : (s : Setup) (o : OwnView) (p : ℕ) (command : Command) → refusal_in s o (event.Call p command) ≡ None → s.version ≡ 2 → o.number < 65535
-few_calls s o p command h k = grind arith
 
 -- The tie.
 
@@ -132,10 +148,6 @@ joins_failure s restarted false withdrew called process new value v t may is =
     let o = (with_pending s pending v).own in
     joined s pending pending' process new value v (event.Fail o.process) t (ap (λ p. event.Fail p ∷ events_of v.own.process pending) (sym (same_process_all s v.own (events_of v.own.process pending))))
     (record { marked = refl; process = refl; accepted = may; given = refl }) (is ∙ ap places.failed t.same)
-
--- A withdrawal.
-
--- A restart.
 
 -- A port of a process that has done nothing.
 

@@ -1,5 +1,5 @@
 -- Lists of ports: what holds of each of them.
-use Rattle.std.proofs.Common.{◌≡◌, ◌+◌, ◌<◌, ℕ, zero, suc, List, [], ◌∷◌, ◌++◌, length, drop, get_or, Some, refl, sym, ap, subst, ◌∙◌, below_more, arith}
+use Rattle.std.proofs.Common.{◌≡◌, ◌+◌, ◌<◌, ℕ, zero, suc, List, [], ◌∷◌, ◌++◌, length, drop, get_or, Some, sym, ap, subst, ◌∙◌, below_more, arith}
 use Rattle.std.specs.Prelude.{slice_get}
 
 -- what holds of each in its place holds then too, where one more comes last
@@ -14,24 +14,12 @@ pub all_first : {A : Type 0} (P : ℕ → A → Type 0) (xs : List A) (x : A) �
 all_first P xs x h is zero y e = let same : x ≡ y = cc in subst (P 0) same is
 all_first P xs x h is (suc k) y e = h k y e
 
--- what holds of each holds of the last one
-at_last : {A : Type 0} (xs : List A) (x : A) → slice_get (xs ++ x ∷ []) (length xs) ≡ Some x
-at_last [] x = refl
-at_last (y ∷ xs) x = at_last xs x
-
--- what stands in a front stands there, so what holds of each holds of each in a front
+-- what stands in a front stands there
 pub at_front : {A : Type 0} (xs ys : List A) (k : ℕ) (y : A) → slice_get xs k ≡ Some y → slice_get (xs ++ ys) k ≡ Some y
 at_front [] ys zero y e = absurd (cc)
 at_front [] ys (suc k) y e = absurd (cc)
 at_front (x ∷ xs) ys zero y e = e
 at_front (x ∷ xs) ys (suc k) y e = at_front xs ys k y e
-
--- what holds of each in its place holds of the last one, and of each before it
-pub last_of : {A : Type 0} (P : ℕ → A → Type 0) (all xs : List A) (x : A) → all ≡ xs ++ x ∷ [] → ((k : ℕ) (y : A) → slice_get all k ≡ Some y → P k y) → P (length xs) x
-last_of P all xs x is h = subst (λ zs. (k : ℕ) (y : _) → slice_get zs k ≡ Some y → P k y) is h (length xs) x (at_last xs x)
-
-pub front_of : {A : Type 0} (P : ℕ → A → Type 0) (all xs : List A) (x : A) → all ≡ xs ++ x ∷ [] → ((k : ℕ) (y : A) → slice_get all k ≡ Some y → P k y) → (k : ℕ) (y : A) → slice_get xs k ≡ Some y → P k y
-front_of P all xs x is h k y e = subst (λ zs. (k : ℕ) (y : _) → slice_get zs k ≡ Some y → P k y) is h k y (at_front xs (x ∷ []) k y e)
 
 -- all but the first
 pub rest_of : {A : Type 0} (P : ℕ → A → Type 0) (xs : List A) → ((k : ℕ) (y : A) → slice_get xs k ≡ Some y → P k y) → (k : ℕ) (y : A) → slice_get (drop 1 xs) k ≡ Some y → P (suc k) y

@@ -99,12 +99,12 @@ starts s words good pairs some_ size is = (
 
 -- Seats that are made and joined.
 
--- only port 0's seat has the number 0
-pub is_first : (s : Setup) (events : List Event) (words : List ℕ) (views : List ViewState) (f : Shows s events words views) (id : ℕ) (v : ViewState) → get_elem? views id ≡ some v → v.spent ≡ false → v.own.process ≡ 0 → (id ≡ 0) × (f.seats.0 ≡ v)
+-- only port 0's seat has the number 0, and it knows the seats
+pub is_first : (s : Setup) (events : List Event) (words : List ℕ) (views : List ViewState) (f : Shows s events words views) (id : ℕ) (v : ViewState) → get_elem? views id ≡ some v → v.spent ≡ false → v.own.process ≡ 0 → (id ≡ 0) × KnowsSeats s (past_of s events) views v
 is_first s events words views f id v at live zero_ =
     let first = f.seats.1 in
     let here : id ≡ 0 = f.apart id 0 v f.seats.0 at first.at live first.live (zero_ ∙ sym first.process) in
-    (here, some-injective f.seats.0 v (sym first.at ∙ (ap (λ (k : ℕ). get_elem? views k) (sym here) ∙ at)))
+    (here, subst (KnowsSeats s (past_of s events) views) (some-injective f.seats.0 v (sym first.at ∙ (ap (λ (k : ℕ). get_elem? views k) (sym here) ∙ at))) first)
 
 at_snoc_from : {A : Type 0} (l : List A) (a b : A) (j : ℕ) → get_elem? (l ++ a ∷ []) j ≡ some b → (get_elem? l j ≡ some b) ⊎ ((j ≡ length l) × (a ≡ b))
 at_snoc_from [] a b zero e = inr (refl, some-injective a b e)
@@ -135,7 +135,7 @@ splits s id v live zero_ room none_back state agree at = (
     seats = (
       with_made v,
       record {
-        at = at_longer (set state.views id (with_made v)) (new_view v.made 0 ∷ []) 0 (with_made v) (subst (λ (k : ℕ). get_elem? (set state.views id (with_made v)) k ≡ some (with_made v)) mine.0 (set_at state.views id v (with_made v) at));
+        at = at_longer (set state.views id (with_made v)) (new_view v.made 0 ∷ []) 0 (with_made v) (subst (λ (k : ℕ). get_elem? (set state.views id (with_made v)) k ≡ some (with_made v)) first.0 (set_at state.views id v (with_made v) at));
         live = live;
         process = zero_;
         made = omega arith;
@@ -157,11 +157,11 @@ splits s id v live zero_ room none_back state agree at = (
     past : Past
     past = past_of s agree.0
 
-    mine : (id ≡ 0) × (f.seats.0 ≡ v)
-    mine = is_first s agree.0 state.words state.views f id v at live zero_
+    first : (id ≡ 0) × KnowsSeats s past state.views v
+    first = is_first s agree.0 state.words state.views f id v at live zero_
 
     seats : KnowsSeats s past state.views v
-    seats = subst (KnowsSeats s past state.views) mine.1 f.seats.1
+    seats = first.1
 
     before : (i : ℕ) (x : ViewState) → get_elem? (set state.views id (with_made v)) i ≡ some x → x.spent ≡ false → (y : ViewState) × (get_elem? state.views i ≡ some y) × (y.spent ≡ false) × (y.own.process ≡ x.own.process)
     before = was_view state.views id v (with_made v) at refl refl
@@ -191,7 +191,7 @@ joins s id v other w live zero_ w_live quiet state agree at ne at_w = (
     seats = (
       with_joined v w,
       record {
-        at = set_else (set state.views id (with_joined v w)) other 0 spent_view (λ h. ne (sym h ∙ sym mine.0)) ∙ subst (λ (k : ℕ). get_elem? (set state.views id (with_joined v w)) k ≡ some (with_joined v w)) mine.0 (set_at state.views id v (with_joined v w) at);
+        at = set_else (set state.views id (with_joined v w)) other 0 spent_view (λ h. ne (sym h ∙ sym first.0)) ∙ subst (λ (k : ℕ). get_elem? (set state.views id (with_joined v w)) k ≡ some (with_joined v w)) first.0 (set_at state.views id v (with_joined v w) at);
         live = live;
         process = zero_;
         made = seats.made;
@@ -217,11 +217,11 @@ joins s id v other w live zero_ w_live quiet state agree at ne at_w = (
     past : Past
     past = past_of s agree.0
 
-    mine : (id ≡ 0) × (f.seats.0 ≡ v)
-    mine = is_first s agree.0 state.words state.views f id v at live zero_
+    first : (id ≡ 0) × KnowsSeats s past state.views v
+    first = is_first s agree.0 state.words state.views f id v at live zero_
 
     seats : KnowsSeats s past state.views v
-    seats = subst (KnowsSeats s past state.views) mine.1 f.seats.1
+    seats = first.1
 
     at_other : get_elem? state.views other ≡ some w
     at_other = sym (set_else state.views id other (with_joined v w) ne) ∙ at_w

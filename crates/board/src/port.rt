@@ -151,7 +151,7 @@ impl Port {
         ensures port { OnOk result (self.new ≡ port_after self.old (call_of self.old command)) }
         ensures unchanged { OnErr result (self.new ≡ self.old) }
     {
-        if let Err(refusal) = self.answer(&Event::Call(self.process.process(), command)) {
+        if let Err(refusal) = self.answer(&Event::Call(self.process(), command)) {
             return Err(refusal);
         }
         if self.calls.begin(command).is_err() {
@@ -170,7 +170,7 @@ impl Port {
         ensures answer { result ≡ answer_to self.old (Fail self.old.view.own.process) }
         ensures port { self.new ≡ port_after self.old (Fail self.old.view.own.process) }
     {
-        if let Err(refusal) = self.answer(&Event::Fail(self.process.process())) {
+        if let Err(refusal) = self.answer(&Event::Fail(self.process())) {
             return Err(refusal);
         }
         self.stamp = self.process.changes_pending();
@@ -185,7 +185,7 @@ impl Port {
         ensures answer { result ≡ answer_to self.old (Withdraw self.old.view.own.process) }
         ensures port { self.new ≡ port_after self.old (Withdraw self.old.view.own.process) }
     {
-        if let Err(refusal) = self.answer(&Event::Withdraw(self.process.process())) {
+        if let Err(refusal) = self.answer(&Event::Withdraw(self.process())) {
             return Err(refusal);
         }
         self.process.give_up();
@@ -199,7 +199,7 @@ impl Port {
         ensures answer { result ≡ answer_to self.old (Restart self.old.view.own.process) }
         ensures port { self.new ≡ port_after self.old (Restart self.old.view.own.process) }
     {
-        if let Err(refusal) = self.answer(&Event::Restart(self.process.process())) {
+        if let Err(refusal) = self.answer(&Event::Restart(self.process())) {
             return Err(refusal);
         }
         self.process.restart();

@@ -55,21 +55,9 @@ uncut_then s p (Runs command number at) flick v h = over_uncut (is_over (place_a
 uncut_then s p (Closes command number at) flick v h = cc
 
 part_up : (x : Part) (fresh : Bool) → stage_of x fresh ≡ stage.Down → ⊥
-part_up part.Raises fresh h = cc
-part_up (part.Asks j js ts) fresh h = cc
-part_up (part.TakesTicket t) fresh h = cc
-part_up (part.Lowers t) fresh h = cc
-part_up (part.Refuses f) fresh h = cc
-part_up (part.Waits t w ws) fresh h = cc
-part_up (part.AsksCommit k ks vs) fresh h = cc
-part_up (part.AsksStamp k ks vs b) fresh h = cc
-part_up (part.AsksImage vs) fresh h = cc
-part_up (part.WritesImage vs st) fresh h = cc
-part_up (part.WritesStamp vs st) fresh h = cc
-part_up (part.WritesCommit vs st) fresh h = cc
 part_up (part.Clears a) true h = cc
 part_up (part.Clears a) false h = cc
-part_up part.Over fresh h = cc
+part_up _ fresh h = cc
 
 uncut_up : (d : Doing) → is_uncut d ≡ true → stage_doing d ≡ stage.Down → ⊥
 uncut_up Rests h is = cc
@@ -124,20 +112,13 @@ reads_ends before calls place st true r h = inl h
 reads_ends before calls place st false r h = inl (taken_on before calls place 0 r h)
 
 last_ends : (before calls : Calls) (place : ℕ) (st : Stage) (c : Call) (x : Part) (bits : List Bool) → CallGoesOn before calls → Ends before calls place st (last_marks c x bits)
-last_ends before calls place st c part.Raises bits h = inl h
-last_ends before calls place st c (part.Asks j js ts) bits h = inl h
-last_ends before calls place st c (part.TakesTicket t) bits h = inl h
 last_ends before calls place st c (part.Lowers t) bits h = waits_ends before calls place st (waits_of c) t h
 last_ends before calls place st c (part.Refuses f) bits h = inr refl
 last_ends before calls place st c (part.Waits t w ws) bits h = lets_ends before calls place st (lets_by c t w bits) ws h
-last_ends before calls place st c (part.AsksCommit k ks vs) bits h = inl h
-last_ends before calls place st c (part.AsksStamp k ks vs b) bits h = inl h
 last_ends before calls place st c (part.AsksImage vs) bits h = reads_ends before calls place st (changes (store_read c bits) c.command) (reply c (store_read c bits)) h
-last_ends before calls place st c (part.WritesImage vs xs) bits h = inl h
-last_ends before calls place st c (part.WritesStamp vs xs) bits h = inl h
 last_ends before calls place st c (part.WritesCommit vs xs) bits h = inl (taken_on before calls place 0 (reply c xs) h)
 last_ends before calls place st c (part.Clears a) bits h = inr refl
-last_ends before calls place st c part.Over bits h = inl h
+last_ends before calls place st c _ bits h = inl h
 
 then_ends : (before calls : Calls) (place : ℕ) (st : Stage) (last : Bool) (c : Call) (x : Part) (bits : List Bool) → CallGoesOn before calls → Ends before calls place st (cond last (last_marks c x bits) [])
 then_ends before calls place st true c x bits h = last_ends before calls place st c x bits h
@@ -147,19 +128,7 @@ part_ends : (before calls : Calls) (place : ℕ) (st : Stage) (fresh last : Bool
     Ends before calls place st (cond fresh (first_marks x) [] ++ cond last (last_marks c x bits) [])
 part_ends before calls place st false last c x bits h = then_ends before calls place st last c x bits h
 part_ends before calls place st true last c (part.Clears a) bits h = then_ends before calls place (stage_after st mark.Left) last c (part.Clears a) bits h
-part_ends before calls place st true last c part.Raises bits h = then_ends before calls place st last c part.Raises bits h
-part_ends before calls place st true last c (part.Asks j js ts) bits h = then_ends before calls place st last c (part.Asks j js ts) bits h
-part_ends before calls place st true last c (part.TakesTicket t) bits h = then_ends before calls place st last c (part.TakesTicket t) bits h
-part_ends before calls place st true last c (part.Lowers t) bits h = then_ends before calls place st last c (part.Lowers t) bits h
-part_ends before calls place st true last c (part.Refuses f) bits h = then_ends before calls place st last c (part.Refuses f) bits h
-part_ends before calls place st true last c (part.Waits t w ws) bits h = then_ends before calls place st last c (part.Waits t w ws) bits h
-part_ends before calls place st true last c (part.AsksCommit k ks vs) bits h = then_ends before calls place st last c (part.AsksCommit k ks vs) bits h
-part_ends before calls place st true last c (part.AsksStamp k ks vs b) bits h = then_ends before calls place st last c (part.AsksStamp k ks vs b) bits h
-part_ends before calls place st true last c (part.AsksImage vs) bits h = then_ends before calls place st last c (part.AsksImage vs) bits h
-part_ends before calls place st true last c (part.WritesImage vs xs) bits h = then_ends before calls place st last c (part.WritesImage vs xs) bits h
-part_ends before calls place st true last c (part.WritesStamp vs xs) bits h = then_ends before calls place st last c (part.WritesStamp vs xs) bits h
-part_ends before calls place st true last c (part.WritesCommit vs xs) bits h = then_ends before calls place st last c (part.WritesCommit vs xs) bits h
-part_ends before calls place st true last c part.Over bits h = then_ends before calls place st last c part.Over bits h
+part_ends before calls place st true last c x bits h = then_ends before calls place st last c x bits h
 
 marks_end : (before calls : Calls) (place : ℕ) (st : Stage) (s : Setup) (p : ℕ) (d : Doing) (flick v : Bool) → is_uncut d ≡ true → CallGoesOn before calls → Ends before calls place st (marks_with s p d flick v)
 marks_end before calls place st s p Rests flick v h on = inl on
@@ -259,11 +228,8 @@ pub record IsOnItsWay (board : BoardState) (old now : PortState) : Type 0 where
 pub sets_out : (board : BoardState) (port : PortState) → IsOf board port → IsCalling port.setup port.view.own → IsOnItsWay board port port
 sets_out board port is c = record { of_board = is; same = (refl, refl, refl, refl); calling = c; on = goes_from port.view.own.calls }
 
-same_board : (board : BoardState) (old new : PortState) → IsOf board old → SamePort old new → IsOf board new
-same_board board old new h same = (same.0 ∙ h.0, same.2 ∙ h.1)
-
 pub is_of_then : (board : BoardState) (old new : PortState) → IsOf board old → SamePort old new → IsOf board new
-is_of_then board old new h same = same_board board old new h same
+is_of_then board old new h same = (same.0 ∙ h.0, same.2 ∙ h.1)
 
 leads_from : (board : BoardState) (old now new : PortState) (turns : ℕ) (flicks then : FlickState) (end : Driven) → IsOnItsWay board old now → Drives now.setup now.view turns flicks end new.view then → LeadsOn old.setup end now.view new.view
 leads_from board old now new turns flicks then end h d =
@@ -272,13 +238,11 @@ leads_from board old now new turns flicks then end h d =
 pub goes_on_its_way : (board : BoardState) (old now new : PortState) (turns : ℕ) (flicks then : FlickState) (end : Driven) → IsOnItsWay board old now → SamePort now new → Drives now.setup now.view turns flicks end new.view then → end ≡ driven.Turns → IsOnItsWay board old new
 goes_on_its_way board old now new turns flicks then end h same d is =
     let lead : ComesTo old.setup (Some reached.Section) now.view new.view = subst (λ (e : Driven). LeadsOn old.setup e now.view new.view) is (leads_from board old now new turns flicks then end h d) in
-    record { of_board = same_board board now new h.of_board same; same = same_on old now new h.same same; calling = lead.0; on = goes_trans old.view.own.calls now.view.own.calls new.view.own.calls h.on lead.1 }
+    record { of_board = is_of_then board now new h.of_board same; same = same_on old now new h.same same; calling = lead.0; on = goes_trans old.view.own.calls now.view.own.calls new.view.own.calls h.on lead.1 }
 
 not_turns : (s : Setup) (end : Driven) (v w : ViewState) → (end ≡ driven.Turns → ⊥) → LeadsOn s end v w → ComesTo s (Some reached.Answer) v w
 not_turns s driven.Turns v w never h = absurd (never refl)
-not_turns s (driven.Answered a) v w never h = h
-not_turns s driven.Down v w never h = h
-not_turns s driven.Idle v w never h = h
+not_turns s _ v w never h = h
 
 pub comes_to_answer : (board : BoardState) (old now new : PortState) (turns : ℕ) (flicks then : FlickState) (end : Driven) → IsOnItsWay board old now → Drives now.setup now.view turns flicks end new.view then → (end ≡ driven.Turns → ⊥) → ComesTo old.setup (Some reached.Answer) old.view new.view
 comes_to_answer board old now new turns flicks then end h d never =
@@ -291,7 +255,7 @@ is_inside board old now h = (h.calling, h.on)
 pub still_on_its_way : (board : BoardState) (old now new : PortState) → IsOnItsWay board old now → SamePort now new → ComesTo now.setup None now.view new.view → IsOnItsWay board old new
 still_on_its_way board old now new h same c =
     record {
-      of_board = same_board board now new h.of_board same;
+      of_board = is_of_then board now new h.of_board same;
       same = same_on old now new h.same same;
       calling = subst (λ (s : Setup). IsCalling s new.view.own) h.same.2 c.0;
       on = goes_trans old.view.own.calls now.view.own.calls new.view.own.calls h.on c.1;

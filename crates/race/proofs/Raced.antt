@@ -1,5 +1,5 @@
 -- What a race leaves, from what its ports have made and what closing leaves.
-use Rattle.std.proofs.Common.{◌≡◌, ◌<◌, ◌≤◌, ℕ, zero, suc, List, [], ◌∷◌, inl, length, Some, refl, sym, ap, subst, ◌∙◌, arith}
+use Rattle.std.proofs.Common.{◌≡◌, ◌<◌, ◌≤◌, ℕ, List, inl, length, Some, refl, sym, ap, subst, ◌∙◌, arith}
 use Rattle.std.specs.Prelude.{Ok, slice_get}
 use Rattle.std.proofs.lemmas.List.{length-map}
 use Rattle.std.proofs.lemmas.Option.{slice_get_within}
@@ -17,19 +17,14 @@ use Rattle.board.specs.Closings.{AreInOrder, AreListsOf, AreMadeWith, AreOfAll, 
 use Rattle.board.specs.Lists.{StandsIn}
 use Rattle.board.specs.Ports.{PortState}
 use Rattle.board.specs.Views.{new_own}
+use Rattle.race.proofs.Lists.{there}
 use Rattle.race.specs.Races.{AllHaveMade, AreMade, AreNew, IsRaced, plans_of}
-
--- what stands in a list, at each place below its length
-some_at : {A : Type 0} (xs : List A) (k : ℕ) → k < length xs → (x : A) × (slice_get xs k ≡ Some x)
-some_at [] k h = absurd (omega arith)
-some_at (x ∷ xs) zero h = (x, refl)
-some_at (x ∷ xs) (suc k) h = some_at xs k (omega arith)
 
 -- the port that leaves a list
 answer_at : (ports : List PortState) (answers : List (List Placed)) → AreListsOf ports answers → AreInOrder ports → (k : ℕ) (calls : List Placed) → slice_get answers k ≡ Some calls →
     (port : PortState) × (slice_get ports k ≡ Some port) × (port.view.own.calls.done ≡ calls)
 answer_at ports answers lists order k calls h =
-    let port = some_at ports k (subst (λ n. k < n) lists.all (slice_get_within answers k calls h)) in
+    let port = there ports k (subst (λ n. k < n) lists.all (slice_get_within answers k calls h)) in
     let same : Some port.0.view.own.calls.done ≡ Some calls = sym (lists.each k port.0 port.1) ∙ ap (slice_get answers) (order k port.0 port.1) ∙ h in
     (port.0, port.1, cc)
 
@@ -61,7 +56,7 @@ pub of_all : (board : BoardState) (plans : List (List Command)) (ports : List Po
 of_all board plans ports h all = record {
   all = h.0 ∙ all;
   each = λ p below.
-      let port = some_at ports p (subst (λ n. p < n) (sym (h.0 ∙ all)) below) in
+      let port = there ports p (subst (λ n. p < n) (sym (h.0 ∙ all)) below) in
       (p, (port.0, port.1, in_order board plans ports h p port.0 port.1));
 }
 

@@ -1,5 +1,5 @@
 -- What the threads of a race give back, from what each promised.
-use Rattle.std.proofs.Common.{◌≡◌, ◌⊎◌, ◌<◌, ◌≤◌, ℕ, zero, suc, List, [], ◌∷◌, ◌++◌, drop, inl, inr, length, Option, None, Some, refl, sym, subst, ◌∙◌, arith}
+use Rattle.std.proofs.Common.{◌≡◌, ◌⊎◌, ◌≤◌, ℕ, suc, List, [], ◌∷◌, ◌++◌, drop, inl, inr, length, Option, None, Some, sym, subst, ◌∙◌, arith}
 use Rattle.std.specs.Prelude.{IfOk, IfErr, IfSome, Result, Ok, Err, slice_get}
 use Rattle.std.specs.Global.{Vec}
 use Rattle.std.proofs.lemmas.List.{length-map}
@@ -8,19 +8,13 @@ use Rattle.plain_store.specs.declared.Command.{Command}
 use Rattle.board.proofs.PortLists.{all_push}
 use Rattle.board.specs.Boards.{BoardState}
 use Rattle.board.specs.Ports.{PortState}
-use Rattle.race.proofs.Lists.{at_drop, drop_more}
+use Rattle.race.proofs.Lists.{at_drop, drop_more, there}
 use Rattle.race.specs.Faults.{EndsPort, IsFaultAmong, IsFaultOf}
 use Rattle.board.specs.Views.{OwnView}
 use Rattle.plain_store.specs.declared.Setup.{Setup}
 use Rattle.race.specs.declared.faults.RaceFault.{RaceFault}
 use Rattle.race.specs.declared.faults.RaceFault.TheVariants.{Spawn, Held, Memory}
 use Rattle.race.specs.Races.{AllHaveMade, HasMade, IsFor, plans_of}
-
--- an index below the length has an item
-there : {A : Type 0} (xs : List A) (k : ℕ) → k < length xs → (x : A) × (slice_get xs k ≡ Some x)
-there [] k h = absurd (omega arith)
-there (x ∷ xs) zero h = (x, refl)
-there (x ∷ xs) (suc k) h = there xs k (omega arith)
 
 -- what follows of two facts on what a result holds
 pub if_both : {X E : Type 0} (r : Result X E) (P Q R : X → Type 0) → IfOk r P → IfOk r Q → ((x : X) → P x → Q x → R x) → IfOk r R

@@ -2,9 +2,13 @@
 use crate::plans::{a, add, answer, raced};
 use plain_store::{Answer, Command, Reply, Store, Value};
 use race::{Closing, Gate, Moment, Pass};
+use std::alloc::Global;
+use std::process::Abort;
+use std::sync::Wait;
 use std::sync::atomic::AtomicU32;
 use std::sync::atomic::Ordering::SeqCst;
 use std::test::Fail;
+use std::thread::Threads;
 
 /// Holds port 1 at its begin until port 0 has begun its second call.
 #[derive(Drop)]
@@ -44,6 +48,20 @@ fn counted(closing: &Closing) -> Option<i64> {
     }
 }
 
+/// A race of two ports that add, in which the calls that were answered with a sum are the count that it leaves: how many.
+fn added(rt: &(impl Threads + Wait + Abort + Sync), alloc: Global) -> Result<i64, Fail> {
+    let first = [Command::Write(a(), Value::Count(0)), add(), add(), add()];
+    let second = [add(), add(), add()];
+    let gate = AfterTheFirst {
+        begun: AtomicU32::new(0),
+    };
+    let closing = raced(rt, alloc, 4, [&first, &second], &gate)?;
+    let added = sums(&closing, 0, 4).saturating_add(sums(&closing, 1, 3));
+    assert!(rt; matches!(answer(&closing, 0, 0), Some(Answer::Reply(Reply::Done))));
+    assert!(rt; counted(&closing) == Some(added));
+    Ok(added)
+}
+
 /// So often the race is run anew where a call found the tickets full.
 const RACES: u32 = 1000;
 
@@ -51,17 +69,8 @@ const RACES: u32 = 1000;
 // calls that it answered with a sum, and it is run anew until all six were.
 #[test]
 fn two_threads_add(rt: HostRuntime) -> Result<(), Fail> {
-    let first = [Command::Write(a(), Value::Count(0)), add(), add(), add()];
-    let second = [add(), add(), add()];
     for _ in 0..RACES {
-        let gate = AfterTheFirst {
-            begun: AtomicU32::new(0),
-        };
-        let closing = raced(&rt, rt.alloc(), 4, [&first, &second], &gate)?;
-        let added = sums(&closing, 0, 4).saturating_add(sums(&closing, 1, 3));
-        assert!(&rt; matches!(answer(&closing, 0, 0), Some(Answer::Reply(Reply::Done))));
-        assert!(&rt; counted(&closing) == Some(added));
-        if added == 6 {
+        if added(&rt, rt.alloc())? == 6 {
             return Ok(());
         }
     }

@@ -3,6 +3,7 @@ use crate::plans::{add, answer, is_no_name_or_full, race_of_two, raced};
 use plain_store::{Answer, NestedTypes, Setup};
 use race::{Gate, Moment, Pass, RaceFault, race};
 use std::alloc::Global;
+use std::process::Abort;
 use std::sync::Wait;
 use std::sync::atomic::Ordering::SeqCst;
 use std::sync::atomic::{AtomicBool, AtomicU32};
@@ -137,18 +138,29 @@ impl Gate for Patient {
     }
 }
 
-/// Two ports add once each, and the gate holds one of them inside until the other has begun.
+/// Two ports add once each, and the gate holds this one inside until the other has begun: whether each is answered.
+fn are_answered(
+    rt: &(impl Threads + Wait + Abort + Sync),
+    alloc: Global,
+    held: u8,
+) -> Result<[bool; 2], Fail> {
+    let adds = [add()];
+    let gate = UntilBegun {
+        held,
+        begun: AtomicBool::new(false),
+    };
+    let closing = raced(rt, alloc, 4, [&adds, &adds], &gate)?;
+    let first = is_no_name_or_full(answer(&closing, 0, 0));
+    let second = is_no_name_or_full(answer(&closing, 1, 0));
+    Ok([first, second])
+}
+
 #[test]
 fn one_waits_inside_for_the_other_to_begin(rt: HostRuntime) -> Result<(), Fail> {
-    let adds = [add()];
     for held in [0, 1] {
-        let gate = UntilBegun {
-            held,
-            begun: AtomicBool::new(false),
-        };
-        let closing = raced(&rt, rt.alloc(), 4, [&adds, &adds], &gate)?;
-        assert!(&rt; is_no_name_or_full(answer(&closing, 0, 0)));
-        assert!(&rt; is_no_name_or_full(answer(&closing, 1, 0)));
+        let [first, second] = are_answered(&rt, rt.alloc(), held)?;
+        assert!(&rt; first);
+        assert!(&rt; second);
     }
     Ok(())
 }

@@ -4,6 +4,7 @@ ghost use Rattle.board.specs.Boards.{IsOf};
 use board::{Board, Driven, Flicks, Port};
 use plain_store::Setup;
 use std::alloc::AllocError;
+use std::process::Abort;
 
 /// Whether a port that is idle makes no step and says so, with turns and without; whether it then fails; and whether it is down,
 /// with turns and without.
@@ -20,13 +21,24 @@ fn says_so(board: &Board, port: &mut Port) -> [bool; 5]
     ]
 }
 
-// A port that is idle makes no step and says so, with turns and without; and so does one that is down.
+/// A port that is idle makes no step and says so, with turns and without; and so does one that is down.
+fn makes_no_step(rt: &impl Abort, board: &Board, port: &mut Port)
+    requires { IsOf board.now port.old }
+{
+    let [idle, idle_with_turns, fails, down_with_turns, down] = says_so(board, port);
+    assert!(rt; idle);
+    assert!(rt; idle_with_turns);
+    assert!(rt; fails);
+    assert!(rt; down_with_turns);
+    assert!(rt; down);
+}
+
 #[test]
 fn ports_at_rest_make_no_step(rt: HostRuntime) -> Result<(), AllocError> {
     let (board, mut ports) = Board::new(rt.alloc(), &Setup::one(1, 2, 2, 1))?;
     let Some(port) = ports.get_mut(0) else {
         panic!(rt; "there is no port");
     };
-    assert!(rt; matches!(says_so(&board, port), [true, true, true, true, true]));
+    makes_no_step(&rt, &board, port);
     Ok(())
 }

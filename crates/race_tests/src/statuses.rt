@@ -4,7 +4,7 @@ use std::test::Fail;
 
 #[test]
 fn gives_the_status_of_a_race(rt: HostRuntime) -> Result<(), Fail> {
-    for (raced, status) in [
+    for (raced, status) in &[
         (Ok(Weighed::Good), 0),
         (Ok(Weighed::Bad(1, 0)), 3),
         (Ok(Weighed::BadEnd), 3),
@@ -12,7 +12,7 @@ fn gives_the_status_of_a_race(rt: HostRuntime) -> Result<(), Fail> {
         (Err(RaceFault::Memory), 4),
         (Err(RaceFault::Spawn), 4),
     ] {
-        assert!(rt; race_status(&raced) == status);
+        assert!(rt; race_status(raced) == *status);
     }
     Ok(())
 }

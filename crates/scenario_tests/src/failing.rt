@@ -2,6 +2,7 @@
 use engines::progress::Nobody;
 use engines::run_record;
 use scenario::{Failed, Fault, FromRead, Sink};
+use std::alloc::{AllocError, Global};
 use std::test::Fail;
 
 /// Takes all bytes of each call, up to a call that fails.
@@ -46,19 +47,29 @@ const FRONTS: [(usize, &str); 3] = [
     ),
 ];
 
+/// The fault of recording to a writer that fails after so many calls, and whether it took this.
+fn recorded(
+    alloc: Global,
+    calls: usize,
+    written: &str,
+) -> Result<(Option<Fault>, bool), AllocError> {
+    let mut output = Paper {
+        written: Vec::with_capacity(alloc, 128)?,
+        calls,
+        failures: 0,
+    };
+    let mut input = FromRead::new(FAILURE.as_bytes());
+    let fault = run_record(alloc, &mut input, &mut output, &mut Nobody).err();
+    Ok((fault, output.written.as_slice() == written.as_bytes()))
+}
+
 // A record's lines before its entries are written by one call, and each entry by one.
 #[test]
 fn writes_each_entry_by_one_call(rt: HostRuntime) -> Result<(), Fail> {
-    for (calls, written) in FRONTS {
-        let mut output = Paper {
-            written: Vec::with_capacity(rt.alloc(), 128)?,
-            calls,
-            failures: 0,
-        };
-        let mut input = FromRead::new(FAILURE.as_bytes());
-        let fault = run_record(rt.alloc(), &mut input, &mut output, &mut Nobody).err();
+    for (calls, written) in &FRONTS {
+        let (fault, is_written) = recorded(rt.alloc(), *calls, written)?;
         assert!(rt; matches!(fault, Some(Fault::Write)), "{fault:?}");
-        assert!(rt; output.written.as_slice() == written.as_bytes());
+        assert!(rt; is_written);
     }
     Ok(())
 }

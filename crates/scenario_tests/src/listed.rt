@@ -28,16 +28,28 @@ fn printed(alloc: Global, file: &str) -> Result<Vec<u8>, Fail> {
     Ok(text)
 }
 
-/// The marks that a replay of a file prints: its lines that begin with the number of an event.
-fn marks_of_replay(alloc: Global, file: &str) -> Result<Vec<u8>, Fail> {
+/// Adds a line.
+fn push_line(lines: &mut Vec<u8>, line: &[u8]) -> Result<(), AllocError> {
+    lines.extend_from_slice(line)?;
+    lines.push(b'\n')?;
+    Ok(())
+}
+
+/// The lines of a print that begin with the number of an event.
+fn mark_lines(alloc: Global, printed: &[u8]) -> Result<Vec<u8>, Fail> {
     let mut marks = Vec::new(alloc);
-    for line in printed(alloc, file)?.as_slice().lines() {
+    for line in printed.lines() {
         if line.first().is_some_and(|byte| byte.is_ascii_digit()) {
-            marks.extend_from_slice(line)?;
-            marks.push(b'\n')?;
+            push_line(&mut marks, line)?;
         }
     }
     Ok(marks)
+}
+
+/// The marks that a replay of a file prints.
+fn marks_of_replay(alloc: Global, file: &str) -> Result<Vec<u8>, Fail> {
+    let printed = printed(alloc, file)?;
+    mark_lines(alloc, &printed)
 }
 
 /// Adds the marks of an act, as a replay prints them.
@@ -93,7 +105,7 @@ fn has_its_marks(alloc: Global, file: &str) -> Result<bool, Fail> {
 // The accepted events of each worked run, made one by one, have the marks that its replay prints.
 #[test]
 fn single_events_make_the_marks_of_replays(rt: HostRuntime) -> Result<(), Fail> {
-    for file in SCENARIOS {
+    for file in &SCENARIOS {
         assert!(rt; has_its_marks(rt.alloc(), file)?, "{file}");
     }
     Ok(())

@@ -46,12 +46,16 @@ const OTHERS: [&str; 4] = [
     "1 0.commit.0.1 settle 1 : settled 1 : taken 3 swapped : leave",
 ];
 
+/// Whether what is printed for the entry that a line says is that line.
+fn is_printed(alloc: Global, line: &str) -> Result<bool, AllocError> {
+    Ok(printed(alloc, line)?.as_slice() == line.as_bytes())
+}
+
 #[test]
 fn entries_are_read_and_printed(rt: HostRuntime) -> Result<(), Fail> {
     for lines in [STEPS.as_slice(), OTHERS.as_slice()] {
         for line in lines {
-            let printed = printed(rt.alloc(), line)?;
-            assert!(rt; printed.as_slice() == line.as_bytes(), "{line}");
+            assert!(rt; is_printed(rt.alloc(), line)?, "{line}");
         }
     }
     Ok(())
@@ -69,10 +73,10 @@ fn is_step(line: &str) -> bool {
 
 #[test]
 fn steps_are_read_at_once(rt: HostRuntime) {
-    for line in STEPS {
+    for line in &STEPS {
         assert!(rt; is_step(line), "{line}");
     }
-    for line in OTHERS {
+    for line in &OTHERS {
         assert!(rt; !is_step(line), "{line}");
     }
 }

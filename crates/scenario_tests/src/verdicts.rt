@@ -7,7 +7,7 @@ use crate::scenarios::LONE_WRITE;
 use crate::worlds::a;
 use engines::{Auditor, Law, Record, Swept, Verdict, audit, events_of, record_of, sweep};
 use plain_store::{Command, Setup, Value};
-use record::{Event, Mark};
+use record::{Entry, Event, Mark};
 use scenario::read_scenario;
 use std::alloc::{AllocError, Global};
 use std::process::Abort;
@@ -48,26 +48,22 @@ fn sweep_again(
     }
 }
 
-/// An auditor finds no fault with a record, of which it hears every other entry as its parts.
-fn hear_all(
-    rt: &impl Abort,
-    alloc: Global,
-    setup: &Setup,
-    record: &Record,
-) -> Result<(), AllocError>
-    requires { checked setup.now ≡ Ok tt }
-{
-    let mut auditor = Auditor::new(alloc, setup)?;
+/// Whether an auditor finds no fault with an entry, of which it hears every other one as its parts.
+fn keeps_the_laws(auditor: &mut Auditor, number: usize, entry: &Entry) -> bool {
+    let act = &entry.act;
+    let law = if number % 2 == 0 {
+        auditor.hear(entry)
+    } else {
+        auditor.hear_parts(entry.process, &act.access, &act.marks)
+    };
+    law.is_none()
+}
+
+/// An auditor finds no fault with the entries of a record.
+fn hear_all(rt: &impl Abort, auditor: &mut Auditor, record: &Record) {
     for (number, entry) in record.entries.iter().enumerate() {
-        let act = &entry.act;
-        let law = if number % 2 == 0 {
-            auditor.hear(entry)
-        } else {
-            auditor.hear_parts(entry.process, &act.access, &act.marks)
-        };
-        assert!(rt; law.is_none(), "entry {number}");
+        assert!(rt; keeps_the_laws(auditor, number, entry), "entry {number}");
     }
-    Ok(())
 }
 
 /// Whether the process of the lone write comes inside with its eighth step.
@@ -96,19 +92,46 @@ fn events_of_lone_write(alloc: Global) -> Result<Vec<Event>, Fail> {
     Ok(events?)
 }
 
-/// The record of the lone write is good, and without an access it breaks the local program.
-fn audit_both(rt: &(impl Abort + AllocGlobal), record: &mut Record) -> Result<(), Fail> {
-    let setup = setup_of_lone_write();
-    assert!(rt; record.entries.len() == 761 && comes_inside(record));
-    hear_all(rt, rt.alloc(), &setup, record)?;
-    let verdict = audit_again(rt.alloc(), &setup, record)?;
-    assert!(rt; matches!(verdict, Verdict::Good));
-    if let Some(entry) = record.entries.get_mut(756) {
+/// It finds no fault with the record of the lone write.
+fn hear_lone_write(rt: &(impl Abort + AllocGlobal), record: &Record) -> Result<(), AllocError> {
+    let mut auditor = Auditor::new(rt.alloc(), &setup_of_lone_write())?;
+    hear_all(rt, &mut auditor, record);
+    Ok(())
+}
+
+/// Whether the record of the lone write is good.
+fn is_good(alloc: Global, record: &Record) -> Result<bool, AllocError> {
+    let verdict = audit_again(alloc, &setup_of_lone_write(), record)?;
+    Ok(matches!(verdict, Verdict::Good))
+}
+
+/// Whether it breaks the local program at this entry.
+fn breaks_the_program(alloc: Global, record: &Record, entry: u64) -> Result<bool, AllocError> {
+    let verdict = audit_again(alloc, &setup_of_lone_write(), record)?;
+    Ok(matches!(verdict, Verdict::Bad(told, Law::Program) if told == entry))
+}
+
+/// An entry is without its access from then on.
+fn drop_access(record: &mut Record, entry: usize) {
+    if let Some(entry) = record.entries.get_mut(entry) {
         entry.act.access = None;
     }
-    let verdict = audit_again(rt.alloc(), &setup, record)?;
-    assert!(rt; matches!(verdict, Verdict::Bad(756, Law::Program)));
+}
+
+/// The record of the lone write is good, and without an access it breaks the local program.
+fn audit_both(rt: &(impl Abort + AllocGlobal), record: &mut Record) -> Result<(), Fail> {
+    assert!(rt; record.entries.len() == 761 && comes_inside(record));
+    hear_lone_write(rt, record)?;
+    assert!(rt; is_good(rt.alloc(), record)?);
+    drop_access(record, 756);
+    assert!(rt; breaks_the_program(rt.alloc(), record, 756)?);
     Ok(())
+}
+
+/// The record of these events, which are those of the lone write.
+fn audit_record(rt: &(impl Abort + AllocGlobal), events: &[Event]) -> Result<(), Fail> {
+    let mut record = record_of(rt.alloc(), &setup_of_lone_write(), events)?;
+    audit_both(rt, &mut record)
 }
 
 // The record of a run has its entries and is good, and one without an access breaks the local program.
@@ -116,15 +139,19 @@ fn audit_both(rt: &(impl Abort + AllocGlobal), record: &mut Record) -> Result<()
 fn hears_and_audits_a_record(rt: HostRuntime) -> Result<(), Fail> {
     let events = events_of_lone_write(rt.alloc())?;
     assert!(rt; events.len() == 761);
-    let mut record = record_of(rt.alloc(), &setup_of_lone_write(), &events)?;
-    audit_both(&rt, &mut record)
+    audit_record(&rt, &events)
+}
+
+/// The sweep of the lone write.
+fn sweep_of_lone_write(alloc: Global) -> Result<Swept, Fail> {
+    let events = events_of_lone_write(alloc)?;
+    let calls = [(0, Command::Write(a(), Value::Count(5)))];
+    Ok(sweep(alloc, &setup_of_lone_write(), &events, &calls)?)
 }
 
 #[test]
 fn sweeps_the_lone_write(rt: HostRuntime) -> Result<(), Fail> {
-    let events = events_of_lone_write(rt.alloc())?;
-    let calls = [(0, Command::Write(a(), Value::Count(5)))];
-    let found = sweep(rt.alloc(), &setup_of_lone_write(), &events, &calls)?;
+    let found = sweep_of_lone_write(rt.alloc())?;
     assert!(rt; are_all_good(&found, 1_522), "{found}");
     Ok(())
 }

@@ -1,7 +1,7 @@
 //! Worlds that are driven by single events. Each is held by a function with one exit, which lends it.
 use crate::uses::two_events;
 use plain_store::{Command, Name, Setup};
-use record::{Event, Mark, Refusal, Stage};
+use record::{Act, Event, Mark, Refusal, Stage};
 use std::alloc::Global;
 use std::process::Abort;
 use std::test::Fail;
@@ -13,29 +13,38 @@ pub fn a() -> Name {
 }
 
 /// Makes an event.
-fn make(world: &mut World, event: Event) -> Result<(), Refusal> {
+pub fn make(world: &mut World, event: Event) -> Result<(), Refusal> {
     world.event(event)?;
     Ok(())
 }
 
-/// A process reads, and makes 20 steps: where it is then.
-fn comes_to_wait(world: &mut World, process: u8) -> Result<Option<Stage>, Refusal> {
+/// A process reads, and makes 20 steps: whether it waits then.
+fn comes_to_wait(world: &mut World, process: u8) -> Result<bool, Refusal> {
     make(world, Event::Call(process, Command::Read(a())))?;
     for _ in 0..20 {
         make(world, Event::Step(process, false))?;
     }
-    Ok(world.stage(process))
+    Ok(world.stage(process) == Some(Stage::Waiting))
+}
+
+/// Whether nobody is ahead of a process.
+fn is_first(world: &World, process: u8) -> bool {
+    world.ahead(process).is_empty()
+}
+
+/// Whether process 0 alone is ahead of process 1.
+fn is_behind_one(world: &World) -> bool {
+    matches!(world.ahead(1).as_slice(), [0])
 }
 
 /// Two processes wait, of which the first gives up.
-fn one_gives_up(rt: &impl Abort, world: &mut World) -> Result<(), Refusal> {
+fn one_gives_up(rt: &impl Abort, world: &mut World) -> Result<(), Fail> {
     for process in 0..2 {
-        let stage = comes_to_wait(world, process)?;
-        assert!(rt; matches!(stage, Some(Stage::Waiting)));
+        assert!(rt; comes_to_wait(world, process)?);
     }
-    assert!(rt; world.ahead(0).is_empty() && matches!(world.ahead(1).as_slice(), [0]));
+    assert!(rt; is_first(world, 0) && is_behind_one(world));
     make(world, Event::Withdraw(0))?;
-    assert!(rt; world.ahead(1).is_empty());
+    assert!(rt; is_first(world, 1));
     Ok(())
 }
 
@@ -43,23 +52,35 @@ fn one_gives_up(rt: &impl Abort, world: &mut World) -> Result<(), Refusal> {
 #[test]
 fn tells_who_is_ahead(rt: HostRuntime) -> Result<(), Fail> {
     let mut world = World::new(rt.alloc(), &Setup::one(2, 2, 2, 1))?;
-    Ok(one_gives_up(&rt, &mut world)?)
+    one_gives_up(&rt, &mut world)
+}
+
+/// Whether an act is that of a call.
+fn asks(act: &Act) -> bool {
+    matches!(act.marks.as_slice(), [Mark::Called(Command::Ask)]) && act.access.is_none()
+}
+
+/// Whether an act is that of a step without a mark.
+fn steps(act: &Act) -> bool {
+    act.marks.is_empty() && act.access.is_some()
 }
 
 /// Whether a call and a step have the acts that each would have alone.
 fn calls_and_steps(world: &mut World) -> Result<bool, Refusal> {
     let call = Event::Call(1, Command::Ask);
     let (called, stepped) = two_events(world, call, Event::Step(1, false))?;
-    let calls = matches!(called.marks.as_slice(), [Mark::Called(Command::Ask)]);
-    let steps = stepped.marks.is_empty() && stepped.access.is_some();
-    Ok(calls && called.access.is_none() && steps)
+    Ok(asks(&called) && steps(&stepped))
 }
 
-/// Makes a call and a step, and then a step and one of a process that does not run.
-fn makes_them(rt: &impl Abort, world: &mut World) -> Result<(), Refusal> {
+/// What two steps are refused for, of which the second is of a process that does not run.
+fn refusal_of_steps(world: &mut World) -> Option<Refusal> {
+    two_events(world, Event::Step(1, false), Event::Step(0, false)).err()
+}
+
+/// Makes a call and a step, and then those steps.
+fn makes_them(rt: &impl Abort, world: &mut World) -> Result<(), Fail> {
     assert!(rt; calls_and_steps(world)?);
-    let refused = two_events(world, Event::Step(1, false), Event::Step(0, false));
-    assert!(rt; matches!(refused, Err(Refusal::NotRunning)));
+    assert!(rt; matches!(refusal_of_steps(world), Some(Refusal::NotRunning)));
     Ok(())
 }
 
@@ -67,7 +88,7 @@ fn makes_them(rt: &impl Abort, world: &mut World) -> Result<(), Refusal> {
 #[test]
 fn makes_two_events(rt: HostRuntime) -> Result<(), Fail> {
     let mut world = World::new(rt.alloc(), &Setup::one(2, 4, 4, 1))?;
-    Ok(makes_them(&rt, &mut world)?)
+    makes_them(&rt, &mut world)
 }
 
 /// A call that fails before its first access, up to its process's restart.
@@ -81,7 +102,7 @@ fn call_that_fails(world: &mut World) -> Result<(), Refusal> {
 }
 
 /// What a call is refused for after 65,535 such calls.
-fn refused_after(world: &mut World) -> Result<Option<Refusal>, Refusal> {
+fn refused_after(world: &mut World) -> Result<Option<Refusal>, Fail> {
     for _ in 0..65_535 {
         call_that_fails(world)?;
     }
@@ -94,7 +115,7 @@ fn refused_after_calls(alloc: Global, version: u8) -> Result<Option<Refusal>, Fa
     setup.version = version;
     setup.check()?;
     let mut world = World::new(alloc, &setup)?;
-    Ok(refused_after(&mut world)?)
+    refused_after(&mut world)
 }
 
 // In version 2 a process makes 65,535 calls; in version 1 there is no such bound.

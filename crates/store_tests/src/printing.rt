@@ -43,7 +43,7 @@ fn prints(alloc: Global, text: &str, printed: &str) -> Result<bool, Fail> {
 
 #[test]
 fn prints_scenarios(rt: HostRuntime) -> Result<(), Fail> {
-    for (text, printed) in PRINTED {
+    for (text, printed) in &PRINTED {
         assert!(rt; prints(rt.alloc(), text, printed)?, "{printed}");
     }
     Ok(())

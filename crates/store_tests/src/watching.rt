@@ -149,7 +149,7 @@ fn moves_on_a_bit_keep_the_law_or_not(rt: HostRuntime) -> Result<(), Fail> {
         &WITHOUT_BEGIN,
         &OUT_OF_TURN,
     ];
-    for heard in tables {
+    for heard in &tables {
         let other = first_otherwise(rt.alloc(), heard, AskedOfWatch::Keeps)?;
         assert!(rt; other.is_none(), "{other:?}");
     }
@@ -192,7 +192,7 @@ const OTHER_READS: [Heard; 8] = [
 #[test]
 fn the_end_of_an_overlapped_read_is_told(rt: HostRuntime) -> Result<(), Fail> {
     let tables: [&[Heard]; 2] = [&ENDS_OF_OVERLAPPED, &OTHER_READS];
-    for heard in tables {
+    for heard in &tables {
         let other = first_otherwise(rt.alloc(), heard, AskedOfWatch::Overlaps)?;
         assert!(rt; other.is_none(), "{other:?}");
     }

@@ -321,17 +321,17 @@ fn weighs_so(
 
 #[test]
 fn weighs_other_places(rt: HostRuntime) -> Result<(), Fail> {
-    for (port, index, place, verdict) in OTHER_PLACES {
-        weighs_so(&rt, port, index, &Change::Place(place), &verdict)?;
+    for (port, index, place, verdict) in &OTHER_PLACES {
+        weighs_so(&rt, *port, *index, &Change::Place(*place), verdict)?;
     }
     Ok(())
 }
 
 #[test]
 fn weighs_other_answers(rt: HostRuntime) -> Result<(), Fail> {
-    for (port, index, answer) in OTHER_ANSWERS {
-        let change = Change::Answer(Some(answer));
-        weighs_so(&rt, port, index, &change, &Weighed::Bad(port, index))?;
+    for (port, index, answer) in &OTHER_ANSWERS {
+        let change = Change::Answer(Some(*answer));
+        weighs_so(&rt, *port, *index, &change, &Weighed::Bad(*port, *index))?;
     }
     Ok(())
 }
@@ -370,9 +370,9 @@ fn weighed_in_two(alloc: Global, calls: &[CallMade], image: &Image) -> Result<We
 #[test]
 fn weighs_version_two(rt: HostRuntime) -> Result<(), Fail> {
     let written = image(5, 2)?;
-    for (calls, verdict) in IN_TWO {
+    for (calls, verdict) in &IN_TWO {
         let found = weighed_in_two(rt.alloc(), calls, &written)?;
-        assert!(rt; found == verdict, "{verdict}");
+        assert!(rt; found == *verdict, "{verdict}");
     }
     let found = weighed_in_two(rt.alloc(), &[Write, AskOne], &Image::empty(1, 2))?;
     assert!(rt; matches!(found, Weighed::BadEnd));

@@ -5,6 +5,7 @@ use Rattle.board.specs.Closings.{AreMadeWith}
 use Rattle.board.specs.Ports.{PortState}
 use Rattle.board.specs.Views.{ViewState, new_own, new_view, with_made}
 use Rattle.board.proofs.PortLists.{all_push}
+use Rattle.board.proofs.Seats.{some_processes}
 use Rattle.board.proofs.board.Board.others.Goals as goal
 
 pub new-requires-clause-seat : goal.new-requires-clause-seat
@@ -25,4 +26,17 @@ loop-number-preserved c = let i = c.loop-number.invariant in let h = c.push_rese
           (all_push (λ k (port : PortState). port.view.own ≡ new_own (suc k)) c.loop-number.ports.items q.result i.idle
           (ap (λ (p : PortState). p.view.own) q.ensures ∙ ap (λ m. m.0.own) c.newcomer-seat.ensures.seat.1
           ∙ ap new_own (ap (λ m. m.0.made) i.first ∙ (let all : c.loop-number.number ≡ suc (length c.loop-number.ports.items) = omega (arith, n) in all))));
+    }
+
+pub returns : goal.returns
+returns c =
+    let i = c.loop-number.invariant in
+    let some_ = some_processes c.self.inside.setup c.self.invariant.good in
+    let all : c.loop-number.number ≡ c.args.self.now.setup.processes = omega (arith, some_, c.loop-number-test.false, c.loop-number.auto.number-end, ap (λ (b : BoardState). b.setup.processes) c.self.view_is) in
+    record {
+      board = i.board;
+      first = i.first ∙ ap (λ n. let m : ViewState × List (ℕ × Unit {0}) = (new_view 0 n, []) in m) all;
+      all = i.len ∙ all;
+      made_with = i.made_with;
+      idle = i.idle;
     }

@@ -4,6 +4,18 @@ use Rattle.board.specs.WordSteps.{LeadsTo, goes}
 use Rattle.board.proofs.Drives.{IsDriven, drives_down, drives_to_answer, driven_on, goes_unless, same_on}
 use Rattle.board.proofs.port.Port.drive.Goals as goal
 
+pub returns-in-Idle : goal.returns-in-Idle
+returns-in-Idle c = record {
+  same = (refl, refl, refl, refl);
+  drives = record { made = 0; ends = (refl, refl, sym c.stage.ensures ∙ c.in-Idle.is); taken = refl };
+}
+
+pub returns-in-Down : goal.returns-in-Down
+returns-in-Down c = record {
+  same = (refl, refl, refl, refl);
+  drives = record { made = 0; ends = (omega arith, refl, sym c.stage.ensures ∙ c.in-Down.is); taken = refl };
+}
+
 pub loop-made-init : goal.loop-made-init
 loop-made-init c = let port = c.args.self.now in record {
   board = c.requires;

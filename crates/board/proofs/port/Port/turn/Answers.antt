@@ -9,7 +9,7 @@ use Rattle.board.specs.Listing.{KnowsPlace}
 use Rattle.board.specs.Lists.{StandsInSeen}
 use Rattle.board.specs.Ports.{IsTied, PortState, with_pending}
 use Rattle.board.specs.Views.{ViewState}
-use Rattle.board.specs.WordSteps.{goes}
+use Rattle.board.specs.WordSteps.{LeadsTo, WordStep, goes}
 use Rattle.board.specs.declared.pending.Pending.{Pending}
 use Rattle.board.proofs.Doings.{goes_steps}
 use Rattle.board.proofs.port.Port.turn.Goals as goal
@@ -39,3 +39,27 @@ invariant_of-self c =
       stands = subst (λ (s : Setup). StandsInSeen s (with_pending process.setup c.clear.new.self v)) (sym setup) (subst (StandsInSeen key) (sym then) step.stands);
       none = step.same.2 ∙ c.self.invariant.none;
     }
+
+pub returns-clause-leads : goal.returns-clause-leads
+returns-clause-leads c =
+    let f = c.self.inside in
+    let port = c.args.self.now in
+    let told = c.word_step-told.result in
+    let process = c.word_step-told.new.process in
+    let v = c.word_step-told.new.seat.me.0 in
+    let step = c.word_step-told.ensures in
+    let keyed : c.board.inside.table.shared.key ≡ f.process.setup = c.board.invariant.keyed ∙ ap (λ (b : BoardState). b.setup) c.board.view_is ∙ sym c.requires.board.1 ∙ ap (λ (p : PortState). p.setup) (sym c.self.view_is) in
+    let then : with_pending process.setup c.clear.new.self v ≡ v = ap (λ (p : Pending). with_pending process.setup p v) c.clear.ensures in
+    let leads = subst (λ (s : Setup). LeadsTo s told (with_pending s f.pending f.seat.me.0).own v.own) keyed step.leads in
+    subst (λ (w : ViewState). LeadsTo port.setup told port.view.own w.own) (sym then) (subst (λ (p : PortState). LeadsTo p.setup told p.view.own v.own) c.self.view_is leads)
+
+pub returns-clause-step : goal.returns-clause-step
+returns-clause-step c =
+    let f = c.self.inside in
+    let port = c.args.self.now in
+    let process = c.word_step-told.new.process in
+    let v = c.word_step-told.new.seat.me.0 in
+    let keyed : c.board.inside.table.shared.key ≡ f.process.setup = c.board.invariant.keyed ∙ ap (λ (b : BoardState). b.setup) c.board.view_is ∙ sym c.requires.board.1 ∙ ap (λ (p : PortState). p.setup) (sym c.self.view_is) in
+    let then : with_pending process.setup c.clear.new.self v ≡ v = ap (λ (p : Pending). with_pending process.setup p v) c.clear.ensures in
+    let step = subst (λ (s : Setup). WordStep s c.args.flick (with_pending s f.pending f.seat.me.0) v) keyed c.word_step-told.ensures.step in
+    subst (λ (w : ViewState). WordStep port.setup c.args.flick port.view w) (sym then) (subst (λ (p : PortState). WordStep p.setup c.args.flick p.view v) c.self.view_is step)
