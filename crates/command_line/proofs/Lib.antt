@@ -1,3 +1,4 @@
+mod Added
 mod AnyFile
 mod Faultless
 mod Parsed

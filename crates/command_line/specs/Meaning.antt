@@ -59,7 +59,7 @@ says e = record {
 
 -- a row of the table
 abbrev pub CommandRow : Type 0
-CommandRow = Bor Text × Engine × Intake × Bor (List (Bor Text)) × Bor Text × Bor Text × Bor Text
+CommandRow = Bor Text × Engine × Intake × Bor (List (Bor Text)) × Bor Text × Bor Text
 
 abbrev pub listed : CommandRow → Listed
 listed r = record { name = r.0.now; engine = r.1; options = map (λ o. o.now) r.3.now }

@@ -1,8 +1,28 @@
 //! The page of each command. Each line behind `$ ` is a command, with what it prints below. Above it stands the usage
 //! line, as `clap` has it.
 
+use crate::commands::Engine;
+
+/// The page of the command that runs this.
+pub fn page_of(engine: Engine) -> &'static str {
+    match engine {
+        Engine::Plain => PLAIN,
+        Engine::Bits => BITS,
+        Engine::Replay => REPLAY,
+        Engine::Audit => AUDIT,
+        Engine::Sweep => SWEEP,
+        Engine::Race => RACE,
+        Engine::Record => RECORD,
+        Engine::State => STATE,
+        Engine::Calls => CALLS,
+        Engine::Judge => JUDGE,
+        Engine::Draw => DRAW,
+        Engine::DrawSvg => DRAW_SVG,
+    }
+}
+
 /// The page of `plain`.
-pub const PLAIN: &str = r"
+const PLAIN: &str = r"
 Makes the calls of a scenario on the one-thread store, in the order of the file.
 Each call prints its place, its process and its reply, and each `show` the store.
 Other lines are passed over. The lines of a scenario: bakerystore help replay
@@ -14,7 +34,7 @@ Other lines are passed over. The lines of a scenario: bakerystore help replay
 ";
 
 /// The page of `bits`.
-pub const BITS: &str = r"
+const BITS: &str = r"
 Makes single accesses to one safe bit, which opens at 0. Each read that ends prints
 what it gave, and each line whose access is not in its turn prints `refused`.
 
@@ -34,7 +54,7 @@ The first line is `bits 1`. The other lines:
 ";
 
 /// The page of `replay`.
-pub const REPLAY: &str = r"
+const REPLAY: &str = r"
 Makes the run of a scenario. Each line: the number of the event, the process, and
 what has happened; the last line counts events, commands taken and refusals.
 
@@ -65,7 +85,7 @@ README.md tells a longer run in words.
 ";
 
 /// The page of `audit`.
-pub const AUDIT: &str = r"
+const AUDIT: &str = r"
 Makes the run of a scenario, as replay does, and judges each entry of its record.
 Prints `good` and the number of entries; or `bad`, the lowest entry that breaks a
 law, and the law, and then ends with status 3. The lines of a scenario:
@@ -76,7 +96,7 @@ bakerystore help replay
 ";
 
 /// The page of `sweep`.
-pub const SWEEP: &str = r"
+const SWEEP: &str = r"
 Makes the run of a scenario, as replay does, and after each of its events two more
 runs, in which the process of the event fails and is restarted, everybody goes on,
 and the calls of the file are made again. Prints how many such runs there are, how
@@ -88,7 +108,7 @@ bakerystore help replay
 ";
 
 /// The page of `race`.
-pub const RACE: &str = r"
+const RACE: &str = r"
 Makes the `call` lines of each process of a scenario on a thread of its own. Prints
 the refused calls; each answer, behind its process and its place; the store that is
 left; and `good` if all that is one history, else `bad`, with status 3. The threads
@@ -102,7 +122,7 @@ decide who comes first. The lines of a scenario: bakerystore help replay
 ";
 
 /// The page of `record`.
-pub const RECORD: &str = r"
+const RECORD: &str = r"
 Makes the run of a scenario, as replay does, and prints its record: the setup, and
 each entry on a line of its own. The lines of a scenario: bakerystore help replay
 The lines of a record: docs/RECORDS.md
@@ -118,7 +138,7 @@ The lines of a record: docs/RECORDS.md
 ";
 
 /// The page of `state`.
-pub const STATE: &str = r"
+const STATE: &str = r"
 Makes the first events of a scenario's run, as many as --at says (`end`: all), and
 prints the state after them: who stands where, in which call and with which ticket,
 for whom he waits, what he reads or writes, and `next`, what his next step adds, by
@@ -143,7 +163,7 @@ of a scenario: bakerystore help replay
 ";
 
 /// The page of `calls`.
-pub const CALLS: &str = r"
+const CALLS: &str = r"
 Makes the run of a scenario, as replay does, and prints a table of its calls: comma-
 separated values, a line for each call when it ends, and at the end those that go on.
 Its columns: the process, which of its calls it is, and the command; the events of
@@ -158,7 +178,7 @@ The lines of a scenario: bakerystore help replay
 ";
 
 /// The page of `judge`.
-pub const JUDGE: &str = r"
+const JUDGE: &str = r"
 Reads a record to its end, whoever made it. Prints `good` and the number of entries
 where it is the record of a run; else `bad`, the lowest entry that breaks a law, and
 the law, and then ends with status 3. The lines of a record: docs/RECORDS.md
@@ -191,7 +211,7 @@ With --why reasons follow a `bad`, each where there is something to say:
 ";
 
 /// The page of `draw`.
-pub const DRAW: &str = r"
+const DRAW: &str = r"
 Makes the run of a scenario, as replay does, and writes its picture as one page for
 a browser, which needs nothing else: a lane for each process, its marks and what it
 is doing, above the one history; the lines that replay prints can be read off it.
@@ -211,7 +231,7 @@ The lines of a scenario: bakerystore help replay
 ";
 
 /// The page of `draw-svg`.
-pub const DRAW_SVG: &str = r"
+const DRAW_SVG: &str = r"
 Writes the picture of the run of a scenario, or of a record, as one picture, without
 a page round it. With --reads, --judge and --any-lock it shows what draw shows.
 What a picture shows: docs/PICTURE.md

@@ -3,9 +3,7 @@ ghost use Rattle.std.specs.Prelude.{◌≡◌, find, map, option_map};
 ghost use Rattle.std.specs.Str.{bytes_eq};
 ghost use Rattle.command_line.specs.Meaning.{command_named, commands, listed, says};
 
-use crate::command_pages::{
-    AUDIT, BITS, CALLS, DRAW, DRAW_SVG, JUDGE, PLAIN, RACE, RECORD, REPLAY, STATE, SWEEP,
-};
+use crate::command_pages::page_of;
 use std::fmt::{self, Display, Formatter};
 
 /// What runs a file.
@@ -65,7 +63,8 @@ pub struct CommandEntry {
     pub page: &'static str,
 }
 
-/// A row of the table: the fields of an `CommandEntry`, one by one. (A definition reads no constant of a struct with texts.)
+/// A row of the table: the fields of a `CommandEntry` but its page, one by one. (A definition reads no constant of a struct
+/// with texts.)
 pub type CommandRow = (
     &'static str,
     Engine,
@@ -73,12 +72,11 @@ pub type CommandRow = (
     &'static [&'static str],
     &'static str,
     &'static str,
-    &'static str,
 );
 
-/// The commands, in the order in which the page of all words lists them. This is all that words, pages and the program
-/// know of them.
-pub const COMMANDS: [(&str, Engine, Intake, &[&str], &str, &str, &str); 12] = [
+/// The commands, in the order in which the page of all words lists them. This and their pages are all that words, pages and
+/// the program know of them.
+pub const COMMANDS: [(&str, Engine, Intake, &[&str], &str, &str); 12] = [
     (
         "plain",
         Engine::Plain,
@@ -86,7 +84,6 @@ pub const COMMANDS: [(&str, Engine, Intake, &[&str], &str, &str, &str); 12] = [
         &[],
         "the calls of a scenario, on the one-thread store",
         "examples/counters.bakery",
-        PLAIN,
     ),
     (
         "bits",
@@ -95,7 +92,6 @@ pub const COMMANDS: [(&str, Engine, Intake, &[&str], &str, &str, &str); 12] = [
         &[],
         "the accesses of a bits file, to one safe bit",
         "examples/overlap.bits",
-        BITS,
     ),
     (
         "replay",
@@ -104,7 +100,6 @@ pub const COMMANDS: [(&str, Engine, Intake, &[&str], &str, &str, &str); 12] = [
         &[],
         "the run of a scenario: calls, single steps, failures, restarts",
         "examples/torn-commit.bakery",
-        REPLAY,
     ),
     (
         "audit",
@@ -113,7 +108,6 @@ pub const COMMANDS: [(&str, Engine, Intake, &[&str], &str, &str, &str); 12] = [
         &[],
         "the same run, each entry of its record judged",
         "examples/torn-commit.bakery",
-        AUDIT,
     ),
     (
         "sweep",
@@ -122,7 +116,6 @@ pub const COMMANDS: [(&str, Engine, Intake, &[&str], &str, &str, &str); 12] = [
         &[],
         "runs in which a process fails after one event of that run, counted",
         "examples/torn-commit.bakery",
-        SWEEP,
     ),
     (
         "race",
@@ -131,7 +124,6 @@ pub const COMMANDS: [(&str, Engine, Intake, &[&str], &str, &str, &str); 12] = [
         &[],
         "the calls of a scenario, each process on a thread of its own",
         "examples/refusals.bakery",
-        RACE,
     ),
     (
         "record",
@@ -140,7 +132,6 @@ pub const COMMANDS: [(&str, Engine, Intake, &[&str], &str, &str, &str); 12] = [
         &[],
         "the record of a scenario's run, entry by entry",
         "examples/failed-read.bakery",
-        RECORD,
     ),
     (
         "state",
@@ -149,7 +140,6 @@ pub const COMMANDS: [(&str, Engine, Intake, &[&str], &str, &str, &str); 12] = [
         &["at"],
         "the state after the first events of that run",
         "--at 820 examples/torn-commit.bakery",
-        STATE,
     ),
     (
         "calls",
@@ -158,7 +148,6 @@ pub const COMMANDS: [(&str, Engine, Intake, &[&str], &str, &str, &str); 12] = [
         &[],
         "what became of each call of that run, as comma-separated values",
         "examples/torn-commit.bakery",
-        CALLS,
     ),
     (
         "judge",
@@ -167,7 +156,6 @@ pub const COMMANDS: [(&str, Engine, Intake, &[&str], &str, &str, &str); 12] = [
         &["any-lock", "why"],
         "a record, whoever made it: good, or the first law that is broken",
         "examples/failed-read.record",
-        JUDGE,
     ),
     (
         "draw",
@@ -176,7 +164,6 @@ pub const COMMANDS: [(&str, Engine, Intake, &[&str], &str, &str, &str); 12] = [
         &["reads", "judge", "any-lock"],
         "the picture of a scenario's run, as a page for a browser",
         "examples/torn-commit.bakery",
-        DRAW,
     ),
     (
         "draw-svg",
@@ -185,7 +172,6 @@ pub const COMMANDS: [(&str, Engine, Intake, &[&str], &str, &str, &str); 12] = [
         &["reads", "judge", "any-lock"],
         "the same as one picture",
         "examples/torn-commit.bakery",
-        DRAW_SVG,
     ),
 ];
 
@@ -194,7 +180,7 @@ impl CommandEntry {
     pub fn of(row: &CommandRow) -> CommandEntry
         ensures { says result ≡ listed row.now }
     {
-        let (name, engine, intake, options, about, example, page) = *row;
+        let (name, engine, intake, options, about, example) = *row;
         CommandEntry {
             name,
             engine,
@@ -202,7 +188,7 @@ impl CommandEntry {
             options,
             about,
             example,
-            page,
+            page: page_of(engine),
         }
     }
 }
@@ -216,8 +202,10 @@ impl Display for CommandEntry {
             example,
             ..
         } = self;
-        write!(f, "  {name:<8} {about}\n")?;
-        write!(f, "           $ bakerystore {name} {example}\n")
+        write!(
+            f,
+            "  {name:<8} {about}\n           $ bakerystore {name} {example}\n"
+        )
     }
 }
 

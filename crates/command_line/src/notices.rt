@@ -1,5 +1,5 @@
 //! What is told in place of a run.
-ghost use Rattle.std.specs.Prelude.{◌≡◌, ◌⊎◌, IfOk};
+ghost use Rattle.std.specs.Prelude.{◌≡◌, ◌⊎◌, IfOk, OnErr};
 ghost use Rattle.clap.specs.Words.{kind_of};
 
 use crate::pages::{HelpPage, tell};
@@ -69,11 +69,28 @@ pub fn shown_error(alloc: Global, words: &[String], error: Error) -> Result<Erro
     if !error.use_stderr() {
         return Ok(error);
     }
-    let kind = error.kind();
+    error_as_shown(alloc, words, error.kind())
+}
+
+/// An error of this kind, of the words as an error shows them; or want of memory.
+fn error_as_shown(alloc: Global, words: &[String], kind: ErrorKind) -> Result<Error, AllocError>
+    ensures { IfOk result (λ e. (kind_of e ≡ kind) ⊎ (kind_of e ≡ ErrorKind.OutOfMemory)) }
+{
     let shown = shown_words(alloc, words)?;
     match error_of(alloc, shown.as_slice()) {
         Some(error) if error.kind() == kind || error.kind() == ErrorKind::OutOfMemory => Ok(error),
         _ => program_error(alloc, kind, "the words ask for nothing that there is"),
+    }
+}
+
+/// The error that was made, or want of memory for it.
+pub fn told(made: Result<Error, AllocError>) -> Error
+    ensures ok { IfOk made (λ e. result ≡ e) }
+    ensures memory { OnErr made (kind_of result ≡ ErrorKind.OutOfMemory) }
+{
+    match made {
+        Ok(error) => error,
+        Err(error) => error.into(),
     }
 }
 

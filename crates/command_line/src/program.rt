@@ -1,7 +1,7 @@
 //! The program's command line, as `clap` reads it. Its help texts are names of pages, which `Notice` prints.
-ghost use Rattle.std.specs.Prelude.{◌≡◌, IfErr, IfOk, [], false, fold, map, true};
+ghost use Rattle.std.specs.Prelude.{◌≡◌, IfErr, IfOk, IsOkAnd, [], false, fold, map, true};
 ghost use Rattle.clap.specs.declared.builder.command.Command.TheViews.{out-Command};
-ghost use Rattle.clap.specs.Words.{HasKind, app_of, fault_of, found_of, kind_of, matches_of, new_app, subcommand_of, rows_of, rule_of, subcommand_rows_of, takes, with_rule, with_subcommand};
+ghost use Rattle.clap.specs.Words.{AddsSubcommand, HasKind, app_of, fault_of, found_of, kind_of, matches_of, new_app, subcommand_of, rows_of, rule_of, subcommand_rows_of, takes, with_rule, with_subcommand};
 ghost use Rattle.std.specs.String.{string_bytes};
 ghost use Rattle.command_line.specs.Meaning.{bakery, bare_app, command_app, flag_rule, help_app, option_rule, plain_app, says, with_option, with_row};
 
@@ -50,7 +50,6 @@ fn bare_program<'a>(alloc: Global) -> Result<Command<'a>, AllocError>
 }
 
 /// The program with the commands of these rows.
-#[tactic(auto, using(std::proofs::lemmas::List::Sums::fold_more))]
 fn with_commands<'a>(
     alloc: Global,
     program: Command<'a>,
@@ -73,7 +72,7 @@ fn with_row<'a>(
 ) -> Result<Command<'a>, AllocError>
     ensures shape { IfOk result (λ c. app_of c ≡ with_row (app_of program.entry) row.now) }
 {
-    program.subcommand(file_command(alloc, CommandEntry::of(row))?)
+    with_command(program, file_command(alloc, CommandEntry::of(row)))
 }
 
 /// The program with the command `help`.
@@ -81,7 +80,20 @@ fn with_help<'a>(alloc: Global, program: Command<'a>) -> Result<Command<'a>, All
     ensures shape { IfOk result (λ c. app_of c
         ≡ with_subcommand (app_of program.entry) help_app.top) }
 {
-    program.subcommand(help(alloc)?)
+    with_command(program, help(alloc))
+}
+
+/// The program with a command more, if there was memory for it.
+fn with_command<'a>(
+    program: Command<'a>,
+    command: Result<Command<'a>, AllocError>,
+) -> Result<Command<'a>, AllocError>
+    ensures { IfOk result (λ c. IsOkAnd command.entry (λ own. AddsSubcommand program.entry own c)) }
+{
+    match command {
+        Ok(command) => program.subcommand(command),
+        Err(error) => Err(error),
+    }
 }
 
 /// A command that runs a file.
@@ -116,7 +128,6 @@ fn taking<'a>(
 }
 
 /// A command with these options.
-#[tactic(auto, using(std::proofs::lemmas::List::Sums::fold_more))]
 fn with_options<'a>(
     alloc: Global,
     command: Command<'a>,

@@ -1,7 +1,7 @@
 //! The line that shows how far a run is, on standard error.
 ghost use Rattle.std.specs.Prelude.{◌≡◌};
 
-use files::progress::{Onlooker, Reached};
+use files::progress::{LinePlace, Onlooker, Reached};
 use files::{Failed, Source};
 use std::alloc::Global;
 use std::time::{Clock, Duration};
@@ -52,26 +52,30 @@ impl<'a, T: Clock + Eprint> Onlooker for Watcher<'a, T> {
             return;
         };
         match reached {
-            Reached::Line(place) => {
-                let (events, number) = (place.events(), place.number(self.alloc));
-                let speed = in_a_second(events, millis);
-                let again = if place.is_again() {
-                    ", for the second time"
-                } else {
-                    ""
-                };
-                let _ = eprint!(self.rt;
-                    "\r{events} events so far, {speed} a second, line {number} of the file{again}\x1b[K"
-                );
-            }
-            Reached::Swept { events, of } => {
-                let speed = in_a_second(events, millis);
-                let _ = eprint!(self.rt;
-                    "\r{events} of {of} events swept so far, {speed} a second\x1b[K"
-                );
-            }
+            Reached::Line(place) => show_line(self.rt, self.alloc, place, millis),
+            Reached::Swept { events, of } => show_swept(self.rt, events, of, millis),
         }
     }
+}
+
+/// Shows that a line of the file is run, after so many milliseconds.
+fn show_line<T: Eprint>(rt: &T, alloc: Global, place: LinePlace<'_>, millis: u128) {
+    let (events, number) = (place.events(), place.number(alloc));
+    let speed = in_a_second(events, millis);
+    let again = if place.is_again() {
+        ", for the second time"
+    } else {
+        ""
+    };
+    let _ = eprint!(rt;
+        "\r{events} events so far, {speed} a second, line {number} of the file{again}\x1b[K"
+    );
+}
+
+/// Shows that so many events of a sweep were swept, after so many milliseconds.
+fn show_swept<T: Eprint>(rt: &T, events: u64, of: u64, millis: u128) {
+    let speed = in_a_second(events, millis);
+    let _ = eprint!(rt; "\r{events} of {of} events swept so far, {speed} a second\x1b[K");
 }
 
 /// A source in front of another one, which notes how many lines were read and shows it.

@@ -8,7 +8,7 @@ use std::alloc::Global;
 use std::io::{self, BufWriter, ErrorKind, LineWriter, Write};
 
 /// Which of the program's streams are terminals.
-#[derive(Clone, Copy, Debug, PartialEq, Eq)]
+#[derive(Clone, Copy)]
 pub struct Terminals {
     pub input: bool,
     pub output: bool,

@@ -5,7 +5,7 @@ ghost use Rattle.std.specs.String.{string_bytes};
 ghost use Rattle.command_line.specs.Meaning.{RunsEachFile, asked_by, asked_of, asked_of_command, asked_of_file, asked_of_help, asked_of_none, bakery, has_flag, meaning, says};
 
 use crate::commands::{CommandEntry, command_named};
-use crate::notices::{Notice, no_such_page, no_text, shown_error};
+use crate::notices::{Notice, no_such_page, no_text, shown_error, told};
 use crate::pages::HelpPage;
 use crate::program::matched;
 use clap::error::ErrorKind;
@@ -55,7 +55,7 @@ fn given_words<T: Env + AllocGlobal>(rt: &T) -> Result<Vec<String>, Error> {
     let arguments = match env::args(rt) {
         Ok(arguments) => arguments,
         Err(error) if error.kind() == io::ErrorKind::OutOfMemory => return Err(AllocError.into()),
-        Err(_) => return Err(no_text(rt.alloc())?),
+        Err(_) => return Err(told(no_text(rt.alloc()))),
     };
     let mut words = Vec::new(rt.alloc());
     for word in arguments {
@@ -91,9 +91,9 @@ fn parse<'a>(alloc: Global, words: &'a [String]) -> Result<Invocation<'a>, Error
     match matched(alloc, words) {
         Ok(matches) => match asked_of(&matches) {
             Some(asked) => Ok(asked),
-            None => Err(no_such_page(alloc, page_asked_for(&matches))?),
+            None => Err(told(no_such_page(alloc, page_asked_for(&matches)))),
         },
-        Err(error) => Err(shown_error(alloc, words, error)?),
+        Err(error) => Err(told(shown_error(alloc, words, error))),
     }
 }
 
@@ -142,7 +142,19 @@ fn asked_of_command<'a>(quiet: bool, name: &str, own: &ArgMatches<'a>) -> Option
     if name == "help" {
         return asked_of_help(own);
     }
-    let command = command_named(name)?;
+    asked_to_run(quiet, command_named(name)?, own)
+}
+
+/// What a command that runs a file and its matches ask for.
+fn asked_to_run<'a>(
+    quiet: bool,
+    command: CommandEntry,
+    own: &ArgMatches<'a>,
+) -> Option<Invocation<'a>>
+    ensures { option_map asked_by result
+        ≡ option_map (asked_of_file quiet (says command) (rows_of (found_of own.now)))
+        (first_of (codes "FILE") (rows_of (found_of own.now))) }
+{
     let file = text_of(own, "FILE")?;
     Some(Invocation::Run(request_of(quiet, command, own, file)))
 }

@@ -4,7 +4,7 @@ use scenario::bit_files::{BIT_WORDS, BitWord};
 use scenario::keywords::{OPENERS, Opener, TARGETS, VERBS, Verb};
 
 /// What a file is to be.
-#[derive(Clone, Copy, Debug, PartialEq, Eq)]
+#[derive(Clone, Copy)]
 pub enum FileKind {
     /// The calls and steps of processes.
     Scenario,

@@ -1,5 +1,5 @@
 -- The first line of a text, of which some bytes are known.
-use Rattle.std.proofs.Common.{◌≡◌, ℕ, ◌+◌, ◌<◌, ◌≤◌, ◌==◌, ◌&&◌, not, Bool, true, false, if◌then◌else◌, List, [], ◌∷◌, ◌++◌, length, Option, Some, None, IfSome, refl, ap, sym, subst, ◌∙◌, append_assoc, append-nil, arith}
+use Rattle.std.proofs.Common.{◌≡◌, ℕ, ◌+◌, ◌<◌, ◌≤◌, ◌==◌, ◌&&◌, not, Bool, true, false, if◌then◌else◌, List, [], ◌∷◌, ◌++◌, length, Option, Some, None, IfSome, Result, Ok, Err, IsErrAnd, refl, ap, sym, subst, ◌∙◌, append_assoc, append-nil, arith}
 use Rattle.std.proofs.lemmas.Bool.{and_from}
 use Rattle.std.proofs.lemmas.Bool.Decides.{nat_tests}
 use Rattle.std.proofs.lemmas.List.Folds.{list_all-append}
@@ -7,7 +7,11 @@ use Rattle.std.specs.Io.KnownBytes.{Consumes, IsAtEnd, prepend_known}
 use Rattle.std.specs.List.{list_all}
 use Rattle.files.specs.Words.{lines, onto, begins_with}
 use Rattle.files.specs.Lines.{IsTooLong, MovesAll, MovesEnded, TakesLine, is_inner, without_return}
-use Rattle.files.specs.SourceLines.{ComesToEnd, FindsLine, Given, Held, Stays, Told, coming, shown_line, unless_ended}
+use Rattle.files.specs.Streams.{IsReadFault}
+use Rattle.files.specs.declared.faults.Fault.{Fault}
+use Rattle.files.specs.declared.faults.Fault.TheVariants.{Line, Read, Write, Memory}
+use Rattle.files.specs.declared.faults.FaultKind.TheVariants.{TooLong}
+use Rattle.files.specs.SourceLines.{ComesToEnd, FindsLine, Given, GoesOn, Held, LineState, Stays, Told, coming, shown_line, unless_ended}
 use Rattle.files.proofs.Blocks.{stays}
 
 -- the lines of a byte and those behind it, where it is no 0x0A
@@ -192,3 +196,18 @@ found_first old new to_come true moved is found same =
     let all = coming old.given to_come in
     subst (λ (l : List ℕ). Told all (coming new.given to_come) (λ text left. TakesLine text l left)) (sym found.line) (fed all all old.given new.given to_come [] found.whole refl (none_taken all) (stays all) found.ends same)
 found_first old new to_come false moved is found same = absurd (cc)
+
+-- a call that fails goes no further
+pub stops : (r : Result Bool Fault) (e : Fault) (old new : LineState) (to_come rest : Option (List ℕ)) → IsErrAnd r (λ x. x ≡ e) → IsReadFault e → GoesOn r old to_come new rest
+stops (Ok some) e old new to_come rest is fault = absurd is
+stops (Err x) e old new to_come rest is fault = by x (subst IsReadFault (sym is) fault)
+  where
+    by : (x : Fault) → IsReadFault x → GoesOn (Err x) old to_come new rest
+    by (Line l) read = absurd read
+    by Read read = tt
+    by Write read = absurd read
+    by Memory read = tt
+
+-- and a line that is too long is told
+pub tells_long : (e : Fault) (old new : LineState) (to_come rest : Option (List ℕ)) → e ≡ Line (record { line = new.taken + 1; kind = TooLong }) → new.taken ≡ old.taken → IfSome (coming old.ahead to_come) IsTooLong → GoesOn (Err e) old to_come new rest
+tells_long e old new to_come rest is same long = subst (λ e. GoesOn (Err e) old to_come new rest) (sym is) (ap (λ (n : ℕ). record { line = n + 1; kind = TooLong }) same, long)

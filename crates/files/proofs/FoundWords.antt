@@ -1,7 +1,7 @@
 -- The words of a line, one after the other.
 use Rattle.std.proofs.Common.{◌≡◌, ℕ, ◌+◌, ◌<◌, ◌≤◌, ◌==◌, not, nat_lt, Bool, true, false, cond, List, [], ◌∷◌, ◌++◌, length, filter, Option, Some, None, refl, ap, sym, ◌∙◌, append_assoc, append-nil, arith}
 use Rattle.std.proofs.lemmas.Bool.Decides.{nat_tests}
-use Rattle.std.proofs.lemmas.List.{map-append, take_all, drop_all}
+use Rattle.std.proofs.lemmas.List.{length-drop, map-append, take_all, drop_all}
 use Rattle.std.proofs.lemmas.List.Splits.{slice_split_none, slice_split_first}
 use Rattle.std.proofs.lemmas.List.Sums.{fails_before_first, prefix_len-le-length}
 use Rattle.std.specs.Borrow.{Bor}
@@ -65,3 +65,10 @@ one_more found word line first some =
 pub none_more : (word line : List ℕ) → word ≡ before_first is_blank line → has_byte word ≡ false → words_of (after_first is_blank line) ≡ words_of line
 none_more word line first none =
     sym (words_cut line ∙ ap (λ w. filter has_byte (w ∷ []) ++ words_of (after_first is_blank line)) (sym first) ∙ ap (λ b. cond b (word ∷ []) [] ++ words_of (after_first is_blank line)) none)
+
+-- there are fewer bytes behind it
+pub fewer_left : (line rest : List ℕ) → false ≡ (length line == 0) → rest ≡ after_first is_blank line → length rest < length line
+fewer_left [] rest some is = absurd (cc)
+fewer_left (b ∷ bs) rest some is =
+    let left = length-drop (position_or_len is_blank (b ∷ bs) + 1) (b ∷ bs) in
+    omega (arith, left, ap length is)

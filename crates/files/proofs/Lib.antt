@@ -1,5 +1,6 @@
--- Lists of any kind
+-- Lists of any kind, checks and calls
 pub mod Appending
+pub mod CallEnds
 pub mod Passing
 -- Lines of a text, and what is read of them
 pub mod Ends

@@ -11,7 +11,7 @@ use bstr::ByteSlice;
 use std::alloc::Global;
 
 /// How far an engine is.
-#[derive(Clone, Copy, Debug)]
+#[derive(Clone, Copy)]
 pub enum Reached<'a> {
     /// A line of the file is to be run.
     Line(LinePlace<'a>),
@@ -60,7 +60,7 @@ impl<'l, L: Onlooker> Onlooker for Again<'l, L> {
 
 /// A line of a file that is run, or the place before the first one. The lines that are run are the last of those that
 /// are not skipped.
-#[derive(Clone, Copy, Debug)]
+#[derive(Clone, Copy)]
 pub struct LinePlace<'a> {
     file: &'a [u8],
     /// How many lines come behind it.

@@ -60,7 +60,8 @@ fn read_line<T: FromLines>(
 ) -> Result<(), FaultKind>
     ensures { Takes result (line_read T.grammar number line.now read.old) read.new }
 {
-    if number > MOST_LINES || line.len() > MOST_BYTES {
+    let is_beyond = (number > MOST_LINES) | (line.len() > MOST_BYTES);
+    if is_beyond {
         return Err(FaultKind::TooLong);
     }
     read_any_line(alloc, line, read)
@@ -87,12 +88,24 @@ fn read_words<T: FromLines>(
 ) -> Result<(), FaultKind>
     ensures { Takes result (words_read T.grammar (texts words.now) read.old) read.new }
 {
-    let [first, rest @ ..] = words else {
+    let Some((first, rest)) = words.split_first() else {
         return Ok(());
     };
     if first.first() == Some(&b'#') {
         return Ok(());
     }
+    read_statement(alloc, first, rest, read)
+}
+
+/// Reads a line that is not skipped.
+fn read_statement<T: FromLines>(
+    alloc: Global,
+    first: &[u8],
+    rest: &[&[u8]],
+    read: &mut Option<T>,
+) -> Result<(), FaultKind>
+    ensures { Takes result (statement_read T.grammar first.now (texts rest.now) read.old) read.new }
+{
     match read {
         None => {
             *read = Some(T::first(alloc, first, rest)?);

@@ -28,7 +28,6 @@ pub trait Source {
 
     /// Takes bytes from the front into a buffer, and says how many: none only at the end, or where the buffer has no
     /// room. An `Err` takes none.
-    #[tactic(auto, using(crate::proofs::Appending::byte_set, crate::proofs::Appending::prefix_set))]
     fn next_bytes(&mut self, buffer: &mut [u8]) -> Result<usize, Failed>
         requires { failures self.old < 2 ^ 64 - 1 }
         ensures count { ReadsAtMost result buffer.new }
@@ -185,7 +184,6 @@ pub fn read_input<R: Source>(alloc: Global, input: &mut R) -> Result<Vec<u8>, Fa
 
 /// Writes all the bytes. It fails with `Write` where a call failed or took none of some bytes; then some
 /// bytes from the front were written.
-#[tactic(auto, using(crate::proofs::Appending::appends_more, crate::proofs::Appending::front_of, crate::proofs::Appending::front_kept, crate::proofs::Appending::whole_of))]
 pub fn write_all<W: Sink>(output: &mut W, bytes: &[u8]) -> Result<(), Fault>
     requires { W.failures output.old < 2 ^ 64 - 1 }
     ensures ok { OnOk result (Appends (W.taken output.old) (W.taken output.new) bytes.now) }

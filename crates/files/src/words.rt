@@ -11,7 +11,6 @@ use std::alloc::AllocError;
 pub type Words<'a> = SmallVec<&'a [u8], 8>;
 
 /// Adds the words of a line, which spaces and tabs separate. They are not handed out, since their room would be moved.
-#[tactic(auto, using(crate::proofs::FoundWords::one_more, crate::proofs::FoundWords::none_more))]
 pub fn add_words<'a>(line: &'a [u8], words: &mut Words<'a>) -> Result<(), AllocError>
     ensures { OnOk result (texts words.new.items ≡ texts words.old.items ++ words_of line.now) }
 {

@@ -5,7 +5,7 @@ use Rattle.plain_store.specs.Store.{changes}
 use Rattle.plain_store.specs.declared.Answer.TheVariants as answer
 use Rattle.plain_store.specs.declared.Reply.{Reply}
 use Rattle.record.specs.Closings.{Closing, Withdraws, Settles, Frees, Lowers, Quit, Ended, closing_next, is_last_settled, is_last_written, is_unwritten, no_ticket, settled_marks}
-use Rattle.record.specs.Parts.{Part, Raises, Asks, TakesTicket, Refuses, Waits, AsksCommit, AsksStamp, AsksImage, WritesImage, WritesStamp, WritesCommit, Clears, Over, first_marks, last_marks}
+use Rattle.record.specs.Parts.{Part, Refuses, Waits, AsksImage, WritesCommit, Clears, first_marks, last_marks}
 use Rattle.record.specs.Parts as part
 use Rattle.record.specs.Places.{Place, bits_with, is_fresh, is_last, marks_of}
 use Rattle.record.specs.Program.{Wait, entered_if_none, lets_by, reply, store_read, waits_of}

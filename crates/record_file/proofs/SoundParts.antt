@@ -13,7 +13,7 @@ use Rattle.plain_store.specs.declared.Reply.{Reply}
 use Rattle.record.specs.Calls.{read_so_far}
 use Rattle.record.specs.Closings.{Closing, Withdraws, Settles, Frees, Lowers, Quit, Ended, closing_after, failing, freeing, is_last_settled, is_last_written, no_ticket, reply_with, settling_from}
 use Rattle.record.specs.Entries.{Past, is_called, since}
-use Rattle.record.specs.Parts.{Part, Raises, Asks, TakesTicket, Refuses, Waits, AsksCommit, AsksStamp, AsksImage, WritesImage, WritesStamp, WritesCommit, Clears, Over, is_over, part_after, to_b, to_c, to_d, to_e, to_g}
+use Rattle.record.specs.Parts.{Part, Raises, Asks, TakesTicket, Refuses, Waits, AsksCommit, AsksStamp, AsksImage, WritesImage, WritesStamp, WritesCommit, Clears, Over, part_after, to_b, to_c, to_d, to_e, to_g}
 use Rattle.record.specs.Parts as part
 use Rattle.record.specs.Places.{Place, bits_with, enter, is_last, place_after, run_after, write_moved}
 use Rattle.record.specs.Program.{Version, Wait, first_full, greatest, lets_by, max_of, newest_stamp, place_of, reply, store_read, waits_of}

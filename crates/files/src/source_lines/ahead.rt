@@ -127,7 +127,6 @@ impl Ahead {
     /// Moves the bytes before the first 0x0A behind those of a line, and drops it; or all, where there is none, and
     /// answers `false`.
     #[inline(always)]
-    #[tactic(auto, using(crate::proofs::Blocks::moves_ended, crate::proofs::Blocks::moves_all))]
     pub fn move_to(&mut self, line: &mut Vec<u8>) -> Result<bool, AllocError>
         ensures ended { MovesToEnd result self.old.given self.new.given line.old line.new }
         ensures all { MovesOn result self.old.given self.new.given line.old line.new }

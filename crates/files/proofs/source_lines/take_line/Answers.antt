@@ -3,6 +3,8 @@ use Rattle.std.specs.Io.KnownBytes.{Consumes}
 use Rattle.std.specs.List.{list_all}
 use Rattle.files.specs.Lines.{TakesLine, is_inner}
 use Rattle.files.specs.SourceLines.{Told, coming}
+use Rattle.files.specs.declared.faults.Fault.TheVariants.{Memory}
+use Rattle.files.proofs.CallEnds.{counts_fault, no_value, tells_fault}
 use Rattle.files.proofs.FirstLines.{all_inner, cut_long, ended, fed, fed_all, fed_long, none_came, none_taken}
 use Rattle.files.proofs.source_lines.take_line.Goals as goal
 
@@ -91,4 +93,42 @@ returns g c =
       left_alone = inv.left_alone;
       fault = tt;
       failures = omega (arith, inv.whole);
+    }
+
+-- a call fails, or memory is wanting
+pub returns-in_err-fill : goal.returns-in_err-fill
+returns-in_err-fill g c =
+    let inv = c.parts.invariant in
+    let failures = g.R.Source.failures in
+    let fault = c.in_err-fill.field-0.0 in
+    let r = c.from_residual.result in
+    let is = c.from_residual.ensures.1 in
+    record {
+      line = no_value r fault _ is;
+      long = no_value r fault _ is;
+      end = no_value r fault _ is;
+      ended = no_value r fault _ is;
+      holds = λ h. c.in_err-fill.ensures.holds (inv.holds h);
+      stays_ended = λ e. c.in_err-fill.ensures.stays_ended (inv.stays_ended e);
+      left_alone = λ e. c.in_err-fill.ensures.left_alone (inv.stays_ended e) ∙ inv.left_alone e;
+      fault = tells_fault r fault is c.in_err-fill.ensures.fault;
+      failures = counts_fault r fault (failures c.args.input.now) (failures c.parts.input) (failures c.fill.new.input) is inv.whole c.in_err-fill.ensures.failures;
+    }
+
+pub returns-in_err-move_to : goal.returns-in_err-move_to
+returns-in_err-move_to g c =
+    let inv = c.parts.invariant in
+    let failures = g.R.Source.failures in
+    let r = c.from_residual-in_err-move_to.result in
+    let is = c.from_residual-in_err-move_to.ensures.1 in
+    record {
+      line = no_value r Memory _ is;
+      long = no_value r Memory _ is;
+      end = no_value r Memory _ is;
+      ended = no_value r Memory _ is;
+      holds = λ h e. c.in_ok-fill.ensures.holds (inv.holds h) (sym c.in_err-move_to.ensures.source ∙ e);
+      stays_ended = λ e. c.in_err-move_to.ensures.source ∙ c.in_ok-fill.ensures.stays_ended (inv.stays_ended e);
+      left_alone = λ e. c.in_ok-fill.ensures.left_alone (inv.stays_ended e) ∙ inv.left_alone e;
+      fault = tells_fault r Memory is tt;
+      failures = counts_fault r Memory (failures c.args.input.now) (failures c.parts.input) (failures c.fill.new.input) is inv.whole c.in_ok-fill.ensures.failures;
     }
