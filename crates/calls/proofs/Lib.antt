@@ -1,5 +1,6 @@
 pub use Rattle.read_law.proofs as read_law
 pub mod Loops
+pub mod Noted
 pub mod Folds
 pub mod InCall
 pub mod Steps

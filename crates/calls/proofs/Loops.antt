@@ -1,23 +1,24 @@
--- What is left of a list in a loop, and what was written of it.
-use Rattle.std.proofs.Common.{◌≡◌, ℕ, suc, ◌+◌, ◌<◌, ◌≤◌, List, [], ◌∷◌, ◌++◌, length, get_or, drop, flat_map, sym, ap, ◌∙◌, add-one, append-nil, append_assoc, drop-cons}
-use Rattle.std.proofs.lemmas.List.{drop_all}
-
--- one less is left
-pub dropped_more : {A : Type 0} (xs : List A) (i : ℕ) (x : A) → i < length xs → x ≡ get_or xs i x → drop i xs ≡ x ∷ drop (i + 1) xs
-dropped_more xs i x within is = drop-cons xs i x within ∙ ap (λ y. y ∷ drop (suc i) xs) (sym is) ∙ ap (λ k. x ∷ drop k xs) (sym (add-one i))
-
--- none is left
-pub dropped_all : {A : Type 0} (xs : List A) (i : ℕ) → length xs ≤ i → drop i xs ≡ []
-dropped_all xs i past = drop_all i xs past
+-- What loops write of a list, and a line part by part.
+use Rattle.std.proofs.Common.{◌≡◌, ℕ, ◌+◌, ◌<◌, ◌≤◌, Result, Ok, Err, OnOk, List, ◌++◌, codes, length, get_or, drop, flat_map, sym, ap, ◌∙◌, append-nil, append_assoc}
+use Rattle.std.proofs.lemmas.List.{at_drop_all, at_drop_more}
 
 -- one more is written, as long as what was written and what is left are the whole
 pub written_more : {A : Type 0} (f : A → List ℕ) (xs : List A) (i : ℕ) (x : A) (whole before after : List ℕ) → i < length xs → before ++ flat_map f (drop i xs) ≡ whole → after ≡ before ++ f (get_or xs i x) →
     after ++ flat_map f (drop (i + 1) xs) ≡ whole
 written_more f xs i x whole before after within so_far is =
-    ap (λ l. l ++ flat_map f (drop (i + 1) xs)) is ∙ append_assoc before (f (get_or xs i x)) (flat_map f (drop (i + 1) xs))
-    ∙ ap (λ k. before ++ (f (get_or xs i x) ++ flat_map f (drop k xs))) (add-one i)
-    ∙ ap (λ l. before ++ flat_map f l) (sym (drop-cons xs i x within)) ∙ so_far
+    ap (λ l. l ++ flat_map f (drop (i + 1) xs)) is ∙ append_assoc before (f (get_or xs i x)) (flat_map f (drop (i + 1) xs)) ∙ sym (at_drop_more (λ l. before ++ flat_map f l) xs i x within) ∙ so_far
 
 -- all are written
 pub written_all : {A : Type 0} (f : A → List ℕ) (xs : List A) (i : ℕ) (whole before : List ℕ) → length xs ≤ i → before ++ flat_map f (drop i xs) ≡ whole → before ≡ whole
-written_all f xs i whole before past so_far = sym (append-nil before) ∙ ap (λ l. before ++ flat_map f l) (sym (drop_all i xs past)) ∙ so_far
+written_all f xs i whole before past so_far = sym (append-nil before) ∙ sym (at_drop_all (λ l. before ++ flat_map f l) xs i past) ∙ so_far
+
+-- the parts of a line, one after the other
+pub head_is : {A E : Type 0} (r : Result A E) (old headed new shown process call told command : List ℕ) → headed ≡ old ++ shown → shown ≡ process ++ (codes "," ++ (call ++ codes ",")) → OnOk r (new ≡ headed ++ told) → told ≡ command →
+    OnOk r (new ≡ old ++ (process ++ codes "," ++ call ++ codes "," ++ command))
+head_is (Ok done) old headed new shown process call told command first text is same = is ∙ (λ i. (first ∙ ap (λ l. old ++ l) text) i ++ same i) ∙ simp append_assoc
+head_is (Err e) old headed new shown process call told command first text is same = tt
+
+pub line_is : (old headed numbered answered new head numbers answer : List ℕ) → headed ≡ old ++ head → numbered ≡ headed ++ numbers → answered ≡ numbered ++ (codes "," ++ answer) → new ≡ answered ++ codes "\n" →
+    new ≡ old ++ (head ++ numbers ++ codes "," ++ answer ++ codes "\n")
+line_is old headed numbered answered new head numbers answer first second third is =
+    is ∙ ap (λ l. l ++ codes "\n") (third ∙ ap (λ l. l ++ (codes "," ++ answer)) (second ∙ ap (λ l. l ++ numbers) first)) ∙ simp append_assoc

@@ -26,66 +26,37 @@ first-again None a b = refl
 -- So many begin.
 
 -- with one more, after another
-reads-more : (n : ℕ) (before how : Move) (k : ℕ) → follows before how ≡ true → more_if (is_read how && true) (k + reads_begun (suc n) before) ≡ k + reads_begun (suc (suc n)) how
-reads-more n BeginRead (EndRead v) k is = omega arith
-reads-more n (EndRead u) BeginRead k is = omega arith
-reads-more n (BeginWrite u) EndWrite k is = omega arith
-reads-more n EndWrite (BeginWrite v) k is = omega arith
-reads-more n BeginRead BeginRead k is = absurd (cc)
-reads-more n BeginRead (BeginWrite v) k is = absurd (cc)
-reads-more n BeginRead EndWrite k is = absurd (cc)
-reads-more n BeginRead (Settle v) k is = absurd (cc)
-reads-more n (EndRead u) (EndRead v) k is = absurd (cc)
-reads-more n (EndRead u) (BeginWrite v) k is = absurd (cc)
-reads-more n (EndRead u) EndWrite k is = absurd (cc)
-reads-more n (EndRead u) (Settle v) k is = absurd (cc)
-reads-more n (BeginWrite u) BeginRead k is = absurd (cc)
-reads-more n (BeginWrite u) (EndRead v) k is = absurd (cc)
-reads-more n (BeginWrite u) (BeginWrite v) k is = absurd (cc)
-reads-more n (BeginWrite u) (Settle v) k is = absurd (cc)
-reads-more n EndWrite BeginRead k is = absurd (cc)
-reads-more n EndWrite (EndRead v) k is = absurd (cc)
-reads-more n EndWrite EndWrite k is = absurd (cc)
-reads-more n EndWrite (Settle v) k is = absurd (cc)
-reads-more n (Settle u) how k is = absurd (cc)
-
-writes-more : (n : ℕ) (before how : Move) (k : ℕ) → follows before how ≡ true → more_if (is_write how && true) (k + writes_begun (suc n) before) ≡ k + writes_begun (suc (suc n)) how
-writes-more n BeginRead (EndRead v) k is = omega arith
-writes-more n (EndRead u) BeginRead k is = omega arith
-writes-more n (BeginWrite u) EndWrite k is = omega arith
-writes-more n EndWrite (BeginWrite v) k is = omega arith
-writes-more n BeginRead BeginRead k is = absurd (cc)
-writes-more n BeginRead (BeginWrite v) k is = absurd (cc)
-writes-more n BeginRead EndWrite k is = absurd (cc)
-writes-more n BeginRead (Settle v) k is = absurd (cc)
-writes-more n (EndRead u) (EndRead v) k is = absurd (cc)
-writes-more n (EndRead u) (BeginWrite v) k is = absurd (cc)
-writes-more n (EndRead u) EndWrite k is = absurd (cc)
-writes-more n (EndRead u) (Settle v) k is = absurd (cc)
-writes-more n (BeginWrite u) BeginRead k is = absurd (cc)
-writes-more n (BeginWrite u) (EndRead v) k is = absurd (cc)
-writes-more n (BeginWrite u) (BeginWrite v) k is = absurd (cc)
-writes-more n (BeginWrite u) (Settle v) k is = absurd (cc)
-writes-more n EndWrite BeginRead k is = absurd (cc)
-writes-more n EndWrite (EndRead v) k is = absurd (cc)
-writes-more n EndWrite EndWrite k is = absurd (cc)
-writes-more n EndWrite (Settle v) k is = absurd (cc)
-writes-more n (Settle u) how k is = absurd (cc)
+begun-more : (n : ℕ) (before how : Move) (k m : ℕ) → follows before how ≡ true →
+    (more_if (is_read how && true) (k + reads_begun (suc n) before) ≡ k + reads_begun (suc (suc n)) how) × (more_if (is_write how && true) (m + writes_begun (suc n) before) ≡ m + writes_begun (suc (suc n)) how)
+begun-more n BeginRead (EndRead v) k m is = (omega arith, omega arith)
+begun-more n (EndRead u) BeginRead k m is = (omega arith, omega arith)
+begun-more n (BeginWrite u) EndWrite k m is = (omega arith, omega arith)
+begun-more n EndWrite (BeginWrite v) k m is = (omega arith, omega arith)
+begun-more n BeginRead BeginRead k m is = absurd (cc)
+begun-more n BeginRead (BeginWrite v) k m is = absurd (cc)
+begun-more n BeginRead EndWrite k m is = absurd (cc)
+begun-more n BeginRead (Settle v) k m is = absurd (cc)
+begun-more n (EndRead u) (EndRead v) k m is = absurd (cc)
+begun-more n (EndRead u) (BeginWrite v) k m is = absurd (cc)
+begun-more n (EndRead u) EndWrite k m is = absurd (cc)
+begun-more n (EndRead u) (Settle v) k m is = absurd (cc)
+begun-more n (BeginWrite u) BeginRead k m is = absurd (cc)
+begun-more n (BeginWrite u) (EndRead v) k m is = absurd (cc)
+begun-more n (BeginWrite u) (BeginWrite v) k m is = absurd (cc)
+begun-more n (BeginWrite u) (Settle v) k m is = absurd (cc)
+begun-more n EndWrite BeginRead k m is = absurd (cc)
+begun-more n EndWrite (EndRead v) k m is = absurd (cc)
+begun-more n EndWrite EndWrite k m is = absurd (cc)
+begun-more n EndWrite (Settle v) k m is = absurd (cc)
+begun-more n (Settle u) how k m is = absurd (cc)
 
 -- the first of them
-reads-one : (how : Move) (k : ℕ) → more_if (is_read how && true) k ≡ k + reads_begun 1 how
-reads-one BeginRead k = omega arith
-reads-one (EndRead v) k = omega arith
-reads-one (BeginWrite v) k = omega arith
-reads-one EndWrite k = omega arith
-reads-one (Settle v) k = omega arith
-
-writes-one : (how : Move) (k : ℕ) → more_if (is_write how && true) k ≡ k + writes_begun 1 how
-writes-one BeginRead k = omega arith
-writes-one (EndRead v) k = omega arith
-writes-one (BeginWrite v) k = omega arith
-writes-one EndWrite k = omega arith
-writes-one (Settle v) k = omega arith
+begun-one : (how : Move) (k m : ℕ) → (more_if (is_read how && true) k ≡ k + reads_begun 1 how) × (more_if (is_write how && true) m ≡ m + writes_begun 1 how)
+begun-one BeginRead k m = (omega arith, omega arith)
+begun-one (EndRead v) k m = (omega arith, omega arith)
+begun-one (BeginWrite v) k m = (omega arith, omega arith)
+begun-one EndWrite k m = (omega arith, omega arith)
+begun-one (Settle v) k m = (omega arith, omega arith)
 
 -- Reads that a write overlapped.
 
@@ -163,7 +134,7 @@ module _ (s : Setup) (p : ℕ) (a : Access) (past : Past) where
       let k : CallStanding = standing s p past in
       let was : Accesses = k.last.accesses in
       quiet-heard ends ∙ ap (with_accesses k) (accesses_by (with_access s p (length past) known k.last.marks a was) (with_passed (length past) (reads_begun 1 a.how) (writes_begun 1 a.how) overlapped was)
-      refl (itself is_read k none was.reads ∙ reads-one a.how was.reads) (itself is_write k none was.writes ∙ writes-one a.how was.writes) (more-one known.overlapped was.overlapped 0 refl ∙ ap (λ n. was.overlapped + n) (sym is)) refl)
+      refl (itself is_read k none was.reads ∙ (begun-one a.how was.reads was.writes).0) (itself is_write k none was.writes ∙ (begun-one a.how was.reads was.writes).1) (more-one known.overlapped was.overlapped 0 refl ∙ ap (λ n. was.overlapped + n) (sym is)) refl)
 
   again : (n number : ℕ) (before : Move) (count overlapped : ℕ) (first : CallStanding) → first.last.marks.failed ≡ None → standing s p past ≡ passed_by number (suc n) before count first → follows before a.how ≡ true → ends_number (width s a.field) a.bit a.how ≡ false →
       overlapped ≡ more_if known.overlapped count → standing s p (quiet_entry p a ∷ past) ≡ passed_by number (suc (suc n)) a.how overlapped first
@@ -172,7 +143,7 @@ module _ (s : Setup) (p : ℕ) (a : Access) (past : Past) where
       let mid : Accesses = with_passed number (reads_begun (suc n) before) (writes_begun (suc n) before) count was in
       quiet-heard ends ∙ ap after_one at
       ∙ ap (with_accesses first) (accesses_by (with_access s p (length past) known first.last.marks a mid) (with_passed number (reads_begun (suc (suc n)) a.how) (writes_begun (suc (suc n)) a.how) overlapped was)
-      (first-again was.doorway number (length past)) (itself is_read first none mid.reads ∙ reads-more n before a.how was.reads follow) (itself is_write first none mid.writes ∙ writes-more n before a.how was.writes follow)
+      (first-again was.doorway number (length past)) (itself is_read first none mid.reads ∙ (begun-more n before a.how was.reads was.writes follow).0) (itself is_write first none mid.writes ∙ (begun-more n before a.how was.reads was.writes follow).1)
       (more-again known.overlapped was.overlapped count ∙ ap (λ n. was.overlapped + n) (sym is)) refl)
 
 -- So many.

@@ -66,10 +66,13 @@ numbers newest c =
     ∷ c.accesses.waited_for
     ∷ []
 
--- the line of a call, where the newest event has this number
+-- what stands before them, and the line of a call, where the newest event has this number
+abbrev pub call_head : Called → List ℕ
+call_head c = decimal c.process ++ codes "," ++ decimal c.call ++ codes "," ++ field (command_text c.command)
+
 abbrev pub call_line : ℕ → Called → List ℕ
 call_line newest c =
-    decimal c.process ++ codes "," ++ decimal c.call ++ codes "," ++ field (command_text c.command)
+    call_head c
     ++ flat_map number_field (numbers newest c)
     ++ codes "," ++ answer_field c.marks.answer ++ codes "\n"
 

@@ -17,7 +17,7 @@ pub struct Accesses {
 }
 
 /// What is known of an entry beside its access and its marks.
-#[derive(Clone, Copy, Debug)]
+#[derive(Clone, Copy)]
 pub struct EntryKnown {
     /// Whether it ends a read that a write overlapped.
     pub overlapped: bool,

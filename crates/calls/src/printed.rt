@@ -4,7 +4,7 @@ ghost use Rattle.std.specs.List.{list_any};
 ghost use Rattle.std.specs.String.{string_bytes};
 ghost use Rattle.std.specs.Fmt.{decimal};
 ghost use Rattle.plain_store.specs.Shown.{answer_text, command_text};
-ghost use Rattle.calls.specs.Lines.{answer_field, call_line, doubled, field, is_special as special, line_of, number_field, numbers as numbers_of, number_text, waited as waited_by};
+ghost use Rattle.calls.specs.Lines.{answer_field, call_head, call_line, doubled, field, is_special as special, line_of, number_field, numbers as numbers_of, number_text, waited as waited_by};
 
 use crate::called::{Called, Marked};
 use plain_store::{Answer, Command, NestedTypes};
@@ -26,13 +26,19 @@ pub fn print_call(
     ensures { OnOk result (line.new.items ≡ line.old.items ++ call_line newest called.now) }
 {
     let _nested: NestedTypes = None;
-    let head = head(alloc, called.process, called.call)?;
-    push_text(line, head)?;
-    let command = command_shown(alloc, &called.command)?;
-    push_shown(line, command)?;
+    push_head(alloc, line, called)?;
     push_numbers(alloc, line, &numbers(called, newest))?;
     push_answer(alloc, line, &called.marks.answer)?;
     Ok(line.push(b'\n')?)
+}
+
+/// The process, the number and the command of a call.
+fn push_head(alloc: Global, line: &mut Vec<u8>, called: &Called) -> Result<(), AllocError>
+    ensures { OnOk result (line.new.items ≡ line.old.items ++ call_head called.now) }
+{
+    let _nested: NestedTypes = None;
+    push_text(line, head(alloc, called.process, called.call)?)?;
+    push_shown(line, command_shown(alloc, &called.command)?)
 }
 
 /// The process and the number of a call.
@@ -127,7 +133,7 @@ fn push_number(alloc: Global, line: &mut Vec<u8>, number: Option<u64>) -> Result
     line.push(b',')?;
     match number {
         None => Ok(()),
-        Some(number) => push_text(line, format!(in alloc; "{number}")?),
+        Some(number) => push_text(line, number.to_string(alloc)?),
     }
 }
 
@@ -161,7 +167,7 @@ fn push_field(line: &mut Vec<u8>, text: &[u8]) -> Result<(), AllocError>
     ensures { OnOk result (line.new.items ≡ line.old.items ++ field text.now) }
 {
     if !has_special(text) {
-        return Ok(line.extend_from_slice(text)?);
+        return line.extend_from_slice(text);
     }
     line.push(b'"')?;
     push_doubled(line, text)?;

@@ -14,7 +14,7 @@ use read_law::width;
 use record::{Access, Field, Mark};
 
 /// What is kept of a process: its last call, and whether that goes on.
-#[derive(Clone, Copy, Debug)]
+#[derive(Clone, Copy)]
 pub struct CallStanding {
     pub calling: bool,
     pub last: Called,
@@ -175,8 +175,8 @@ impl Accesses {
     {
         self.doorway = first_of(self.doorway, number);
         let itself = marks.failed.is_none();
-        self.reads = more_if(self.reads, is_read(access.how) && itself);
-        self.writes = more_if(self.writes, is_write(access.how) && itself);
+        self.reads = more_if(self.reads, is_read(access.how) & itself);
+        self.writes = more_if(self.writes, is_write(access.how) & itself);
         self.overlapped = more_if(self.overlapped, known.overlapped);
         if waits_by(setup, process, marks, access, known.read) {
             self.waited_for = Some(access.owner);

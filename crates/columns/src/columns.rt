@@ -296,19 +296,35 @@ fn counts(alloc: Global, taken: u64, refused: u64) -> Result<String, AllocError>
 fn named_rows(alloc: Global, name: &str, words: &[u8]) -> Result<Vec<TextRow>, AllocError>
     ensures { GivesRows result (rows_named name.now words.now) }
 {
-    let mut rows = Vec::new(alloc);
-    rows.push(TextRow::new(true, String::from_str(alloc, name)?))?;
-    rows.push(cut_row(alloc, words)?)?;
-    Ok(rows)
+    let rest = cut_row(alloc, words)?;
+    rows_above(alloc, String::from_str(alloc, name)?, rest)
+}
+
+/// A name that stands out, and below it words that are drawn whole.
+fn named_text(alloc: Global, name: &str, words: String) -> Result<Vec<TextRow>, AllocError>
+    ensures { GivesRows result (verb_and_rest name.now (string_bytes words)) }
+{
+    two_rows(alloc, String::from_str(alloc, name)?, words)
 }
 
 /// Words that stand out, and others below them.
-fn two_rows(alloc: Global, verb: String, rest: String) -> Result<Vec<TextRow>, AllocError>
+pub(crate) fn two_rows(
+    alloc: Global,
+    verb: String,
+    rest: String,
+) -> Result<Vec<TextRow>, AllocError>
     ensures { GivesRows result (verb_and_rest (string_bytes verb) (string_bytes rest)) }
+{
+    rows_above(alloc, verb, TextRow::new(false, rest))
+}
+
+/// Words that stand out, and a row below them.
+fn rows_above(alloc: Global, verb: String, rest: TextRow) -> Result<Vec<TextRow>, AllocError>
+    ensures { GivesRows result (worded true (string_bytes verb) ∷ wording rest ∷ []) }
 {
     let mut rows = Vec::new(alloc);
     rows.push(TextRow::new(true, verb))?;
-    rows.push(TextRow::new(false, rest))?;
+    rows.push(rest)?;
     Ok(rows)
 }
 
@@ -326,21 +342,13 @@ fn mark_rows(alloc: Global, mark: &Mark) -> Result<Vec<TextRow>, AllocError>
     ensures { GivesRows result (rows_marked mark.now) }
 {
     match mark {
-        Mark::Called(command) => two_rows(
-            alloc,
-            String::from_str(alloc, "call")?,
-            command.to_string(alloc)?,
-        ),
+        Mark::Called(command) => named_text(alloc, "call", command.to_string(alloc)?),
         Mark::Taken(place, reply) => two_rows(
             alloc,
             format!(in alloc; "taken {place}")?,
             reply.to_string(alloc)?,
         ),
-        Mark::Answered(answer) => two_rows(
-            alloc,
-            String::from_str(alloc, "answer")?,
-            answer.to_string(alloc)?,
-        ),
+        Mark::Answered(answer) => named_text(alloc, "answer", answer.to_string(alloc)?),
         _ => one_row(alloc, mark.to_string(alloc)?),
     }
 }

@@ -1,9 +1,10 @@
 //! Reads that writes overlapped, as values, and what is said of them.
-ghost use Rattle.std.specs.Prelude.{◌≡◌, IfOk, string_bytes};
+ghost use Rattle.std.specs.Prelude.{◌≡◌, ◌++◌, IfOk, OnOk, string_bytes};
+ghost use Rattle.std.specs.Fmt.{decimal};
 ghost use Rattle.columns.specs.Columns.{GivesRows, verb_and_rest};
 ghost use Rattle.columns.specs.Overlaps.{bit_text, field_text, read_text, saw_text, title_text};
 
-use crate::columns::TextRow;
+use crate::columns::{TextRow, two_rows};
 use record::Field;
 use std::alloc::{AllocError, Global};
 
@@ -31,10 +32,7 @@ impl OverlappedRead {
     pub(crate) fn rows(&self, alloc: Global) -> Result<Vec<TextRow>, AllocError>
         ensures { GivesRows result (verb_and_rest (saw_text self.now) (bit_text self.now)) }
     {
-        let mut rows = Vec::new(alloc);
-        rows.push(TextRow::new(true, self.saw(alloc)?))?;
-        rows.push(TextRow::new(false, self.bit_words(alloc)?))?;
-        Ok(rows)
+        two_rows(alloc, self.saw(alloc)?, self.bit_words(alloc)?)
     }
 
     /// What it gave, in words.
@@ -58,12 +56,10 @@ impl OverlappedRead {
         let field = field_name(self.field);
         let mut text = format!(in alloc; "{field}[{owner}]")?;
         if self.is_wide {
-            let bit = format!(in alloc; ".{bit}")?;
-            text.push_str(bit.as_str())?;
+            push_number(alloc, ".", u64::from(bit), &mut text)?;
         }
         if more > 0 {
-            let more = format!(in alloc; " +{more}")?;
-            text.push_str(more.as_str())?;
+            push_number(alloc, " +", more, &mut text)?;
         }
         Ok(text)
     }
@@ -91,6 +87,15 @@ impl OverlappedRead {
         let field = field_name(self.field);
         format!(in alloc; "process {reader} read bit {bit} of {field}[{owner}]")
     }
+}
+
+/// Adds a number behind a sign.
+fn push_number(alloc: Global, sign: &str, number: u64, text: &mut String) -> Result<(), AllocError>
+    ensures { OnOk result (string_bytes text.new ≡ string_bytes text.old ++ (sign.now ++ decimal number)) }
+{
+    text.push_str(sign)?;
+    let digits = number.to_string(alloc)?;
+    text.push_str(digits.as_str())
 }
 
 /// How a register is called.

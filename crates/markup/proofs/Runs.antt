@@ -1,5 +1,6 @@
--- Paths as `format!` puts them together.
-use Rattle.std.proofs.Common.{◌≡◌, ℕ, List, ◌++◌, codes, append_assoc}
+-- Paths as `format!` puts them together, and what loops write.
+use Rattle.std.proofs.Common.{◌≡◌, ℕ, ◌+◌, ◌<◌, ◌≤◌, if◌then◌else◌, Result, Ok, Err, OnOk, is_ok, List, ◌++◌, codes, drop, flat_map, get_or, length, ap, append-nil, append_assoc, sym, ◌∙◌}
+use Rattle.std.proofs.lemmas.List.{at_drop_all, at_drop_more}
 use Rattle.std.specs.Fmt.{decimal}
 
 pub path_is : (x y : ℕ) (rest : List ℕ) → codes "M" ++ (decimal x ++ (codes " " ++ (decimal y ++ rest))) ≡ codes "M" ++ decimal x ++ codes " " ++ decimal y ++ rest
@@ -7,3 +8,20 @@ path_is x y rest = simp append_assoc
 
 pub line_is : (x y : ℕ) → codes "L" ++ (decimal x ++ (codes " " ++ decimal y)) ≡ codes "L" ++ decimal x ++ codes " " ++ decimal y
 line_is x y = simp append_assoc
+
+-- one more of a list is written, as long as what was written and what is left are the whole
+pub written_more : {A : Type 0} (f : A → List ℕ) (xs : List A) (i : ℕ) (x : A) (whole before after : List ℕ) → i < length xs → before ++ flat_map f (drop i xs) ≡ whole → after ≡ before ++ f (get_or xs i x) →
+    after ++ flat_map f (drop (i + 1) xs) ≡ whole
+written_more f xs i x whole before after within so_far is =
+    ap (λ l. l ++ flat_map f (drop (i + 1) xs)) is ∙ append_assoc before (f (get_or xs i x)) (flat_map f (drop (i + 1) xs)) ∙ sym (at_drop_more (λ l. before ++ flat_map f l) xs i x within) ∙ so_far
+
+-- all are
+pub written_all : {A : Type 0} (f : A → List ℕ) (xs : List A) (i : ℕ) (whole before : List ℕ) → length xs ≤ i → before ++ flat_map f (drop i xs) ≡ whole → before ≡ whole
+written_all f xs i whole before past so_far = sym (append-nil before) ∙ sym (at_drop_all (λ l. before ++ flat_map f l) xs i past) ∙ so_far
+
+-- five pieces, one after the other
+pub five_written : {A E : Type 0} (r : Result A E) (old one two three four new rest a b c d e : List ℕ) → one ≡ old ++ a → two ≡ one ++ b → three ≡ two ++ c → four ≡ three ++ d → new ≡ (if is_ok r then four ++ e else rest) →
+    OnOk r (new ≡ old ++ (a ++ b ++ c ++ d ++ e))
+five_written (Ok done) old one two three four new rest a b c d e first second third fourth is =
+    is ∙ ap (λ l. l ++ e) (fourth ∙ ap (λ l. l ++ d) (third ∙ ap (λ l. l ++ c) (second ∙ ap (λ l. l ++ b) first))) ∙ simp append_assoc
+five_written (Err fault) old one two three four new rest a b c d e first second third fourth is = tt

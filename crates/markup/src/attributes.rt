@@ -1,5 +1,5 @@
 //! Attributes, and tags with them, as bytes.
-ghost use Rattle.std.specs.Prelude.{◌≡◌, ◌++◌, [], IfOk, OnOk};
+ghost use Rattle.std.specs.Prelude.{◌≡◌, ◌++◌, OnOk};
 ghost use Rattle.markup.specs.Escaping.{escaped};
 ghost use Rattle.markup.specs.Markup.{attribute_text, attributes_text, entering, input_field, lowering, marking, meant, noting, said_text, standing, tag_front, telling};
 ghost use Rattle.std.specs.Fmt.{decimal};
@@ -91,108 +91,110 @@ fn push_attributes(
     Ok(())
 }
 
-/// A tag without its end.
-fn tag_front_bytes(alloc: Global, tag: Tag, attributes: &[Attribute]) -> Result<Vec<u8>, AllocError>
-    ensures { IfOk result (λ bytes. bytes.items ≡ tag_front tag attributes.now) }
+/// Adds a tag without its end.
+fn push_front(
+    alloc: Global,
+    bytes: &mut Vec<u8>,
+    tag: Tag,
+    attributes: &[Attribute],
+) -> Result<(), AllocError>
+    ensures { OnOk result (bytes.new.items ≡ bytes.old.items ++ tag_front tag attributes.now) }
 {
-    let mut bytes = Vec::new(alloc);
     bytes.extend_from_slice(b"<")?;
     bytes.extend_from_slice(tag.name().as_bytes())?;
-    push_attributes(alloc, &mut bytes, attributes)?;
-    Ok(bytes)
+    push_attributes(alloc, bytes, attributes)
 }
 
-/// A tag with nothing in it, and the end of its line.
-pub(crate) fn standing_tag(
+/// Adds a tag with nothing in it, and the end of its line.
+pub(crate) fn push_standing(
     alloc: Global,
+    bytes: &mut Vec<u8>,
     tag: Tag,
     attributes: &[Attribute],
-) -> Result<Vec<u8>, AllocError>
-    ensures { IfOk result (λ bytes. bytes.items ≡ standing tag attributes.now) }
+) -> Result<(), AllocError>
+    ensures { OnOk result (bytes.new.items ≡ bytes.old.items ++ standing tag attributes.now) }
 {
-    let mut bytes = tag_front_bytes(alloc, tag, attributes)?;
-    bytes.extend_from_slice(b"/>\n")?;
-    Ok(bytes)
+    push_front(alloc, bytes, tag, attributes)?;
+    bytes.extend_from_slice(b"/>\n")
 }
 
-/// A tag whose content follows.
-pub(crate) fn entering_tag(
+/// Adds a tag whose content follows.
+pub(crate) fn push_entering(
     alloc: Global,
+    bytes: &mut Vec<u8>,
     tag: Tag,
     attributes: &[Attribute],
-) -> Result<Vec<u8>, AllocError>
-    ensures { IfOk result (λ bytes. bytes.items ≡ entering tag attributes.now) }
+) -> Result<(), AllocError>
+    ensures { OnOk result (bytes.new.items ≡ bytes.old.items ++ entering tag attributes.now) }
 {
-    let mut bytes = tag_front_bytes(alloc, tag, attributes)?;
-    bytes.extend_from_slice(b">")?;
-    Ok(bytes)
+    push_front(alloc, bytes, tag, attributes)?;
+    bytes.extend_from_slice(b">")
 }
 
-/// A tag around a text.
-pub(crate) fn telling_tag(
+/// Adds a tag around a text.
+pub(crate) fn push_telling(
     alloc: Global,
+    bytes: &mut Vec<u8>,
     tag: Tag,
     attributes: &[Attribute],
     text: &[u8],
-) -> Result<Vec<u8>, AllocError>
-    ensures { IfOk result (λ bytes. bytes.items ≡ telling tag attributes.now text.now) }
+) -> Result<(), AllocError>
+    ensures { OnOk result (bytes.new.items ≡ bytes.old.items ++ telling tag attributes.now text.now) }
 {
-    let mut bytes = entering_tag(alloc, tag, attributes)?;
-    push_escaped(&mut bytes, text)?;
+    push_entering(alloc, bytes, tag, attributes)?;
+    push_escaped(bytes, text)?;
     bytes.extend_from_slice(b"</")?;
     bytes.extend_from_slice(tag.name().as_bytes())?;
-    bytes.extend_from_slice(b">")?;
-    Ok(bytes)
+    bytes.extend_from_slice(b">")
 }
 
-/// The tag of a mark with its title, and the end of their line.
-pub(crate) fn marking_tags(
+/// Adds the tag of a mark with its title, and the end of their line.
+pub(crate) fn push_marking(
     alloc: Global,
+    bytes: &mut Vec<u8>,
     attributes: &[Attribute],
     title: &[u8],
-) -> Result<Vec<u8>, AllocError>
-    ensures { IfOk result (λ bytes. bytes.items ≡ marking attributes.now title.now) }
+) -> Result<(), AllocError>
+    ensures { OnOk result (bytes.new.items ≡ bytes.old.items ++ marking attributes.now title.now) }
 {
-    let titled = telling_tag(alloc, Tag::Title, &[], title)?;
-    let mut bytes = Vec::new(alloc);
     bytes.extend_from_slice(b"<g class=\"m\" role=\"img\"")?;
-    push_attributes(alloc, &mut bytes, attributes)?;
+    push_attributes(alloc, bytes, attributes)?;
     bytes.extend_from_slice(b">")?;
-    bytes.extend_from_slice(titled.as_slice())?;
-    bytes.extend_from_slice(b"\n")?;
-    Ok(bytes)
+    push_telling(alloc, bytes, Tag::Title, &[], title)?;
+    bytes.extend_from_slice(b"\n")
 }
 
-/// The tag of a group that is no mark with its title, and the end of their line.
-pub(crate) fn noting_tags(alloc: Global, title: &[u8]) -> Result<Vec<u8>, AllocError>
-    ensures { IfOk result (λ bytes. bytes.items ≡ noting title.now) }
+/// Adds the tag of a group that is no mark with its title, and the end of their line.
+pub(crate) fn push_noting(
+    alloc: Global,
+    bytes: &mut Vec<u8>,
+    title: &[u8],
+) -> Result<(), AllocError>
+    ensures { OnOk result (bytes.new.items ≡ bytes.old.items ++ noting title.now) }
 {
-    let titled = telling_tag(alloc, Tag::Title, &[], title)?;
-    let mut bytes = Vec::new(alloc);
     bytes.extend_from_slice(b"<g class=\"r\">")?;
-    bytes.extend_from_slice(titled.as_slice())?;
-    bytes.extend_from_slice(b"\n")?;
-    Ok(bytes)
+    push_telling(alloc, bytes, Tag::Title, &[], title)?;
+    bytes.extend_from_slice(b"\n")
 }
 
-/// A field for input, which has no content.
-pub(crate) fn input_tag(alloc: Global, attributes: &[Attribute]) -> Result<Vec<u8>, AllocError>
-    ensures { IfOk result (λ bytes. bytes.items ≡ input_field attributes.now) }
+/// Adds a field for input, which has no content.
+pub(crate) fn push_input(
+    alloc: Global,
+    bytes: &mut Vec<u8>,
+    attributes: &[Attribute],
+) -> Result<(), AllocError>
+    ensures { OnOk result (bytes.new.items ≡ bytes.old.items ++ input_field attributes.now) }
 {
-    let mut bytes = Vec::new(alloc);
     bytes.extend_from_slice(b"<input")?;
-    push_attributes(alloc, &mut bytes, attributes)?;
-    bytes.extend_from_slice(b">")?;
-    Ok(bytes)
+    push_attributes(alloc, bytes, attributes)?;
+    bytes.extend_from_slice(b">")
 }
 
-/// The tag of a group so far below, and the end of its line.
-pub(crate) fn lowering_tag(alloc: Global, by: u64) -> Result<Vec<u8>, AllocError>
-    ensures { IfOk result (λ bytes. bytes.items ≡ lowering by) }
+/// Adds the tag of a group so far below, and the end of its line.
+pub(crate) fn push_lowering(alloc: Global, bytes: &mut Vec<u8>, by: u64) -> Result<(), AllocError>
+    ensures { OnOk result (bytes.new.items ≡ bytes.old.items ++ lowering by) }
 {
-    let mut bytes = Vec::new(alloc);
     bytes.extend_from_slice(b"<g transform=\"translate(0,")?;
-    push_meaning(alloc, &mut bytes, &Meaning::Number(by))?;
-    bytes.extend_from_slice(b")\">\n")?;
-    Ok(bytes)
+    push_meaning(alloc, bytes, &Meaning::Number(by))?;
+    bytes.extend_from_slice(b")\">\n")
 }

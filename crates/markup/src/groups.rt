@@ -4,7 +4,7 @@ ghost use Rattle.markup.specs.Figures.{End, drawn};
 ghost use Rattle.markup.specs.Markup.{lowering};
 ghost use Rattle.markup.specs.Readings.{group, reading, with_begun, with_ended};
 
-use crate::attributes::lowering_tag;
+use crate::attributes::push_lowering;
 use crate::markup::Markup;
 use std::alloc::AllocError;
 
@@ -14,7 +14,8 @@ impl Markup {
         ensures draws { OnOk result (self.new ≡ self.old ++ lowering by) }
         ensures read { OnOk result (reading self.new ≡ with_begun group (reading self.old)) }
     {
-        let bytes = lowering_tag(self.alloc(), by)?;
+        let mut bytes = Vec::new(self.alloc());
+        push_lowering(self.alloc(), &mut bytes, by)?;
         self.add(bytes.as_slice())
     }
 

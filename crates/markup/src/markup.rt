@@ -7,7 +7,7 @@ ghost use Rattle.markup.specs.Readings.{followed_by, group, reading, with_begun,
 ghost use Rattle.markup.specs.Titles.{is_at_rest, is_no_mark, lines_in, tags_of};
 
 use crate::attributes::{
-    Attribute, entering_tag, input_tag, marking_tags, noting_tags, standing_tag, telling_tag,
+    Attribute, push_entering, push_input, push_marking, push_noting, push_standing, push_telling,
 };
 use crate::names::Tag;
 use std::alloc::{AllocError, Global};
@@ -62,7 +62,8 @@ impl Markup {
         ensures draws { OnOk result (self.new ≡ self.old ++ standing tag attributes.now) }
         ensures read { OnOk result (reading self.new ≡ reading self.old) }
     {
-        let bytes = standing_tag(self.alloc, tag, attributes)?;
+        let mut bytes = Vec::new(self.alloc);
+        push_standing(self.alloc, &mut bytes, tag, attributes)?;
         self.add(bytes.as_slice())
     }
 
@@ -72,7 +73,8 @@ impl Markup {
         ensures draws { OnOk result (self.new ≡ self.old ++ entering tag attributes.now) }
         ensures read { OnOk result (reading self.new ≡ with_entered tag (reading self.old)) }
     {
-        let bytes = entering_tag(self.alloc, tag, attributes)?;
+        let mut bytes = Vec::new(self.alloc);
+        push_entering(self.alloc, &mut bytes, tag, attributes)?;
         self.add(bytes.as_slice())
     }
 
@@ -86,7 +88,8 @@ impl Markup {
         ensures draws { OnOk result (self.new ≡ self.old ++ telling tag attributes.now text.now) }
         ensures read { OnOk result (reading self.new ≡ reading self.old) }
     {
-        let bytes = telling_tag(self.alloc, tag, attributes, text)?;
+        let mut bytes = Vec::new(self.alloc);
+        push_telling(self.alloc, &mut bytes, tag, attributes, text)?;
         self.add(bytes.as_slice())
     }
 
@@ -95,7 +98,8 @@ impl Markup {
         ensures draws { OnOk result (self.new ≡ self.old ++ input_field attributes.now) }
         ensures read { OnOk result (reading self.new ≡ reading self.old) }
     {
-        let bytes = input_tag(self.alloc, attributes)?;
+        let mut bytes = Vec::new(self.alloc);
+        push_input(self.alloc, &mut bytes, attributes)?;
         self.add(bytes.as_slice())
     }
 
@@ -104,7 +108,8 @@ impl Markup {
         ensures draws { OnOk result (self.new ≡ self.old ++ marking attributes.now line.now) }
         ensures read { OnOk result (reading self.new ≡ with_mark line.now (reading self.old)) }
     {
-        let bytes = marking_tags(self.alloc, attributes, line)?;
+        let mut bytes = Vec::new(self.alloc);
+        push_marking(self.alloc, &mut bytes, attributes, line)?;
         self.add(bytes.as_slice())
     }
 
@@ -114,7 +119,8 @@ impl Markup {
         ensures draws { AddsShape result self.old (Note title.now) self.new }
         ensures read { OnOk result (reading self.new ≡ with_begun group (reading self.old)) }
     {
-        let bytes = noting_tags(self.alloc, title)?;
+        let mut bytes = Vec::new(self.alloc);
+        push_noting(self.alloc, &mut bytes, title)?;
         self.add(bytes.as_slice())
     }
 

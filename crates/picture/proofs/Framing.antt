@@ -1,5 +1,5 @@
 -- What stands before and behind the bands begins elements, and ends them.
-use Rattle.std.proofs.Common.{◌≡◌, ℕ, Result, Ok, Err, OnOk, List, [], ◌∷◌, codes, Some, refl, ap, ◌∙◌}
+use Rattle.std.proofs.Common.{◌≡◌, ℕ, Result, Ok, Err, IfOk, OnOk, List, [], ◌∷◌, codes, Some, refl, ap, ◌∙◌}
 use Rattle.markup.specs.Elements.{begun, opens_in}
 use Rattle.markup.specs.Readings.{Reading, group, reading, with_begun, with_tags}
 use Rattle.picture.specs.Pages.{page_names, picture_names}
@@ -15,6 +15,14 @@ leaves read other before after is so = (ap (λ (r : Reading). r.lines) is ∙ so
 pub on_ok : {A E : Type 0} {P Q : Type 0} (r : Result A E) → (P → Q) → OnOk r P → OnOk r Q
 on_ok (Ok done) gives holds = gives holds
 on_ok (Err e) gives holds = tt
+
+pub always : {A E : Type 0} {P : Type 0} (r : Result A E) → P → OnOk r P
+always (Ok done) holds = holds
+always (Err e) holds = tt
+
+pub if_ok : {A E : Type 0} {P Q : A → Type 0} (r : Result A E) → ((a : A) → P a → Q a) → IfOk r P → IfOk r Q
+if_ok (Ok a) gives holds = gives a holds
+if_ok (Err e) gives holds = tt
 
 abbrev pub opening_text : List ℕ
 opening_text = codes "<!doctype html>\n<html lang=\"en\"><head><meta charset=\"utf-8\">\n<meta name=\"viewport\" content=\"width=device-width\">\n"

@@ -8,7 +8,7 @@ use Rattle.record.specs.declared.marks.Mark.{Mark}
 use Rattle.picture.specs.Bandings.{Bands, Item, Plan, Reads, Tells, bands_of, begun_by, behind_columns, columns_of, filled, framed, full_bytes, heights, layout_in, line_by, newest, newest_at, older, placing_before, placing_in, room_by, state_after, with_line, with_placed, with_put, with_room}
 use Rattle.columns.specs.Columns.{Seen, alone, column_of_read, joined, joins, seen}
 use Rattle.picture.specs.Drawings.{band_shapes}
-use Rattle.picture.specs.Pages.{DrawsBand, GivesRest, GoesOn, MakesRoom, Places, Puts, SeenPage, band_text, page_by, page_holding}
+use Rattle.picture.specs.Pages.{BeginsColumn, DrawsBand, GivesRest, GoesOn, MakesRoom, Places, Puts, SeenPage, band_text, page_by, page_holding}
 use Rattle.columns.specs.Layouts.{layout_of}
 use Rattle.columns.specs.Placings.{drawn_apart, end_of_words, has_room_at, last_of, moved_to, place_of, placing_at_first, put_at, stretched_all, widened}
 use Rattle.picture.specs.Sheets.{held_in_64}
@@ -185,29 +185,29 @@ joins_pending line column old new one does is plan items holds = joins_by line c
 abbrev pub told_page : RunLine → SeenPage → SeenPage
 told_page line page = record page { state = state_told page.state line.saying }
 
-abbrev pub begun_page : RunLine → SeenPage → SeenPage → SeenPage
-begun_page line old placed = record placed { pending = Some (alone line (line.at - placed.last_at) (freed_by old.state line.saying) (state_told old.state line.saying)); last_at = line.at }
+abbrev pub begun_page : RunLine → Option ℕ → State → SeenPage → SeenPage
+begun_page line frees after placed = record placed { pending = Some (alone line (line.at - placed.last_at) frees after); last_at = line.at }
 
 begins_line : (line : RunLine) (frees : Option ℕ) (after : State) (columns : List Seen) → JoinsNone line (newest columns) → begun_by line frees after columns ≡ with_line line frees after columns
 begins_line line frees after [] other = refl
 begins_line line frees after (column ∷ before) other = ap (λ (b : Bool). line_by b line frees after column before) (sym (other column refl))
 
-pub begins_alone : (line : RunLine) (old told placed new : SeenPage) (full : Option (List ℕ)) → JoinsNone line old.pending → told ≡ told_page line old → Places told full placed → new ≡ begun_page line old placed → GoesOn (Tells line) old full new
-begins_alone line old told placed new full other says places is plan items holds =
+pub begins_alone : (line : RunLine) (old told new : SeenPage) (frees : Option ℕ) (full : Option (List ℕ)) → JoinsNone line old.pending → told ≡ told_page line old → frees ≡ freed_by old.state line.saying → BeginsColumn line frees told full new → GoesOn (Tells line) old full new
+begins_alone line old told new frees full other says free begun plan items holds =
     let before : State = state_after plan.processes items in
     let state : State = state_told before line.saying in
-    let frees : Option ℕ = freed_by before line.saying in
+    let freed : Option ℕ = freed_by before line.saying in
     let columns : List Seen = columns_of plan.processes items in
-    let put = places plan state (newest_at columns) columns (told_processes before line.saying ∙ processes_after plan.processes items) (says ∙ ap (told_page line) holds) in
-    let begins : begun_by line frees state columns ≡ with_line line frees state columns = begins_line line frees state columns (subst (λ (p : SeenPage). JoinsNone line p.pending) holds other) in (
-      is ∙ (λ i. begun_page line (holds i) (put.0 i)) ∙ ap (page_by plan state) begins,
+    let put = begun.places plan state (newest_at columns) columns (told_processes before line.saying ∙ processes_after plan.processes items) (says ∙ ap (told_page line) holds) in
+    let begins : begun_by line freed state columns ≡ with_line line freed state columns = begins_line line freed state columns (subst (λ (p : SeenPage). JoinsNone line p.pending) holds other) in (
+      begun.is ∙ (λ i. begun_page line (free i) (says i).state begun.placed) ∙ (λ i. begun_page line (freed_by (holds i).state line.saying) (state_told (holds i).state line.saying) (put.0 i)) ∙ ap (page_by plan state) begins,
       ap (λ (l : List Seen). full_bytes plan (bands_of plan.opening (older l)).full) (sym begins) ∙ put.1,
     )
 
-pub begun_is : (line : RunLine) (old placed : SeenPage) (column : Seen) (gap : ℕ) (frees : Option ℕ) (after : State) → column ≡ alone line gap frees after → gap ≡ line.at - placed.last_at → frees ≡ freed_by old.state line.saying → after ≡ state_told old.state line.saying →
-    (let page : SeenPage = record placed { pending = Some column; last_at = line.at } in page) ≡ begun_page line old placed
-begun_is line old placed column gap frees after is far frees_is told =
-    ap (λ (c : Seen). (let page : SeenPage = record placed { pending = Some c; last_at = line.at } in page)) (is ∙ (λ i. alone line (far i) (frees_is i) (told i)))
+pub begun_is : (line : RunLine) (placed : SeenPage) (column : Seen) (gap : ℕ) (frees : Option ℕ) (state after : State) → column ≡ alone line gap frees state → gap ≡ line.at - placed.last_at → state ≡ after →
+    (let page : SeenPage = record placed { pending = Some column; last_at = line.at } in page) ≡ begun_page line frees after placed
+begun_is line placed column gap frees state after is far same =
+    ap (λ (c : Seen). (let page : SeenPage = record placed { pending = Some c; last_at = line.at } in page)) (is ∙ (λ i. alone line (far i) frees (same i)))
 
 -- a read has one
 abbrev pub read_page : OverlappedRead → SeenPage → SeenPage

@@ -1,16 +1,17 @@
 -- What a page holds back: the lines that were told and are not drawn yet; and what it keeps of all lines.
-use Rattle.std.specs.Prelude.{◌≡◌, ℕ, Bool, List, [], ◌∷◌, ◌++◌, codes, flat_map, map, Option, None, Some, option_map}
+use Rattle.std.specs.Prelude.{◌≡◌, ℕ, ◌-◌, Bool, List, [], ◌∷◌, ◌++◌, codes, flat_map, map, Option, None, Some, option_map}
 use Rattle.std.specs.Option.{option_to_list}
 use Rattle.record.specs.declared.stages.Stage.{Stage}
 use Rattle.markup.specs.Titles.{lines_in}
 use Rattle.picture.specs.Bandings.{Bands, Item, Plan, band_bytes, bands_of, bands_told, before_band, columns_of, filled, full_bytes, full_told, heights, heights_told, newest, newest_at, number_of, older, opens_before, placing_in, state_after, with_put, with_room}
-use Rattle.columns.specs.Columns.{Seen, seen}
+use Rattle.columns.specs.Columns.{Seen, alone, seen}
 use Rattle.columns.specs.Told.{told_in}
 use Rattle.columns.specs.declared.columns.Column.{Column}
 use Rattle.picture.specs.declared.page.Form.{Form}
 use Rattle.picture.specs.declared.page.Page.{Page}
 use Rattle.columns.specs.declared.placing.Placing.{Placing}
 use Rattle.columns.specs.declared.state.State.{State}
+use Rattle.columns.specs.declared.told.RunLine.{RunLine}
 
 -- the lines of these columns, and of one that is not placed yet
 abbrev pub lines_of : List Column → Option Column → List (List ℕ)
@@ -107,6 +108,12 @@ abbrev pub Places : SeenPage → Option (List ℕ) → SeenPage → Type 0
 Places old full new =
     (plan : Plan) (state : State) (last_at : ℕ) (columns : List Seen) → state.processes ≡ plan.processes → old ≡ page_holding plan state (newest columns) last_at (bands_of plan.opening (older columns)) →
     (new ≡ page_holding plan state None last_at (bands_of plan.opening columns)) × (full_bytes plan (bands_of plan.opening columns).full ≡ full_bytes plan (bands_of plan.opening (older columns)).full ++ band_text full)
+
+-- It is, and a line begins the next one, which is not placed yet.
+pub record BeginsColumn (line : RunLine) (frees : Option ℕ) (old : SeenPage) (full : Option (List ℕ)) (new : SeenPage) : Type 0 where
+  pub placed : SeenPage
+  pub places : Places old full placed
+  pub is : new ≡ record placed { pending = Some (alone line (line.at - placed.last_at) frees old.state); last_at = line.at }
 
 -- Another band begins where a column has no room.
 abbrev pub MakesRoom : Seen → SeenPage → Option (List ℕ) → SeenPage → Type 0

@@ -5,7 +5,7 @@ ghost use Rattle.markup.specs.Elements.{EndsAll};
 ghost use Rattle.markup.specs.Titles.{lines_in};
 ghost use Rattle.picture.specs.Bandings.{Reads, Tells, band_tag, behind_columns, opening_length, opens_with};
 ghost use Rattle.columns.specs.Columns.{seen};
-ghost use Rattle.picture.specs.Pages.{DrawsBand, GivesRest, GoesOn, MakesRoom, Places, Puts, held, lines_of_band, page_of, seen_page, stages_kept};
+ghost use Rattle.picture.specs.Pages.{BeginsColumn, DrawsBand, GivesRest, GoesOn, MakesRoom, Places, Puts, held, lines_of_band, page_of, seen_page, stages_kept};
 ghost use Rattle.picture.specs.declared.page.Form.TheVariants as form_variants;
 ghost use Rattle.columns.specs.Stages.{nothing_told, stages_told};
 ghost use Rattle.columns.specs.Told.{text_of, told_in};
@@ -92,6 +92,20 @@ impl Page {
                 return Ok(None);
             }
         }
+        self.begin_column(line, frees)
+    }
+
+    /// Places the column that no more line joins, and begins another with a line; answers the band that is full.
+    fn begin_column(
+        &mut self,
+        line: RunLine,
+        frees: Option<u8>,
+    ) -> Result<Option<Markup>, AllocError>
+        ensures page { IfOk result (λ full. BeginsColumn line frees (seen_page self.old) full (seen_page self.new)) }
+        ensures lines { GivesLines result (held self.new) (held self.old ++ text_of line ∷ []) }
+        ensures ended { IfOk result (λ full. IfSome full EndsAll) }
+        ensures state { self.new.state ≡ self.old.state }
+    {
         let full = self.place_pending()?;
         let gap = line.at.saturating_sub(self.last_at);
         self.last_at = line.at;

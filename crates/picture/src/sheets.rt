@@ -190,6 +190,7 @@ fn list_lines(printed: &[u8], markup: &mut Markup) -> Result<(), AllocError>
     list_line(b"(end)", markup)
 }
 
+/// Lists a line.
 fn list_line(line: &[u8], markup: &mut Markup) -> Result<(), AllocError>
     ensures draws { OnOk result (markup.new ≡ markup.old ++ item_of line.now) }
     ensures read { OnOk result (reading markup.new ≡ reading markup.old) }
@@ -205,12 +206,22 @@ pub fn page_end(alloc: Global, opening: &[u8]) -> Result<Markup, AllocError>
     ensures elements { IfOk result (λ markup. opens_in markup (Some page_names) ≡ Some []) }
 {
     let mut markup = Markup::new(alloc);
+    add_page_end(opening, &mut markup)?;
+    Ok(markup)
+}
+
+/// Adds the same to fresh markup.
+fn add_page_end(opening: &[u8], markup: &mut Markup) -> Result<(), AllocError>
+    requires fresh { markup.old ≡ [] }
+    ensures draws { OnOk result (markup.new ≡ page_back opening.now) }
+    ensures lines { OnOk result (lines_in markup.new ≡ []) }
+    ensures elements { OnOk result (opens_in markup.new (Some page_names) ≡ Some []) }
+{
     markup.frame("<div id=\"now\"><div>")?;
-    add_slider(opening, &mut markup)?;
+    add_slider(opening, markup)?;
     markup.frame("<output id=\"said\" for=\"at\"></output></div></div>\n<script>")?;
     markup.frame(SCRIPT)?;
-    markup.frame("</script>\n</body></html>\n")?;
-    Ok(markup)
+    markup.frame("</script>\n</body></html>\n")
 }
 
 /// The slider, by which a line is chosen; `opening`: the opening store.

@@ -3,10 +3,10 @@ use Rattle.std.specs.Prelude.{ℕ, zero, suc, ◌+◌, ◌-◌, ◌*◌, ◌/◌
 use Rattle.std.specs.Fmt.{decimal}
 use Rattle.plain_store.specs.declared.setups.Setup.{Setup}
 use Rattle.record.specs.safe_bit.declared.Move.{Move}
-use Rattle.record.specs.safe_bit.declared.Move.TheVariants.{BeginWrite, EndWrite, BeginRead, EndRead}
+use Rattle.record.specs.safe_bit.declared.Move.TheVariants.{BeginWrite, EndWrite, EndRead}
 use Rattle.record.specs.declared.access.Access.{Access}
 use Rattle.record.specs.declared.access.Field.{Field}
-use Rattle.record.specs.declared.access.Field.TheVariants.{Choosing, Ticket}
+use Rattle.record.specs.declared.access.Field.TheVariants.{Ticket}
 use Rattle.record.specs.declared.events.Event.TheVariants.{Step}
 use Rattle.record.specs.declared.stages.Stage.{Stage}
 use Rattle.record.specs.declared.stages.Stage.TheVariants.{Doorway, Waiting, Inside, Settling}

@@ -141,7 +141,8 @@ fn span_words(
     from: Option<u64>,
     to: Option<u64>,
 ) -> Result<Option<String>, AllocError>
-    ensures { IfOk result (λ words. option_map string_bytes words ≡ span_words what.now from to) }
+    ensures { IfOk result (λ words. option_map string_bytes words
+        ≡ span_words what.now from to) }
 {
     let Some(from) = from else {
         return Ok(None);
@@ -151,7 +152,8 @@ fn span_words(
 
 /// The same of what has begun.
 fn since_words(alloc: Global, what: &str, from: u64, to: Option<u64>) -> Result<String, AllocError>
-    ensures { IfOk result (λ words. Some (string_bytes words) ≡ span_words what.now (Some from) to) }
+    ensures { IfOk result (λ words. Some (string_bytes words)
+        ≡ span_words what.now (Some from) to) }
 {
     match to {
         None => format!(in alloc; "{what} from {from}"),

@@ -79,7 +79,6 @@ pub(crate) fn push_history(
 }
 
 /// The one-thread store after some commands.
-#[tactic(auto, using(std::proofs::lemmas::List::Sums::fold_more))]
 fn store_after(setup: &Setup, history: &[Taken]) -> Result<Image, AllocError>
     requires { checked setup.now ≡ Ok tt }
     ensures { IfOk result (λ store. store ≡ store_after setup.now history.now) }

@@ -1,11 +1,9 @@
-use Rattle.std.proofs.Common.{◌≡◌, ℕ, false, List, ◌∷◌, Option, None, Some, length, IfErr, IfOk, OnErr, OnOk, Result, Ok, Err, sym, ap, subst, ◌∙◌}
-use Rattle.record.specs.declared.events.Event.{Event}
+use Rattle.std.proofs.Common.{◌≡◌, ℕ, false, ◌∷◌, Option, None, Some, IfErr, OnErr, OnOk, Result, Ok, Err, sym, ap, subst, ◌∙◌}
 use Rattle.record.specs.declared.events.Event.TheVariants.{Step}
-use Rattle.record.specs.declared.history.Taken.{Taken}
 use Rattle.record.specs.declared.refusals.Refusal.{Refusal}
 use Rattle.record.specs.Entries.{Entry, Past}
 use Rattle.record.specs.Histories.{reply_taken}
-use Rattle.record.specs.Records.{added, entry_of, past_of, with_event}
+use Rattle.record.specs.Records.{added, past_of, with_event}
 use Rattle.plain_store.specs.declared.setups.Setup.{Setup}
 use Rattle.world.specs.process.Telling.{marks_of}
 use Rattle.world.specs.process.declared.told.Effect.TheVariants.{Steps}

@@ -1,6 +1,4 @@
-use Rattle.std.proofs.Common.{◌≡◌, ◌<◌, ◌≤◌, sym, subst, ◌∙◌, arith}
-use Rattle.plain_store.specs.declared.setups.Setup.{Setup}
-use Rattle.record.specs.Registers.{width}
+use Rattle.std.proofs.Common.{◌∙◌}
 use Rattle.snapshot.specs.Copies.{bit_at}
 use Rattle.snapshot.proofs.copies.bit_at.Goals as goal
 

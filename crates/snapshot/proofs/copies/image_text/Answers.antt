@@ -1,4 +1,4 @@
-use Rattle.std.proofs.Common.{◌≡◌, ◌++◌, ℕ, List, [], sym, ap, subst, ◌∙◌, true≢false}
+use Rattle.std.proofs.Common.{◌++◌, ℕ, List, sym, ap, subst, ◌∙◌, true≢false}
 use Rattle.std.specs.Prelude.{IsOk, codes}
 use Rattle.snapshot.specs.Stores.{store_text}
 use Rattle.snapshot.proofs.Images.{image_ok, no_image}

@@ -1,4 +1,4 @@
-use Rattle.std.proofs.Common.{◌≡◌, ◌++◌, ◌∙◌, ℕ, List, ap, flat_map, arith}
+use Rattle.std.proofs.Common.{◌++◌, ◌∙◌, List, ap, flat_map}
 use Rattle.std.proofs.lemmas.List.{take_all}
 use Rattle.record.specs.declared.access.Field.{Field}
 use Rattle.record.specs.declared.access.Field.TheVariants.{Choosing}

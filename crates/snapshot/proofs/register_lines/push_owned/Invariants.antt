@@ -1,4 +1,4 @@
-use Rattle.std.proofs.Common.{◌≡◌, ◌++◌, ℕ, List, flat_map, take}
+use Rattle.std.proofs.Common.{◌≡◌, ◌++◌, flat_map, take}
 use Rattle.record.specs.Entries.{Past}
 use Rattle.snapshot.specs.Knowing.{CoreShows}
 use Rattle.snapshot.specs.Copies.{fields, lines_of_register}

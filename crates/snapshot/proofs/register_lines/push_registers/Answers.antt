@@ -1,4 +1,4 @@
-use Rattle.std.proofs.Common.{◌≡◌, ◌++◌, ◌∙◌, ℕ, ap, sym, subst, flat_map, arith}
+use Rattle.std.proofs.Common.{◌≡◌, ◌++◌, ◌∙◌, ap, flat_map, arith}
 use Rattle.std.specs.List.{range_with_len}
 use Rattle.snapshot.specs.Copies.{fields, lines_of_register}
 use Rattle.snapshot.proofs.Ranges.{text_more}

@@ -1,14 +1,14 @@
 use Rattle.std.proofs.Common.{◌+◌, drop, ap, sym, ◌∙◌}
-use Rattle.calls.specs.Stepping.{marked_all}
-use Rattle.calls.proofs.Loops.{dropped_all, dropped_more}
+use Rattle.std.proofs.lemmas.List.{at_drop_all, at_drop_more}
+use Rattle.calls.specs.Stepping.{marked_all, marked_on}
 use Rattle.calls.proofs.standing.CallStanding.mark_all.Goals as goal
 
 pub loop-mark-preserved : goal.loop-mark-preserved
 loop-mark-preserved c =
-    let more = dropped_more c.args.marks.now c.loop-mark.mark-index c.mark-item.result c.loop-mark-test.true c.mark-item.is in
-    c.loop-mark.invariant ∙ ap (marked_all c.args.number c.loop-mark.self) more ∙ ap (λ k. marked_all c.args.number k (drop (c.loop-mark.mark-index + 1) c.args.marks.now)) (sym c.mark.ensures)
+    let i = c.loop-mark.mark-index in
+    let on = marked_all c.args.number in
+    c.loop-mark.invariant ∙ at_drop_more (on c.loop-mark.self) c.args.marks.now i c.mark-item.result c.loop-mark-test.true
+    ∙ ap (λ m. on (marked_on c.args.number c.loop-mark.self m) (drop (i + 1) c.args.marks.now)) (sym c.mark-item.is) ∙ ap (λ k. on k (drop (i + 1) c.args.marks.now)) (sym c.mark.ensures)
 
 pub returns : goal.returns
-returns c =
-    let none = dropped_all c.args.marks.now c.loop-mark.mark-index c.loop-mark-test.false in
-    sym (c.loop-mark.invariant ∙ ap (marked_all c.args.number c.loop-mark.self) none)
+returns c = sym (c.loop-mark.invariant ∙ at_drop_all (marked_all c.args.number c.loop-mark.self) c.args.marks.now c.loop-mark.mark-index c.loop-mark-test.false)

@@ -1,54 +1,49 @@
-use Rattle.std.proofs.Common.{◌≡◌, Some, ap, option_map, refl, ◌∙◌, sym}
+use Rattle.std.proofs.Common.{Some, [], ◌∷◌, ◌++◌, ap, option_map, refl, ◌∙◌, sym}
 use Rattle.columns.specs.Columns.{joined, seen}
 use Rattle.columns.specs.Told.{text_of}
-use Rattle.picture.specs.Pages.{SeenPage, held, lines_of, seen_page}
+use Rattle.picture.specs.Pages.{held, lines_of, seen_page}
 use Rattle.columns.specs.declared.state.State.{State}
 use Rattle.picture.specs.declared.page.Page.{Page}
-use Rattle.picture.proofs.Held.{alone_pending, joins_pending}
-use Rattle.picture.proofs.Pagings.{begins_alone, begun_is, does_not_join, none_to_join, told_page}
+use Rattle.picture.proofs.Framing.{always, if_ok}
+use Rattle.picture.proofs.Held.{joins_pending}
+use Rattle.picture.proofs.Pagings.{begins_alone, does_not_join, none_to_join}
 use Rattle.picture.proofs.Pagings as pagings
 use Rattle.picture.proofs.page.Page.take.Goals.{in-Some+else-has_room_for, in_default}
 use Rattle.picture.proofs.page.Page.take.Goals as goal
 
 pub returns-clause-page : goal.returns-clause-page
 returns-clause-page c =
-    begins_alone c.args.line (seen_page c.args.self.now) (seen_page c.match-self.self) (seen_page c.place_pending.new.self) _ c.in_ok-full.full
+    if_ok c.begin_column.result (λ full begun. begins_alone c.args.line (seen_page c.args.self.now) (seen_page c.match-self.self) (seen_page c.begin_column.new.self) c.in_ok-frees.frees full
     (elim c.match-self.branch [
       | in-Some+else-has_room_for w ↦ does_not_join c.args.line (seen w.in-Some.column) (option_map seen c.args.self.now.pending) (ap (option_map seen) w.in-Some.is) (sym w.has_room_for.ensures ∙ w.if-has_room_for.false)
       | in_default w ↦ none_to_join c.args.line (option_map seen c.args.self.now.pending) (ap (option_map seen) w.in_default.is)
     ])
-    told c.in_ok-full.ensures.page
-    (begun_is c.args.line (seen_page c.args.self.now) (seen_page c.place_pending.new.self) (seen c.in_ok-new.field-0) c.saturating_sub-gap.result c.in_ok-frees.frees c.place_pending.new.self.state c.in_ok-new.ensures.whole c.saturating_sub-gap.ensures c.in_ok-frees.ensures.frees
-    (c.in_ok-full.ensures.state ∙ ap (λ (p : SeenPage). p.state) told))
-  where
-    told : seen_page c.match-self.self ≡ told_page c.args.line (seen_page c.args.self.now)
-    told = elim c.match-self.branch [
+    (elim c.match-self.branch [
       | in-Some+else-has_room_for w ↦ ap seen_page w.self-is ∙ (λ i. record (seen_page c.args.self.now) { state = c.in_ok-frees.ensures.whole i; pending = option_map seen (sym w.in-Some.is i) })
       | in_default w ↦ ap seen_page w.self-is ∙ ap (λ (s : State). record (seen_page c.args.self.now) { state = s }) c.in_ok-frees.ensures.whole
-    ]
+    ])
+    c.in_ok-frees.ensures.frees begun) c.begin_column.ensures.page
 
 pub returns-clause-lines : goal.returns-clause-lines
 returns-clause-lines c =
-    alone_pending c.place_pending.new.self.columns.items _ (held c.args.self.now) c.in_ok-new.field-0 (text_of c.args.line)
-    (c.in_ok-full.ensures.lines
-    ∙ elim c.match-self.branch [
+    if_ok c.begin_column.result (λ full is. is ∙ ap (λ l. l ++ text_of c.args.line ∷ [])
+    (elim c.match-self.branch [
       | in-Some+else-has_room_for w ↦ ap held w.self-is ∙ ap (lines_of c.args.self.now.columns.items) (sym w.in-Some.is)
       | in_default w ↦ ap held w.self-is
-    ])
-    c.in_ok-new.ensures.told
+    ])) c.begin_column.ensures.lines
 
 pub returns-clause-stages : goal.returns-clause-stages
 returns-clause-stages c =
-    ap (λ (s : State). s.stages) c.in_ok-full.ensures.state
+    always c.begin_column.result (ap (λ (s : State). s.stages) c.begin_column.ensures.state
     ∙ elim c.match-self.branch [
       | in-Some+else-has_room_for w ↦ ap (λ (p : Page). p.state.stages) w.self-is
       | in_default w ↦ ap (λ (p : Page). p.state.stages) w.self-is
     ]
-    ∙ c.in_ok-frees.ensures.stages
+    ∙ c.in_ok-frees.ensures.stages)
 
 pub returns-clause-processes : goal.returns-clause-processes
 returns-clause-processes c =
-    ap (λ (s : State). s.processes) c.in_ok-full.ensures.state
+    ap (λ (s : State). s.processes) c.begin_column.ensures.state
     ∙ elim c.match-self.branch [
       | in-Some+else-has_room_for w ↦ ap (λ (p : Page). p.state.processes) w.self-is
       | in_default w ↦ ap (λ (p : Page). p.state.processes) w.self-is

@@ -1,4 +1,4 @@
-use Rattle.std.proofs.Common.{◌≡◌, ℕ}
+use Rattle.std.proofs.Common.{◌≡◌}
 use Rattle.std.specs.List.{list_any, range_with_len}
 use Rattle.record.specs.Entries.{Past}
 use Rattle.snapshot.specs.Knowing.{CoreShows}

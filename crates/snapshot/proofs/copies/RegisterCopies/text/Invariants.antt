@@ -1,4 +1,4 @@
-use Rattle.std.proofs.Common.{◌≡◌, ℕ, false, List, Option, Bool, length, map}
+use Rattle.std.proofs.Common.{◌≡◌, false, length, map}
 use Rattle.std.specs.Prelude.{is_none}
 use Rattle.std.specs.List.{list_any, range_with_len}
 use Rattle.record.specs.Entries.{Past}

@@ -1,7 +1,6 @@
-use Rattle.std.proofs.Common.{◌≡◌, ◌-◌, ◌++◌, ℕ, List, sym, ap, subst, ◌∙◌}
+use Rattle.std.proofs.Common.{◌≡◌, ◌-◌, ◌++◌, subst, ◌∙◌}
 use Rattle.std.specs.Prelude.{codes}
-use Rattle.snapshot.specs.Copies.{copy_text}
-use Rattle.snapshot.specs.Doing.{ahead, progress_words, value_written, writes_before, writes_in_all}
+use Rattle.snapshot.specs.Doing.{ahead, progress_words, writes_before, writes_in_all}
 use Rattle.snapshot.specs.Knowing.{CoreShows}
 use Rattle.snapshot.specs.Lines.{process_line}
 use Rattle.snapshot.proofs.Stand.{ok_then}

@@ -1,7 +1,5 @@
-use Rattle.std.proofs.Common.{◌≡◌, ◌∷◌, ◌<◌, ◌≤◌, ◌+◌, ◌-◌, ◌^◌, ℕ, [], length, sym, ap, subst, ◌∙◌, arith}
-use Rattle.std.specs.Prelude.{slice_index_or, is_some, Some}
-use Rattle.record.specs.Entries.{Entry, Past}
-use Rattle.snapshot.specs.declared.kept.ProcessKept.{ProcessKept}
+use Rattle.std.proofs.Common.{◌≡◌, ◌<◌, sym, ap, subst, ◌∙◌}
+use Rattle.std.specs.Prelude.{slice_index_or}
 use Rattle.snapshot.specs.States.{HasHeard, SnapshotState}
 use Rattle.snapshot.specs.Keeping.{kept}
 use Rattle.snapshot.proofs.Keeps.{kept_found}

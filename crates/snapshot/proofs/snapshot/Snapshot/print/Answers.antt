@@ -1,4 +1,4 @@
-use Rattle.std.proofs.Common.{◌≡◌, ℕ, List, ◌++◌, flat_map, refl, ap, sym, subst, ◌∙◌, append_assoc}
+use Rattle.std.proofs.Common.{List, ◌++◌, flat_map, ap, ◌∙◌, append_assoc}
 use Rattle.record.specs.declared.history.Taken.{Taken}
 use Rattle.record.specs.Registers.{processes}
 use Rattle.snapshot.specs.Copies.{register_lines}

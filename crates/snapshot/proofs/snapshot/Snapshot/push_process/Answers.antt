@@ -1,5 +1,4 @@
-use Rattle.std.proofs.Common.{◌≡◌, ℕ, Bool, true, false, cond, List, ◌++◌, Option, None, Some, refl, ap, sym, subst, ◌∙◌}
-use Rattle.record.specs.declared.stages.Stage.{Stage}
+use Rattle.std.proofs.Common.{◌≡◌, Bool, true, false, cond, ◌++◌, None, Some, ap, sym, ◌∙◌}
 use Rattle.record.specs.Calls.{calls_in}
 use Rattle.record.specs.Entries.{own}
 use Rattle.record.specs.Stages.{stage}

@@ -1,4 +1,4 @@
-use Rattle.std.proofs.Common.{◌≡◌, ℕ, Bool, false, true, List, ◌++◌, Option, refl, ap, sym, subst, ◌∙◌, append_assoc}
+use Rattle.std.proofs.Common.{◌≡◌, ℕ, false, true, List, ◌++◌, refl, ap, ◌∙◌, append_assoc}
 use Rattle.record.specs.declared.events.Event.TheVariants.{Step}
 use Rattle.calls.specs.Hearing.{open_call}
 use Rattle.snapshot.specs.Keeping.{call_kept}

@@ -1,0 +1,20 @@
+use Rattle.std.proofs.Common.{◌∙◌, ap, refl}
+use Rattle.markup.specs.Elements.{opens_in}
+use Rattle.markup.specs.Readings.{reading, with_tags}
+use Rattle.picture.specs.declared.constants.TheConstants.{SCRIPT}
+use Rattle.picture.proofs.Framing.{on_ok, page_end_read, script_text}
+use Rattle.picture.proofs.Sheetings.{adds}
+use Rattle.picture.proofs.sheets.add_page_end.Goals as goal
+
+pub returns-clause-lines : goal.returns-clause-lines
+returns-clause-lines c = on_ok c.frame-4.result (λ is. (page_end_read SCRIPT.now _ _ _ _ _ refl (ap reading c.requires.fresh) c.in_ok-frame.ensures.read
+    (c.in_ok-frame-2.ensures.read ∙ ap (with_tags (opens_in script_text)) c.in_ok-add_slider.ensures.read) c.in_ok-frame-3.ensures.read is).0) c.frame-4.ensures.read
+
+pub returns-clause-elements : goal.returns-clause-elements
+returns-clause-elements c = on_ok c.frame-4.result (λ is. (page_end_read SCRIPT.now _ _ _ _ _ refl (ap reading c.requires.fresh) c.in_ok-frame.ensures.read
+    (c.in_ok-frame-2.ensures.read ∙ ap (with_tags (opens_in script_text)) c.in_ok-add_slider.ensures.read) c.in_ok-frame-3.ensures.read is).1) c.frame-4.ensures.read
+
+pub returns-clause-draws : goal.returns-clause-draws
+returns-clause-draws c =
+    on_ok c.frame-4.result (λ is. adds _ _ _ _ is (adds _ _ _ _ c.in_ok-frame-3.ensures.draws (adds _ _ _ _ c.in_ok-frame-2.ensures.draws (adds _ _ _ _ c.in_ok-add_slider.ensures.draws
+    (adds _ _ _ _ c.in_ok-frame.ensures.draws c.requires.fresh))))) c.frame-4.ensures.draws
