@@ -4,7 +4,7 @@ use Rattle.std.proofs.lemmas.Bool.{cases_lt}
 use Rattle.std.proofs.lemmas.Bool.Decides.{nat_tests}
 use Rattle.record.specs.declared.access.Access.{Access}
 use Rattle.record.specs.safe_bit.declared.Move.{Move}
-use Rattle.record.specs.safe_bit.declared.Move.TheVariants.{BeginWrite, EndWrite, BeginRead, EndRead, Settle}
+use Rattle.record.specs.safe_bit.declared.Move.TheVariants.{BeginRead}
 use Rattle.plain_store.specs.declared.setups.Setup.{Setup as Given}
 use Rattle.plain_store.proofs.GoodSetups.{few-processes}
 use Rattle.record.specs.Entries.{Entry, Past}
@@ -49,7 +49,7 @@ hears_none s past reads e o none h = record {
 -- The reads that have begun.
 
 -- an access that begins no read
-pub begun_still : (p n : ℕ) (a : Access) (before : Option BegunRead) → is_begin a.how ≡ false → begun_with p n (Some a) before ≡ before
+begun_still : (p n : ℕ) (a : Access) (before : Option BegunRead) → is_begin a.how ≡ false → begun_with p n (Some a) before ≡ before
 begun_still p n a before none = by (a.reader == p)
   where
     by : (b : Bool) → cond (b && is_begin a.how) (Some (record { entry = n; access = a })) before ≡ before
@@ -58,18 +58,12 @@ begun_still p n a before none = by (a.reader == p)
 
 -- a move behind others
 begins_on : (m : Move) (moves : List Move) → begins_read moves ≡ true → begins_read (m ∷ moves) ≡ true
-begins_on (BeginWrite v) moves is = is
-begins_on EndWrite moves is = is
 begins_on BeginRead moves is = refl
-begins_on (EndRead v) moves is = is
-begins_on (Settle v) moves is = is
+begins_on m moves is = is
 
 begins_here : (m : Move) (moves : List Move) → is_begin m ≡ true → begins_read (m ∷ moves) ≡ true
 begins_here BeginRead moves is = refl
-begins_here (BeginWrite v) moves is = absurd (true≢false (sym is))
-begins_here EndWrite moves is = absurd (true≢false (sym is))
-begins_here (EndRead v) moves is = absurd (true≢false (sym is))
-begins_here (Settle v) moves is = absurd (true≢false (sym is))
+begins_here m moves is = absurd (true≢false (sym is))
 
 -- where the last read of a process is of a bit, a read of that bit has begun
 begun_onwards : (x : Access) (c : Bool) (moves : List Move) → begins_read moves ≡ true → begins_read (cond c (x.how ∷ []) [] ++ moves) ≡ true
@@ -142,6 +136,18 @@ ends_no_read s past a none = by (is_there s a)
     by : (t : Bool) → cond (t && ends_overlapped (moves_of a past) a.how) (ended_of s (length past) a (read_begun a.reader past)) [] ≡ []
     by true = ap (λ c. cond c (ended_of s (length past) a (read_begun a.reader past)) []) (none (moves_of a past))
     by false = refl
+
+-- a move that neither begins a read nor ends one
+abbrev pub IsQuiet : Move → Type 0
+IsQuiet m = (is_begin m ≡ false) × ((moves : List Move) → ends_overlapped moves m ≡ false)
+
+-- an access that begins no read, or ends none, leaves what is kept
+module _ (s : Given) (past : Past) (reads : List OverlappedRead) (e : Entry) (a : Access) (o : OverlapsHeard) (is : e.access ≡ Some a) (h : Hears s past reads o) where
+  pub still_begun : is_begin a.how ≡ false → (p : ℕ) → p < 16 → get_or o.begun p None ≡ read_begun p (e ∷ past)
+  still_begun none p below = h.begun p below ∙ sym (begun_still p (length past) a (read_begun p past) none) ∙ sym (ap (λ (access : Option Access). begun_with p (length past) access (read_begun p past)) is)
+
+  pub still_ended : overlapped_with s past (Some a) ≡ [] → o.ended.items ≡ first_three (reads ++ overlapped_by s past e)
+  still_ended none = h.ended ∙ ap first_three (sym (append-nil reads)) ∙ ap (λ (l : List OverlappedRead). first_three (reads ++ l)) (sym none ∙ ap (overlapped_with s past) (sym is))
 
 -- Modes.
 

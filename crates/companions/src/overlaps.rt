@@ -75,7 +75,6 @@ impl OverlapsHeard {
     }
 
     /// Keeps that a read begins, and that an overlapped one ends.
-    #[tactic(auto, using(crate::proofs::Overhearing::begun_still, crate::proofs::Overhearing::ends_no_read))]
     fn keep(&mut self, number: u64, access: Access) -> Result<(), AllocError>
         ensures setup { self.new.setup ≡ self.old.setup }
         ensures watch { self.new.watch ≡ self.old.watch }

@@ -26,17 +26,8 @@ tied p t = record { process = p; place = t.0; reply = t.1 }
 -- the knots of an entry's marks
 entry_knots : (p : ℕ) (marks : List Mark) → knots (map (λ (m : Mark). (p, m)) marks) ≡ map (tied p) (takings marks)
 entry_knots p [] = refl
-entry_knots p (mark.Called c ∷ marks) = entry_knots p marks
-entry_knots p (mark.Waiting t ∷ marks) = entry_knots p marks
-entry_knots p (mark.Entered ∷ marks) = entry_knots p marks
 entry_knots p (mark.Taken k r ∷ marks) = ap (λ l. tied p (k, r) ∷ l) (entry_knots p marks)
-entry_knots p (mark.Left ∷ marks) = entry_knots p marks
-entry_knots p (mark.Answered a ∷ marks) = entry_knots p marks
-entry_knots p (mark.Failed ∷ marks) = entry_knots p marks
-entry_knots p (mark.Settled v ∷ marks) = entry_knots p marks
-entry_knots p (mark.Down ∷ marks) = entry_knots p marks
-entry_knots p (mark.Withdrew ∷ marks) = entry_knots p marks
-entry_knots p (mark.Restarted ∷ marks) = entry_knots p marks
+entry_knots p (m ∷ marks) = entry_knots p marks
 
 -- commands, and then others
 numbered_on : (k : ℕ) (taken more : List Taken) → numbered k (taken ++ more) ≡ numbered k taken ++ numbered (length taken + k) more

@@ -17,11 +17,10 @@ use Rattle.companions.specs.picture.columns.declared.reads.OverlappedRead.{Overl
 use Rattle.companions.specs.picture.declared.reads.Reads.{Reads as Mode}
 use Rattle.companions.specs.picture.columns.declared.told.RunLine.{RunLine}
 use Rattle.scenario.specs.Reading.{Script}
-use Rattle.course.specs.Texts.{replayed}
 use Rattle.course.proofs.Written.{appends_both, appends_none}
-use Rattle.drawer.specs.Drawings.{Draws, DrawsAll, DrawsBands, DrawsOn, DrawsRest, Fills, IsPictureOf, Kept, Writes}
+use Rattle.drawer.specs.Drawings.{Draws, DrawsAll, DrawsBands, DrawsFramed, DrawsOn, DrawsRest, Fills, IsPictureOf, Kept, Writes}
 use Rattle.drawer.specs.Items.{Gives, GivesLine, GivesRead, given, says_of}
-use Rattle.drawer.specs.Pictures.{ended_lines, lines_told}
+use Rattle.drawer.specs.Pictures.{ended_lines, lines_told, plan_of}
 
 -- lines, and then others
 pub ended-append : (xs ys : List (List ℕ)) → ended_lines (xs ++ ys) ≡ ended_lines xs ++ ended_lines ys
@@ -186,18 +185,19 @@ draws_bands plan first has a b c text ending marks gives ends height none new on
     }
 
 -- what stands before and behind tells nothing, and ends what it begins
-pub draws_framed : (reads : Mode) (form : Form) (file : List ℕ) (said : Script) (plan : Plan) (a b c d : Option (List ℕ)) (head ending : List ℕ) (names : List (List ℕ)) (marks : List (ℕ × Mark)) (gives : List Gives) (height : ℕ) → lines_in head ≡ [] → opens_in head (Some []) ≡ Some names → lines_in ending ≡ [] → opens_in ending (Some names) ≡ Some [] →
-    Writes a b head → (bands : DrawsBands plan b c (replayed said) marks gives height) → Writes c d ending → IsPictureOf reads form file said ((head ++ bands_told plan bands.items) ++ ending) → DrawsAll reads form file said a d
-draws_framed reads form file said plan a b c d head ending names marks gives height no_head begin no_ending end first bands last page =
-    let markup : List ℕ = bands_told plan bands.items in
-    let front = writes_both a b c head markup first bands.draws.writes in
+pub draws_framed : (reads : Mode) (form : Form) (file : List ℕ) (said : Script) (a d : Option (List ℕ)) (head ending : List ℕ) (names : List (List ℕ)) → lines_in head ≡ [] → opens_in head (Some []) ≡ Some names → lines_in ending ≡ [] → opens_in ending (Some names) ≡ Some [] →
+    (f : DrawsFramed reads form head ending said a d) → IsPictureOf reads form file said ((head ++ bands_told (plan_of form said.setup) f.bands.items) ++ ending) → DrawsAll reads form file said a d
+draws_framed reads form file said a d head ending names no_head begin no_ending end f page =
+    let bands = f.bands in
+    let markup : List ℕ = bands_told (plan_of form said.setup) bands.items in
+    let front = writes_both a f.begun f.drawn head markup f.first bands.draws.writes in
     record {
       markup = (head ++ markup) ++ ending;
       page = page;
       elements = opens_on (head ++ markup) ending (Some []) front.rests
-          ∙ ap (opens_in ending) (opens_on head markup (Some []) first.rests ∙ ap (opens_in markup) begin ∙ bands.draws.ended (Some names))
+          ∙ ap (opens_in ending) (opens_on head markup (Some []) f.first.rests ∙ ap (opens_in markup) begin ∙ bands.draws.ended (Some names))
           ∙ end;
-      read_back = ap ended_lines (lines_on (head ++ markup) ending front.rests ∙ (λ i. lines_on head markup first.rests i ++ no_ending i)
+      read_back = ap ended_lines (lines_on (head ++ markup) ending front.rests ∙ (λ i. lines_on head markup f.first.rests i ++ no_ending i)
           ∙ append-nil (lines_in head ++ lines_in markup) ∙ ap (λ l. l ++ lines_in markup) no_head) ∙ bands.draws.read_back;
-      writes = writes_both a c d (head ++ markup) ending front last;
+      writes = writes_both a f.drawn d (head ++ markup) ending front f.last;
     }

@@ -69,17 +69,8 @@ waiting_none (m ∷ marks) k reads within =
 -- marks that take no command, or one, the last of the history
 pub as_many : (marks : List Mark) → all_take marks ≡ length (takings marks)
 as_many [] = refl
-as_many (mark.Called c ∷ marks) = let rest = as_many marks in omega (arith, rest)
-as_many (mark.Waiting t ∷ marks) = let rest = as_many marks in omega (arith, rest)
-as_many (mark.Entered ∷ marks) = let rest = as_many marks in omega (arith, rest)
 as_many (mark.Taken k r ∷ marks) = let rest = as_many marks in omega (arith, rest)
-as_many (mark.Left ∷ marks) = let rest = as_many marks in omega (arith, rest)
-as_many (mark.Answered a ∷ marks) = let rest = as_many marks in omega (arith, rest)
-as_many (mark.Failed ∷ marks) = let rest = as_many marks in omega (arith, rest)
-as_many (mark.Settled v ∷ marks) = let rest = as_many marks in omega (arith, rest)
-as_many (mark.Down ∷ marks) = let rest = as_many marks in omega (arith, rest)
-as_many (mark.Withdrew ∷ marks) = let rest = as_many marks in omega (arith, rest)
-as_many (mark.Restarted ∷ marks) = let rest = as_many marks in omega (arith, rest)
+as_many (m ∷ marks) = let rest = as_many marks in omega (arith, rest)
 
 -- the marks behind one that takes none
 beside : (n : ℕ) (taken : List Taken) (marks : List Mark) → AreNext n taken marks → Unit {0} × AreNext (n + 0) taken marks
@@ -87,17 +78,8 @@ beside n taken marks next = (tt, subst (λ a. AreNext a taken marks) (sym (add-z
 
 pub are_next : (n : ℕ) (taken : List Taken) (marks : List Mark) → ((k : ℕ) (r : Reply) → Contains (takings marks) (k, r) → (k ≡ n) × (suc n ≡ length taken)) → length (takings marks) ≤ 1 → AreNext n taken marks
 are_next n taken [] at few = tt
-are_next n taken (mark.Called c ∷ marks) at few = beside n taken marks (are_next n taken marks at few)
-are_next n taken (mark.Waiting t ∷ marks) at few = beside n taken marks (are_next n taken marks at few)
-are_next n taken (mark.Entered ∷ marks) at few = beside n taken marks (are_next n taken marks at few)
 are_next n taken (mark.Taken k r ∷ marks) at few = (at k r (0, omega arith, refl), are_next (n + 1) taken marks (λ j q (i, within, is). absurd (omega (arith, few, within))) (omega (arith, few)))
-are_next n taken (mark.Left ∷ marks) at few = beside n taken marks (are_next n taken marks at few)
-are_next n taken (mark.Answered a ∷ marks) at few = beside n taken marks (are_next n taken marks at few)
-are_next n taken (mark.Failed ∷ marks) at few = beside n taken marks (are_next n taken marks at few)
-are_next n taken (mark.Settled v ∷ marks) at few = beside n taken marks (are_next n taken marks at few)
-are_next n taken (mark.Down ∷ marks) at few = beside n taken marks (are_next n taken marks at few)
-are_next n taken (mark.Withdrew ∷ marks) at few = beside n taken marks (are_next n taken marks at few)
-are_next n taken (mark.Restarted ∷ marks) at few = beside n taken marks (are_next n taken marks at few)
+are_next n taken (m ∷ marks) at few = beside n taken marks (are_next n taken marks at few)
 
 -- how many lines stand before the first one of a printed scenario
 pub number_of_first : (s : Setup) (n : ℕ) → n ≡ length s.opening + 5 → n + 1 ≡ first_line s

@@ -13,7 +13,7 @@ use Rattle.record.specs.declared.stages.Stage.{Stage}
 use Rattle.record.specs.declared.stages.Stage.TheVariants.{Idle, Doorway, Waiting, Inside, Leaving, Settling, Down}
 use Rattle.record.specs.Entries.{Entry, Past, has, is_entered}
 use Rattle.record.specs.Histories.{history}
-use Rattle.record.specs.Parts.{Part, Lowers, Refuses, Waits, AsksImage, WritesCommit, Clears, first_marks, last_marks}
+use Rattle.record.specs.Parts.{Part, Lowers, Waits, AsksImage, first_marks, last_marks}
 use Rattle.record.specs.Places.{bits_with, is_fresh, is_last, marks_of, value_of}
 use Rattle.record.specs.Program.{Wait, entered_if_none, is_below, lets_by, reply, store_read, waits_of}
 use Rattle.record.specs.Records.{entry_of, past_of}
@@ -157,9 +157,6 @@ ends-inside c (AsksImage vs) bits st h = absurd (true≢false (sym h ∙ go (cha
     go : (b : Bool) → list_any is_entered (cond b [] (Taken 0 (reply c (store_read c bits)) ∷ [])) ≡ false
     go true = refl
     go false = refl
-ends-inside c (Refuses f) bits st h = absurd (true≢false (sym h))
-ends-inside c (WritesCommit vs x) bits st h = absurd (true≢false (sym h))
-ends-inside c (Clears a) bits st h = absurd (true≢false (sym h))
 ends-inside c _ bits st h = absurd (true≢false (sym h))
 
 enters-stage : (s : Setup) → IsGood s → (events : List Event) (event : Event) (e : Entry) → entry_of s (past_of s events) event ≡ Some e → IsTrue (has is_entered e) → stage e.process (e ∷ past_of s events) ≡ Inside

@@ -6,7 +6,7 @@ use Rattle.plain_store.proofs.GoodSetups.{few-processes}
 use Rattle.record.specs.declared.marks.Mark.{Mark}
 use Rattle.record.specs.declared.marks.Mark.TheVariants as mark
 use Rattle.record.specs.declared.stages.Stage.{Stage}
-use Rattle.record.specs.declared.stages.Stage.TheVariants.{Idle, Doorway, Waiting, Inside, Leaving, Settling, Down}
+use Rattle.record.specs.declared.stages.Stage.TheVariants.{Idle, Inside}
 use Rattle.record.specs.Entries.{Past}
 use Rattle.record.specs.Records.{past_of}
 use Rattle.record.specs.Stages.{inside, inside_after, stage, stage_after}
@@ -20,26 +20,15 @@ use Rattle.drawer.specs.Insides.{OneIsInside}
 -- who has left is not inside
 left_outside : (stage : Stage) (is : Bool) → stage_after stage mark.Left ≡ Inside → is ≡ true
 left_outside Idle is at = absurd (cc)
-left_outside Doorway is at = absurd (cc)
-left_outside Waiting is at = absurd (cc)
-left_outside Inside is at = absurd (cc)
-left_outside Leaving is at = absurd (cc)
-left_outside Settling is at = absurd (cc)
-left_outside Down is at = absurd (cc)
+left_outside stage is at = absurd (cc)
 
 -- a mark more
 marked_inside : (stage : Stage) (is : Bool) (m : Mark) → (stage ≡ Inside → is ≡ true) → stage_after stage m ≡ Inside → inside_after is m ≡ true
-marked_inside stage is (mark.Called c) before at = absurd (cc)
-marked_inside stage is (mark.Waiting t) before at = absurd (cc)
 marked_inside stage is mark.Entered before at = refl
 marked_inside stage is (mark.Taken k r) before at = before at
 marked_inside stage is mark.Left before at = left_outside stage false at
-marked_inside stage is (mark.Answered a) before at = absurd (cc)
-marked_inside stage is mark.Failed before at = absurd (cc)
 marked_inside stage is (mark.Settled v) before at = before at
-marked_inside stage is mark.Down before at = absurd (cc)
-marked_inside stage is mark.Withdrew before at = absurd (cc)
-marked_inside stage is mark.Restarted before at = absurd (cc)
+marked_inside stage is m before at = absurd (cc)
 
 -- the marks of an entry
 all_inside : (stage : Stage) (is : Bool) (marks : List Mark) → (stage ≡ Inside → is ≡ true) → fold stage_after stage marks ≡ Inside → fold inside_after is marks ≡ true

@@ -42,44 +42,28 @@ made_marks s events event e is = ap (λ (o : Option Entry). marks_in (elim o as 
 told_marks : (s : Setup) (before : List Happening) (this : Happening) (answer : Told) → TellsOf s (past_after s before) this answer → marks_in (past_after s (this ∷ before)) ≡ marks_in (past_after s before) ++ marks_told answer
 told_marks s before (Tries event) (told.Accepted made) tells = made_marks s (tried before) event (entry_made made) tells.1
 told_marks s before (Tries event) (told.Refused p r) tells = ap marks_in (past_kept s (tried before) event r tells.1) ∙ sym (append-nil (marks_in (past_after s before)))
-told_marks s before (Tries event) (told.Tired p) tells = absurd tells
-told_marks s before (Tries event) (told.Shown store) tells = absurd tells
 told_marks s before (Lacks p) (told.Refused q r) tells = sym (append-nil (marks_in (past_after s before)))
-told_marks s before (Lacks p) (told.Accepted made) tells = absurd tells
-told_marks s before (Lacks p) (told.Tired q) tells = absurd tells
-told_marks s before (Lacks p) (told.Shown store) tells = absurd tells
 told_marks s before (Tires p) (told.Tired q) tells = sym (append-nil (marks_in (past_after s before)))
-told_marks s before (Tires p) (told.Accepted made) tells = absurd tells
-told_marks s before (Tires p) (told.Refused q r) tells = absurd tells
-told_marks s before (Tires p) (told.Shown store) tells = absurd tells
 told_marks s before Looks (told.Shown store) tells = sym (append-nil (marks_in (past_after s before)))
-told_marks s before Looks (told.Accepted made) tells = absurd tells
-told_marks s before Looks (told.Refused q r) tells = absurd tells
-told_marks s before Looks (told.Tired q) tells = absurd tells
+told_marks s before this answer tells = absurd tells
 
 -- an event without a mark adds none
 quiet_marks : (s : Setup) (before : List Happening) (this : Happening) → IsQuiet s (past_after s before) (Some this) → marks_in (past_after s (this ∷ before)) ≡ marks_in (past_after s before)
 quiet_marks s before (Tries event) adds =
     let e : Entry = record { process = process_of event; access = adds.0; marks = [] } in
     made_marks s (tried before) event e adds.1 ∙ append-nil (marks_in (past_after s before))
-quiet_marks s before (Lacks p) adds = absurd adds
-quiet_marks s before (Tires p) adds = absurd adds
-quiet_marks s before Looks adds = absurd adds
+quiet_marks s before this adds = absurd adds
 
 -- it gives nothing, and takes no command
 quiet_gives : (mode : Mode) (s : Setup) (n : ℕ) (before : List Happening) (this : Happening) → IsQuiet s (past_after s before) (Some this) → given_at mode s n before this ≡ []
 quiet_gives mode s n before (Tries event) adds =
     ap (λ (o : Option Entry). lines_given mode n (length (past_after s before)) (reads_since s before ++ elim o as (λ _. List OverlappedRead) [ None ↦ [] | Some e ↦ overlapped_by s (past_after s before) e ])
     (said_of_event s (past_after s before) (process_of event) (refused s (past_after s before) event) o)) adds.1
-quiet_gives mode s n before (Lacks p) adds = absurd adds
-quiet_gives mode s n before (Tires p) adds = absurd adds
-quiet_gives mode s n before Looks adds = absurd adds
+quiet_gives mode s n before this adds = absurd adds
 
 quiet_takes : (s : Setup) (before : List Happening) (this : Happening) → IsQuiet s (past_after s before) (Some this) → history s (past_after s (this ∷ before)) ≡ history s (past_after s before)
 quiet_takes s before (Tries event) adds = ap (λ (o : Option Entry). history s (elim o as (λ _. Past) [ None ↦ past_after s before | Some e ↦ e ∷ past_after s before ])) adds.1
-quiet_takes s before (Lacks p) adds = absurd adds
-quiet_takes s before (Tires p) adds = absurd adds
-quiet_takes s before Looks adds = absurd adds
+quiet_takes s before this adds = absurd adds
 
 -- So many of them: the marks stay, it gives nothing more, and no command was taken.
 marks_passed : (s : Setup) (n : ℕ) (before after : List Happening) → PassQuietly s n before after → marks_in (past_after s after) ≡ marks_in (past_after s before)

@@ -32,10 +32,10 @@ is_page reads said file opening head ending b c height bands opens front back = 
 }
 
 -- one picture, whose height was learnt first
-pub is_picture : (reads : Mode) (file : List ℕ) (said : Script) (head ending : List ℕ) (a a' b c : Option (List ℕ)) (height height' : ℕ) → (first : DrawsBands (plan_of (form.Picture 34) said.setup) a a' (replayed said) (marks_in (past_after said.setup (happenings said))) (run_given reads said) height) → (bands : DrawsBands (plan_of (form.Picture 34) said.setup) b c (replayed said) (marks_in (past_after said.setup (happenings said))) (run_given reads said) height') →
+pub is_picture : (top : ℕ) (reads : Mode) (file : List ℕ) (said : Script) (head ending : List ℕ) (a a' b c : Option (List ℕ)) (height height' : ℕ) → (first : DrawsBands (plan_of (form.Picture top) said.setup) a a' (replayed said) (marks_in (past_after said.setup (happenings said))) (run_given reads said) height) → (bands : DrawsBands (plan_of (form.Picture top) said.setup) b c (replayed said) (marks_in (past_after said.setup (happenings said))) (run_given reads said) height') →
     head ≡ picture_front said.setup height reads → ending ≡ picture_back height reads →
-    IsPictureOf reads (form.Picture 34) file said ((head ++ bands_told (plan_of (form.Picture 34) said.setup) bands.items) ++ ending)
-is_picture reads file said head ending a a' b c height height' first bands front back = record {
+    IsPictureOf reads (form.Picture top) file said ((head ++ bands_told (plan_of (form.Picture top) said.setup) bands.items) ++ ending)
+is_picture top reads file said head ending a a' b c height height' first bands front back = record {
   items = bands.items;
   are = bands.are;
   lines = bands.lines;
@@ -44,5 +44,5 @@ is_picture reads file said head ending a a' b c height height' first bands front
   same_items = first.are;
   same_lines = first.lines;
   same_marks = first.says;
-  is = λ i. ((front ∙ ap (λ h. picture_front said.setup h reads) first.heights) i ++ bands_told (plan_of (form.Picture 34) said.setup) bands.items) ++ (back ∙ ap (λ h. picture_back h reads) first.heights) i;
+  is = λ i. ((front ∙ ap (λ h. picture_front said.setup h reads) first.heights) i ++ bands_told (plan_of (form.Picture top) said.setup) bands.items) ++ (back ∙ ap (λ h. picture_back h reads) first.heights) i;
 }

@@ -12,7 +12,7 @@ use Rattle.companions.specs.picture.columns.States.{at_first, is_in_doorway, no_
 use Rattle.companions.specs.picture.columns.declared.seats.KnownProcess.{KnownProcess}
 use Rattle.companions.specs.picture.columns.declared.state.State.{State}
 use Rattle.companions.specs.picture.columns.declared.told.Saying.{Saying}
-use Rattle.companions.specs.picture.columns.declared.told.Saying.TheVariants.{Marked, Refused, Tired, Shown, Judged, Ended}
+use Rattle.companions.specs.picture.columns.declared.told.Saying.TheVariants.{Marked}
 use Rattle.drawer.proofs.TicketsShown.{shown_after, shown_told}
 
 -- Of one mark.
@@ -25,11 +25,7 @@ marked_seats stages seats q (mark.Answered a) = length-set (map (not_awaiting q)
 marked_seats stages seats q mark.Down = length-set (map (not_awaiting q) seats) q _ ∙ length-map seats (not_awaiting q)
 marked_seats stages seats q (mark.Taken k r) = refl
 marked_seats stages seats q (mark.Settled v) = refl
-marked_seats stages seats q (mark.Called c) = length-map seats (not_awaiting q)
-marked_seats stages seats q mark.Entered = length-map seats (not_awaiting q)
-marked_seats stages seats q mark.Failed = length-map seats (not_awaiting q)
-marked_seats stages seats q mark.Withdrew = length-map seats (not_awaiting q)
-marked_seats stages seats q mark.Restarted = length-map seats (not_awaiting q)
+marked_seats stages seats q m = length-map seats (not_awaiting q)
 
 -- whom it awaits does not change the ticket of a seat
 forgotten : (q : ℕ) (seats : List KnownProcess) (p : ℕ) → (get_or (map (not_awaiting q) seats) p no_seat).ticket ≡ (get_or seats p no_seat).ticket
@@ -62,11 +58,7 @@ marked_ticket stages seats q (mark.Answered a) p within = seated q seats _ p wit
 marked_ticket stages seats q mark.Down p within = seated q seats _ p within
 marked_ticket stages seats q (mark.Taken k r) p within = same_either (q == p) (get_or seats p no_seat).ticket
 marked_ticket stages seats q (mark.Settled v) p within = same_either (q == p) (get_or seats p no_seat).ticket
-marked_ticket stages seats q (mark.Called c) p within = forgotten q seats p ∙ same_either (q == p) (get_or seats p no_seat).ticket
-marked_ticket stages seats q mark.Entered p within = forgotten q seats p ∙ same_either (q == p) (get_or seats p no_seat).ticket
-marked_ticket stages seats q mark.Failed p within = forgotten q seats p ∙ same_either (q == p) (get_or seats p no_seat).ticket
-marked_ticket stages seats q mark.Withdrew p within = forgotten q seats p ∙ same_either (q == p) (get_or seats p no_seat).ticket
-marked_ticket stages seats q mark.Restarted p within = forgotten q seats p ∙ same_either (q == p) (get_or seats p no_seat).ticket
+marked_ticket stages seats q m p within = forgotten q seats p ∙ same_either (q == p) (get_or seats p no_seat).ticket
 
 -- Of a line.
 
@@ -94,11 +86,7 @@ line_leads state (Marked q m change) = go (nat_lt q state.processes) refl
       tickets = λ p is_process within. ap (λ b. ticket_in (cond b (state_marked state q m) state) p) is
           ∙ sym (cond-false (q == p) (shown_after (ticket_in state p) m) (ticket_in state p) (ne_eqb q p (λ same. let past = ltb-false q state.processes is in omega (arith, same, past, is_process))));
     }
-line_leads state (Refused q refusal) = record { processes = refl; seats = refl; stages = refl; tickets = λ p is_process within. refl }
-line_leads state (Tired q) = record { processes = refl; seats = refl; stages = refl; tickets = λ p is_process within. refl }
-line_leads state (Shown words) = record { processes = refl; seats = refl; stages = refl; tickets = λ p is_process within. refl }
-line_leads state (Judged q words) = record { processes = refl; seats = refl; stages = refl; tickets = λ p is_process within. refl }
-line_leads state (Ended events taken refused) = record { processes = refl; seats = refl; stages = refl; tickets = λ p is_process within. refl }
+line_leads state line = record { processes = refl; seats = refl; stages = refl; tickets = λ p is_process within. refl }
 
 -- Of all lines.
 

@@ -156,12 +156,7 @@ ShownAt stages.Down shown told = shown ≡ 0
 
 left-shows : (st : Stage) (shown told : ℕ) → ShownAt (stage_after st mark.Left) shown told
 left-shows stages.Idle shown told = tt
-left-shows stages.Doorway shown told = tt
-left-shows stages.Waiting shown told = tt
-left-shows stages.Inside shown told = tt
-left-shows stages.Leaving shown told = tt
-left-shows stages.Settling shown told = tt
-left-shows stages.Down shown told = tt
+left-shows st shown told = tt
 
 mark-shows : (st : Stage) (m : Mark) (shown told : ℕ) → Fits st m → ShownAt st shown told → ShownAt (stage_after st m) (shown_after shown m) (ticket_after told m)
 mark-shows st (mark.Called command) shown told f h = subst (λ x. ShownAt x shown told) f h

@@ -51,14 +51,11 @@ speaks_refusal s before (Tries event) p r tells =
       past = past_kept s (tried before) event r tells.1;
     }
 speaks_refusal s before (Lacks q) p r tells = record { says = λ i. SaysRefusal (sym tells.0 i) (sym tells.1 i) ∷ []; reads = refl; past = refl }
-speaks_refusal s before (Tires q) p r tells = absurd tells
-speaks_refusal s before Looks p r tells = absurd tells
+speaks_refusal s before this p r tells = absurd tells
 
 speaks_tired : (s : Setup) (before : List Happening) (this : Happening) (p : ℕ) → TellsOf s (past_after s before) this (told.Tired p) → Speaks s before this (SaysTired p)
 speaks_tired s before (Tires q) p tells = record { says = ap (λ (q : ℕ). SaysTired q ∷ []) (sym tells); reads = refl; past = refl }
-speaks_tired s before (Tries event) p tells = absurd tells
-speaks_tired s before (Lacks q) p tells = absurd tells
-speaks_tired s before Looks p tells = absurd tells
+speaks_tired s before this p tells = absurd tells
 
 -- what a turn tells that makes no event is one line
 abbrev pub SpeaksAs : Setup → List Happening → Happening → Told → Type 0
@@ -72,9 +69,7 @@ speaks_as s before this (told.Accepted made) tells = tt
 speaks_as s before this (told.Refused p r) tells = speaks_refusal s before this p r tells
 speaks_as s before this (told.Tired p) tells = speaks_tired s before this p tells
 speaks_as s before Looks (told.Shown store) tells = record { says = ap (λ (newest : Option Contents). SaysStore (newest_words newest) ∷ []) (sym tells); reads = refl; past = refl }
-speaks_as s before (Tries event) (told.Shown store) tells = absurd tells
-speaks_as s before (Lacks q) (told.Shown store) tells = absurd tells
-speaks_as s before (Tires q) (told.Shown store) tells = absurd tells
+speaks_as s before this (told.Shown store) tells = absurd tells
 
 -- so it gives that line
 pub gives_one : (mode : Mode) (s : Setup) (n : ℕ) (before : List Happening) (this : Happening) (line : Says) → Speaks s before this line → lines_given mode n (length (past_after s before)) (reads_since s before) (line ∷ []) ≡ given_at mode s n before this
@@ -92,9 +87,7 @@ pub record Makes (s : Setup) (before : List Happening) (this : Happening) (made 
 
 makes_of : (s : Setup) (before : List Happening) (this : Happening) (made : Accepted) → TellsOf s (past_after s before) this (told.Accepted made) → Makes s before this made
 makes_of s before (Tries event) made tells = record { event = event; is = refl; event_is = tells.0; entry = tells.1 }
-makes_of s before (Lacks p) made tells = absurd tells
-makes_of s before (Tires p) made tells = absurd tells
-makes_of s before Looks made tells = absurd tells
+makes_of s before this made tells = absurd tells
 
 -- what such an event gives
 given_of : (mode : Mode) (s : Setup) (n : ℕ) (before : List Happening) (event : Event) (made : Accepted) → entry_of s (past_after s before) event ≡ Some (entry_made made) →

@@ -79,6 +79,15 @@ pub record DrawsBands (plan : Plan) (old new : Option (List ℕ)) (text : List �
   pub draws : Draws old new (bands_told plan items) text
   pub heights : height ≡ heights_told plan items
 
+-- the bands of a run were written between a head and an end
+pub record DrawsFramed (reads : Mode) (form : Form) (head ending : List ℕ) (said : Script) (old new : Option (List ℕ)) : Type 0 where
+  pub begun : Option (List ℕ)
+  pub drawn : Option (List ℕ)
+  pub height : ℕ
+  pub first : Writes old begun head
+  pub bands : DrawsBands (plan_of form said.setup) begun drawn (replayed said) (marks_in (past_after said.setup (happenings said))) (run_given reads said) height
+  pub last : Writes drawn new ending
+
 -- a page under way: the lines that it holds back, and all that it keeps
 pub record Kept : Type 0 where
   pub lines : List (List ℕ)

@@ -14,7 +14,7 @@ ghost use Rattle.course.specs.Runs.{happenings};
 ghost use Rattle.course.specs.Summaries.{summary_of};
 ghost use Rattle.course.specs.Writing.{IsWriteFault, failed_write};
 ghost use Rattle.companions.specs.picture.declared.page.Form.TheVariants as form_variants;
-ghost use Rattle.drawer.specs.Drawings.{DrawsAll, Drew};
+ghost use Rattle.drawer.specs.Drawings.{DrawsAll, DrawsFramed, Drew};
 
 use crate::changes::Changes;
 use crate::drawing::draw_bands;
@@ -47,17 +47,15 @@ pub fn draw<R: Source, W: Sink, L: Onlooker>(
     ensures input { ReadsFront (R.to_come input.old) (R.to_come input.new) }
     ensures summary { IfOk result (λ summary. IsSummaryOf (R.to_come input.old) summary) }
 {
-    let file = read_input(alloc, input)?;
-    let scenario = read_scenario(alloc, file.as_slice())?;
-    draw_page(alloc, file.as_slice(), &scenario, reads, output, onlooker)
+    draw_file(alloc, Form::Page, reads, input, output, onlooker)
 }
 
 /// Writes the page of the run of a file's scenario.
 fn draw_page<W: Sink, L: Onlooker>(
     alloc: Global,
+    reads: Reads,
     file: &[u8],
     scenario: &Scenario,
-    reads: Reads,
     output: &mut W,
     onlooker: &mut L,
 ) -> Result<Summary, Fault>
@@ -69,9 +67,52 @@ fn draw_page<W: Sink, L: Onlooker>(
 {
     let head = page_head(alloc, &scenario.setup, file, reads)?;
     let end = end_of_page(alloc, &scenario.setup)?;
-    write_markup(&head, output)?;
-    let (summary, _) = draw_bands(alloc, file, scenario, Form::Page, reads, output, onlooker)?;
-    write_markup(&end, output)?;
+    let form = Form::Page;
+    let frame = Frame {
+        form,
+        reads,
+        head,
+        end,
+    };
+    draw_framed(alloc, &frame, file, scenario, output, onlooker)
+}
+
+/// What the bands of a picture stand in: its form, and what stands before and behind them.
+#[derive(Drop)]
+struct Frame {
+    form: Form,
+    reads: Reads,
+    head: Markup,
+    end: Markup,
+}
+
+/// Draws the bands of the run of a file's scenario in a frame, lent it: values that are dropped at each way out of a function
+/// are dear to prove.
+fn draw_framed<W: Sink, L: Onlooker>(
+    alloc: Global,
+    frame: &Frame,
+    file: &[u8],
+    scenario: &Scenario,
+    output: &mut W,
+    onlooker: &mut L,
+) -> Result<Summary, Fault>
+    requires { W.failures output.old < 2 ^ 64 - 1 }
+    ensures ok { OnOk result (DrawsFramed frame.now.reads frame.now.form frame.now.head frame.now.end (script scenario.now) (W.taken output.old) (W.taken output.new)) }
+    ensures summary { IfOk result (λ summary. summary ≡ summary_of scenario.now.setup (happenings (script scenario.now))) }
+    ensures fault { IfErr result IsWriteFault }
+    ensures failures { W.failures output.new ≡ W.failures output.old + failed_write result }
+{
+    write_markup(&frame.head, output)?;
+    let (summary, _) = draw_bands(
+        alloc,
+        file,
+        scenario,
+        frame.form,
+        frame.reads,
+        output,
+        onlooker,
+    )?;
+    write_markup(&frame.end, output)?;
     Ok(summary)
 }
 
@@ -103,33 +144,88 @@ pub fn draw_svg<R: Source, W: Sink, L: Onlooker>(
     ensures input { ReadsFront (R.to_come input.old) (R.to_come input.new) }
     ensures summary { IfOk result (λ summary. IsSummaryOf (R.to_come input.old) summary) }
 {
-    let file = read_input(alloc, input)?;
-    let scenario = read_scenario(alloc, file.as_slice())?;
-    draw_picture(alloc, file.as_slice(), &scenario, reads, output, onlooker)
+    let form = Form::Picture(FIRST_BAND);
+    draw_file(alloc, form, reads, input, output, onlooker)
 }
 
-/// Writes one picture of the run of a file's scenario.
-fn draw_picture<W: Sink, L: Onlooker>(
+/// Reads a whole file, and draws its run in this form.
+fn draw_file<R: Source, W: Sink, L: Onlooker>(
     alloc: Global,
+    form: Form,
+    reads: Reads,
+    input: &mut R,
+    output: &mut W,
+    onlooker: &mut L,
+) -> Result<Summary, Fault>
+    requires reads { R.failures input.old < 2 ^ 64 - 1 }
+    requires writes { W.failures output.old < 2 ^ 64 - 1 }
+    ensures drew { Drew reads form (ended result)
+        (streams ⟦<R as Source>⟧ ⟦<W as Sink>⟧ input.old output.old)
+        (streams ⟦<R as Source>⟧ ⟦<W as Sink>⟧ input.new output.new) }
+    ensures input { ReadsFront (R.to_come input.old) (R.to_come input.new) }
+    ensures summary { IfOk result (λ summary. IsSummaryOf (R.to_come input.old) summary) }
+{
+    let file = read_input(alloc, input)?;
+    let scenario = read_scenario(alloc, file.as_slice())?;
+    draw_scenario(
+        alloc,
+        form,
+        reads,
+        file.as_slice(),
+        &scenario,
+        output,
+        onlooker,
+    )
+}
+
+/// Draws the run of a file's scenario in this form.
+fn draw_scenario<W: Sink, L: Onlooker>(
+    alloc: Global,
+    form: Form,
+    reads: Reads,
     file: &[u8],
     scenario: &Scenario,
-    reads: Reads,
     output: &mut W,
     onlooker: &mut L,
 ) -> Result<Summary, Fault>
     requires { W.failures output.old < 2 ^ 64 - 1 }
-    ensures ok { OnOk result (DrawsAll reads (form_variants.Picture 34) file.now (script scenario.now) (W.taken output.old) (W.taken output.new)) }
+    ensures ok { OnOk result (DrawsAll reads form file.now (script scenario.now) (W.taken output.old) (W.taken output.new)) }
     ensures summary { IfOk result (λ summary. summary ≡ summary_of scenario.now.setup (happenings (script scenario.now))) }
     ensures fault { IfErr result IsWriteFault }
     ensures failures { W.failures output.new ≡ W.failures output.old + failed_write result }
 {
-    let form = Form::Picture(FIRST_BAND);
+    match form {
+        Form::Page => draw_page(alloc, reads, file, scenario, output, onlooker),
+        Form::Picture(top) => draw_picture(alloc, top, reads, file, scenario, output, onlooker),
+    }
+}
+
+/// Writes one picture of the run of a file's scenario, whose first band begins at this height.
+fn draw_picture<W: Sink, L: Onlooker>(
+    alloc: Global,
+    top: u64,
+    reads: Reads,
+    file: &[u8],
+    scenario: &Scenario,
+    output: &mut W,
+    onlooker: &mut L,
+) -> Result<Summary, Fault>
+    requires { W.failures output.old < 2 ^ 64 - 1 }
+    ensures ok { OnOk result (DrawsAll reads (form_variants.Picture top) file.now (script scenario.now) (W.taken output.old) (W.taken output.new)) }
+    ensures summary { IfOk result (λ summary. summary ≡ summary_of scenario.now.setup (happenings (script scenario.now))) }
+    ensures fault { IfErr result IsWriteFault }
+    ensures failures { W.failures output.new ≡ W.failures output.old + failed_write result }
+{
+    let form = Form::Picture(top);
     let (first, height) = draw_bands(alloc, file, scenario, form, reads, &mut Nowhere, onlooker)?;
     let head = picture_head(alloc, &scenario.setup, height, reads)?;
     let end = picture_end(alloc, height, reads)?;
-    write_markup(&head, output)?;
+    let frame = Frame {
+        form,
+        reads,
+        head,
+        end,
+    };
     let mut again = Again::new(onlooker, first.events);
-    let (summary, _) = draw_bands(alloc, file, scenario, form, reads, output, &mut again)?;
-    write_markup(&end, output)?;
-    Ok(summary)
+    draw_framed(alloc, &frame, file, scenario, output, &mut again)
 }

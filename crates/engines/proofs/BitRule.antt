@@ -32,12 +32,8 @@ made_agrees run bit (Value flick) is turn = record { shows = shows_more false ru
 made_agrees run bit Drop is turn = record { shows = shows_dropped false run.moves bit is.shows; reading = refl }
 
 text_agrees : (run : BitRun) (bit : Cell) (line : BitLine) → Agree run bit → made_text bit line ≡ call_text run line
-text_agrees run bit (Write v) is = refl
-text_agrees run bit End is = refl
-text_agrees run bit (Settle v) is = refl
-text_agrees run bit Read is = refl
 text_agrees run bit (Value flick) is = ap (λ b. if b then codes "1\n" else codes "0\n") (answer-shows false run.moves bit flick is.shows)
-text_agrees run bit Drop is = refl
+text_agrees run bit line is = refl
 
 texts_agree : (run : BitRun) (bit : Cell) (lines : List BitLine) → Agree run bit → cell_text_from bit lines ≡ bits_text_from run lines
 texts_agree run bit [] is = refl

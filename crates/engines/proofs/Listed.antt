@@ -27,20 +27,10 @@ listed_more s before (Tries event) (told.Accepted made) tells =
     ∙ ap reverse (sym (ap (λ (o : Option Refusal). elim o as (λ _. List Event) [ None ↦ event ∷ accepted s (tried before) | Some r ↦ accepted s (tried before) ]) (not_refused s (past_after s before) event (entry_made made) tells.1)))
 listed_more s before (Tries event) (told.Refused p r) tells =
     append-nil (listed s before) ∙ ap reverse (sym (ap (λ (o : Option Refusal). elim o as (λ _. List Event) [ None ↦ event ∷ accepted s (tried before) | Some r ↦ accepted s (tried before) ]) tells.1))
-listed_more s before (Tries event) (told.Tired p) tells = absurd tells
-listed_more s before (Tries event) (told.Shown store) tells = absurd tells
 listed_more s before (Lacks p) (told.Refused q r) tells = append-nil (listed s before)
-listed_more s before (Lacks p) (told.Accepted made) tells = absurd tells
-listed_more s before (Lacks p) (told.Tired q) tells = absurd tells
-listed_more s before (Lacks p) (told.Shown store) tells = absurd tells
 listed_more s before (Tires p) (told.Tired q) tells = append-nil (listed s before)
-listed_more s before (Tires p) (told.Accepted made) tells = absurd tells
-listed_more s before (Tires p) (told.Refused q r) tells = absurd tells
-listed_more s before (Tires p) (told.Shown store) tells = absurd tells
 listed_more s before Looks (told.Shown store) tells = append-nil (listed s before)
-listed_more s before Looks (told.Accepted made) tells = absurd tells
-listed_more s before Looks (told.Refused q r) tells = absurd tells
-listed_more s before Looks (told.Tired q) tells = absurd tells
+listed_more s before this answer tells = absurd tells
 
 -- so it lists what is heard
 pub told_listed : (s : Setup) (before : List Happening) (this : Happening) (told : Told) (taken : List Taken) (events events' : List Event) → Happens s before this told taken → events' ≡ events ++ event_told told → events ≡ listed s before → events' ≡ listed s (this ∷ before)

@@ -1,11 +1,17 @@
 -- Lists from a place on, and a run after one more line.
-use Rattle.std.proofs.Common.{◌≡◌, ℕ, ◌+◌, ◌<◌, ◌≤◌, Bool, true, false, nat_lt, if◌then◌else◌, List, ◌++◌, length, drop, get_or, ap, sym, ◌∙◌, arith, refl, append_assoc, codes}
+use Rattle.std.proofs.Common.{◌≡◌, ℕ, ◌+◌, ◌<◌, ◌≤◌, Bool, true, false, nat_lt, if◌then◌else◌, List, ◌++◌, length, drop, get_or, Option, None, Some, Result, Ok, Err, IfSome, IsErrAnd, ap, subst, sym, ◌∙◌, arith, refl, append_assoc, codes}
 use Rattle.std.proofs.lemmas.List.{length-set}
 use Rattle.std.specs.Fmt.{decimal}
 use Rattle.plain_store.specs.declared.setups.Setup.{Setup}
 use Rattle.scenario.specs.declared.lines.Line.{Line}
 use Rattle.scenario.specs.declared.lines.Line.TheVariants as line
 use Rattle.scenario.proofs.Places.{drop_in}
+use Rattle.scenario.specs.files.Engines.{Ran, Streams, text_or_none}
+use Rattle.scenario.specs.files.Streams.{WritesFront}
+use Rattle.scenario.specs.files.declared.faults.Fault.{Fault}
+use Rattle.scenario.specs.files.declared.faults.Fault.TheVariants.{Memory}
+use Rattle.scenario.specs.files.declared.faults.LineFault.{LineFault}
+use Rattle.course.proofs.Written.{front_none}
 use Rattle.engines.specs.Plain.{Run, reply_line, text_from, line_text, run_after, applied}
 
 -- the text from a line on
@@ -38,3 +44,12 @@ place_next setup run other = omega arith
 -- the line of a reply, as `format!` puts it together
 pub reply_line_is : (place p : ℕ) (reply : List ℕ) → decimal place ++ (codes " " ++ (decimal p ++ (codes " " ++ (reply ++ codes "\n")))) ≡ reply_line place p reply
 reply_line_is place p reply = simp append_assoc
+
+-- where memory is wanting before a byte is written
+pub unwritten : (text_of : List ℕ → Result (List ℕ) LineFault) (r : Result (Unit {0}) Fault) (old new : Streams) → IsErrAnd r (λ e. e ≡ Memory) → new.taken ≡ old.taken → Ran text_of r old new
+unwritten text_of (Ok done) old new is same = absurd is
+unwritten text_of (Err e) old new is same = subst (λ e. Ran text_of (Err e) old new) (sym is) (by old.to_come)
+  where
+    by : (o : Option (List ℕ)) → IfSome o (λ input. WritesFront old.taken new.taken (text_or_none (text_of input)))
+    by None = tt
+    by (Some input) = front_none old.taken new.taken (text_or_none (text_of input)) same

@@ -35,20 +35,10 @@ entry_is s before (Tries event) (told.Accepted made) tells =
     ap (λ (o : Option Entry). flat_map entry_line (reverse (elim o as (λ _. Past) [ None ↦ past_after s before | Some e ↦ e ∷ past_after s before ]))) tells.1
     ∙ lines_more (entry_made made) (past_after s before)
 entry_is s before (Tries event) (told.Refused p r) tells = ap (λ (past : Past). flat_map entry_line (reverse past)) (past_kept s (tried before) event r tells.1) ∙ sym (append-nil (entries_text s before))
-entry_is s before (Tries event) (told.Tired p) tells = absurd tells
-entry_is s before (Tries event) (told.Shown store) tells = absurd tells
 entry_is s before (Lacks p) (told.Refused q r) tells = sym (append-nil (entries_text s before))
-entry_is s before (Lacks p) (told.Accepted made) tells = absurd tells
-entry_is s before (Lacks p) (told.Tired q) tells = absurd tells
-entry_is s before (Lacks p) (told.Shown store) tells = absurd tells
 entry_is s before (Tires p) (told.Tired q) tells = sym (append-nil (entries_text s before))
-entry_is s before (Tires p) (told.Accepted made) tells = absurd tells
-entry_is s before (Tires p) (told.Refused q r) tells = absurd tells
-entry_is s before (Tires p) (told.Shown store) tells = absurd tells
 entry_is s before Looks (told.Shown store) tells = sym (append-nil (entries_text s before))
-entry_is s before Looks (told.Accepted made) tells = absurd tells
-entry_is s before Looks (told.Refused q r) tells = absurd tells
-entry_is s before Looks (told.Tired q) tells = absurd tells
+entry_is s before this answer tells = absurd tells
 
 -- a Step without a mark too
 step_is : (s : Setup) (before : List Happening) (made : Stepped) → StepsOn s before made → entries_text s (Tries (Step made.process made.flick) ∷ before) ≡ entries_text s before ++ entry_line (step_entry made.process made.access)

@@ -4,15 +4,15 @@ use Rattle.course.specs.«record».declared.Access.{Access}
 use Rattle.plain_store.specs.declared.Command.{Command}
 use Rattle.plain_store.specs.declared.Setup.{Setup}
 use Rattle.course.specs.«record».Calls.{last_call}
-use Rattle.course.specs.«record».Closings.{Closing, Withdraws, Settles, Frees, Lowers, Quit, Ended, closing_after}
+use Rattle.course.specs.«record».Closings.{Closing, Settles, closing_after}
 use Rattle.course.specs.«record».Entries.{Entry, Past, own}
 use Rattle.course.specs.«record».Parts.{is_over}
 use Rattle.course.specs.«record».Places.{Place, place_after, value_of}
 use Rattle.course.specs.«record».Records.{start_in}
 use Rattle.course.specs.«record».Unit.{value_written}
 use Rattle.course.specs.«record».declared.marks.Mark.{Mark}
-use Rattle.course.specs.«record».declared.marks.Mark.TheVariants.{Called, Waiting, Entered, Taken, Left, Answered, Failed, Settled, Down, Withdrew, Restarted}
-use Rattle.course.specs.laws.Doings.{Doing, Rests, Lies, Runs, Closes, call, closes, does_after, doing, goes_on, runs}
+use Rattle.course.specs.«record».declared.marks.Mark.TheVariants.{Called, Failed, Withdrew}
+use Rattle.course.specs.laws.Doings.{Doing, Rests, Runs, Closes, call, closes, does_after, doing, goes_on, runs}
 use Rattle.judge.proofs.record_file.SoundParts.{is_sound_closing, is_sound_part, sound_closing_after, sound_failing, sound_place}
 
 abbrev pub is_sound_doing : Doing → Bool
@@ -28,35 +28,23 @@ sound_runs command number at sound = by (is_over at.part)
     by false = sound
 
 sound_closes : (command : Command) (number : ℕ) (at : Closing) → is_sound_closing at ≡ true → is_sound_doing (closes command number at) ≡ true
-sound_closes command number (Withdraws w) sound = refl
 sound_closes command number (Settles field bit begun taken is t) sound = sound
-sound_closes command number (Frees is w) sound = refl
-sound_closes command number (Lowers w) sound = refl
-sound_closes command number Quit sound = refl
-sound_closes command number Ended sound = refl
+sound_closes command number at sound = refl
 
 sound_goes_on : (s : Setup) (p : ℕ) (e : Entry) (a : Option Access) (d : Doing) → s.processes ≤ 256 → is_sound_doing d ≡ true → is_sound_doing (goes_on s p e a d) ≡ true
 sound_goes_on s p e None d few sound = refl
-sound_goes_on s p e (Some a) Rests few sound = refl
-sound_goes_on s p e (Some a) Lies few sound = refl
 sound_goes_on s p e (Some a) (Runs command number at) few sound =
     sound_runs command number (place_after (call s p command number) at (value_of a.how)) (sound_place (call s p command number) at (value_of a.how) few sound)
 sound_goes_on s p e (Some a) (Closes command number at) few sound =
     sound_closes command number (closing_after (call s p command number) at (value_written e)) (sound_closing_after (call s p command number) at (value_written e) sound)
+sound_goes_on s p e (Some a) d few sound = refl
 
 sound_does_after : (s : Setup) (p : ℕ) (mine : Past) (e : Entry) (begins : Option Mark) (d : Doing) → s.processes ≤ 256 → is_sound_doing d ≡ true → is_sound_doing (does_after s p mine e begins d) ≡ true
 sound_does_after s p mine e None d few sound = sound_goes_on s p e e.access d few sound
 sound_does_after s p mine e (Some (Called command)) d few sound = refl
 sound_does_after s p mine e (Some Withdrew) d few sound = refl
 sound_does_after s p mine e (Some Failed) d few sound = sound_failing (last_call s p mine) mine
-sound_does_after s p mine e (Some (Waiting t)) d few sound = sound_goes_on s p e e.access d few sound
-sound_does_after s p mine e (Some Entered) d few sound = sound_goes_on s p e e.access d few sound
-sound_does_after s p mine e (Some (Taken k r)) d few sound = sound_goes_on s p e e.access d few sound
-sound_does_after s p mine e (Some Left) d few sound = sound_goes_on s p e e.access d few sound
-sound_does_after s p mine e (Some (Answered a)) d few sound = sound_goes_on s p e e.access d few sound
-sound_does_after s p mine e (Some (Settled v)) d few sound = sound_goes_on s p e e.access d few sound
-sound_does_after s p mine e (Some Down) d few sound = sound_goes_on s p e e.access d few sound
-sound_does_after s p mine e (Some Restarted) d few sound = sound_goes_on s p e e.access d few sound
+sound_does_after s p mine e (Some m) d few sound = sound_goes_on s p e e.access d few sound
 
 -- what is done fits
 pub doing_sound : (s : Setup) (p : ℕ) (past : Past) → s.processes ≤ 256 → is_sound_doing (doing s p past) ≡ true

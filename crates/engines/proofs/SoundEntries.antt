@@ -1,5 +1,5 @@
 -- The entries of every record fit: their parts are in range, and their marks are few.
-use Rattle.std.proofs.Common.{◌≡◌, ℕ, suc, ◌+◌, ◌<◌, ◌≤◌, ◌^◌, ◌==◌, ◌&&◌, nat_lt, if◌then◌else◌, Bool, true, false, List, [], ◌∷◌, ◌++◌, length, Option, Some, None, Ok, refl, sym, ap, subst, ◌∙◌, arith}
+use Rattle.std.proofs.Common.{◌≡◌, ℕ, suc, ◌+◌, ◌<◌, ◌≤◌, ◌^◌, ◌==◌, ◌&&◌, nat_lt, if◌then◌else◌, Bool, true, false, List, [], ◌∷◌, ◌++◌, length, Option, Some, None, Ok, is_some, true≢false, refl, sym, ap, subst, ◌∙◌, arith}
 use Rattle.std.proofs.Math.Pow.{pow_mono}
 use Rattle.std.proofs.lemmas.Bool.{and_from}
 use Rattle.std.proofs.lemmas.Bool.Decides.{nat_tests}
@@ -17,7 +17,7 @@ use Rattle.plain_store.specs.declared.Setup.{Setup}
 use Rattle.course.specs.«record».Entries.{Entry, Past, own, since, starts}
 use Rattle.course.specs.«record».Given.{is_event}
 use Rattle.course.specs.«record».Histories.{history, reply_taken}
-use Rattle.course.specs.«record».Parts.{Part, Raises, Asks, TakesTicket, Refuses, Waits, AsksCommit, AsksStamp, AsksImage, WritesImage, WritesStamp, WritesCommit, Clears, Over}
+use Rattle.course.specs.«record».Parts.{Part}
 use Rattle.course.specs.«record».Parts as part
 use Rattle.course.specs.«record».Places.{Place, is_fresh, marks_of, value_of}
 use Rattle.course.specs.«record».Records.{added, entry_made, entry_of, past_of, program, stepped}
@@ -95,7 +95,7 @@ stepped_good s h events p flick e few is step = go step.happens
     made = option_map-some (entry_made s past p flick) (nth (length (since starts (own p past))) (program s p flick (own p past))) e is
 
     accessed : e.access ≡ None → ⊥
-    accessed none = let f : (entry_made s past p flick made.0).access ≡ None = ap (λ (x : Entry). x.access) made.2 ∙ none in cc
+    accessed none = let f : (entry_made s past p flick made.0).access ≡ None = ap (λ (x : Entry). x.access) made.2 ∙ none in true≢false (ap is_some f)
 
     sound : is_sound_doing (doing s e.process past) ≡ true
     sound = let few : s.processes ≤ 16 = few-processes s h in doing_sound s e.process past (omega (arith, few))

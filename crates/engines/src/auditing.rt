@@ -1,14 +1,18 @@
 //! The engine `audit`: the verdict on the record of a scenario's run, of which an auditor hears each entry as the
 //! run makes it. No record is held.
-ghost use Rattle.std.specs.Prelude.{◌≡◌, ◌+◌, ◌-◌, ◌^◌, ◌<◌, IfErr, IfOk};
+ghost use Rattle.std.specs.Prelude.{◌≡◌, ◌+◌, ◌-◌, ◌^◌, ◌<◌, [], IfErr, IfOk, OnOk};
 ghost use Rattle.judge.specs.auditor.declared.verdicts.Verdict.TheVariants.{Good};
 ghost use Rattle.scenario.specs.files.Engines.{Ran, streams};
 ghost use Rattle.engines.specs.Sinks.{Wrote, WroteFront};
 ghost use Rattle.scenario.specs.files.Streams.{ReadsFront};
 ghost use Rattle.scenario.specs.Reads.{script};
 ghost use Rattle.engines.specs.Audits.{InputTellsVerdict, IsRunVerdict, TellsVerdict, audit_text, audited, run_length};
+ghost use Rattle.course.specs.Courses.{Follows};
+ghost use Rattle.course.specs.Happenings.{past_after};
+ghost use Rattle.course.specs.Judging.{Audits};
 ghost use Rattle.course.specs.Replays.{ended};
-ghost use Rattle.course.specs.Writing.{IsWriteFault, failed_write};
+ghost use Rattle.course.specs.Runs.{happenings, run_at_start};
+ghost use Rattle.course.specs.Writing.{Counts, IsWriteFault, failed_write};
 
 use crate::writing::write_line;
 use course::{Audit, Course, Overheard, Summary};
@@ -77,15 +81,36 @@ fn audit_run<L: Onlooker>(
     let audit = Audit::new(alloc, &scenario.setup)?;
     let listener = Summary::new();
     let mut judged = Overheard { listener, audit };
-    let mut place = LinePlace::before(file, scenario.lines.len());
-    for line in &scenario.lines {
-        onlooker.reached(place.begin_line(judged.listener.events));
-        let Ok(()) = course.play(line, &mut judged) else {
-            return Err(AllocError);
-        };
-    }
+    audit_lines(file, scenario, &mut course, &mut judged, onlooker)?;
     Ok(Audited {
         verdict: judged.audit.verdict(),
         entries: judged.listener.events,
     })
+}
+
+/// The same, lent a course and an auditor that have just begun. It is a function of its own, since values that are dropped
+/// at each way out of a function are dear to prove.
+fn audit_lines<L: Onlooker>(
+    file: &[u8],
+    scenario: &Scenario,
+    course: &mut Course,
+    judged: &mut Overheard<Summary>,
+    onlooker: &mut L,
+) -> Result<(), AllocError>
+    requires setup { course.old.world.setup ≡ scenario.now.setup }
+    requires follows { Follows course.old run_at_start }
+    requires counts { judged.old.listener ≡ record { events = 0; taken = 0; refused = 0 } }
+    requires audits { Audits scenario.now.setup [] judged.old.audit }
+    ensures counts { OnOk result (Counts scenario.now.setup (happenings (script scenario.now)) judged.new.listener) }
+    ensures audits { OnOk result (Audits scenario.now.setup (past_after scenario.now.setup (happenings (script scenario.now))) judged.new.audit) }
+    ensures good { OnOk result (IsRunVerdict (script scenario.now) Good) }
+{
+    let mut place = LinePlace::before(file, scenario.lines.len());
+    for line in &scenario.lines {
+        onlooker.reached(place.begin_line(judged.listener.events));
+        let Ok(()) = course.play(line, judged) else {
+            return Err(AllocError);
+        };
+    }
+    Ok(())
 }

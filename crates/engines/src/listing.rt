@@ -53,12 +53,10 @@ impl Listener for Lister {
 
     ghost Stops = { λ a s x y fault b. ⊤ };
 
-    #[tactic(auto, using(crate::proofs::Listed::told_listed))]
     fn hear(&mut self, told: &Told, _taken: &[Taken]) -> Result<(), Fault> {
         Ok(list(told, &mut self.events)?)
     }
 
-    #[tactic(auto, using(crate::proofs::Listed::step_listed))]
     fn step(&mut self, made: Stepped) -> Result<(), Fault> {
         Ok(add(Event::Step(made.process, made.flick), &mut self.events)?)
     }

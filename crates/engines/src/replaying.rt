@@ -6,6 +6,8 @@ ghost use Rattle.scenario.specs.Reads.{script};
 ghost use Rattle.engines.specs.Replayings.{IsRunSummary, TakesRoomOfLine};
 ghost use Rattle.engines.specs.Sinks.{Wrote, WroteFront};
 ghost use Rattle.scenario.specs.files.Streams.{ReadsFront};
+ghost use Rattle.course.specs.Courses.{Follows};
+ghost use Rattle.course.specs.Runs.{run_at_start};
 ghost use Rattle.course.specs.Replays.{CutsLine, InputKeepsHeadline, IsSummaryOf, MakesLine, RunKeepsHeadline, ended};
 ghost use Rattle.course.specs.Growing.{text_longer};
 ghost use Rattle.course.specs.Summaries.{CanCount, can_count_less};
@@ -63,11 +65,34 @@ fn replay_scenario<W: Sink, L: Onlooker>(
     ensures failures { W.failures output.new ≡ W.failures output.old + failed_write result }
 {
     let mut course = Course::new(alloc, &scenario.setup)?;
+    replay_lines(alloc, file, scenario, &mut course, output, onlooker)
+}
+
+/// The same, lent a course that has just begun. It is a function of its own, since values that are dropped at each way out of
+/// a function are dear to prove.
+fn replay_lines<W: Sink, L: Onlooker>(
+    alloc: Global,
+    file: &[u8],
+    scenario: &Scenario,
+    course: &mut Course,
+    output: &mut W,
+    onlooker: &mut L,
+) -> Result<Summary, Fault>
+    requires setup { course.old.world.setup ≡ scenario.now.setup }
+    requires follows { Follows course.old run_at_start }
+    requires writes { W.failures output.old < 2 ^ 64 - 1 }
+    ensures ok { Wrote W.taken result output.old output.new (replayed (script scenario.now)) }
+    ensures front { WroteFront W.taken output.old output.new (replayed (script scenario.now)) }
+    ensures summary { IfOk result (IsRunSummary (script scenario.now)) }
+    ensures headline { OnOk result (RunKeepsHeadline (script scenario.now)) }
+    ensures fault { IfErr result IsWriteFault }
+    ensures failures { W.failures output.new ≡ W.failures output.old + failed_write result }
+{
     let mut summary = Summary::new();
     let mut place = LinePlace::before(file, scenario.lines.len());
     for line in &scenario.lines {
         onlooker.reached(place.begin_line(summary.events));
-        replay_line(alloc, &mut course, line, &mut summary, output)?;
+        replay_line(alloc, course, line, &mut summary, output)?;
     }
     summary.taken = course.taken();
     write_end(alloc, &summary, output)?;

@@ -1,11 +1,12 @@
 -- What is read of a whole file, line by line, and how that ends.
-use Rattle.std.proofs.Common.{◌≡◌, ℕ, ◌+◌, ◌≤◌, Bool, false, List, [], ◌++◌, length, reverse, Option, Some, None, Result, Ok, Err, IfErr, IsErrAnd, IfSome, IsSome, refl, ap, sym, subst, ◌∙◌, arith}
+use Rattle.std.proofs.Common.{◌≡◌, ℕ, ◌+◌, ◌≤◌, Bool, false, List, [], ◌++◌, length, reverse, Option, Some, None, Result, Ok, Err, IfOk, OnOk, IsErrAnd, IfSome, IsSome, refl, ap, sym, subst, ◌∙◌, arith}
 use Rattle.std.proofs.lemmas.List.{length-append, reverse-reverse}
 use Rattle.std.specs.Io.KnownBytes.{IsAtEnd, prepend_known}
 use Rattle.files.specs.Reads.{UnlessMemory}
 use Rattle.files.specs.Words.{lines}
 use Rattle.files.specs.declared.faults.Fault.{Fault}
 use Rattle.files.specs.declared.faults.Fault.TheVariants as fault
+use Rattle.files.specs.declared.faults.FaultKind.{FaultKind}
 use Rattle.files.specs.declared.faults.FaultKind.TheVariants.{NotFirst, TooLong}
 use Rattle.companions.specs.picture.declared.page.Form.{Form}
 use Rattle.companions.specs.picture.declared.reads.Reads.{Reads as Mode}
@@ -16,6 +17,7 @@ use Rattle.files.specs.Streams.{failed_reading}
 use Rattle.files.specs.declared.faults.LineFault.{LineFault}
 use Rattle.files.specs.SourceLines.{Given, GoesToNext, LineState, TakesNext, Told, coming, unless_ended}
 use Rattle.record_drawer.specs.Sheets.{DrawsAllBands, DrawsAt, EndsAt, GoesOn, IsDrawFault, LineStops, Stands, entries_of}
+use Rattle.record_drawer.specs.Writing.{failed_write}
 use Rattle.record_drawer.specs.declared.drawing.RecordDrawing.{RecordDrawing}
 use Rattle.record_drawer.specs.declared.sheet.DrawnEntry.{DrawnEntry}
 use Rattle.record_drawer.specs.declared.sheet.Sheet.{Sheet}
@@ -60,26 +62,30 @@ onwards_start to_come ahead taken t old fresh open_yet none stands =
     by (Some text) = ap (λ n. rest_read (n + 1) text None []) none
 
 -- a line more
-pub onwards_on : (to_come mid rest : Option (List ℕ)) (l l' : LineState) (t t' : Sheet) (old new then : Option (List ℕ)) (u : Onwards to_come mid l.taken t old new) → TakesNext l l' mid rest → GoesOn (line_read l'.line u.before) t' u.past old then → Onwards to_come rest l'.taken t' old then
-onwards_on to_come mid rest l l' t t' old new then u takes on = record {
-  before = cleared on.now;
-  past = entry_in on.now ++ u.past;
-  stands = on.stands;
-  few = let had : length u.past ≤ l.taken = u.few in let one = few_in on.now in let taken : l'.taken ≡ l.taken + 1 = takes.taken in omega (arith, had, one, taken, length-append (entry_in on.now) u.past);
-  goes_on = told_on to_come mid rest (GoesOnTo u.before (reverse u.past) l.taken) (λ text left. TakesLine text l'.line left) (GoesOnTo (cleared on.now) (reverse (entry_in on.now ++ u.past)) l'.taken)
-      (λ x y z before takes_line. ap (rest_read (l'.taken + 1) z (cleared on.now)) (reverse_in on.now u.past) ∙ ap (λ n. rest_read (n + 1) z (cleared on.now) (reverse u.past ++ entry_in on.now)) takes.taken ∙ sym (line_then (l.taken + 1) y l'.line z u.before on.now (reverse u.past) takes_line on.says) ∙ before) u.goes_on takes.line;
-}
+pub onwards_on : (to_come mid rest : Option (List ℕ)) (l l' : LineState) (line : List ℕ) (t t' : Sheet) (old new then : Option (List ℕ)) (u : Onwards to_come mid l.taken t old new) → TakesNext l l' mid rest → line ≡ l'.line →
+    ((before : Option Progress) (past : Past) (first : Option (List ℕ)) → Stands t before past first new → GoesOn (line_read line before) t' past first then) → Onwards to_come rest l'.taken t' old then
+onwards_on to_come mid rest l l' line t t' old new then u takes is draws =
+    let on = subst (λ (line : List ℕ). GoesOn (line_read line u.before) t' u.past old then) is (draws u.before u.past old u.stands) in
+    record {
+      before = cleared on.now;
+      past = entry_in on.now ++ u.past;
+      stands = on.stands;
+      few = let had : length u.past ≤ l.taken = u.few in let one = few_in on.now in let taken : l'.taken ≡ l.taken + 1 = takes.taken in omega (arith, had, one, taken, length-append (entry_in on.now) u.past);
+      goes_on = told_on to_come mid rest (GoesOnTo u.before (reverse u.past) l.taken) (λ text left. TakesLine text l'.line left) (GoesOnTo (cleared on.now) (reverse (entry_in on.now ++ u.past)) l'.taken)
+          (λ x y z before takes_line. ap (rest_read (l'.taken + 1) z (cleared on.now)) (reverse_in on.now u.past) ∙ ap (λ n. rest_read (n + 1) z (cleared on.now) (reverse u.past ++ entry_in on.now)) takes.taken ∙ sym (line_then (l.taken + 1) y l'.line z u.before on.now (reverse u.past) takes_line on.says) ∙ before) u.goes_on takes.line;
+    }
 
 -- The end.
 
 -- a line with a fault
-pub onwards_fault : (to_come mid rest : Option (List ℕ)) (l l' : LineState) (t : Sheet) (old new : Option (List ℕ)) (e : Fault) (u : Onwards to_come mid l.taken t old new) → TakesNext l l' mid rest → LineStops e l'.taken (λ kind. (before : Option Progress) → t.reader ≡ before → line_read l'.line before ≡ Err kind) → IsDrawFault e to_come
-onwards_fault to_come mid rest l l' t old new fault.Read u takes stops = tt
-onwards_fault to_come mid rest l l' t old new fault.Write u takes stops = tt
-onwards_fault to_come mid rest l l' t old new fault.Memory u takes stops = tt
-onwards_fault to_come mid rest l l' t old new (fault.Line f) u takes stops =
-    of_input to_come mid (GoesOnTo u.before (reverse u.past) l.taken) (λ y. (z : List ℕ) × TakesLine y l'.line z) (λ text. UnlessMemory f.kind (record_of text ≡ Err f)) (λ x y before line. unless_then f.kind
-    (λ (is : (before : Option Progress) → t.reader ≡ before → line_read l'.line before ≡ Err f.kind). sym before ∙ line_fault (l.taken + 1) y l'.line (lines line.0) u.before (reverse u.past) f.kind line.1 (is u.before u.stands.reader) ∙ ap (λ n. Err (record { line = n; kind = f.kind })) (sym takes.taken ∙ sym stops.0)) stops.1)
+pub onwards_fault : (to_come mid rest : Option (List ℕ)) (l l' : LineState) (n : ℕ) (line : List ℕ) (t : Sheet) (old new : Option (List ℕ)) (e : Fault) → Onwards to_come mid l.taken t old new → TakesNext l l' mid rest → n ≡ l'.taken → line ≡ l'.line →
+    LineStops e n (λ kind. (before : Option Progress) → t.reader ≡ before → line_read line before ≡ Err kind) → IsDrawFault e to_come
+onwards_fault to_come mid rest l l' n line t old new fault.Read u takes number same stops = tt
+onwards_fault to_come mid rest l l' n line t old new fault.Write u takes number same stops = tt
+onwards_fault to_come mid rest l l' n line t old new fault.Memory u takes number same stops = tt
+onwards_fault to_come mid rest l l' n line t old new (fault.Line f) u takes number same stops =
+    of_input to_come mid (GoesOnTo u.before (reverse u.past) l.taken) (λ y. (z : List ℕ) × TakesLine y l'.line z) (λ text. UnlessMemory f.kind (record_of text ≡ Err f)) (λ x y before next. unless_then f.kind
+    (λ (is : (before : Option Progress) → t.reader ≡ before → line_read line before ≡ Err f.kind). sym before ∙ line_fault (l.taken + 1) y l'.line (lines next.0) u.before (reverse u.past) f.kind next.1 (ap (λ (line : List ℕ). line_read line u.before) (sym same) ∙ is u.before u.stands.reader) ∙ ap (λ n. Err (record { line = n; kind = f.kind })) (sym takes.taken ∙ sym number ∙ sym stops.0)) stops.1)
     u.goes_on (some_rest mid rest takes.line)
   where
     some_rest : (mid rest : Option (List ℕ)) → Told mid rest (λ text left. TakesLine text l'.line left) → IfSome mid (λ y. (z : List ℕ) × TakesLine y l'.line z)
@@ -124,17 +130,29 @@ onwards_stop to_come mid rest l l' t old new fault.Write u next = absurd next
 onwards_stop to_come mid rest l l' t old new (fault.Line f) u next =
     subst (λ (f : LineFault). IfSome to_come (λ text. UnlessMemory f.kind (record_of text ≡ Err f))) (sym next.0) (onwards_long to_come mid l.taken t old new u next.1)
 
--- a fault that is handed on
-pub fault_on : {A : Type 0} (r : Result A Fault) (e : Fault) (to_come : Option (List ℕ)) → IsErrAnd r (λ x. x ≡ e) → IsDrawFault e to_come → IfErr r (λ x. IsDrawFault x to_come)
-fault_on (Ok done) e to_come same is = tt
-fault_on (Err x) e to_come same is = subst (λ x. IsDrawFault x to_come) (sym same) is
+-- where a fault is handed on nothing ends well
+pub not_ok : {A E : Type 0} (r : Result A E) (e : E) (P : Type 0) → IsErrAnd r (λ x. x ≡ e) → OnOk r P
+not_ok (Ok done) e P same = absurd same
+not_ok (Err x) e P same = tt
 
+pub no_value : {A E : Type 0} (r : Result A E) (e : E) (P : A → Type 0) → IsErrAnd r (λ x. x ≡ e) → IfOk r P
+no_value (Ok done) e P same = absurd same
+no_value (Err x) e P same = tt
+
+-- it counts as it did
 pub reading_same : {A : Type 0} (r : Result A Fault) (e : Fault) → IsErrAnd r (λ x. x ≡ e) → failed_reading r ≡ failed_reading {A = Unit {0}} (Err e)
 reading_same (Ok done) e same = absurd same
 reading_same {A} (Err f) e same = kind f ∙ ap (λ f. failed_reading {A = Unit {0}} (Err f)) same
   where
     kind : (f : Fault) → failed_reading {A = A} (Err f) ≡ failed_reading {A = Unit {0}} (Err f)
-    kind fault.Write = refl
-    kind fault.Memory = refl
-    kind fault.Read = refl
     kind (fault.Line f) = refl
+    kind f = refl
+
+-- a call that takes the next line fails by no write, and one that draws a line by no read
+pub next_wrote : (e : Fault) (l l' : LineState) (mid rest : Option (List ℕ)) → GoesToNext (Err e) l l' mid rest → failed_write {A = Unit {0}} (Err e) ≡ 0
+next_wrote fault.Write l l' mid rest next = absurd next
+next_wrote e l l' mid rest next = refl
+
+pub drawing_read : (e : Fault) (n : ℕ) (P : FaultKind → Type 0) → LineStops e n P → failed_reading {A = Unit {0}} (Err e) ≡ 0
+drawing_read fault.Read n P why = absurd why
+drawing_read e n P why = refl

@@ -11,7 +11,7 @@ use Rattle.companions.specs.picture.Standings.{sayings}
 use Rattle.companions.specs.picture.columns.Stages.{marks_in, marks_said}
 use Rattle.companions.specs.picture.columns.declared.reads.OverlappedRead.{OverlappedRead}
 use Rattle.companions.specs.picture.columns.declared.told.Saying.{Saying}
-use Rattle.companions.specs.picture.columns.declared.told.Saying.TheVariants.{Marked, Refused, Tired, Shown, Judged, Ended}
+use Rattle.companions.specs.picture.columns.declared.told.Saying.TheVariants.{Ended}
 use Rattle.companions.specs.picture.declared.reads.Reads.{Reads as Mode}
 use Rattle.companions.specs.picture.declared.reads.Reads.TheVariants.{Hidden, Shown as ReadsShown}
 use Rattle.record_drawer.specs.Items.{Gives, GivesLine, GivesRead, Says, SaysEnd, SaysMark, behind, given, given_at_end, given_by, given_of, lines_given, lines_of_past, mark_given, mark_line, marks_back, marks_given, marks_says, judged_line, reads_since, record_gives, record_lines, say_judged, says_judged, says_marks, says_of, says_text, source_of, taken_by, text_given, texts_given, waiting}
@@ -112,13 +112,9 @@ texts_of_record mode said told =
 -- The marks of what it gives.
 
 marks_of_saying : (saying : Saying) → marks_says (says_of saying) ≡ marks_said saying
-marks_of_saying (Marked p mark change) = refl
-marks_of_saying (Refused p refusal) = refl
-marks_of_saying (Tired p) = refl
-marks_of_saying (Shown words) = refl
-marks_of_saying (Judged p words) = refl
 marks_of_saying (Ended events taken zero) = refl
 marks_of_saying (Ended events taken (suc refused)) = refl
+marks_of_saying saying = refl
 
 marks_of_items : (items : List Item) → marks_given (given items) ≡ flat_map marks_said (sayings items)
 marks_of_items [] = refl

@@ -7,7 +7,8 @@ use Rattle.companions.specs.Overlaps.{Overhears}
 use Rattle.companions.specs.picture.columns.declared.reads.OverlappedRead.{OverlappedRead}
 use Rattle.companions.specs.picture.declared.reads.Reads.{Reads as Mode}
 use Rattle.record_drawer.specs.Drawings.{DrawsOn, kept}
-use Rattle.record_drawer.specs.Items.{Says, judged_with, lines_given, say_judged, waiting}
+use Rattle.record_drawer.specs.Items.{Says, judged_with, lines_given, say_judged, says_judged, waiting}
+use Rattle.record_drawer.specs.Judged.{bad_process, told_lines}
 use Rattle.record_drawer.specs.declared.drawing.RecordDrawing.{RecordDrawing}
 use Rattle.record_drawer.proofs.Drawn.{draws_on_both, draws_on_none}
 use Rattle.record_drawer.proofs.Giving.{lines_more, waiting_none}
@@ -65,5 +66,17 @@ module _ (bad : Option ℕ) (all : List (List ℕ)) (old : RecordDrawing) (a : O
       more done = map-append (judged_with bad) done (line ∷ [])
 
   -- all
-  pub judged_all : (self : RecordDrawing) (b : Option (List ℕ)) (h : HasJudged [] self b) → h.done ≡ all
+  judged_all : (self : RecordDrawing) (b : Option (List ℕ)) (h : HasJudged [] self b) → h.done ≡ all
   judged_all self b h = sym (append-nil h.done) ∙ h.parts
+
+-- so all that is told is drawn
+pub all_judged : (bad : Option ℕ) (told : List ℕ) (old : RecordDrawing) (a : Option (List ℕ)) (rest : List (List ℕ)) (self : RecordDrawing) (b : Option (List ℕ)) → bad ≡ bad_process (told_lines told) → rest ≡ [] → HasJudged bad (told_lines told) old a rest self b →
+    ((mode : Mode) (s : Setup) (past : Past) (reads : List OverlappedRead) → Overhears mode s past reads old.overlaps → DrawsOn (kept old.page) (kept self.page) a b (lines_given mode old.last old.entries reads (says_judged told)))
+    × ((mode : Mode) (s : Setup) (past : Past) (reads : List OverlappedRead) → Overhears mode s past reads old.overlaps → Overhears mode s past (waiting (says_judged told) reads) self.overlaps)
+all_judged bad told old a rest self b is none h =
+    let all : HasJudged bad (told_lines told) old a [] self b = subst (λ (l : List (List ℕ)). HasJudged bad (told_lines told) old a l self b) none h in
+    let done : all.done ≡ told_lines told = judged_all bad (told_lines told) old a self b all in
+    let says : say_judged bad all.done ≡ says_judged told = λ i. say_judged (is i) (done i) in (
+      λ mode s past reads waits. subst (λ (l : List Says). DrawsOn (kept old.page) (kept self.page) a b (lines_given mode old.last old.entries reads l)) says (all.drawn mode s past reads waits),
+      λ mode s past reads waits. subst (λ (l : List Says). Overhears mode s past (waiting l reads) self.overlaps) says (all.waits mode s past reads waits),
+    )

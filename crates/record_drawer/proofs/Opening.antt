@@ -1,5 +1,5 @@
 -- The bytes to come of a source that was looked at.
-use Rattle.std.proofs.Common.{◌≡◌, ℕ, suc, ◌+◌, ◌-◌, ◌<◌, ◌≤◌, ◌==◌, ◌&&◌, not, Bool, true, false, cond, if◌then◌else◌, List, [], ◌∷◌, ◌++◌, filter, get_or, length, map, take, drop, Option, None, Some, IfSome, option_map, Result, Ok, Err, codes, refl, ap, sym, subst, ◌∙◌, append-nil, append_assoc, arith}
+use Rattle.std.proofs.Common.{◌≡◌, ℕ, suc, ◌+◌, ◌-◌, ◌<◌, ◌≤◌, ◌==◌, ◌&&◌, Bool, true, false, cond, if◌then◌else◌, List, [], ◌∷◌, ◌++◌, filter, get_or, length, map, take, drop, Option, None, Some, IfSome, Result, Ok, Err, refl, ap, sym, subst, ◌∙◌, append-nil, append_assoc, arith}
 use Rattle.std.proofs.lemmas.Bool.Decides.{nat_tests}
 use Rattle.std.proofs.lemmas.List.{drop_all, drop_more, drop-drop, length-take-le, map-append, take-append-drop, take-append-le, take_all}
 use Rattle.std.proofs.lemmas.List.Elements.{filter-append}
@@ -7,15 +7,11 @@ use Rattle.std.proofs.Math.Seq.{take-append-add, take-suc}
 use Rattle.std.specs.Io.KnownBytes.{Consumes, IsAtEnd, Keeps, ReadConsumes, prepend_known}
 use Rattle.std.specs.Option.{is_some, unwrap_or}
 use Rattle.files.specs.Cuts.{input_limit}
-use Rattle.files.specs.Files.{words_read}
 use Rattle.files.specs.Limits.{is_said, said_words}
 use Rattle.files.specs.Words.{begins_with, lines, onto, words_of}
-use Rattle.files.specs.declared.faults.FaultKind.{FaultKind}
 use Rattle.files.specs.declared.streams.Failed.{Failed}
-use Rattle.std.specs.Str.{bytes_eq}
 use Rattle.files.specs.Streams.{GivesByte}
-use Rattle.record_drawer.specs.Openings.{first_line, is_record, record_opened}
-use Rattle.record_drawer.specs.declared.opened.FirstLine.{FirstLine}
+use Rattle.record_drawer.specs.Openings.{is_record, record_opened}
 
 pub keeps_none : (o : Option (List ℕ)) → Keeps o (prepend_known [] o)
 keeps_none None = tt
@@ -141,21 +137,6 @@ pub fewer_left : (looked longer : ℕ) (some next : Bool) → some ≡ true → 
 fewer_left looked longer true true is left more = omega (arith, left, more)
 fewer_left looked longer true false is left more = omega (arith, left, more)
 fewer_left looked longer false next is left more = absurd (cc)
-
--- what is read of the first line that is not skipped
-pub line_tells : (line : List ℕ) (now : Option FirstLine) → words_read first_line (words_of line) None ≡ Ok now → option_map (λ (f : FirstLine). f.is_record) now ≡ record_opened (filter is_said (words_of line ∷ []))
-line_tells line now read = by (words_of line) read
-  where
-    by : (words : List (List ℕ)) → words_read first_line words None ≡ Ok now → option_map (λ (f : FirstLine). f.is_record) now ≡ record_opened (filter is_said (words ∷ []))
-    by [] read = let same : None ≡ now = cc in ap (option_map (λ (f : FirstLine). f.is_record)) (sym same)
-    by (first ∷ words) read = test (begins_with 35 first) read
-      where
-        said : Option FirstLine
-        said = Some (record { is_record = bytes_eq first (codes "record") })
-
-        test : (b : Bool) → (let r : Result (Option FirstLine) FaultKind = (if b then Ok None else Ok said) in r) ≡ Ok now → option_map (λ (f : FirstLine). f.is_record) now ≡ record_opened (if not b then (first ∷ words) ∷ [] else [])
-        test true read = let same : None ≡ now = cc in ap (option_map (λ (f : FirstLine). f.is_record)) (sym same)
-        test false read = let same : said ≡ now = cc in ap (option_map (λ (f : FirstLine). f.is_record)) (sym same)
 
 -- The next bytes of such a source.
 

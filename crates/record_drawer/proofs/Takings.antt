@@ -25,43 +25,16 @@ past_all xs p none = elim (cases_lt p (length xs)) [
 -- a process that is not there takes nothing, and calls nothing that is kept
 store_stray : (s : Setup) (p : ℕ) (call : LastCall) (m : Mark) (store : Contents) → nat_lt p s.processes ≡ false → store_with s p call m store ≡ store
 store_stray s p call (mark.Taken k r) store stray = ap (λ b. cond b (after_call p call store) store) stray
-store_stray s p call (mark.Called c) store stray = refl
-store_stray s p call (mark.Waiting t) store stray = refl
-store_stray s p call mark.Entered store stray = refl
-store_stray s p call mark.Left store stray = refl
-store_stray s p call (mark.Answered a) store stray = refl
-store_stray s p call mark.Failed store stray = refl
-store_stray s p call (mark.Settled v) store stray = refl
-store_stray s p call mark.Down store stray = refl
-store_stray s p call mark.Withdrew store stray = refl
-store_stray s p call mark.Restarted store stray = refl
+store_stray s p call m store stray = refl
 
 change_stray : (s : Setup) (p : ℕ) (call : LastCall) (m : Mark) (store : Contents) → nat_lt p s.processes ≡ false → change_with s p call m store ≡ None
 change_stray s p call (mark.Taken k r) store stray = ap (λ b. cond b (change_by_call p call store) None) stray
-change_stray s p call (mark.Called c) store stray = refl
-change_stray s p call (mark.Waiting t) store stray = refl
-change_stray s p call mark.Entered store stray = refl
-change_stray s p call mark.Left store stray = refl
-change_stray s p call (mark.Answered a) store stray = refl
-change_stray s p call mark.Failed store stray = refl
-change_stray s p call (mark.Settled v) store stray = refl
-change_stray s p call mark.Down store stray = refl
-change_stray s p call mark.Withdrew store stray = refl
-change_stray s p call mark.Restarted store stray = refl
+change_stray s p call m store stray = refl
 
 -- a mark of another process leaves a call
 call_other : (s : Setup) (m : Mark) (call : LastCall) → call_after s false m call ≡ call
-call_other s (mark.Taken k r) call = refl
 call_other s (mark.Called c) call = refl
-call_other s (mark.Waiting t) call = refl
-call_other s mark.Entered call = refl
-call_other s mark.Left call = refl
-call_other s (mark.Answered a) call = refl
-call_other s mark.Failed call = refl
-call_other s (mark.Settled v) call = refl
-call_other s mark.Down call = refl
-call_other s mark.Withdrew call = refl
-call_other s mark.Restarted call = refl
+call_other s m call = refl
 
 -- marks that neither call nor take
 abbrev pub is_quiet : Mark → Bool
@@ -70,18 +43,10 @@ is_quiet (mark.Taken k r) = false
 is_quiet _ = true
 
 call_quiet : (s : Setup) (own : Bool) (m : Mark) (call : LastCall) → is_quiet m ≡ true → call_after s own m call ≡ call
-call_quiet s own (mark.Taken k r) call quiet = absurd (true≢false (sym quiet))
-call_quiet s own (mark.Called c) call quiet = absurd (true≢false (sym quiet))
-call_quiet s true (mark.Waiting t) call quiet = refl
-call_quiet s true mark.Entered call quiet = refl
-call_quiet s true mark.Left call quiet = refl
-call_quiet s true (mark.Answered a) call quiet = refl
-call_quiet s true mark.Failed call quiet = refl
-call_quiet s true (mark.Settled v) call quiet = refl
-call_quiet s true mark.Down call quiet = refl
-call_quiet s true mark.Withdrew call quiet = refl
-call_quiet s true mark.Restarted call quiet = refl
 call_quiet s false m call quiet = call_other s m call
+call_quiet s true (mark.Taken k r) call quiet = absurd (true≢false (sym quiet))
+call_quiet s true (mark.Called c) call quiet = absurd (true≢false (sym quiet))
+call_quiet s true m call quiet = refl
 
 call_taken : (s : Setup) (own : Bool) (k : ℕ) (r : Reply) (call : LastCall) → call_after s own (mark.Taken k r) call ≡ call
 call_taken s true k r call = refl
@@ -89,16 +54,7 @@ call_taken s false k r call = refl
 
 store_quiet : (s : Setup) (p : ℕ) (call : LastCall) (m : Mark) (store : Contents) → is_quiet m ≡ true → store_with s p call m store ≡ store
 store_quiet s p call (mark.Taken k r) store quiet = absurd (true≢false (sym quiet))
-store_quiet s p call (mark.Called c) store quiet = refl
-store_quiet s p call (mark.Waiting t) store quiet = refl
-store_quiet s p call mark.Entered store quiet = refl
-store_quiet s p call mark.Left store quiet = refl
-store_quiet s p call (mark.Answered a) store quiet = refl
-store_quiet s p call mark.Failed store quiet = refl
-store_quiet s p call (mark.Settled v) store quiet = refl
-store_quiet s p call mark.Down store quiet = refl
-store_quiet s p call mark.Withdrew store quiet = refl
-store_quiet s p call mark.Restarted store quiet = refl
+store_quiet s p call m store quiet = refl
 
 module _ (s : Setup) (before : List (ℕ × Mark)) (c : RecordedChanges) (p : ℕ) (knows : Knows s before c) where
   -- a process that is not there
@@ -184,26 +140,8 @@ is_taking _ = false
 
 pub change_taking : (s : Setup) (before : List (ℕ × Mark)) (c : RecordedChanges) (p : ℕ) → Knows s before c → (call : LastCall) → slice_get c.calls.items p ≡ Some call → (m : Mark) → is_taking m ≡ true → (made : Option Changed) → made ≡ change_by_call p call c.store → made ≡ change_of s before p m
 change_taking s before c p knows call some (mark.Taken k r) taking made is = change_taken s before c p knows call some k r made is
-change_taking s before c p knows call some (mark.Called x) taking made is = absurd (true≢false (sym taking))
-change_taking s before c p knows call some (mark.Waiting t) taking made is = absurd (true≢false (sym taking))
-change_taking s before c p knows call some mark.Entered taking made is = absurd (true≢false (sym taking))
-change_taking s before c p knows call some mark.Left taking made is = absurd (true≢false (sym taking))
-change_taking s before c p knows call some (mark.Answered a) taking made is = absurd (true≢false (sym taking))
-change_taking s before c p knows call some mark.Failed taking made is = absurd (true≢false (sym taking))
-change_taking s before c p knows call some (mark.Settled v) taking made is = absurd (true≢false (sym taking))
-change_taking s before c p knows call some mark.Down taking made is = absurd (true≢false (sym taking))
-change_taking s before c p knows call some mark.Withdrew taking made is = absurd (true≢false (sym taking))
-change_taking s before c p knows call some mark.Restarted taking made is = absurd (true≢false (sym taking))
+change_taking s before c p knows call some m taking made is = absurd (true≢false (sym taking))
 
 pub knows_taking : (s : Setup) (before : List (ℕ × Mark)) (c : RecordedChanges) (p : ℕ) → Knows s before c → (call : LastCall) → slice_get c.calls.items p ≡ Some call → (m : Mark) → is_taking m ≡ true → (new : RecordedChanges) → new.version ≡ c.version → new.calls.items ≡ c.calls.items → new.store ≡ after_call p call c.store → Knows s ((p, m) ∷ before) new
 knows_taking s before c p knows call some (mark.Taken k r) taking new version calls store = knows_taken s before c p knows call some k r new version calls store
-knows_taking s before c p knows call some (mark.Called x) taking new version calls store = absurd (true≢false (sym taking))
-knows_taking s before c p knows call some (mark.Waiting t) taking new version calls store = absurd (true≢false (sym taking))
-knows_taking s before c p knows call some mark.Entered taking new version calls store = absurd (true≢false (sym taking))
-knows_taking s before c p knows call some mark.Left taking new version calls store = absurd (true≢false (sym taking))
-knows_taking s before c p knows call some (mark.Answered a) taking new version calls store = absurd (true≢false (sym taking))
-knows_taking s before c p knows call some mark.Failed taking new version calls store = absurd (true≢false (sym taking))
-knows_taking s before c p knows call some (mark.Settled v) taking new version calls store = absurd (true≢false (sym taking))
-knows_taking s before c p knows call some mark.Down taking new version calls store = absurd (true≢false (sym taking))
-knows_taking s before c p knows call some mark.Withdrew taking new version calls store = absurd (true≢false (sym taking))
-knows_taking s before c p knows call some mark.Restarted taking new version calls store = absurd (true≢false (sym taking))
+knows_taking s before c p knows call some m taking new version calls store = absurd (true≢false (sym taking))

@@ -1,7 +1,6 @@
 -- How the engines end: front, bands and back are a whole picture.
 use Rattle.std.proofs.Common.{◌≡◌, ℕ, ◌+◌, List, [], ◌++◌, Option, Some, None, Result, Ok, Err, OnOk, IfErr, IfSome, IsErrAnd, ap, sym, subst, ◌∙◌, append-nil, arith}
 use Rattle.std.specs.Io.KnownBytes.{Appends, IsAtEnd, Keeps}
-use Rattle.files.proofs.EngineEnds.{kept}
 use Rattle.files.specs.Engines.{Streams}
 use Rattle.files.specs.Streams.{failed_reading}
 use Rattle.files.specs.declared.faults.Fault.{Fault}
@@ -80,11 +79,6 @@ picture_drawn reads said told drawn bytes a b c d head ending bands front back n
 pub if_some : (o : Option (List ℕ)) (P Q : List ℕ → Type 0) → ((x : List ℕ) → P x → Q x) → IfSome o P → IfSome o Q
 if_some None P Q then is = tt
 if_some (Some x) P Q then is = then x is
-
--- nothing is left where nothing was written
-pub leaves_none : (f : Form) (old new : Option (List ℕ)) → new ≡ old → LeavesNone f old new
-leaves_none form.Page old new same = tt
-leaves_none (form.Picture top) old new same = subst (λ n. Keeps old n) (sym same) (kept old)
 
 -- what holds of a record that a text says, and of what is shown of one that is judged
 pub of_record_then : (P Q : Setup → List Entry → List ℕ → Type 0) (text : List ℕ) → ((s : Setup) (entries : List Entry) (numbers : List ℕ) → P s entries numbers → Q s entries numbers) → IsOfRecord P text → IsOfRecord Q text

@@ -1,5 +1,5 @@
 -- Pieces that are written one after the other.
-use Rattle.std.proofs.Common.{◌≡◌, ℕ, Result, Ok, Err, IfOk, OnOk, IsErrAnd, List, [], ◌++◌, Option, Some, None, refl, ap, sym, ◌∙◌, append-nil, append_assoc}
+use Rattle.std.proofs.Common.{◌≡◌, ℕ, Result, Ok, Err, IfErr, IfOk, OnOk, IsErrAnd, List, [], ◌++◌, Option, Some, None, refl, ap, sym, ◌∙◌, append-nil, append_assoc}
 use Rattle.std.specs.Io.KnownBytes.{Appends}
 use Rattle.files.specs.declared.faults.Fault.{Fault}
 use Rattle.files.specs.declared.faults.Fault.TheVariants as fault
@@ -28,10 +28,8 @@ failed_same (Ok done) e same = absurd same
 failed_same {A} (Err f) e same = failed_kind f ∙ ap (λ f. failed_write {A = Unit {0}} (Err f)) same
   where
     failed_kind : (f : Fault) → failed_write {A = A} (Err f) ≡ failed_write {A = Unit {0}} (Err f)
-    failed_kind fault.Write = refl
-    failed_kind fault.Memory = refl
-    failed_kind fault.Read = refl
     failed_kind (fault.Line f) = refl
+    failed_kind f = refl
 
 -- where a call ended well, both hold
 pub ok_both : {A E : Type 0} (r : Result A E) {P Q R : Type 0} → (P → Q → R) → OnOk r P → OnOk r Q → OnOk r R
@@ -42,3 +40,7 @@ ok_both (Err e) then one two = tt
 pub if_ok_then : {A E : Type 0} (r : Result A E) {P Q : A → Type 0} → ((x : A) → P x → Q x) → IfOk r P → IfOk r Q
 if_ok_then (Ok x) then is = then x is
 if_ok_then (Err e) then is = tt
+
+pub if_err_then : {A E : Type 0} (r : Result A E) {P Q : E → Type 0} → ((e : E) → P e → Q e) → IfErr r P → IfErr r Q
+if_err_then (Ok x) then is = tt
+if_err_then (Err e) then is = then e is

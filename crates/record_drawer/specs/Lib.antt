@@ -5,6 +5,7 @@ pub use Rattle.companions.specs.read_law as read_law
 pub mod Drawings
 pub mod Items
 pub mod Judged
+pub mod Judgings
 pub mod Openings
 pub mod Sheets
 pub mod Takings

@@ -6,9 +6,11 @@ ghost use Rattle.files.specs.Engines.{streams};
 ghost use Rattle.files.specs.Streams.{failed_reading};
 ghost use Rattle.companions.specs.picture.declared.page.Form.TheVariants as form_variants;
 ghost use Rattle.judge.specs.Ends.{IsOfRecord};
-ghost use Rattle.judge.specs.Trials.{Stands as IsBegun};
+ghost use Rattle.judge.specs.Trials.{Stands as HearerStands};
 ghost use Rattle.companions.specs.picture.declared.reads.Reads.{Reads as Mode};
-ghost use Rattle.record_file.specs.RecordFiles.{Said};
+ghost use Rattle.record.specs.Entries.{Entry as Noted};
+ghost use Rattle.record_file.specs.RecordFiles.{Progress, Said};
+ghost use Rattle.record_drawer.specs.Judgings.{HasRead, TellsOfLines};
 ghost use Rattle.record_drawer.specs.Sheets.{DrawsAllBands, DrawsBandsOf, DrawsSaid, Drew, DrewJudged, IsDrawFault, IsJudged, Stands, without_write};
 ghost use Rattle.record_drawer.specs.Writing.{IsWriteFault, failed_write};
 
@@ -19,8 +21,8 @@ use crate::writing::write_markup;
 use companions::{FIRST_BAND, Form, Reads, page_end, picture_end, picture_head};
 use files::source_lines::Lines;
 use files::{Fault, FaultKind, Sink, Source, write_all};
-use judge::{Judging, Trial};
-use std::alloc::Global;
+use judge::{Judging, Telling, Trial};
+use std::alloc::{AllocError, Global};
 
 /// Reads a record file line by line, and writes the page of what it says: a picture in bands, each written when it is full.
 /// So it holds a line, a block and a band, however long the file is. Where it ends well, what was written is the page of
@@ -213,15 +215,13 @@ fn judge_bands<H: Judging, R: Source, W: Sink>(
 {
     let mut lines = Lines::new(alloc);
     let mut sheet = Sheet::new(alloc, form, reads);
-    let fresh: Trial<H> = Trial::new(alloc);
-    judge_lines(alloc, &mut lines, fresh, &mut sheet, input, output)
+    judge_sheet::<H, R, W>(alloc, &mut lines, &mut sheet, input, output)
 }
 
-/// The same, lent what it draws with, of which nothing is used, and with a fresh trial.
-fn judge_lines<H: Judging, R: Source, W: Sink>(
+/// The same, lent what it draws with, of which nothing is used.
+fn judge_sheet<H: Judging, R: Source, W: Sink>(
     alloc: Global,
     lines: &mut Lines,
-    fresh: Trial<H>,
     sheet: &mut Sheet,
     input: &mut R,
     output: &mut W,
@@ -229,7 +229,6 @@ fn judge_lines<H: Judging, R: Source, W: Sink>(
     requires ahead { lines.old.ahead.bytes ≡ [] }
     requires ended { lines.old.ahead.ended ≡ false }
     requires taken { lines.old.taken ≡ 0 }
-    requires trial { IsBegun H.HasHeard fresh.reader fresh.hearer None [] [] }
     requires stands { (taken : Option (List ℕ)) → Stands sheet.old None [] taken taken }
     requires reads { R.failures input.old < 2 ^ 64 - 1 }
     requires writes { W.failures output.old < 2 ^ 64 - 1 }
@@ -240,7 +239,34 @@ fn judge_lines<H: Judging, R: Source, W: Sink>(
     ensures read_failures { R.failures input.new ≡ R.failures input.old + failed_reading result }
     ensures write_failures { W.failures output.new ≡ W.failures output.old + failed_write result }
 {
-    let mut trial = fresh;
+    let mut trial: Trial<H> = Trial::new(alloc);
+    judge_lines(lines, &mut trial, sheet, input, output)?;
+    end_judged(alloc, lines, trial, sheet, output)
+}
+
+/// Hears and draws all lines, lent a fresh trial too.
+fn judge_lines<H: Judging, R: Source, W: Sink>(
+    lines: &mut Lines,
+    trial: &mut Trial<H>,
+    sheet: &mut Sheet,
+    input: &mut R,
+    output: &mut W,
+) -> Result<(), Fault>
+    requires ahead { lines.old.ahead.bytes ≡ [] }
+    requires ended { lines.old.ahead.ended ≡ false }
+    requires taken { lines.old.taken ≡ 0 }
+    requires trial { HearerStands H.HasHeard trial.old.reader trial.old.hearer None [] [] }
+    requires stands { (taken : Option (List ℕ)) → Stands sheet.old None [] taken taken }
+    requires reads { R.failures input.old < 2 ^ 64 - 1 }
+    requires writes { W.failures output.old < 2 ^ 64 - 1 }
+    ensures read { OnOk result (HasRead H.HasHeard H.Keeps H.finds_good (R.to_come input.old) lines.new.taken trial.new.reader trial.new.hearer sheet.new (W.taken output.old) (W.taken output.new)) }
+    ensures form { OnOk result (sheet.new.form ≡ sheet.old.form) }
+    ensures reads { OnOk result (sheet.new.reads ≡ sheet.old.reads) }
+    ensures end { OnOk result (IsAtEnd (R.to_come input.new)) }
+    ensures fault { IfErr result (λ fault. IsDrawFault fault (R.to_come input.old)) }
+    ensures read_failures { R.failures input.new ≡ R.failures input.old + failed_reading result }
+    ensures write_failures { W.failures output.new ≡ W.failures output.old + failed_write result }
+{
     let mut shows = true;
     'lines: while lines.next(input)? {
         let number = lines.taken();
@@ -254,13 +280,40 @@ fn judge_lines<H: Judging, R: Source, W: Sink>(
         sheet.read(number, line, output)?;
         shows = trial.is_good();
     }
-    let Some(hearer) = trial.into_hearer()? else {
+    Ok(())
+}
+
+/// Draws what a judge tells, and the end, once all lines were read.
+fn end_judged<H: Judging, W: Sink>(
+    alloc: Global,
+    lines: &Lines,
+    trial: Trial<H>,
+    sheet: &mut Sheet,
+    output: &mut W,
+) -> Result<(DrawnEntry, u8), Fault>
+    requires { W.failures output.old < 2 ^ 64 - 1 }
+    ensures drawn { IfOk result (λ answer. (to_come first : Option (List ℕ)) → HasRead H.HasHeard H.Keeps H.finds_good to_come lines.now.taken trial.reader trial.hearer sheet.old first (W.taken output.old) → IfSome to_come (IsOfRecord (IsJudged H.Keeps H.Tells answer.1 (DrawsBandsOf sheet.old.reads sheet.old.form answer.0 first (W.taken output.new))))) }
+    ensures good { IfOk result (λ answer. checked answer.0.setup ≡ Ok tt) }
+    ensures fault { IfErr result (λ fault. (to_come first : Option (List ℕ)) → HasRead H.HasHeard H.Keeps H.finds_good to_come lines.now.taken trial.reader trial.hearer sheet.old first (W.taken output.old) → IsDrawFault fault to_come) }
+    ensures reads { failed_reading result ≡ 0 }
+    ensures failures { W.failures output.new ≡ W.failures output.old + failed_write result }
+{
+    let Some(telling) = telling_of(alloc, trial)? else {
         return Err(lines.behind(FaultKind::NotFirst));
     };
-    let telling = hearer.tell(alloc)?;
     match sheet.end(telling.text.as_slice(), output)? {
         None => Err(lines.behind(FaultKind::NotFirst)),
         Some(drawn) => Ok((drawn, telling.status)),
+    }
+}
+
+/// What a judge tells of the lines that were read, unless all of these were skipped.
+fn telling_of<H: Judging>(alloc: Global, trial: Trial<H>) -> Result<Option<Telling>, AllocError>
+    ensures { IfOk result (λ telling. (before : Option Progress) (entries : List Noted) (numbers : List ℕ) → HearerStands H.HasHeard trial.reader trial.hearer before entries numbers → TellsOfLines H.Tells telling before entries numbers) }
+{
+    match trial.into_hearer()? {
+        None => Ok(None),
+        Some(hearer) => Ok(Some(hearer.tell(alloc)?)),
     }
 }
 

@@ -267,9 +267,8 @@ impl Around {
         ensures failures { W.failures output.new ≡ W.failures output.old + failed_write result }
     {
         let begun = RecordDrawing::new(self.alloc, setup, self.form, self.reads)?;
-        self.write_head(setup, output)?;
         *drawing = Some(begun);
-        Ok(())
+        self.write_head(setup, output)
     }
 
     /// Writes what a page has before its bands.

@@ -1,4 +1,5 @@
-use Rattle.std.proofs.Common.{refl}
+use Rattle.std.proofs.Common.{arith, refl}
+use Rattle.std.proofs.lemmas.Grind.{common_steps}
 use Rattle.engines.proofs.Recorded.{records_refused}
 use Rattle.course.proofs.Written.{ok_then}
 use Rattle.engines.proofs.listing.record_event.Goals as goal
@@ -7,3 +8,6 @@ pub returns-in-Err : goal.returns-in-Err
 returns-in-Err c = ok_then c.passed_over.result
     (λ other. records_refused c.args.world.now c.event.new.self c.args.event.now c.in-Err.refusal c.args.entries.now c.args.entries.now c.sound_event.ensures c.in-Err.ensures.refused other c.in-Err.ensures.unchanged refl)
     c.passed_over.ensures
+
+pub returns-in_ok-push-in-Ok : goal.returns-in_ok-push-in-Ok
+returns-in_ok-push-in-Ok c = grind (arith, common_steps)

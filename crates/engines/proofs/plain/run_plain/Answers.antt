@@ -1,15 +1,19 @@
-use Rattle.std.proofs.Common.{◌≡◌, ◌∙◌}
+use Rattle.std.proofs.Common.{◌≡◌, ◌∙◌, refl}
 use Rattle.scenario.proofs.CutTexts.{scenario_tells_at_limit}
 use Rattle.scenario.specs.Reading.{scenario_of}
 use Rattle.scenario.specs.Reads.{script}
 use Rattle.scenario.proofs.files.EngineEnds.{kept, ran_to_line, ran_to_end}
-use Rattle.engines.specs.Plain.{printed}
+use Rattle.engines.specs.Plain.{plain_text, printed}
+use Rattle.engines.proofs.Lists.{unwritten}
 use Rattle.engines.proofs.plain.run_plain.Goals as goal
 
 pub returns-in_err-scenario-clause-ran : goal.returns-in_err-scenario-clause-ran
 returns-in_err-scenario-clause-ran g c =
     ran_to_line scenario_of printed scenario_tells_at_limit c.from_residual-in_err-scenario.result c.in_err-scenario.field-0.0 c.in_ok-file.file.items _ _
     c.from_residual-in_err-scenario.ensures.1 c.in_ok-file.ensures.ok (rw c.as_slice.ensures.value at c.in_err-scenario.ensures) (kept _)
+
+pub returns-in_err-text-clause-ran : goal.returns-in_err-text-clause-ran
+returns-in_err-text-clause-ran g c = unwritten plain_text c.from_residual-in_err-text.result _ _ c.from_residual-in_err-text.ensures.1 refl
 
 pub returns-clause-ran : goal.returns-clause-ran
 returns-clause-ran g c =

@@ -2,28 +2,28 @@ use Rattle.std.proofs.Common.{◌≡◌, ℕ, ◌+◌, Bool, List, [], Option, S
 use Rattle.files.specs.declared.faults.Fault.{Fault}
 use Rattle.files.specs.declared.faults.Fault.TheVariants.{Line}
 use Rattle.files.specs.declared.faults.FaultKind.TheVariants.{NotFirst}
+use Rattle.plain_store.specs.Setups.{checked}
 use Rattle.files.specs.SourceLines.{GoesToNext, coming}
+use Rattle.files.specs.Streams.{failed_reading}
 use Rattle.companions.specs.picture.declared.page.Form.{Form}
 use Rattle.companions.specs.picture.declared.reads.Reads.{Reads as Mode}
 use Rattle.record.specs.Entries.{Past}
 use Rattle.record_file.specs.RecordFiles.{Progress, line_read}
-use Rattle.record_drawer.specs.Sheets.{DrawsAllBands, EndsAt, GoesOn, IsDrawFault, LineStops, Stands}
+use Rattle.record_drawer.specs.Sheets.{DrawsAllBands, EndsAt, IsDrawFault, Stands}
+use Rattle.record_drawer.specs.Writing.{failed_write}
 use Rattle.record_drawer.specs.declared.sheet.DrawnEntry.{DrawnEntry}
-use Rattle.judge.proofs.Ends.{none_told}
-use Rattle.record_drawer.proofs.Ends.{fault_on, onwards_drawn, onwards_fault, onwards_none, onwards_on, onwards_start, onwards_stop, reading_same, read_some}
+use Rattle.judge.proofs.Ends.{if_err, none_told}
+use Rattle.record_drawer.proofs.Ends.{drawing_read, next_wrote, no_value, onwards_drawn, onwards_fault, onwards_none, onwards_on, onwards_start, onwards_stop, reading_same, read_some}
+use Rattle.record_drawer.proofs.Written.{failed_same}
 use Rattle.record_drawer.proofs.engines.draw_lines.Goals as goal
 
 pub lines-preserved : goal.lines-preserved
 lines-preserved g c =
-    let u = c.lines.invariant.onwards in
-    let all = g.R.Source.to_come c.args.input.now in
     let mid = coming c.lines.lines.ahead (g.R.Source.to_come c.lines.input) in
     let rest = coming c.next.new.self.ahead (g.R.Source.to_come c.next.new.input) in
-    let first = g.W.Sink.taken c.args.output.now in
     let takes = subst (λ (b : Bool). GoesToNext (Ok b) c.lines.lines c.next.new.self mid rest) c.if-branch.true c.in_ok-next.ensures.next in
-    let on = subst (λ (line : List ℕ). GoesOn (line_read line u.before) c.read.new.self u.past first (g.W.Sink.taken c.read.new.output)) c.line.ensures (c.in_ok-read.ensures.ok u.before u.past first u.stands) in
     record {
-      onwards = onwards_on all mid rest c.lines.lines c.next.new.self c.lines.sheet c.read.new.self first _ _ u takes on;
+      onwards = onwards_on (g.R.Source.to_come c.args.input.now) mid rest c.lines.lines c.next.new.self c.line.result.now c.lines.sheet c.read.new.self (g.W.Sink.taken c.args.output.now) _ _ c.lines.invariant.onwards takes c.line.ensures c.in_ok-read.ensures.ok;
       holds = c.in_ok-next.ensures.holds c.lines.invariant.holds;
       form = c.in_ok-read.ensures.form ∙ c.lines.invariant.form;
       reads = c.in_ok-read.ensures.reads ∙ c.lines.invariant.reads;
@@ -42,54 +42,80 @@ lines-init g c =
       wrote = refl;
     }
 
-pub returns-in_err-read-clause-fault : goal.returns-in_err-read-clause-fault
-returns-in_err-read-clause-fault g c =
-    let u = c.lines.invariant.onwards in
+pub returns-in_err-read : goal.returns-in_err-read
+returns-in_err-read g c =
     let all = g.R.Source.to_come c.args.input.now in
     let mid = coming c.lines.lines.ahead (g.R.Source.to_come c.lines.input) in
     let rest = coming c.next.new.self.ahead (g.R.Source.to_come c.next.new.input) in
     let takes = subst (λ (b : Bool). GoesToNext (Ok b) c.lines.lines c.next.new.self mid rest) c.if-branch.true c.in_ok-next.ensures.next in
-    fault_on c.from_residual-in_err-read.result c.in_err-read.field-0.0 all c.from_residual-in_err-read.ensures.1
-    (onwards_fault all mid rest c.lines.lines c.next.new.self c.lines.sheet _ _ c.in_err-read.field-0.0 u takes
-    (subst (λ (n : ℕ). LineStops c.in_err-read.field-0.0 n (λ kind. (before : Option Progress) → c.lines.sheet.reader ≡ before → line_read c.next.new.self.line before ≡ Err kind)) c.taken.ensures.taken
-    (subst (λ (line : List ℕ). LineStops c.in_err-read.field-0.0 c.taken.result (λ kind. (before : Option Progress) → c.lines.sheet.reader ≡ before → line_read line before ≡ Err kind)) c.line.ensures c.in_err-read.ensures.fault)))
+    let r = c.from_residual-in_err-read.result in
+    let e : Fault = c.in_err-read.field-0.0 in
+    let same = c.from_residual-in_err-read.ensures.1 in
+    let stops = c.in_err-read.ensures.fault in
+    record {
+      drawn = no_value r e _ same;
+      good = no_value r e _ same;
+      end = no_value r e _ same;
+      fault = if_err r e (λ (f : Fault). IsDrawFault f all) same (onwards_fault all mid rest c.lines.lines c.next.new.self c.taken.result c.line.result.now c.lines.sheet _ _ e c.lines.invariant.onwards takes c.taken.ensures.taken c.line.ensures stops);
+      read_failures = omega (arith, reading_same r e same, drawing_read e c.taken.result (λ kind. (before : Option Progress) → c.lines.sheet.reader ≡ before → line_read c.line.result.now before ≡ Err kind) stops, c.in_ok-next.ensures.failures, c.lines.invariant.whole);
+      write_failures = omega (arith, c.in_err-read.ensures.failures, c.lines.invariant.wrote, failed_same r e same);
+    }
 
-pub returns-in_err-next-clause-fault : goal.returns-in_err-next-clause-fault
-returns-in_err-next-clause-fault g c =
-    let u = c.lines.invariant.onwards in
+pub returns-in_err-next : goal.returns-in_err-next
+returns-in_err-next g c =
     let all = g.R.Source.to_come c.args.input.now in
     let mid = coming c.lines.lines.ahead (g.R.Source.to_come c.lines.input) in
     let rest = coming c.next.new.self.ahead (g.R.Source.to_come c.next.new.input) in
-    fault_on c.from_residual.result c.in_err-next.field-0.0 all c.from_residual.ensures.1
-    (onwards_stop all mid rest c.lines.lines c.next.new.self c.lines.sheet _ _ c.in_err-next.field-0.0 u c.in_err-next.ensures.next)
+    let r = c.from_residual.result in
+    let e : Fault = c.in_err-next.field-0.0 in
+    let same = c.from_residual.ensures.1 in
+    let next = c.in_err-next.ensures.next in
+    record {
+      drawn = no_value r e _ same;
+      good = no_value r e _ same;
+      end = no_value r e _ same;
+      fault = if_err r e (λ (f : Fault). IsDrawFault f all) same (onwards_stop all mid rest c.lines.lines c.next.new.self c.lines.sheet _ _ e c.lines.invariant.onwards next);
+      read_failures = omega (arith, c.in_err-next.ensures.failures, c.lines.invariant.whole, reading_same r e same);
+      write_failures = omega (arith, failed_same r e same, next_wrote e c.lines.lines c.next.new.self mid rest next, c.lines.invariant.wrote);
+    }
 
-pub returns-in_err-next-clause-read_failures : goal.returns-in_err-next-clause-read_failures
-returns-in_err-next-clause-read_failures g c = omega (arith, c.in_err-next.ensures.failures, c.lines.invariant.whole, reading_same c.from_residual.result c.in_err-next.field-0.0 c.from_residual.ensures.1)
-
-pub returns-in-None-clause-fault : goal.returns-in-None-clause-fault
-returns-in-None-clause-fault g c =
-    let u = c.lines.invariant.onwards in
+pub returns-in-None : goal.returns-in-None
+returns-in-None g c =
     let all = g.R.Source.to_come c.args.input.now in
     let mid = coming c.lines.lines.ahead (g.R.Source.to_come c.lines.input) in
     let rest = coming c.next.new.self.ahead (g.R.Source.to_come c.next.new.input) in
     let ends = subst (λ (b : Bool). GoesToNext (Ok b) c.lines.lines c.next.new.self mid rest) c.if-branch.false c.in_ok-next.ensures.next in
-    subst (λ (f : Fault). IsDrawFault f all) (sym (c.behind.ensures ∙ ap (λ (n : ℕ). Line (record { line = n + 1; kind = NotFirst })) ends.taken))
-    (onwards_none all mid c.lines.lines.taken c.lines.sheet _ _ u (c.in_ok-end.ensures.none c.in-None.is) ends.before)
+    record {
+      drawn = tt;
+      good = tt;
+      end = tt;
+      fault = subst (λ (f : Fault). IsDrawFault f all) (sym (c.behind.ensures ∙ ap (λ (n : ℕ). Line (record { line = n + 1; kind = NotFirst })) ends.taken))
+          (onwards_none all mid c.lines.lines.taken c.lines.sheet _ _ c.lines.invariant.onwards (c.in_ok-end.ensures.none c.in-None.is) ends.before);
+      read_failures = subst (λ (f : Fault). g.R.Source.failures c.next.new.input ≡ g.R.Source.failures c.args.input.now + failed_reading {A = Unit {0}} (Err f)) (sym c.behind.ensures) (omega (arith, c.in_ok-next.ensures.failures, c.lines.invariant.whole));
+      write_failures = subst (λ (f : Fault). g.W.Sink.failures c.end.new.output ≡ g.W.Sink.failures c.args.output.now + failed_write {A = Unit {0}} (Err f)) (sym c.behind.ensures) (omega (arith, c.in_ok-end.ensures.failures, c.lines.invariant.wrote));
+    }
 
-pub returns-in-Some-clause-drawn : goal.returns-in-Some-clause-drawn
-returns-in-Some-clause-drawn g c =
-    let u = c.lines.invariant.onwards in
+pub returns-in-Some : goal.returns-in-Some
+returns-in-Some g c =
     let all = g.R.Source.to_come c.args.input.now in
+    let first = g.W.Sink.taken c.args.output.now in
+    let now = g.W.Sink.taken c.lines.output in
+    let then = g.W.Sink.taken c.end.new.output in
     let mid = coming c.lines.lines.ahead (g.R.Source.to_come c.lines.input) in
     let rest = coming c.next.new.self.ahead (g.R.Source.to_come c.next.new.input) in
     let ends = subst (λ (b : Bool). GoesToNext (Ok b) c.lines.lines c.next.new.self mid rest) c.if-branch.false c.in_ok-next.ensures.next in
     let t = c.lines.sheet in
     let d : DrawnEntry = c.in-Some.drawn in
-    let read = read_some t.reader (subst (λ (o : Option DrawnEntry). IfSome o (λ _. IsSome t.reader)) c.in-Some.is c.in_ok-end.ensures.some) in
-    let family = λ (m : Mode) (f : Form). IfSome all (DrawsAllBands m f d (g.W.Sink.taken c.args.output.now) (g.W.Sink.taken c.end.new.output)) in
-    subst (λ (m : Mode). family m c.args.sheet.now.form) c.lines.invariant.reads (subst (λ (f : Form). family t.reads f) c.lines.invariant.form
-    (onwards_drawn all mid c.lines.lines.taken t (g.W.Sink.taken c.args.output.now) (g.W.Sink.taken c.lines.output) (g.W.Sink.taken c.end.new.output) u read.0 d read.1 ends.before
-    (subst (λ (o : Option DrawnEntry). IfSome o (λ d. (p : Progress) (past : Past) (first : Option (List ℕ)) → t.reader ≡ Some p → Stands t (Some p) past first (g.W.Sink.taken c.lines.output) → (d.setup ≡ p.head.setup) × EndsAt t.reads t.form p.head.setup past [] d.height first (g.W.Sink.taken c.end.new.output))) c.in-Some.is c.in_ok-end.ensures.ok)))
-
-pub returns-in-Some-clause-end : goal.returns-in-Some-clause-end
-returns-in-Some-clause-end g c = c.in_ok-next.ensures.holds c.lines.invariant.holds (c.in_ok-next.ensures.ended c.if-branch.false)
+    let ended = c.in_ok-end.ensures in
+    let read = read_some t.reader (subst (λ (o : Option DrawnEntry). IfSome o (λ _. IsSome t.reader)) c.in-Some.is ended.some) in
+    let drawn = λ (m : Mode) (f : Form). IfSome all (DrawsAllBands m f d first then) in
+    record {
+      drawn = subst (λ (m : Mode). drawn m c.args.sheet.now.form) c.lines.invariant.reads (subst (λ (f : Form). drawn t.reads f) c.lines.invariant.form
+          (onwards_drawn all mid c.lines.lines.taken t first now then c.lines.invariant.onwards read.0 d read.1 ends.before
+          (subst (λ (o : Option DrawnEntry). IfSome o (λ d. (p : Progress) (past : Past) (first : Option (List ℕ)) → t.reader ≡ Some p → Stands t (Some p) past first now → (d.setup ≡ p.head.setup) × EndsAt t.reads t.form p.head.setup past [] d.height first then)) c.in-Some.is ended.ok)));
+      good = subst (λ (o : Option DrawnEntry). IfSome o (λ d. checked d.setup ≡ Ok tt)) c.in-Some.is ended.good;
+      end = c.in_ok-next.ensures.holds c.lines.invariant.holds (c.in_ok-next.ensures.ended c.if-branch.false);
+      fault = tt;
+      read_failures = omega (arith, c.in_ok-next.ensures.failures, c.lines.invariant.whole);
+      write_failures = omega (arith, ended.failures, c.lines.invariant.wrote);
+    }

@@ -1,16 +1,61 @@
-use Rattle.std.proofs.Common.{◌≡◌, ◌++◌, [], ◌∷◌, List, Option, Some, IfSome, sym, subst, ap, ◌∙◌}
+use Rattle.std.proofs.Common.{◌≡◌, ◌++◌, [], ◌∷◌, List, Option, None, Some, IfSome, false, get_or, inl, inr, length, refl, sym, subst, ap, ◌∙◌}
 use Rattle.std.specs.Option.{option_to_list}
 use Rattle.picture.specs.columns.declared.reads.OverlappedRead.{OverlappedRead}
-use Rattle.companions.specs.Overlaps.{first_three, overlapped_with}
+use Rattle.read_law.specs.Looks.{ends_overlapped}
+use Rattle.companions.specs.declared.overlaps.BegunRead.{BegunRead}
+use Rattle.companions.specs.declared.overlaps.OverlapsHeard.{OverlapsHeard}
+use Rattle.companions.specs.Overlaps.{first_three, is_begin, overlapped_with}
 use Rattle.std.proofs.lemmas.Result.{on_ok_weaker}
+use Rattle.companions.proofs.Overhearing.{IsQuiet, ends_no_read, still_begun, still_ended}
 use Rattle.companions.proofs.overlaps.OverlapsHeard.keep.Goals as goal
 
-pub returns-in-Some-clause-ended : goal.returns-in-Some-clause-ended
-returns-in-Some-clause-ended c =
+pub returns-in-BeginWrite : goal.returns-in-BeginWrite
+returns-in-BeginWrite c =
+    let quiet : IsQuiet c.args.access.how = elim c.in-BeginWrite.is [
+      | inl w ↦ subst IsQuiet (sym w.1) (refl, λ moves. refl)
+      | inr rest ↦ elim rest [
+        | inl e ↦ subst IsQuiet (sym e) (refl, λ moves. refl)
+        | inr w ↦ subst IsQuiet (sym w.1) (refl, λ moves. refl)
+      ]
+    ] in
+    record {
+      setup = refl;
+      watch = refl;
+      room = λ room. room;
+      begun = λ s past reads e p is number h. still_begun s past reads e c.args.access c.args.self.now is h quiet.0 p;
+      ended = λ s past reads e is number h. still_ended s past reads e c.args.access c.args.self.now is h (ends_no_read s past c.args.access quiet.1);
+    }
+
+pub returns-in-None : goal.returns-in-None
+returns-in-None c =
+    let none : is_begin c.args.access.how ≡ false = ap is_begin c.in-EndRead.is in
+    record {
+      setup = refl;
+      watch = refl;
+      room = λ room. room;
+      begun = λ s past reads e p is number h. still_begun s past reads e c.args.access c.args.self.now is h none p;
+      ended = λ s past reads e is number h. still_ended s past reads e c.args.access c.args.self.now is h (sym (c.ended_by.ensures.reads s past reads h number c.in-EndRead.is) ∙ ap option_to_list c.in-None.is);
+    }
+
+pub returns-in-Some : goal.returns-in-Some
+returns-in-Some c =
     let read : OverlappedRead = c.in-Some.read in
     let alone : read.more ≡ 0 = subst (λ (o : Option OverlappedRead). IfSome o (λ r. r.more ≡ 0)) c.in-Some.is c.ended_by.ensures.alone in
-    on_ok_weaker c.add.result
-    (λ added s past reads e is number h.
-    let over : read ∷ [] ≡ overlapped_with s past (Some c.args.access) = ap option_to_list (sym c.in-Some.is) ∙ c.ended_by.ensures.reads s past reads h number c.in-EndRead.is in
-    added reads h.ended alone ∙ ap (λ (l : List OverlappedRead). first_three (reads ++ l)) (over ∙ ap (overlapped_with s past) (sym is)))
-    c.add.ensures.ended
+    let kept = c.add.ensures in
+    record {
+      setup = kept.setup;
+      watch = kept.watch;
+      room = on_ok_weaker c.add.result (λ added room. ap (λ (l : List (Option BegunRead)). length l) kept.begun ∙ room) kept.ended;
+      begun = on_ok_weaker c.add.result (λ added s past reads e p is number h below.
+          ap (λ (l : List (Option BegunRead)). get_or l p None) kept.begun ∙ still_begun s past reads e c.args.access c.args.self.now is h (ap is_begin c.in-EndRead.is) p below) kept.ended;
+      ended = on_ok_weaker c.add.result
+          (λ added s past reads e is number h.
+          let over : read ∷ [] ≡ overlapped_with s past (Some c.args.access) = ap option_to_list (sym c.in-Some.is) ∙ c.ended_by.ensures.reads s past reads h number c.in-EndRead.is in
+          added reads h.ended alone ∙ ap (λ (l : List OverlappedRead). first_three (reads ++ l)) (over ∙ ap (overlapped_with s past) (sym is)))
+          kept.ended;
+    }
+
+pub returns-in-BeginRead-clause-ended : goal.returns-in-BeginRead-clause-ended
+returns-in-BeginRead-clause-ended c = λ s past reads e is number h.
+    ap (λ (o : OverlapsHeard). o.ended.items) c.begin.ensures
+    ∙ still_ended s past reads e c.args.access c.args.self.now is h (ends_no_read s past c.args.access (λ moves. ap (ends_overlapped moves) c.in-BeginRead.is))

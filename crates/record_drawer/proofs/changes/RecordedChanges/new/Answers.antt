@@ -1,5 +1,5 @@
-use Rattle.std.proofs.Common.{◌≡◌, List, ◌∙◌, ap, get_or, length, refl, arith}
-use Rattle.std.proofs.lemmas.List.{get_or-replicate, length-replicate}
+use Rattle.std.proofs.Common.{◌≡◌, List, [], ◌∷◌, ◌++◌, ◌∙◌, ap, get_or, length, refl, arith}
+use Rattle.std.proofs.lemmas.List.{get_or-replicate, length-replicate, replicate-append-replicate}
 use Rattle.record_drawer.specs.Takings.{no_call}
 use Rattle.record_drawer.specs.declared.changes.LastCall.{LastCall}
 use Rattle.record_drawer.proofs.changes.RecordedChanges.new.Goals as goal
@@ -13,3 +13,9 @@ returns c =
       store = c.in_ok-opening_store.ensures;
       calls = λ p below. ap (λ (l : List LastCall). get_or l p no_call) c.loop-process.invariant.calls ∙ get_or-replicate c.loop-process._process p no_call no_call (omega (arith, below, all));
     }
+
+pub loop-process-preserved : goal.loop-process-preserved
+loop-process-preserved c = record {
+  calls = c.in_ok-push.ensures.items ∙ ap (λ (l : List LastCall). l ++ no_call ∷ []) c.loop-process.invariant.calls ∙ replicate-append-replicate c.loop-process._process 1 no_call;
+  within = omega (arith, c.loop-process-test.true);
+}

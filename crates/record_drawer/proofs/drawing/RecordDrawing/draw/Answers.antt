@@ -18,3 +18,6 @@ returns-clause-ok g c =
     (subst (λ (n : ℕ). says_text n (says_of c.args.saying) ≡ saying_text n c.args.saying) (sym c.in_ok-draw_reads.ensures.entries) says)
     c.in_ok-full.ensures.lines c.in_ok-full.ensures.page (wrote c.in_ok-full.ensures.ended))))
     c.write_band.ensures.ok
+
+pub returns-clause-overlaps : goal.returns-clause-overlaps
+returns-clause-overlaps g c = ok_then c.write_band.result (λ _. c.in_ok-draw_reads.ensures.overlaps) c.write_band.ensures.ok

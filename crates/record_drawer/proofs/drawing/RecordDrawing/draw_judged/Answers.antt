@@ -1,8 +1,8 @@
-use Rattle.std.proofs.Common.{ℕ, List, [], ◌∷◌, Option, subst, arith}
+use Rattle.std.proofs.Common.{ℕ, List, [], ◌∷◌, Option, refl, subst, sym, ◌∙◌, arith}
 use Rattle.record_drawer.specs.Drawings.{DrawsOn, kept}
 use Rattle.record_drawer.specs.Items.{SaysJudged, lines_given}
 use Rattle.record_drawer.specs.Judged.{told_lines}
-use Rattle.record_drawer.proofs.JudgedLines.{HasJudged, judged_next}
+use Rattle.record_drawer.proofs.JudgedLines.{HasJudged, all_judged, judged_next, judged_none}
 use Rattle.record_drawer.proofs.drawing.RecordDrawing.draw_judged.Goals as goal
 
 pub loop-line-preserved : goal.loop-line-preserved
@@ -19,3 +19,26 @@ loop-line-preserved g c =
           drawn.overlaps drawn.last drawn.entries drawn.taken;
       whole = omega (arith, drawn.failures, c.loop-line.invariant.whole);
     }
+
+pub loop-line-init : goal.loop-line-init
+loop-line-init g c =
+    let bad = c.bad_process-bad.result in
+    let all = told_lines c.args.told.now in
+    let self = c.args.self.now in
+    let a = g.W.Sink.taken c.args.output.now in
+    record {
+      judged = subst (λ (l : List (List ℕ)). HasJudged bad all self a l self a) (sym (c.into_iter-line-iterator.ensures.into_iter_gives ∙ c.lines-line-items.ensures.value)) (judged_none bad all self a);
+      whole = refl;
+    }
+
+pub returns-clause-ok : goal.returns-clause-ok
+returns-clause-ok g c = λ mode s past reads waits.
+    let self = c.args.self.now in
+    let h = all_judged c.bad_process-bad.result c.args.told.now self (g.W.Sink.taken c.args.output.now) c.loop-line.line-iterator c.loop-line.self (g.W.Sink.taken c.loop-line.output) c.bad_process-bad.ensures c.in-None.ensures.steps.0 c.loop-line.invariant.judged in
+    h.0 mode s past reads waits
+
+pub returns-clause-overlaps : goal.returns-clause-overlaps
+returns-clause-overlaps g c = λ mode s past reads waits.
+    let self = c.args.self.now in
+    let h = all_judged c.bad_process-bad.result c.args.told.now self (g.W.Sink.taken c.args.output.now) c.loop-line.line-iterator c.loop-line.self (g.W.Sink.taken c.loop-line.output) c.bad_process-bad.ensures c.in-None.ensures.steps.0 c.loop-line.invariant.judged in
+    h.1 mode s past reads waits

@@ -1,4 +1,4 @@
-use Rattle.std.proofs.Common.{List, [], ◌∷◌, ◌++◌, refl, subst, sym}
+use Rattle.std.proofs.Common.{arith, List, [], ◌∷◌, ◌++◌, refl, subst, sym}
 use Rattle.companions.specs.picture.Pages.{seen_page}
 use Rattle.record_drawer.specs.Drawings.{DrawsOn, kept}
 use Rattle.record_drawer.specs.Items.{Gives, Says, SaysEnd, lines_given, says_judged, waiting}
@@ -28,3 +28,9 @@ returns-clause-ok g c =
     (subst (λ (l : List Gives). DrawsOn (kept self.page) (kept c.draw.new.self.page) (g.W.Sink.taken c.args.output.now) (g.W.Sink.taken c.draw.new.output) l) (sym (lines_more mode self.last self.entries reads lines ends)) both)
     c.in_ok-full.ensures.lines c.in_ok-full.ensures.page (c.in_ok-write_band.ensures.ok c.in_ok-full.ensures.full) (last c.in_ok-full.ensures.last))
     c.write_markup.ensures.ok
+
+pub returns-clause-failures : goal.returns-clause-failures
+returns-clause-failures g c = omega (arith, c.in_ok-draw_judged.ensures.failures, c.in_ok-draw.ensures.failures, c.in_ok-write_band.ensures.failures, c.write_markup.ensures.failures)
+
+pub write_markup-requires : goal.write_markup-requires
+write_markup-requires g c = omega (arith, c.requires, c.in_ok-draw_judged.ensures.failures, c.in_ok-draw.ensures.failures, c.in_ok-write_band.ensures.failures)

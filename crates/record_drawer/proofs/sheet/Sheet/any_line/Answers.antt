@@ -32,3 +32,10 @@ returns-in_default-last_entry-clause-ok g c =
     let none : entry_in (Some now) ≡ [] = ap option_to_list says in
     let read : words_read record_grammar (words_of c.args.line.now) old.reader ≡ Ok (Some now) = c.in-Ok.ensures ∙ ap (λ (o : Option Progress). Ok o) c.in-Some.is in
     λ before past first stands. ends_quiet c.args.line.now before (Some now) old t past first _ _ c.requires.short stands read (quiet_is_cleared now says) refl refl refl refl none
+
+pub returns-in_default-clause-ok : goal.returns-in_default-clause-ok
+returns-in_default-clause-ok g c =
+    let old : Sheet = c.args.self.now in
+    let t : Sheet = record old { reader = c.read_any_line.new.read } in
+    let read : words_read record_grammar (words_of c.args.line.now) old.reader ≡ Ok None = c.in-Ok.ensures ∙ ap (λ (o : Option Progress). Ok o) c.in_default.is in
+    λ before past first stands. ends_quiet c.args.line.now before None old t past first _ _ c.requires.short stands read c.in_default.is refl refl refl refl refl

@@ -1,7 +1,7 @@
 use Rattle.std.proofs.Common.{◌≡◌, ◌-◌, ◌*◌, ◌^◌, drop}
 use Rattle.course.specs.Summaries.{CanCount}
 use Rattle.course.proofs.Onwards.{Onward}
-use Rattle.engines.proofs.replaying.replay_scenario.Given as goal
+use Rattle.engines.proofs.replaying.replay_lines.Given as goal
 
 -- what was written is the text of what has happened, and the lines to come follow
 abbrev pub invariant-loop-line : goal.invariant-loop-line

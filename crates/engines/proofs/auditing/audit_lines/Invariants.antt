@@ -4,7 +4,7 @@ use Rattle.course.specs.Judging.{Audits}
 use Rattle.course.specs.Summaries.{CanCount}
 use Rattle.course.specs.Writing.{Counts}
 use Rattle.course.proofs.Played.{Between}
-use Rattle.engines.proofs.auditing.audit_run.Given as goal
+use Rattle.engines.proofs.auditing.audit_lines.Given as goal
 
 -- what has happened was counted and heard, and the lines to come follow
 abbrev pub invariant-loop-line : goal.invariant-loop-line

@@ -7,23 +7,22 @@ use Rattle.scenario.specs.Reads.{script}
 use Rattle.course.specs.Replays.{ended}
 use Rattle.course.specs.Texts.{replayed}
 use Rattle.course.proofs.ReplayEnds.{ended_err, replay_numbers}
-use Rattle.companions.specs.picture.declared.page.Form.TheVariants as form
 use Rattle.drawer.proofs.Ends.{drew_all, drew_line}
-use Rattle.drawer.proofs.engines.draw_svg.Goals as goal
+use Rattle.drawer.proofs.engines.draw_file.Goals as goal
 
 pub returns-in_err-scenario-clause-drew : goal.returns-in_err-scenario-clause-drew
 returns-in_err-scenario-clause-drew g c =
     let is = ended_err c.from_residual-in_err-scenario.result (λ told. told ≡ Line c.in_err-scenario.field-0.0) c.from_residual-in_err-scenario.ensures.1 in
-    drew_line c.args.reads (form.Picture 34) (ended c.from_residual-in_err-scenario.result) c.in_err-scenario.field-0.0 _ _ is
+    drew_line c.args.reads c.args.form (ended c.from_residual-in_err-scenario.result) c.in_err-scenario.field-0.0 _ _ is
     (ran_to_line scenario_of replayed scenario_tells_at_limit (ended c.from_residual-in_err-scenario.result) c.in_err-scenario.field-0.0 c.in_ok-file.file.items _ _ is
     c.in_ok-file.ensures.ok (rw c.as_slice.ensures.value at c.in_err-scenario.ensures) (kept _))
 
 pub returns-clause-drew : goal.returns-clause-drew
 returns-clause-drew g c =
-    drew_all c.args.reads (form.Picture 34) c.draw_picture.result c.in_ok-file.file.items (script c.in_ok-scenario.scenario) _ _
-    c.in_ok-file.ensures.ok (rw c.as_slice.ensures.value at c.in_ok-scenario.ensures) (rw c.as_slice-2.ensures.value at c.draw_picture.ensures.ok) c.draw_picture.ensures.fault c.draw_picture.ensures.failures
+    drew_all c.args.reads c.args.form c.draw_scenario.result c.in_ok-file.file.items (script c.in_ok-scenario.scenario) _ _
+    c.in_ok-file.ensures.ok (rw c.as_slice.ensures.value at c.in_ok-scenario.ensures) (rw c.as_slice-2.ensures.value at c.draw_scenario.ensures.ok) c.draw_scenario.ensures.fault c.draw_scenario.ensures.failures
 
 pub returns-clause-summary : goal.returns-clause-summary
 returns-clause-summary g c =
-    replay_numbers c.draw_picture.result c.in_ok-file.file.items (script c.in_ok-scenario.scenario) _ _
-    c.in_ok-file.ensures.ok (rw c.as_slice.ensures.value at c.in_ok-scenario.ensures) c.draw_picture.ensures.summary
+    replay_numbers c.draw_scenario.result c.in_ok-file.file.items (script c.in_ok-scenario.scenario) _ _
+    c.in_ok-file.ensures.ok (rw c.as_slice.ensures.value at c.in_ok-scenario.ensures) c.draw_scenario.ensures.summary
