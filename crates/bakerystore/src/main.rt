@@ -96,16 +96,39 @@ fn run_on<T: Print + Eprint + Clock + AllocGlobal + Threads + Wait + Sync, R: Re
     let Ok(mut writer) = Output::new(rt.alloc(), io::writer(rt), terminals.output) else {
         return Err(Fault::Memory.into());
     };
-    let shows = terminals.error && !terminals.output && !request.quiet;
     let source = opened(rt.alloc(), request.command.engine, FromRead::new(reader))?;
+    run_between(rt, request, at, terminals, source, &mut writer)
+}
+
+/// Runs the engine from a source to a writer, and tells at a terminal how far it is.
+fn run_between<
+    T: Print + Eprint + Clock + AllocGlobal + Threads + Wait + Sync,
+    R: Source + Drop,
+    W: Write,
+>(
+    rt: &T,
+    request: &Request<'_>,
+    at: u64,
+    terminals: Terminals,
+    source: Opened<R>,
+    writer: &mut W,
+) -> Result<u8, RunFault>
+    requires { ⟦<Opened<R> as Source>⟧.failures source < 2 ^ 64 - 1 }
+{
     let wanted = wanted_by(request, source.is_record, at);
+    let shows = terminals.error && !terminals.output && !request.quiet;
     let from_input = request.command.intake == Intake::Streamed || wanted.is_record;
     let explains = terminals.error || request.explain;
     let watched = WatchedInput::new(source, rt, shows && from_input);
     let mut input = KeptInput::new(rt.alloc(), watched, explains);
-    let mut output = IntoWrite::new(&mut writer);
     let mut watcher = Watcher::new(rt, rt.alloc(), shows && !from_input);
-    let ran = run_engine(rt, wanted, &mut input, &mut output, &mut watcher);
+    let ran = run_engine(
+        rt,
+        wanted,
+        &mut input,
+        &mut IntoWrite::new(&mut *writer),
+        &mut watcher,
+    );
     let (kept, mut watched) = input.into_parts();
     watched.end();
     watcher.end();
