@@ -6,12 +6,12 @@ use Rattle.std.proofs.lemmas.List.Sums.{fold-append}
 use Rattle.std.proofs.Math.Seq.{get_or-append_seam}
 use Rattle.std.proofs.lemmas.List.{length-map}
 use Rattle.process.proofs.Greatest.{fold-least, greatest-there, place-here, place-later}
-use Rattle.record.specs.Program.{Version, newest_stamp, newest_process, version_of, place_of}
+use Rattle.record.specs.Program.{Version, newest_stamp, newest_process, version_of, index_of}
 use Rattle.bakery.specs.declared.newest.Newest.{Newest}
 use Rattle.bakery.specs.Newest.{newest_of}
 
 -- what is greater than all stands nowhere
-place-above : (n a : ℕ) (xs : List ℕ) → fold max a xs < n → place_of n xs ≡ length xs
+place-above : (n a : ℕ) (xs : List ℕ) → fold max a xs < n → index_of n xs ≡ length xs
 place-above n a [] above = refl
 place-above n a (x ∷ xs) above =
     let bound = fold-least (max a x) xs in
@@ -20,24 +20,24 @@ place-above n a (x ∷ xs) above =
     omega (arith, place-later n x xs other, rest)
 
 -- more items behind it leave the place of an item as it is
-place-front : (n : ℕ) (xs ys : List ℕ) → place_of n xs < length xs → place_of n (xs ++ ys) ≡ place_of n xs
+place-front : (n : ℕ) (xs ys : List ℕ) → index_of n xs < length xs → index_of n (xs ++ ys) ≡ index_of n xs
 place-front n [] ys there = absurd (omega arith)
 place-front n (x ∷ xs) ys there = elim (cases_eq x n) [
   | inl same ↦ place-here n x (xs ++ ys) same ∙ sym (place-here n x xs same)
   | inr other ↦
       let later = place-later n x xs other in
-      let rest : place_of n xs < length xs = omega (arith, later) in
+      let rest : index_of n xs < length xs = omega (arith, later) in
       place-later n x (xs ++ ys) other ∙ ap (λ k. 1 + k) (place-front n xs ys rest) ∙ sym later
 ]
 
 -- an item behind others is at their number
-place-behind : (n : ℕ) (xs : List ℕ) → place_of n xs ≡ length xs → place_of n (xs ++ n ∷ []) ≡ length xs
+place-behind : (n : ℕ) (xs : List ℕ) → index_of n xs ≡ length xs → index_of n (xs ++ n ∷ []) ≡ length xs
 place-behind n [] none = place-here n n [] refl
 place-behind n (x ∷ xs) none = elim (cases_eq x n) [
   | inl same ↦ absurd (omega (arith, place-here n x xs same))
   | inr other ↦
       let later = place-later n x xs other in
-      let rest : place_of n xs ≡ length xs = omega (arith, later) in
+      let rest : index_of n xs ≡ length xs = omega (arith, later) in
       omega (arith, place-later n x (xs ++ n ∷ []) other, place-behind n xs rest)
 ]
 
@@ -70,7 +70,7 @@ process-new : (vs : List Version) (b : Bool) (t : ℕ) → newest_stamp vs < t �
 process-new vs b t above =
     let f : Version → ℕ = λ v. v.1 in
     let top : newest_stamp (vs ++ (b, t) ∷ []) ≡ t = omega (arith, stamp-more vs b t) in
-    ap (λ n. place_of n (map f (vs ++ (b, t) ∷ []))) top ∙ ap (place_of t) (map-append f vs ((b, t) ∷ []))
+    ap (λ n. index_of n (map f (vs ++ (b, t) ∷ []))) top ∙ ap (index_of t) (map-append f vs ((b, t) ∷ []))
     ∙ place-behind t (map f vs) (place-above t 0 (map f vs) above) ∙ length-map vs f
 
 -- any other leaves it
@@ -78,7 +78,7 @@ process-old : (vs : List Version) (b : Bool) (t : ℕ) → 0 < length vs → t �
 process-old vs b t some below =
     let f : Version → ℕ = λ v. v.1 in
     let top : newest_stamp (vs ++ (b, t) ∷ []) ≡ newest_stamp vs = omega (arith, stamp-more vs b t) in
-    ap (λ n. place_of n (map f (vs ++ (b, t) ∷ []))) top ∙ ap (place_of (newest_stamp vs)) (map-append f vs ((b, t) ∷ []))
+    ap (λ n. index_of n (map f (vs ++ (b, t) ∷ []))) top ∙ ap (index_of (newest_stamp vs)) (map-append f vs ((b, t) ∷ []))
     ∙ place-front (newest_stamp vs) (map f vs) (t ∷ []) (greatest-there (map f vs) (omega (arith, length-map vs f)))
 
 -- the first version is the newest, and so is one with a greater stamp than all before it
@@ -93,8 +93,8 @@ newest-new vs b t p at (inr above) =
 newest-new [] b t p at (inl first) =
     let make : ℕ → ℕ → Bool → Newest = λ stamp process commit. record { stamp = stamp; process = process; commit = commit } in
     let stamp : t ≡ max 0 t = omega arith in
-    let process : 0 ≡ place_of (max 0 t) (t ∷ []) = sym (place-here (max 0 t) t [] (omega arith)) in
-    let commit : b ≡ version_of ((b, t) ∷ []) (place_of (max 0 t) (t ∷ [])) = ap (version_of ((b, t) ∷ [])) process in
+    let process : 0 ≡ index_of (max 0 t) (t ∷ []) = sym (place-here (max 0 t) t [] (omega arith)) in
+    let commit : b ≡ version_of ((b, t) ∷ []) (index_of (max 0 t) (t ∷ [])) = ap (version_of ((b, t) ∷ [])) process in
     λ i. make (stamp i) ((at ∙ process) i) (commit i)
 newest-new (v ∷ vs) b t p at (inl first) = absurd (omega arith)
 

@@ -15,7 +15,7 @@ use Rattle.record.specs.declared.access.Field.TheVariants.{Commit}
 use Rattle.record.specs.safe_number.Bytes.{number_of_bits}
 use Rattle.plain_store.specs.declared.Setup.{Setup}
 use Rattle.record.specs.Newest.{copy}
-use Rattle.record.specs.Program.{Version, newest_process, newest_stamp, place_of, stamp_field}
+use Rattle.record.specs.Program.{Version, newest_process, newest_stamp, index_of, stamp_field}
 use Rattle.record.specs.Registers.{bytes_of_bits, width}
 use Rattle.record.proofs.safe_number.Bits.{number-fits}
 use Rattle.process.proofs.Greatest.{greatest-there}
@@ -83,12 +83,12 @@ newest-below s words positive =
     omega (arith, many, greatest-there (map (λ (v : Version). v.1) (versions_shown s words)) (omega (arith, many, positive)))
 
 -- where an item is, from place p on
-pub place-here : (n p : ℕ) (xs : List ℕ) → p < length xs → get_or xs p 0 ≡ n → place_of n (drop p xs) ≡ 0
-place-here n p xs inside same = ap (place_of n) (drop-cons xs p 0 inside) ∙ ap (λ b. cond b 0 (1 + place_of n (drop (suc p) xs))) (eq-eqb (get_or xs p 0) n same)
+pub place-here : (n p : ℕ) (xs : List ℕ) → p < length xs → get_or xs p 0 ≡ n → index_of n (drop p xs) ≡ 0
+place-here n p xs inside same = ap (index_of n) (drop-cons xs p 0 inside) ∙ ap (λ b. cond b 0 (1 + index_of n (drop (suc p) xs))) (eq-eqb (get_or xs p 0) n same)
 
-pub place-later : (n p : ℕ) (xs : List ℕ) → p < length xs → (get_or xs p 0 ≡ n → ⊥) → place_of n (drop p xs) ≡ 1 + place_of n (drop (p + 1) xs)
+pub place-later : (n p : ℕ) (xs : List ℕ) → p < length xs → (get_or xs p 0 ≡ n → ⊥) → index_of n (drop p xs) ≡ 1 + index_of n (drop (p + 1) xs)
 place-later n p xs inside other =
-    ap (place_of n) (drop-cons xs p 0 inside) ∙ ap (λ b. cond b 0 (1 + place_of n (drop (suc p) xs))) (ne_eqb (get_or xs p 0) n other) ∙ ap (λ k. 1 + place_of n (drop k xs)) (sym (add-one p))
+    ap (index_of n) (drop-cons xs p 0 inside) ∙ ap (λ b. cond b 0 (1 + index_of n (drop (suc p) xs))) (ne_eqb (get_or xs p 0) n other) ∙ ap (λ k. 1 + index_of n (drop k xs)) (sym (add-one p))
 
 -- so many bits make a number below that power of 2
 pub number-below : (bits : List Bool) (n : ℕ) → number_of_bits (take n bits) < 2 ^ n

@@ -5,7 +5,7 @@ use Rattle.std.proofs.lemmas.List.FromFn.{get_or-map-range_with_len}
 use Rattle.std.specs.List.{range_with_len}
 use Rattle.plain_store.specs.Store.{Contents}
 use Rattle.plain_store.specs.declared.Setup.{Setup}
-use Rattle.record.specs.Program.{Version, greatest, newest_process, newest_stamp, place_of, version_of}
+use Rattle.record.specs.Program.{Version, greatest, newest_process, newest_stamp, index_of, version_of}
 use Rattle.record.specs.Registers.{processes}
 use Rattle.history_laws.proofs.Kept.{Kept}
 use Rattle.history_laws.proofs.Versions.{Versions, versions_of}
@@ -45,12 +45,12 @@ not_below f top a from (suc n) j low less is = go (from == j) refl (λ other. no
     go false e later = let apart = eqb-false from j e in later (omega (arith, low, apart))
 
 -- the first one that is the top
-place_is : (f : ℕ → ℕ) (top from n j : ℕ) → from ≤ j → j < from + n → f j ≡ top → ((q : ℕ) → q < j → f q < top) → from + place_of top (map f (range_with_len from n)) ≡ j
+place_is : (f : ℕ → ℕ) (top from n j : ℕ) → from ≤ j → j < from + n → f j ≡ top → ((q : ℕ) → q < j → f q < top) → from + index_of top (map f (range_with_len from n)) ≡ j
 place_is f top from zero j low less is first = absurd (omega (arith, low, less))
 place_is f top from (suc n) j low less is first = go (from == j) refl (λ other. place_is f top (from + 1) n j other (omega (arith, less)) is first)
   where
     rest : ℕ
-    rest = place_of top (map f (range_with_len (from + 1) n))
+    rest = index_of top (map f (range_with_len (from + 1) n))
 
     go : (b : Bool) → (from == j) ≡ b → (from + 1 ≤ j → from + 1 + rest ≡ j) → from + cond (f from == top) 0 (1 + rest) ≡ j
     go true e later =
@@ -76,7 +76,7 @@ pub newest_process_is : (s : Setup) (v : Versions) (store : Contents) (busy : �
 newest_process_is s v store busy m kept =
     let below = kept.newest in
     let here = place_is v.stamp v.count 0 s.processes v.newest (omega arith) (omega (arith, below)) kept.is kept.first in
-    (λ i. place_of (newest_stamp_is s v store busy m kept i) (stamps_of v (processes s) i)) ∙ omega (arith, here)
+    (λ i. index_of (newest_stamp_is s v store busy m kept i) (stamps_of v (processes s) i)) ∙ omega (arith, here)
 
 -- the commit bit of each process
 pub version_of_is : (s : Setup) (v : Versions) (q : ℕ) → q < s.processes → version_of (versions_of v (processes s)) q ≡ v.commit q

@@ -22,7 +22,7 @@ use Rattle.record.specs.Headline.{lowest_full}
 use Rattle.record.specs.Moves.{ended, ended_with, moves_of}
 use Rattle.record.specs.Parts.{Part, Raises, Asks, TakesTicket, Lowers, Refuses, Waits, AsksCommit, AsksStamp, AsksImage, WritesImage, WritesStamp, WritesCommit, Clears, Over, is_read, is_over, read_at, to_b, to_d, to_e, to_g, part_after, written_at}
 use Rattle.record.specs.Places.{Place, Run, Writing, Reading, is_last, enter, new_run, run_after, access_at, place_after, value_of, bit_written}
-use Rattle.record.specs.Program.{Version, Wait, greatest, max_of, first_full, lets_by, newest_stamp, reply, store_read, waits_of, place_of}
+use Rattle.record.specs.Program.{Version, Wait, greatest, max_of, first_full, lets_by, newest_stamp, reply, store_read, waits_of, index_of}
 use Rattle.record.specs.Records.{past_of}
 use Rattle.record.specs.Registers.{opening_bit, others, processes, width}
 use Rattle.record.specs.Scripts.{Call, Numbers}
@@ -112,7 +112,7 @@ to-c s g p command number ts values x = go (greatest ts == max_of s.ticket_bits)
         let is : greatest ts ≡ top = eqb-true (greatest ts) top e in (
           many,
           ap (lowest_full top (others s p)) x.kept ∙ lowest_is top 0 (others s p) ts long (some-top s g) is
-              ∙ ap (λ k. Some (slice_index (others s p) (place_of k ts))) (sym is),
+              ∙ ap (λ k. Some (slice_index (others s p) (index_of k ts))) (sym is),
         )
     go false e = (many, ap (lowest_full top (others s p)) x.kept ∙ none_full top 0 (others s p) ts x.up_to (omega arith) e)
 

@@ -12,7 +12,7 @@ use Rattle.plain_store.specs.Store.{Contents, changes}
 use Rattle.record.specs.declared.events.Event.{Event}
 use Rattle.record.specs.Parts.{Part, Raises, Asks, TakesTicket, Lowers, Refuses, Waits, AsksCommit, AsksStamp, AsksImage, WritesImage, Clears, is_read, read_at, part_after, to_b, to_c, to_d, to_e, to_g}
 use Rattle.record.specs.Places.{Place, bits_with, is_last, place_after, enter, run_after, value_of}
-use Rattle.record.specs.Program.{Version, Wait, first_full, greatest, lets_by, max_of, newest_process, newest_stamp, place_of, reply, store_read, waits_of}
+use Rattle.record.specs.Program.{Version, Wait, first_full, greatest, lets_by, max_of, newest_process, newest_stamp, index_of, reply, store_read, waits_of}
 use Rattle.record.specs.Records.{past_of}
 use Rattle.record.specs.Registers.{others, processes}
 use Rattle.record.specs.Scripts.{Call}
@@ -26,12 +26,12 @@ use Rattle.laws.proofs.Tickets.{above, still-below}
 -- The newest version.
 
 -- the greatest of some numbers is one of them, where it is above what they begin with
-place-found : (a : ℕ) (ts : List ℕ) → a < fold max a ts → place_of (fold max a ts) ts < length ts
+place-found : (a : ℕ) (ts : List ℕ) → a < fold max a ts → index_of (fold max a ts) ts < length ts
 place-found a [] l = absurd (omega (arith, l))
 place-found a (t ∷ ts) l = go (t == fold max (max a t) ts) refl (λ m. place-found (max a t) ts m)
   where
-    go : (b : Bool) → (t == fold max (max a t) ts) ≡ b → (max a t < fold max (max a t) ts → place_of (fold max (max a t) ts) ts < length ts) →
-        cond b 0 (1 + place_of (fold max (max a t) ts) ts) < suc (length ts)
+    go : (b : Bool) → (t == fold max (max a t) ts) ≡ b → (max a t < fold max (max a t) ts → index_of (fold max (max a t) ts) ts < length ts) →
+        cond b 0 (1 + index_of (fold max (max a t) ts) ts) < suc (length ts)
     go true e rest = omega arith
     go false e rest = let found = rest (still-below (fold max (max a t) ts) a t (fold max (max a t) ts) (above (max a t) ts) refl l (eqb-false t (fold max (max a t) ts) e)) in omega (arith, found)
 
@@ -39,11 +39,11 @@ from-none : (top t : ℕ) → max 0 t ≤ top → t ≢ top → max 0 t < top
 from-none top t up ne = grind (arith, up, ne)
 
 -- the first place of the greatest of at most n numbers
-newest-place : (n : ℕ) (ts : List ℕ) → length ts ≤ n → 0 < n → place_of (fold max 0 ts) ts < n
+newest-place : (n : ℕ) (ts : List ℕ) → length ts ≤ n → 0 < n → index_of (fold max 0 ts) ts < n
 newest-place n [] l pos = pos
 newest-place n (t ∷ ts) l pos = go (t == fold max (max 0 t) ts) refl
   where
-    go : (b : Bool) → (t == fold max (max 0 t) ts) ≡ b → cond b 0 (1 + place_of (fold max (max 0 t) ts) ts) < n
+    go : (b : Bool) → (t == fold max (max 0 t) ts) ≡ b → cond b 0 (1 + index_of (fold max (max 0 t) ts) ts) < n
     go true e = pos
     go false e = let found = place-found (max 0 t) ts (from-none (fold max (max 0 t) ts) t (above (max 0 t) ts) (eqb-false t (fold max (max 0 t) ts) e)) in omega (arith, found, l)
 

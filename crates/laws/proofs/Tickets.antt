@@ -2,7 +2,7 @@
 use Rattle.std.proofs.Common.{◌≡◌, ◌≢◌, ℕ, suc, ◌+◌, ◌<◌, ◌≤◌, ◌==◌, max, Bool, true, false, cond, List, [], ◌∷◌, ◌++◌, Some, None, length, fold, slice_index, refl, sym, ap, ◌∙◌, arith, eqb-true}
 use Rattle.std.proofs.lemmas.Bool.{eqb-false}
 use Rattle.record.specs.Headline.{lowest_full}
-use Rattle.record.specs.Program.{place_of}
+use Rattle.record.specs.Program.{index_of}
 
 -- all of them are at most top
 abbrev pub AllUpTo : ℕ → List ℕ → Type 0
@@ -45,17 +45,17 @@ pub still-below : (top a t f : ℕ) → max a t ≤ f → f ≡ top → a < top 
 still-below top a t f up e l ne = grind (arith, up, e, l, ne)
 
 -- where it is, the process at its first place is the lowest one whose ticket was the top
-pub lowest_is : (top a : ℕ) (js ts : List ℕ) → length js ≡ length ts → a < top → fold max a ts ≡ top → lowest_full top js ts ≡ Some (slice_index js (place_of top ts))
+pub lowest_is : (top a : ℕ) (js ts : List ℕ) → length js ≡ length ts → a < top → fold max a ts ≡ top → lowest_full top js ts ≡ Some (slice_index js (index_of top ts))
 lowest_is top a [] [] same l e = absurd (omega (arith, l, e))
 lowest_is top a [] (t ∷ ts) same l e = absurd (omega (arith, same))
 lowest_is top a (j ∷ js) [] same l e = absurd (omega (arith, same))
 lowest_is top a (j ∷ js) (t ∷ ts) same l e = go (t == top) refl (λ m. lowest_is top (max a t) js ts (omega (arith, same)) m e)
   where
-    one : 1 + place_of top ts ≡ suc (place_of top ts)
+    one : 1 + index_of top ts ≡ suc (index_of top ts)
     one = omega arith
 
-    go : (b : Bool) → (t == top) ≡ b → (max a t < top → lowest_full top js ts ≡ Some (slice_index js (place_of top ts))) →
-        cond b (Some j) (lowest_full top js ts) ≡ Some (slice_index (j ∷ js) (cond b 0 (1 + place_of top ts)))
+    go : (b : Bool) → (t == top) ≡ b → (max a t < top → lowest_full top js ts ≡ Some (slice_index js (index_of top ts))) →
+        cond b (Some j) (lowest_full top js ts) ≡ Some (slice_index (j ∷ js) (cond b 0 (1 + index_of top ts)))
     go true is rest = refl
     go false is rest =
         rest (still-below top a t (fold max (max a t) ts) (above (max a t) ts) e l (eqb-false t top is)) ∙ ap (λ k. Some (slice_index (j ∷ js) k)) (sym one)

@@ -7,7 +7,7 @@ use Rattle.record.specs.declared.access.Field.TheVariants.{Choosing, Ticket}
 use Rattle.plain_store.specs.declared.Answer.TheVariants as answer
 use Rattle.plain_store.specs.Store.{Contents, changes}
 use Rattle.record.specs.Parts.{Part, Asks, TakesTicket, Refuses, WritesImage, Clears, part_after, to_b, to_c, to_d, to_e, to_g}
-use Rattle.record.specs.Program.{Version, Wait, first_full, greatest, max_of, newest_stamp, place_of, reply}
+use Rattle.record.specs.Program.{Version, Wait, first_full, greatest, max_of, newest_stamp, index_of, reply}
 use Rattle.record.specs.Registers.{processes}
 use Rattle.record.specs.Scripts.{Call}
 use Rattle.process.specs.Others.{first_other, other_numbered}
@@ -23,16 +23,16 @@ pub most-some : (w : ℕ) → 1 ≤ w → 0 < max_of w
 most-some w some = let least : 2 ^ 1 ≤ 2 ^ w = pow_mono {i = 1} {j = w} some in omega arith
 
 -- C: one more than the greatest ticket
-pub chosen-full : (c : Call) (ts : List ℕ) → IsCall c → length ts + 1 ≡ c.setup.processes → greatest ts ≡ max_of c.setup.ticket_bits → place_of (greatest ts) ts + 1 < c.setup.processes
+pub chosen-full : (c : Call) (ts : List ℕ) → IsCall c → length ts + 1 ≡ c.setup.processes → greatest ts ≡ max_of c.setup.ticket_bits → index_of (greatest ts) ts + 1 < c.setup.processes
 chosen-full c ts is all full = by ts all full
   where
-    by : (ts : List ℕ) → length ts + 1 ≡ c.setup.processes → greatest ts ≡ max_of c.setup.ticket_bits → place_of (greatest ts) ts + 1 < c.setup.processes
+    by : (ts : List ℕ) → length ts + 1 ≡ c.setup.processes → greatest ts ≡ max_of c.setup.ticket_bits → index_of (greatest ts) ts + 1 < c.setup.processes
     by [] all full = absurd (omega (arith, most-some c.setup.ticket_bits is.some_ticket))
     by (t ∷ ts) all full = omega (arith, greatest-there (t ∷ ts) (omega arith))
 
-pub refuses : (c : Call) (ts : List ℕ) → IsCall c → length ts + 1 ≡ c.setup.processes → greatest ts ≡ max_of c.setup.ticket_bits → Refuses (other_numbered c.process (place_of (greatest ts) ts)) ≡ to_c c ts
+pub refuses : (c : Call) (ts : List ℕ) → IsCall c → length ts + 1 ≡ c.setup.processes → greatest ts ≡ max_of c.setup.ticket_bits → Refuses (other_numbered c.process (index_of (greatest ts) ts)) ≡ to_c c ts
 refuses c ts is all full =
-    ap Refuses (sym (other-at c.setup.processes c.process (place_of (greatest ts) ts) is.process (chosen-full c ts is all full)))
+    ap Refuses (sym (other-at c.setup.processes c.process (index_of (greatest ts) ts) is.process (chosen-full c ts is all full)))
     ∙ sym (ap (λ b. elim b as (λ _. Part) [ true ↦ Refuses (first_full c ts) | false ↦ TakesTicket (greatest ts + 1) ]) (eq-eqb (greatest ts) (max_of c.setup.ticket_bits) full))
 
 pub takes : (c : Call) (ts : List ℕ) → greatest ts ≢ max_of c.setup.ticket_bits → TakesTicket (greatest ts + 1) ≡ to_c c ts

@@ -1,13 +1,13 @@
 -- The greatest of some numbers, and where it stands first.
 use Rattle.std.proofs.Common.{◌≡◌, ℕ, ◌+◌, ◌<◌, ◌≤◌, ◌⊎◌, max, fold, cond, List, [], ◌∷◌, length, refl, ap, arith, inl, inr}
 use Rattle.std.proofs.lemmas.Bool.{cases_eq, ne_eqb, eq-eqb}
-use Rattle.record.specs.Program.{place_of}
+use Rattle.record.specs.Program.{index_of}
 
-pub place-here : (n x : ℕ) (xs : List ℕ) → x ≡ n → place_of n (x ∷ xs) ≡ 0
-place-here n x xs same = ap (λ b. cond b 0 (1 + place_of n xs)) (eq-eqb x n same)
+pub place-here : (n x : ℕ) (xs : List ℕ) → x ≡ n → index_of n (x ∷ xs) ≡ 0
+place-here n x xs same = ap (λ b. cond b 0 (1 + index_of n xs)) (eq-eqb x n same)
 
-pub place-later : (n x : ℕ) (xs : List ℕ) → (x ≡ n → ⊥) → place_of n (x ∷ xs) ≡ 1 + place_of n xs
-place-later n x xs other = ap (λ b. cond b 0 (1 + place_of n xs)) (ne_eqb x n other)
+pub place-later : (n x : ℕ) (xs : List ℕ) → (x ≡ n → ⊥) → index_of n (x ∷ xs) ≡ 1 + index_of n xs
+place-later n x xs other = ap (λ b. cond b 0 (1 + index_of n xs)) (ne_eqb x n other)
 
 -- a fold by max is no less than where it began
 pub fold-least : (a : ℕ) (xs : List ℕ) → a ≤ fold max a xs
@@ -15,7 +15,7 @@ fold-least a [] = omega arith
 fold-least a (x ∷ xs) = let more = fold-least (max a x) xs in omega arith
 
 -- the greatest stands among the items, or is where the fold began
-place-greatest : (a : ℕ) (xs : List ℕ) → (fold max a xs ≡ a) ⊎ (place_of (fold max a xs) xs < length xs)
+place-greatest : (a : ℕ) (xs : List ℕ) → (fold max a xs ≡ a) ⊎ (index_of (fold max a xs) xs < length xs)
 place-greatest a [] = inl refl
 place-greatest a (x ∷ xs) = elim (cases_eq x (fold max (max a x) xs)) [
   | inl same ↦ let here = place-here (fold max (max a x) xs) x xs same in inr (omega (arith, here))
@@ -28,7 +28,7 @@ place-greatest a (x ∷ xs) = elim (cases_eq x (fold max (max a x) xs)) [
 ]
 
 -- it stands among them, where there are some
-pub greatest-there : (xs : List ℕ) → 0 < length xs → place_of (fold max 0 xs) xs < length xs
+pub greatest-there : (xs : List ℕ) → 0 < length xs → index_of (fold max 0 xs) xs < length xs
 greatest-there [] some = absurd (omega arith)
 greatest-there (x ∷ xs) some = elim (place-greatest 0 (x ∷ xs)) [
   | inl none ↦

@@ -2,7 +2,7 @@
 use Rattle.std.proofs.Common.{◌≡◌, ℕ, ◌+◌, ◌<◌, ◌≤◌, Bool, false, List, [], ◌∷◌, ◌++◌, get_or, length, map, take, refl, sym, ap, ◌∙◌, arith}
 use Rattle.std.proofs.lemmas.List.{get_or-take, length-take-le, take_more_set}
 use Rattle.record.specs.Parts.{AsksImage, read_at}
-use Rattle.record.specs.Program.{Version, greatest, image_field, newest_process, newest_stamp, place_of, version_of}
+use Rattle.record.specs.Program.{Version, greatest, image_field, newest_process, newest_stamp, index_of, version_of}
 use Rattle.record.specs.Scripts.{Call}
 use Rattle.process.specs.Seen.{HasRoom, versions, versions_seen}
 use Rattle.process.specs.declared.seen.Seen.{Seen}
@@ -34,8 +34,8 @@ same-length seen k room within = length-take-le k seen.commits (omega (arith, ro
 pub newest-stamp : (seen : Seen) (k : ℕ) → HasRoom seen → k ≤ 16 → newest_stamp (versions_seen k seen) ≡ greatest (take k seen.numbers)
 newest-stamp seen k room within = ap greatest (stamps-of (take k seen.commits) (take k seen.numbers) (same-length seen k room within))
 
-pub newest-process : (seen : Seen) (k : ℕ) → HasRoom seen → k ≤ 16 → newest_process (versions_seen k seen) ≡ place_of (greatest (take k seen.numbers)) (take k seen.numbers)
-newest-process seen k room within = ap (λ stamps. place_of (greatest stamps) stamps) (stamps-of (take k seen.commits) (take k seen.numbers) (same-length seen k room within))
+pub newest-process : (seen : Seen) (k : ℕ) → HasRoom seen → k ≤ 16 → newest_process (versions_seen k seen) ≡ index_of (greatest (take k seen.numbers)) (take k seen.numbers)
+newest-process seen k room within = ap (λ stamps. index_of (greatest stamps) stamps) (stamps-of (take k seen.commits) (take k seen.numbers) (same-length seen k room within))
 
 pub version-at : (seen : Seen) (k p : ℕ) → HasRoom seen → k ≤ 16 → p < k → version_of (versions_seen k seen) p ≡ get_or seen.commits p false
 version-at seen k p room within inside =
@@ -52,12 +52,12 @@ versions-more seen k b t room inside =
     ∙ versions-push (take k seen.commits) (take k seen.numbers) b t (same-length seen k room (omega arith))
 
 -- the register of the newest image
-pub newest-inside : (seen : Seen) (n : ℕ) → HasRoom seen → 0 < n → n ≤ 16 → place_of (greatest (take n seen.numbers)) (take n seen.numbers) < n
+pub newest-inside : (seen : Seen) (n : ℕ) → HasRoom seen → 0 < n → n ≤ 16 → index_of (greatest (take n seen.numbers)) (take n seen.numbers) < n
 newest-inside seen n room some within =
     let many : length (take n seen.numbers) ≡ n = length-take-le n seen.numbers (omega (arith, room.numbers)) in
     omega (arith, greatest-there (take n seen.numbers) (omega (arith, many)), many)
 
-pub image-register : (c : Call) (seen : Seen) (newest : ℕ) → HasRoom seen → 0 < c.setup.processes → c.setup.processes ≤ 16 → newest ≡ place_of (greatest (take c.setup.processes seen.numbers)) (take c.setup.processes seen.numbers) →
+pub image-register : (c : Call) (seen : Seen) (newest : ℕ) → HasRoom seen → 0 < c.setup.processes → c.setup.processes ≤ 16 → newest ≡ index_of (greatest (take c.setup.processes seen.numbers)) (take c.setup.processes seen.numbers) →
     read_at c (AsksImage (versions_seen c.setup.processes seen)) ≡ (newest, image_field (get_or seen.commits newest false))
 image-register c seen newest room some within is =
     let vs : List Version = versions_seen c.setup.processes seen in

@@ -1,6 +1,6 @@
 //! The greatest of some numbers, and where it stands.
 ghost use Rattle.std.specs.Prelude.{◌≡◌, ◌≤◌};
-ghost use Rattle.record.specs.Program.{greatest, max_of, place_of};
+ghost use Rattle.record.specs.Program.{greatest, index_of, max_of};
 
 /// The greatest of some numbers, 0 of none.
 pub(crate) fn greatest(numbers: &[u32]) -> u32
@@ -15,7 +15,7 @@ pub(crate) fn greatest(numbers: &[u32]) -> u32
 
 /// The first place of a number among some; how many there are, if it is none of them.
 pub(crate) fn place_of(number: u32, numbers: &[u32]) -> usize
-    ensures { result ≡ place_of number numbers.now }
+    ensures { result ≡ index_of number numbers.now }
 {
     for place in 0..numbers.len() {
         if numbers[place] == number {

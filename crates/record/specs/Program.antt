@@ -20,9 +20,9 @@ abbrev pub greatest : List ℕ → ℕ
 greatest = fold max 0
 
 -- the first place of n in the list
-abbrev pub place_of : ℕ → List ℕ → ℕ
-place_of n [] = 0
-place_of n (x ∷ xs) = cond (x == n) 0 (1 + place_of n xs)
+abbrev pub index_of : ℕ → List ℕ → ℕ
+index_of n [] = 0
+index_of n (x ∷ xs) = cond (x == n) 0 (1 + index_of n xs)
 
 -- the greatest number of w bits
 abbrev pub max_of : ℕ → ℕ
@@ -64,7 +64,7 @@ newest_stamp versions = greatest (map (λ v. v.1) versions)
 
 -- the process that has it, the lowest on a tie
 abbrev pub newest_process : List Version → ℕ
-newest_process versions = place_of (newest_stamp versions) (map (λ v. v.1) versions)
+newest_process versions = index_of (newest_stamp versions) (map (λ v. v.1) versions)
 
 -- the commit bit of process k
 abbrev pub version_of : List Version → ℕ → Bool
@@ -146,7 +146,7 @@ part_d c ticket (value ∷ more) (w ∷ ws) =
 
 -- the lowest process whose ticket was read as the greatest
 abbrev pub first_full : Call → List ℕ → ℕ
-first_full c tickets = slice_index (others c.setup c.process) (place_of (greatest tickets) tickets)
+first_full c tickets = slice_index (others c.setup c.process) (index_of (greatest tickets) tickets)
 
 -- C: one more than the greatest ticket is written, if it fits
 abbrev pub part_c : Call → List ℕ → Numbers → Script

@@ -17,7 +17,7 @@ use Rattle.record_file.specs.scenario.Reading.{Progress as Head}
 use Rattle.record_file.proofs.EntryLines.{entry_of_line}
 use Rattle.judge.specs.Numbers.{say_entry}
 use Rattle.judge.proofs.Lines.{Left, clear_twice, empty, first_left, later_left, short_read}
-use Rattle.record_drawer.specs.Sheets.{Draws, DrawsAt, GoesOn, IsDrawn, Stands}
+use Rattle.record_drawer.specs.Sheets.{DrawsPast, DrawsAt, GoesOn, IsDrawn, Stands}
 use Rattle.record_drawer.specs.declared.drawing.RecordDrawing.{RecordDrawing}
 use Rattle.record_drawer.specs.declared.sheet.Sheet.{Sheet}
 
@@ -47,13 +47,13 @@ module _ (reads : Mode) (form : Form) (old : Option (List ℕ)) where
 
   -- behind one that says an entry, which was drawn
   pub drawn_more : (words : List (List ℕ)) (before : Option Progress) (now : Progress) (e : Entry) (d d' : Option RecordDrawing) (past : Past) (new new' : Option (List ℕ)) → words_read record_grammar words before ≡ Ok (Some now) → cleared before ≡ before → now.entry ≡ Some e →
-      IsSome d' → (Draws reads form d now.head.setup past old new → Draws reads form d' now.head.setup (e ∷ past) old new') → DrawsAt reads form d before past old new → DrawsAt reads form d' (cleared (Some now)) (entry_in (Some now) ++ past) old new'
+      IsSome d' → (DrawsPast reads form d now.head.setup past old new → DrawsPast reads form d' now.head.setup (e ∷ past) old new') → DrawsAt reads form d before past old new → DrawsAt reads form d' (cleared (Some now)) (entry_in (Some now) ++ past) old new'
   drawn_more words None now e d d' past new new' read clear says some draws drawn =
       let no : e ∷ [] ≡ [] = sym (ap option_to_list says) ∙ (first_left words (Some now) read).0 in absurd (cc)
   drawn_more words (Some p) now e d None past new new' read clear says some draws drawn = absurd (cc)
   drawn_more words (Some p) now e d (Some k) past new new' read clear says some draws drawn = by (later_left words p (Some now) read)
     where
-      before_it : (d : Option RecordDrawing) → DrawsAt reads form d (Some p) past old new → now.head ≡ p.head → Draws reads form d now.head.setup past old new
+      before_it : (d : Option RecordDrawing) → DrawsAt reads form d (Some p) past old new → now.head ≡ p.head → DrawsPast reads form d now.head.setup past old new
       before_it None drawn same = drawn
       before_it (Some i) drawn same = drawn_at p.head.setup now.head.setup i past new (ap (λ (h : Head). h.setup) (sym same)) drawn.1
 
@@ -93,7 +93,7 @@ module _ (line : List ℕ) (before now : Option Progress) (old t : Sheet) (past 
 -- it says one, which was drawn
 pub ends_drawn : (line : List ℕ) (before : Option Progress) (now : Progress) (e : Entry) (old t : Sheet) (past : Past) (first taken after : Option (List ℕ)) → length line ≤ 128 → Stands old before past first taken → words_read record_grammar (words_of line) old.reader ≡ Ok (Some now) → now.entry ≡ Some e →
     t.reader ≡ cleared (Some now) → t.reads ≡ old.reads → t.form ≡ old.form → IsSome t.drawing →
-    ((past : Past) (first : Option (List ℕ)) → Draws old.reads old.form old.drawing now.head.setup past first taken → Draws old.reads old.form t.drawing now.head.setup (e ∷ past) first after) → GoesOn (line_read line before) t past first after
+    ((past : Past) (first : Option (List ℕ)) → DrawsPast old.reads old.form old.drawing now.head.setup past first taken → DrawsPast old.reads old.form t.drawing now.head.setup (e ∷ past) first after) → GoesOn (line_read line before) t past first after
 ends_drawn line before now e old t past first taken after short stands read says reader reads form some draws =
     ends_well line before (Some now) old t past first taken after short stands read reader
     (subst (λ (m : Mode). DrawsAt m t.form t.drawing (cleared (Some now)) (entry_in (Some now) ++ past) first after) (sym reads) (subst (λ (f : Form). DrawsAt old.reads f t.drawing (cleared (Some now)) (entry_in (Some now) ++ past) first after) (sym form)

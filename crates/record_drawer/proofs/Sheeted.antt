@@ -15,7 +15,7 @@ use Rattle.companions.specs.picture.markup.Elements.{opens_in}
 use Rattle.companions.specs.picture.markup.Titles.{lines_in}
 use Rattle.record_drawer.specs.Drawings.{DrawsOn, DrawsRest, Kept, Recalls, Writes, kept, kept_at_first, plan_of}
 use Rattle.record_drawer.specs.Items.{SaysEnd, given_at_end, given_by, given_of, lines_given, reads_since, says_judged, source_of}
-use Rattle.record_drawer.specs.Sheets.{Draws, DrawsAt, EndsAt, Heads, IsDrawn, listed}
+use Rattle.record_drawer.specs.Sheets.{DrawsPast, DrawsAt, EndsAt, Heads, IsDrawn, listed}
 use Rattle.record_drawer.specs.declared.drawing.RecordDrawing.{RecordDrawing}
 use Rattle.record_drawer.proofs.Drawn.{draws_bands, draws_on_both, draws_on_none}
 
@@ -57,8 +57,8 @@ module _ (reads : Mode) (form : Form) (s : Setup) where
   }
 
   -- a picture that begins where there was none
-  pub drawn_begun : (d d' : Option RecordDrawing) (past : Past) (old mid new : Option (List ℕ)) → is_some d ≡ false → Draws reads form d s past old mid → Draws reads form d' s [] mid new → Draws reads form d' s past old new
-  drawn_begun None d' past old mid new none drawn begun = subst (λ (l : Past). Draws reads form d' s l old new) (sym drawn.0) (subst (λ (w : Option (List ℕ)). Draws reads form d' s [] w new) drawn.1 begun)
+  pub drawn_begun : (d d' : Option RecordDrawing) (past : Past) (old mid new : Option (List ℕ)) → is_some d ≡ false → DrawsPast reads form d s past old mid → DrawsPast reads form d' s [] mid new → DrawsPast reads form d' s past old new
+  drawn_begun None d' past old mid new none drawn begun = subst (λ (l : Past). DrawsPast reads form d' s l old new) (sym drawn.0) (subst (λ (w : Option (List ℕ)). DrawsPast reads form d' s [] w new) drawn.1 begun)
   drawn_begun (Some d) d' past old mid new none drawn begun = absurd (true≢false none)
 
   -- all
@@ -78,7 +78,7 @@ pub heads_page : (reads : Mode) (s : Setup) (old new : Option (List ℕ)) (head 
 heads_page reads s old new head is lines opens writes = record { head = head; is = is; lines = lines; opens = opens; writes = writes }
 
 -- what is drawn, by the setup that was read
-pub draws_of : (reads : Mode) (f : Form) (d : Option RecordDrawing) (p : Progress) (past : Past) (old new : Option (List ℕ)) → DrawsAt reads f d (Some p) past old new → Draws reads f d p.head.setup past old new
+pub draws_of : (reads : Mode) (f : Form) (d : Option RecordDrawing) (p : Progress) (past : Past) (old new : Option (List ℕ)) → DrawsAt reads f d (Some p) past old new → DrawsPast reads f d p.head.setup past old new
 draws_of reads f None p past old new drawn = drawn
 draws_of reads f (Some d) p past old new drawn = drawn.1
 

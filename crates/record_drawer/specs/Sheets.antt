@@ -97,9 +97,9 @@ pub record IsDrawn (reads : Mode) (form : Form) (s : Setup) (past : Past) (d : R
   pub draws : DrawsOn (kept_at_first (plan_of form s)) (kept d.page) mid new (given_by reads s (source_of s) past)
 
 -- the same by what there is: before the first entry nothing was written
-abbrev pub Draws : Mode → Form → Option RecordDrawing → Setup → Past → Option (List ℕ) → Option (List ℕ) → Type 0
-Draws reads form None s past old new = (past ≡ []) × (new ≡ old)
-Draws reads form (Some d) s past old new = IsDrawn reads form s past d old new
+abbrev pub DrawsPast : Mode → Form → Option RecordDrawing → Setup → Past → Option (List ℕ) → Option (List ℕ) → Type 0
+DrawsPast reads form None s past old new = (past ≡ []) × (new ≡ old)
+DrawsPast reads form (Some d) s past old new = IsDrawn reads form s past d old new
 
 -- the same by what was read: behind an entry the setup stays
 abbrev pub DrawsAt : Mode → Form → Option RecordDrawing → Option Progress → Past → Option (List ℕ) → Option (List ℕ) → Type 0

@@ -7,7 +7,7 @@ ghost use Rattle.companions.specs.picture.Pages.{page_names};
 ghost use Rattle.companions.specs.picture.Sheets.{page_front};
 ghost use Rattle.companions.specs.picture.markup.Elements.{opens_in};
 ghost use Rattle.companions.specs.picture.markup.Titles.{lines_in};
-ghost use Rattle.record_drawer.specs.Sheets.{Draws, EndsAt, GoesOn, Heads, LineStops, Stands, entries_of, listed};
+ghost use Rattle.record_drawer.specs.Sheets.{DrawsPast, EndsAt, GoesOn, Heads, LineStops, Stands, entries_of, listed};
 ghost use Rattle.record_drawer.specs.Writing.{IsWriteFault, failed_write};
 
 use crate::drawing::RecordDrawing;
@@ -209,7 +209,7 @@ impl Around {
         requires few { entries_of drawing.old < 2 ^ 64 - 1 }
         requires writes { W.failures output.old < 2 ^ 64 - 1 }
         ensures some { OnOk result (IsSome drawing.new) }
-        ensures drawn { OnOk result ((past : Past) (first : Option (List ℕ)) → Draws self.reads self.form drawing.old setup.now past first (W.taken output.old) → Draws self.reads self.form drawing.new setup.now (entry.now ∷ past) first (W.taken output.new)) }
+        ensures drawn { OnOk result ((past : Past) (first : Option (List ℕ)) → DrawsPast self.reads self.form drawing.old setup.now past first (W.taken output.old) → DrawsPast self.reads self.form drawing.new setup.now (entry.now ∷ past) first (W.taken output.new)) }
         ensures few { OnOk result (entries_of drawing.new ≤ entries_of drawing.old + 1) }
         ensures fault { IfErr result IsWriteFault }
         ensures failures { W.failures output.new ≡ W.failures output.old + failed_write result }
@@ -233,7 +233,7 @@ impl Around {
     ) -> Result<u64, Fault>
         requires good { checked setup.now ≡ Ok tt }
         requires writes { W.failures output.old < 2 ^ 64 - 1 }
-        ensures drawn { IfOk result (λ height. (past : Past) (first : Option (List ℕ)) → Draws self.reads self.form drawing.old setup.now past first (W.taken output.old) → EndsAt self.reads self.form setup.now past told.now height first (W.taken output.new)) }
+        ensures drawn { IfOk result (λ height. (past : Past) (first : Option (List ℕ)) → DrawsPast self.reads self.form drawing.old setup.now past first (W.taken output.old) → EndsAt self.reads self.form setup.now past told.now height first (W.taken output.new)) }
         ensures fault { IfErr result IsWriteFault }
         ensures failures { W.failures output.new ≡ W.failures output.old + failed_write result }
     {
@@ -261,7 +261,7 @@ impl Around {
         requires good { checked setup.now ≡ Ok tt }
         requires writes { W.failures output.old < 2 ^ 64 - 1 }
         ensures some { OnOk result (IsSome drawing.new) }
-        ensures drawn { OnOk result (Draws self.reads self.form drawing.new setup.now [] (W.taken output.old) (W.taken output.new)) }
+        ensures drawn { OnOk result (DrawsPast self.reads self.form drawing.new setup.now [] (W.taken output.old) (W.taken output.new)) }
         ensures few { OnOk result (entries_of drawing.new ≡ 0) }
         ensures fault { IfErr result IsWriteFault }
         ensures failures { W.failures output.new ≡ W.failures output.old + failed_write result }

@@ -16,7 +16,7 @@ use Rattle.record.specs.Entries.{Past, is_called, since}
 use Rattle.record.specs.Parts.{Part, Raises, Asks, TakesTicket, Refuses, Waits, AsksCommit, AsksStamp, AsksImage, WritesImage, WritesStamp, WritesCommit, Clears, Over, part_after, to_b, to_c, to_d, to_e, to_g}
 use Rattle.record.specs.Parts as part
 use Rattle.record.specs.Places.{Place, bits_with, enter, is_last, place_after, run_after, write_moved}
-use Rattle.record.specs.Program.{Version, Wait, first_full, greatest, lets_by, max_of, newest_stamp, place_of, reply, store_read, waits_of}
+use Rattle.record.specs.Program.{Version, Wait, first_full, greatest, lets_by, max_of, newest_stamp, index_of, reply, store_read, waits_of}
 use Rattle.record.specs.Registers.{others, processes}
 use Rattle.record.specs.Scripts.{Call, caller}
 use Rattle.record.specs.Unit.{is_commit, last_read, last_write, unfinished}
@@ -57,7 +57,7 @@ small_filter most test (x ∷ xs) all = by (test x) (small_filter most test xs (
     by false rest = rest
 
 full_small : (c : Call) (ts : List ℕ) → c.setup.processes ≤ 256 → nat_lt (first_full c ts) 256 ≡ true
-full_small c ts few = index_small 256 (omega arith) (others c.setup c.process) (place_of (greatest ts) ts) (small_filter 256 (λ j. not (j == c.process)) (processes c.setup) (small_range 0 c.setup.processes 256 (omega (arith, few))))
+full_small c ts few = index_small 256 (omega arith) (others c.setup c.process) (index_of (greatest ts) ts) (small_filter 256 (λ j. not (j == c.process)) (processes c.setup) (small_range 0 c.setup.processes 256 (omega (arith, few))))
 
 sound_c : (c : Call) (ts : List ℕ) → c.setup.processes ≤ 256 → is_sound_part (to_c c ts) ≡ true
 sound_c c ts few = by (greatest ts == max_of c.setup.ticket_bits)

@@ -6,7 +6,7 @@ use Rattle.safe_bit.specs.declared.moves.Move.TheVariants.{BeginWrite, EndWrite}
 use Rattle.flicks.specs.Flicks.{FlickState, flick_of, after_flick, flicks_after}
 use Rattle.record.specs.Moves.{ended}
 use Rattle.record.specs.Places.{value_of}
-use Rattle.registers.specs.Memory.{cell_at, moved}
+use Rattle.registers.specs.Memory.{cell_at, memory_moved}
 use Rattle.registers.specs.Cursors.{CursorState, first_lane, lane_number}
 use Rattle.registers.specs.Accesses.{access_of, after_by, move_by, read_access, read_move, reads_of, run_of, write_access, writes_of}
 use Rattle.registers.specs.declared.cursor.NumberRun.{NumberRun}
@@ -16,12 +16,12 @@ use Rattle.registers.specs.declared.cursor.NumberRun.TheVariants.{Reads, Writes}
 abbrev by : CursorState → List (List Cell) → FlickState → NumberRun → ℕ → CursorState × List (List Cell) × FlickState
 by c memory flicks run lane =
     let how : Move = ended (read_answer (cell_at memory lane c.bit) (flick_of flicks)) (move_by run c (flick_of flicks)) in
-    (after_by run c how, moved memory lane c.bit how, after_flick flicks)
+    (after_by run c how, memory_moved memory lane c.bit how, after_flick flicks)
 
 -- what is read is what the memory answers
 answers : (c : CursorState) (memory : List (List Cell)) (flicks : FlickState) (lane : ℕ) (v flick : Bool) (begun : Bool) →
-    (let x : CursorState × List (List Cell) × FlickState = (record c { bit = cond begun (c.bit + 1) c.bit; begun = not begun; bits = cond begun (c.bits ++ value_of (ended v (read_move begun flick)) ∷ []) c.bits }, moved memory lane c.bit (ended v (read_move begun flick)), flicks) in x)
-    ≡ (record c { bit = cond begun (c.bit + 1) c.bit; begun = not begun; bits = cond begun (c.bits ++ v ∷ []) c.bits }, moved memory lane c.bit (read_move begun v), flicks)
+    (let x : CursorState × List (List Cell) × FlickState = (record c { bit = cond begun (c.bit + 1) c.bit; begun = not begun; bits = cond begun (c.bits ++ value_of (ended v (read_move begun flick)) ∷ []) c.bits }, memory_moved memory lane c.bit (ended v (read_move begun flick)), flicks) in x)
+    ≡ (record c { bit = cond begun (c.bit + 1) c.bit; begun = not begun; bits = cond begun (c.bits ++ v ∷ []) c.bits }, memory_moved memory lane c.bit (read_move begun v), flicks)
 answers c memory flicks lane v flick true = refl
 answers c memory flicks lane v flick false = refl
 
@@ -46,7 +46,7 @@ access-write c memory flicks writes =
     let lane : lane_number c.copies c.register (c.reader + c.copy) ≡ first_lane c + c.copy = omega arith in
     ap (λ r. by c memory flicks r (lane_number c.copies c.register (c.reader + c.copy))) writes
     ∙ ap (by c memory flicks Writes) lane
-    ∙ ap (λ how. of_write (after_flick flicks) (after_by Writes c how, moved memory (first_lane c + c.copy) c.bit how)) (unanswered (read_answer (cell_at memory (first_lane c + c.copy) c.bit) (flick_of flicks)) _ c.begun)
+    ∙ ap (λ how. of_write (after_flick flicks) (after_by Writes c how, memory_moved memory (first_lane c + c.copy) c.bit how)) (unanswered (read_answer (cell_at memory (first_lane c + c.copy) c.bit) (flick_of flicks)) _ c.begun)
 
 -- reads and writes stay what they are
 pub reads-stay : (k : ℕ) (now : CursorState × List (List Cell) × FlickState) → ((reads_of k now).0.run ≡ now.0.run) × ((reads_of k now).0.copy ≡ now.0.copy)

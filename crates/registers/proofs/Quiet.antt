@@ -6,7 +6,7 @@ use Rattle.safe_bit.specs.declared.moves.Move.{Move}
 use Rattle.safe_bit.specs.declared.moves.Move.TheVariants.{BeginRead, EndRead}
 use Rattle.flicks.specs.Flicks.{FlickState, flick_of, after_flick, flicks_after}
 use Rattle.reader_copies.specs.Row.{cell_in}
-use Rattle.registers.specs.Memory.{cell_at, lane_of, moved}
+use Rattle.registers.specs.Memory.{cell_at, lane_of, memory_moved}
 use Rattle.registers.specs.Cursors.{CursorState, first_lane}
 use Rattle.registers.specs.Accesses.{read_access, reads_of}
 use Rattle.reader_copies.specs.Wordwise.{after_read, over}
@@ -14,18 +14,18 @@ use Rattle.registers.specs.Wordwise.{more_bits}
 use Rattle.reader_copies.proofs.Over.{length-over, over-outside}
 
 -- a cell that was changed
-pub cell-moved : (memory : List (List Cell)) (lane bit : ℕ) (how : Move) → lane < length memory → bit < length (lane_of memory lane) → cell_at (moved memory lane bit how) lane bit ≡ cell_after (cell_at memory lane bit) how
+pub cell-moved : (memory : List (List Cell)) (lane bit : ℕ) (how : Move) → lane < length memory → bit < length (lane_of memory lane) → cell_at (memory_moved memory lane bit how) lane bit ≡ cell_after (cell_at memory lane bit) how
 cell-moved memory lane bit how there inside =
     ap (λ x. cell_in x bit) (get_or-set_same memory lane (set (lane_of memory lane) bit (cell_after (cell_at memory lane bit) how)) [] there)
     ∙ get_or-set_same (lane_of memory lane) bit (cell_after (cell_at memory lane bit) how) (new_cell false) inside
 
 -- two accesses to one cell
-pub moved-twice : (memory : List (List Cell)) (lane bit : ℕ) (h k : Move) → lane < length memory → bit < length (lane_of memory lane) → moved (moved memory lane bit h) lane bit k ≡ set memory lane (set (lane_of memory lane) bit (cell_after (cell_after (cell_at memory lane bit) h) k))
+pub moved-twice : (memory : List (List Cell)) (lane bit : ℕ) (h k : Move) → lane < length memory → bit < length (lane_of memory lane) → memory_moved (memory_moved memory lane bit h) lane bit k ≡ set memory lane (set (lane_of memory lane) bit (cell_after (cell_after (cell_at memory lane bit) h) k))
 moved-twice memory lane bit h k there inside =
     let cells : List Cell = lane_of memory lane in
     let first : List Cell = set cells bit (cell_after (cell_in cells bit) h) in
-    ap (λ c. set (moved memory lane bit h) lane (set (lane_of (moved memory lane bit h) lane) bit (cell_after c k))) (cell-moved memory lane bit h there inside)
-    ∙ ap (λ x. set (moved memory lane bit h) lane (set x bit (cell_after (cell_after (cell_in cells bit) h) k))) (get_or-set_same memory lane first [] there)
+    ap (λ c. set (memory_moved memory lane bit h) lane (set (lane_of (memory_moved memory lane bit h) lane) bit (cell_after c k))) (cell-moved memory lane bit h there inside)
+    ∙ ap (λ x. set (memory_moved memory lane bit h) lane (set x bit (cell_after (cell_after (cell_in cells bit) h) k))) (get_or-set_same memory lane first [] there)
     ∙ set-set memory lane first (set first bit (cell_after (cell_after (cell_in cells bit) h) k))
     ∙ ap (set memory lane) (set-set cells bit (cell_after (cell_in cells bit) h) (cell_after (cell_after (cell_in cells bit) h) k))
 
@@ -41,7 +41,7 @@ read-pair : (c : CursorState) (bit : ℕ) (bits : List Bool) (memory : List (Lis
 read-pair c bit bits memory flicks there inside quiet =
     let lane : ℕ = first_lane c in
     let x : Cell = cell_at memory lane bit in
-    let begun : cell_at (moved memory lane bit BeginRead) lane bit ≡ cell_after x BeginRead = cell-moved memory lane bit BeginRead there inside in
+    let begun : cell_at (memory_moved memory lane bit BeginRead) lane bit ≡ cell_after x BeginRead = cell-moved memory lane bit BeginRead there inside in
     let answer = ap (λ (y : Cell). at c (bit + 1) false (bits ++ read_answer y (flick_of (after_flick flicks)) ∷ [])) begun ∙ ap (λ w. at c (bit + 1) false (bits ++ cond w (flick_of (after_flick flicks)) x.value ∷ [])) quiet in
     triple _ _ _ _ _ _ answer (moved-twice memory lane bit BeginRead (EndRead false) there inside) refl
 

@@ -7,7 +7,7 @@ use Rattle.safe_bit.specs.declared.moves.Move.{Move}
 use Rattle.flicks.specs.Flicks.{FlickState, flick_of}
 use Rattle.record.specs.declared.access.Access.{Access}
 use Rattle.registers.specs.declared.fields.RegisterName.{RegisterName}
-use Rattle.registers.specs.Memory.{HasLanes, moved}
+use Rattle.registers.specs.Memory.{HasLanes, memory_moved}
 use Rattle.registers.specs.Cursors.{CursorState, Fits, IsAtCopy, lane_number}
 use Rattle.registers.specs.Accesses.{after_by, answered, cursor_after, ends_copy, lane_of_access, next_access, run_of}
 use Rattle.registers.specs.declared.cursor.NumberRun.{NumberRun}
@@ -15,7 +15,7 @@ use Rattle.registers.specs.declared.cursor.NumberRun.TheVariants.{Reads, Writes,
 use Rattle.registers.proofs.Steps.{copy_inside, lanes-moved}
 
 -- also where there is no such lane
-pub lanes-moved_anywhere : (memory : List (List Cell)) (at bit lane copies width : ℕ) (how : Move) → HasLanes memory lane copies width → HasLanes (moved memory at bit how) lane copies width
+pub lanes-moved_anywhere : (memory : List (List Cell)) (at bit lane copies width : ℕ) (how : Move) → HasLanes memory lane copies width → HasLanes (memory_moved memory at bit how) lane copies width
 lanes-moved_anywhere memory at bit lane copies width how h = elim (cases_lt at (length memory)) [
   | inl there ↦ lanes-moved memory at bit lane copies width how there h
   | inr past ↦ let P : List (List Cell) → Type 0 = λ m. HasLanes m lane copies width in subst P (sym (set_past memory at _ past)) h
@@ -42,7 +42,7 @@ same-by Writes c how = (refl, refl, refl)
 same-by (Settles cut value) c how = (refl, refl, refl)
 
 -- any cursor fits after an access as before
-pub fits-moved : (d : CursorState) (memory : List (List Cell)) (at bit : ℕ) (how : Move) → Fits memory d → Fits (moved memory at bit how) d
+pub fits-moved : (d : CursorState) (memory : List (List Cell)) (at bit : ℕ) (how : Move) → Fits memory d → Fits (memory_moved memory at bit how) d
 fits-moved d memory at bit how h = record {
   lanes = lanes-moved_anywhere memory at bit (lane_number d.copies d.register 0) d.copies d.width how h.lanes;
   copy = h.copy;
@@ -71,7 +71,7 @@ run-fits (suc k) now h =
     let memory : List (List Cell) = (run_of k now).1 in
     let flick : Bool = flick_of (run_of k now).2 in
     let a : Access = answered c.copies memory flick (next_access c flick) in
-    fits-after c (moved memory (lane_of_access c.copies a) a.bit a.how) a.how (fits-moved c memory (lane_of_access c.copies a) a.bit a.how (run-fits k now h))
+    fits-after c (memory_moved memory (lane_of_access c.copies a) a.bit a.how) a.how (fits-moved c memory (lane_of_access c.copies a) a.bit a.how (run-fits k now h))
 
 -- and after those of any other
 pub run-keeps : (k : ℕ) (now : CursorState × List (List Cell) × FlickState) (d : CursorState) → Fits now.1 d → Fits (run_of k now).1 d

@@ -6,7 +6,7 @@ use Rattle.std.proofs.lemmas.List.{get_or-set_same, get_or-set_other, length-set
 use Rattle.safe_bit.specs.Cell.{Cell}
 use Rattle.safe_bit.specs.declared.moves.Move.{Move}
 use Rattle.flicks.specs.Flicks.{FlickState, flick_of}
-use Rattle.registers.specs.Memory.{HasLanes, lane_of, moved}
+use Rattle.registers.specs.Memory.{HasLanes, lane_of, memory_moved}
 use Rattle.registers.specs.Cursors.{CursorState, first_lane, made_of_read, made_of_write, rest_by}
 use Rattle.registers.specs.declared.cursor.NumberRun.TheVariants.{Reads}
 use Rattle.registers.specs.Accesses.{read_after, write_after, read_access, write_access, reads_of, writes_of, answer_of, read_move, write_move}
@@ -25,7 +25,7 @@ lanes-set memory at lane copies width new same there h = record {
   wide = λ l from below. omega (arith, length-lane memory at l new same there, h.wide l from below);
 }
 
-pub lanes-moved : (memory : List (List Cell)) (at bit lane copies width : ℕ) (how : Move) → at < length memory → HasLanes memory lane copies width → HasLanes (moved memory at bit how) lane copies width
+pub lanes-moved : (memory : List (List Cell)) (at bit lane copies width : ℕ) (how : Move) → at < length memory → HasLanes memory lane copies width → HasLanes (memory_moved memory at bit how) lane copies width
 lanes-moved memory at bit lane copies width how there h = lanes-set memory at lane copies width _ (length-set (lane_of memory at) bit _) there h
 
 read_counts : (bit : ℕ) (begun : Bool) → 2 * cond begun (bit + 1) bit + cond (not begun) 1 0 ≡ suc (2 * bit + cond begun 1 0)

@@ -8,7 +8,7 @@ use Rattle.flicks.specs.Flicks.{FlickState, flick_of, after_flick}
 use Rattle.record.specs.declared.access.Access.{Access}
 use Rattle.record.specs.Moves.{ended_with}
 use Rattle.record.specs.Places.{value_of}
-use Rattle.registers.specs.Memory.{cell_at, moved}
+use Rattle.registers.specs.Memory.{cell_at, memory_moved}
 use Rattle.registers.specs.Cursors.{CursorState, first_lane, lane_number}
 use Rattle.registers.specs.declared.cursor.NumberRun.{NumberRun}
 use Rattle.registers.specs.declared.cursor.NumberRun.TheVariants.{Reads, Writes, Settles}
@@ -56,7 +56,7 @@ next_answered c memory flick = answered c.copies memory flick (next_access c fli
 
 -- the memory after it
 abbrev pub applied : ℕ → List (List Cell) → Access → List (List Cell)
-applied copies memory a = moved memory (lane_of_access copies a) a.bit a.how
+applied copies memory a = memory_moved memory (lane_of_access copies a) a.bit a.how
 
 -- THE CURSOR AFTER IT
 
@@ -153,10 +153,10 @@ abbrev pub answer_of : CursorState → List (List Cell) → Bool → Bool
 answer_of c memory flick = read_answer (cell_at memory (first_lane c) c.bit) flick
 
 abbrev pub read_access : CursorState × List (List Cell) × FlickState → CursorState × List (List Cell) × FlickState
-read_access (c, memory, flicks) = (read_after c (answer_of c memory (flick_of flicks)), moved memory (first_lane c) c.bit (read_move c.begun (answer_of c memory (flick_of flicks))), after_flick flicks)
+read_access (c, memory, flicks) = (read_after c (answer_of c memory (flick_of flicks)), memory_moved memory (first_lane c) c.bit (read_move c.begun (answer_of c memory (flick_of flicks))), after_flick flicks)
 
 abbrev pub write_access : CursorState × List (List Cell) → CursorState × List (List Cell)
-write_access (c, memory) = (write_after c, moved memory (first_lane c + c.copy) c.bit (write_move c))
+write_access (c, memory) = (write_after c, memory_moved memory (first_lane c + c.copy) c.bit (write_move c))
 
 abbrev pub reads_of : ℕ → CursorState × List (List Cell) × FlickState → CursorState × List (List Cell) × FlickState
 reads_of zero now = now

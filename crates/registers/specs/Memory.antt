@@ -13,8 +13,8 @@ abbrev pub cell_at : List (List Cell) → ℕ → ℕ → Cell
 cell_at memory lane bit = cell_in (lane_of memory lane) bit
 
 -- the memory after one access to that bit: its cell goes on by it, and all others stay
-abbrev pub moved : List (List Cell) → ℕ → ℕ → Move → List (List Cell)
-moved memory lane bit how = slice_set memory lane (slice_set (lane_of memory lane) bit (cell_after (cell_at memory lane bit) how))
+abbrev pub memory_moved : List (List Cell) → ℕ → ℕ → Move → List (List Cell)
+memory_moved memory lane bit how = slice_set memory lane (slice_set (lane_of memory lane) bit (cell_after (cell_at memory lane bit) how))
 
 -- these lanes are there, and as wide
 pub record HasLanes (memory : List (List Cell)) (lane copies width : ℕ) : Type 0 where

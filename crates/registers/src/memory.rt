@@ -7,7 +7,7 @@ ghost use Rattle.registers.specs.Accesses.{answer_of, applied, cursor_after, end
 ghost use Rattle.registers.specs.Begins.{is_settling};
 ghost use Rattle.registers.specs.Cursors.{Fits, first_lane, rest_of, rest_by};
 ghost use Rattle.reader_copies.specs.Flags.{flag_in};
-ghost use Rattle.registers.specs.Memory.{HasLanes, cell_at, moved, without_reads};
+ghost use Rattle.registers.specs.Memory.{HasLanes, cell_at, memory_moved, without_reads};
 ghost use Rattle.registers.specs.Openings.{AreOfOneSetup, field_numbered, opening_lane, opening_memory};
 ghost use Rattle.reader_copies.specs.Words.{bits_of_words};
 ghost use Rattle.reader_copies.specs.Wordwise.{after_write, over};
@@ -170,7 +170,7 @@ impl BitMemory {
         ensures access { result.access ≡ next_access cursor.old (answer_of cursor.old self.old flick) }
         ensures overlapped { result.overlapped ≡ read_overlaps cursor.old self.old }
         ensures cursor { cursor.new ≡ read_after cursor.old (answer_of cursor.old self.old flick) }
-        ensures memory { self.new ≡ moved self.old (first_lane cursor.old) cursor.old.bit (read_move cursor.old.begun (answer_of cursor.old self.old flick)) }
+        ensures memory { self.new ≡ memory_moved self.old (first_lane cursor.old) cursor.old.bit (read_move cursor.old.begun (answer_of cursor.old self.old flick)) }
     {
         let (bit, begun) = (cursor.bit(), cursor.has_begun());
         let copies = &mut self.lanes[cursor.lane()];

@@ -1,6 +1,6 @@
 use Rattle.std.proofs.Common.{◌≡◌, ◌+◌, sym, ap, ◌∙◌, arith}
 use Rattle.record.specs.Parts.{Refuses, TakesTicket}
-use Rattle.record.specs.Program.{greatest, max_of, place_of}
+use Rattle.record.specs.Program.{greatest, max_of, index_of}
 use Rattle.process.specs.Others.{other_numbered}
 use Rattle.process.specs.Seen.{call_of}
 use Rattle.process.proofs.AfterParts.{chosen-full, refuses, takes}
@@ -10,7 +10,7 @@ pub other_numbered-requires : goal.other_numbered-requires
 other_numbered-requires c =
     let ts = c.args.tickets.now in
     let full : greatest ts ≡ max_of c.args.call.now.setup.ticket_bits = sym c.greatest-most.ensures ∙ c.if-most-most_of.true ∙ c.most_of.ensures in
-    let here : place_of c.greatest-most.result ts ≡ place_of (greatest ts) ts = ap (λ n. place_of n ts) c.greatest-most.ensures in
+    let here : index_of c.greatest-most.result ts ≡ index_of (greatest ts) ts = ap (λ n. index_of n ts) c.greatest-most.ensures in
     omega (arith, chosen-full (call_of c.args.call.now) ts c.requires.call c.requires.all full, c.place_of.ensures, here, c.requires.call.processes)
 
 pub returns-then-most-most_of-clause-part : goal.returns-then-most-most_of-clause-part
@@ -18,7 +18,7 @@ returns-then-most-most_of-clause-part c = λ seen.
     let ts = c.args.tickets.now in
     let call = call_of c.args.call.now in
     let full : greatest ts ≡ max_of call.setup.ticket_bits = sym c.greatest-most.ensures ∙ c.if-most-most_of.true ∙ c.most_of.ensures in
-    let here : c.place_of.result ≡ place_of (greatest ts) ts = c.place_of.ensures ∙ ap (λ n. place_of n ts) c.greatest-most.ensures in
+    let here : c.place_of.result ≡ index_of (greatest ts) ts = c.place_of.ensures ∙ ap (λ n. index_of n ts) c.greatest-most.ensures in
     ap Refuses (c.other_numbered.ensures ∙ ap (other_numbered call.process) here) ∙ refuses call ts c.requires.call c.requires.all full
 
 pub returns-else-most-most_of : goal.returns-else-most-most_of

@@ -1,12 +1,12 @@
 use Rattle.std.proofs.Common.{◌≡◌, ◌<◌, ℕ, List, take, sym, ap, ◌∙◌, arith}
-use Rattle.record.specs.Program.{greatest, place_of}
+use Rattle.record.specs.Program.{greatest, index_of}
 use Rattle.process.specs.Seen.{call_of}
 use Rattle.process.proofs.VersionsSeen.{image-register, newest-inside}
 use Rattle.process.proofs.asked.newest_image.Goals as goal
 
 -- the place that was found
-found : {n m most place : ℕ} (numbers : List ℕ) → n ≡ m → most ≡ greatest (take n numbers) → place ≡ place_of most (take n numbers) → place ≡ place_of (greatest (take m numbers)) (take m numbers)
-found numbers from first at = at ∙ (λ i. place_of ((first ∙ ap (λ k. greatest (take k numbers)) from) i) (take (from i) numbers))
+found : {n m most place : ℕ} (numbers : List ℕ) → n ≡ m → most ≡ greatest (take n numbers) → place ≡ index_of most (take n numbers) → place ≡ index_of (greatest (take m numbers)) (take m numbers)
+found numbers from first at = at ∙ (λ i. index_of ((first ∙ ap (λ k. greatest (take k numbers)) from) i) (take (from i) numbers))
 
 pub overflow_cast-result : goal.overflow_cast-result
 overflow_cast-result c =

@@ -1,6 +1,6 @@
 use Rattle.std.proofs.Common.{◌≡◌, ◌+◌, drop}
-use Rattle.record.specs.Program.{place_of}
+use Rattle.record.specs.Program.{index_of}
 use Rattle.process.proofs.numbers.place_of.Given as goal
 
 abbrev pub invariant-loop-place : goal.invariant-loop-place
-invariant-loop-place l = place_of l.number l.numbers ≡ l.place + place_of l.number (drop l.place l.numbers)
+invariant-loop-place l = index_of l.number l.numbers ≡ l.place + index_of l.number (drop l.place l.numbers)

@@ -1,7 +1,7 @@
 use Rattle.std.proofs.Common.{ℕ, List, [], ◌∷◌, ◌++◌, Option, ap, sym, subst, ◌∙◌}
 use Rattle.record_drawer.specs.Drawings.{DrawsRest, kept}
 use Rattle.record_drawer.specs.Items.{SaysEnd, lines_given, reads_since, says_judged}
-use Rattle.record_drawer.specs.Sheets.{Draws, IsDrawn}
+use Rattle.record_drawer.specs.Sheets.{DrawsPast, IsDrawn}
 use Rattle.record_drawer.specs.declared.drawing.RecordDrawing.{RecordDrawing}
 use Rattle.record_drawer.proofs.Sheeted.{drawn_begun, drawn_end}
 use Rattle.record_drawer.proofs.sheet.Around.draw_end.Goals as goal
@@ -14,11 +14,11 @@ returns-in_ok-end-in-Some-clause-drawn g c = λ past first drawn.
     let s = c.args.setup.now in
     let d : RecordDrawing = c.in-Some.drawing in
     let was : IsDrawn reads form s past d first (g.W.Sink.taken c.if-is_none.output) = elim c.if-is_none.branch [
-      | then-is_none+in_ok-begin w ↦ subst (λ (o : Option RecordDrawing). Draws reads form o s past first (g.W.Sink.taken c.if-is_none.output)) (sym w.drawing-is ∙ c.in-Some.is)
-          (subst (λ (m : Option (List ℕ)). Draws reads form w.begin.new.drawing s past first m) (sym (ap g.W.Sink.taken w.output-is))
+      | then-is_none+in_ok-begin w ↦ subst (λ (o : Option RecordDrawing). DrawsPast reads form o s past first (g.W.Sink.taken c.if-is_none.output)) (sym w.drawing-is ∙ c.in-Some.is)
+          (subst (λ (m : Option (List ℕ)). DrawsPast reads form w.begin.new.drawing s past first m) (sym (ap g.W.Sink.taken w.output-is))
           (drawn_begun reads form s c.args.drawing.now w.begin.new.drawing past first _ _ w.if-is_none.ensures drawn w.in_ok-begin.ensures.drawn))
-      | else-is_none w ↦ subst (λ (o : Option RecordDrawing). Draws reads form o s past first (g.W.Sink.taken c.if-is_none.output)) (sym w.drawing-is ∙ c.in-Some.is)
-          (subst (λ (m : Option (List ℕ)). Draws reads form c.args.drawing.now s past first m) (sym (ap g.W.Sink.taken w.output-is)) drawn)
+      | else-is_none w ↦ subst (λ (o : Option RecordDrawing). DrawsPast reads form o s past first (g.W.Sink.taken c.if-is_none.output)) (sym w.drawing-is ∙ c.in-Some.is)
+          (subst (λ (m : Option (List ℕ)). DrawsPast reads form c.args.drawing.now s past first m) (sym (ap g.W.Sink.taken w.output-is)) drawn)
     ] in
     drawn_end reads form s past d c.args.told.now first _ _ c.height.result was
     (subst (λ (n : ℕ). DrawsRest (kept d.page) (g.W.Sink.taken c.if-is_none.output) (g.W.Sink.taken c.end.new.output) (lines_given reads d.last d.entries (reads_since s past) (says_judged c.args.told.now ++ SaysEnd d.entries d.taken ∷ [])) n) (sym c.height.ensures)

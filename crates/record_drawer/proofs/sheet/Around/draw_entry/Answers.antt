@@ -1,5 +1,5 @@
 use Rattle.std.proofs.Common.{ℕ, List, Option, ap, sym, subst, ◌∙◌}
-use Rattle.record_drawer.specs.Sheets.{Draws, IsDrawn}
+use Rattle.record_drawer.specs.Sheets.{DrawsPast, IsDrawn}
 use Rattle.record_drawer.specs.declared.drawing.RecordDrawing.{RecordDrawing}
 use Rattle.record_drawer.proofs.Sheeted.{drawn_begun, drawn_entry}
 use Rattle.record_drawer.proofs.Written.{ok_both}
@@ -16,11 +16,11 @@ returns-in-Some-clause-drawn g c =
     ok_both c.hear.result
     (λ on recalls past first drawn.
     let was : IsDrawn reads form s past c.in-Some.drawing first (g.W.Sink.taken c.if-is_none.output) = elim c.if-is_none.branch [
-      | then-is_none+in_ok-begin w ↦ subst (λ (o : Option RecordDrawing). Draws reads form o s past first (g.W.Sink.taken c.if-is_none.output)) (sym w.drawing-is ∙ c.in-Some.is)
-          (subst (λ (m : Option (List ℕ)). Draws reads form w.begin.new.drawing s past first m) (sym (ap g.W.Sink.taken w.output-is))
+      | then-is_none+in_ok-begin w ↦ subst (λ (o : Option RecordDrawing). DrawsPast reads form o s past first (g.W.Sink.taken c.if-is_none.output)) (sym w.drawing-is ∙ c.in-Some.is)
+          (subst (λ (m : Option (List ℕ)). DrawsPast reads form w.begin.new.drawing s past first m) (sym (ap g.W.Sink.taken w.output-is))
           (drawn_begun reads form s c.args.drawing.now w.begin.new.drawing past first a _ w.if-is_none.ensures drawn w.in_ok-begin.ensures.drawn))
-      | else-is_none w ↦ subst (λ (o : Option RecordDrawing). Draws reads form o s past first (g.W.Sink.taken c.if-is_none.output)) (sym w.drawing-is ∙ c.in-Some.is)
-          (subst (λ (m : Option (List ℕ)). Draws reads form c.args.drawing.now s past first m) (sym (ap g.W.Sink.taken w.output-is)) drawn)
+      | else-is_none w ↦ subst (λ (o : Option RecordDrawing). DrawsPast reads form o s past first (g.W.Sink.taken c.if-is_none.output)) (sym w.drawing-is ∙ c.in-Some.is)
+          (subst (λ (m : Option (List ℕ)). DrawsPast reads form c.args.drawing.now s past first m) (sym (ap g.W.Sink.taken w.output-is)) drawn)
     ] in
     drawn_entry reads form s past e c.in-Some.drawing c.hear.new.self first _ _ was (on reads s past was.recalls) (recalls reads s past was.recalls) c.hear.ensures.last)
     c.hear.ensures.ok c.hear.ensures.recalls

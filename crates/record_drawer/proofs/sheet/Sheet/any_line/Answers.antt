@@ -5,7 +5,7 @@ use Rattle.files.specs.Files.{words_read}
 use Rattle.files.specs.Words.{words_of}
 use Rattle.record.specs.Entries.{Entry, Past}
 use Rattle.record_file.specs.RecordFiles.{Progress, cleared, entry_in, record_grammar}
-use Rattle.record_drawer.specs.Sheets.{Draws}
+use Rattle.record_drawer.specs.Sheets.{DrawsPast}
 use Rattle.record_drawer.specs.declared.sheet.Sheet.{Sheet}
 use Rattle.judge.proofs.Lines.{quiet_is_cleared}
 use Rattle.record_drawer.proofs.Lines.{ends_drawn, ends_quiet}
@@ -20,7 +20,7 @@ returns-in_ok-draw_entry-clause-ok g c =
     let left : Some c.forget_entry.new.self ≡ cleared (Some now) = ap (λ (p : Progress). Some p) c.forget_entry.ensures in
     let says : now.entry ≡ Some e = c.in-Some-last_entry.ensures in
     let read : words_read record_grammar (words_of c.args.line.now) old.reader ≡ Ok (Some now) = c.in-Ok.ensures ∙ ap (λ (o : Option Progress). Ok o) c.in-Some.is in
-    let draws = subst (λ (s : Setup). (past : Past) (first : Option (List ℕ)) → Draws old.reads old.form old.drawing s past first (g.W.Sink.taken c.args.output.now) → Draws old.reads old.form t.drawing s (e ∷ past) first (g.W.Sink.taken c.draw_entry.new.output)) c.setup.ensures.value c.in_ok-draw_entry.ensures.drawn in
+    let draws = subst (λ (s : Setup). (past : Past) (first : Option (List ℕ)) → DrawsPast old.reads old.form old.drawing s past first (g.W.Sink.taken c.args.output.now) → DrawsPast old.reads old.form t.drawing s (e ∷ past) first (g.W.Sink.taken c.draw_entry.new.output)) c.setup.ensures.value c.in_ok-draw_entry.ensures.drawn in
     λ before past first stands. ends_drawn c.args.line.now before now e old t past first _ _ c.requires.short stands read says left refl refl c.in_ok-draw_entry.ensures.some draws
 
 pub returns-in_default-last_entry-clause-ok : goal.returns-in_default-last_entry-clause-ok

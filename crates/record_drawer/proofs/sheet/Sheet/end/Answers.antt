@@ -1,7 +1,7 @@
 use Rattle.std.proofs.Common.{◌≡◌, ap, sym, subst, ◌∙◌}
 use Rattle.plain_store.specs.declared.setups.Setup.{Setup}
 use Rattle.record_file.specs.RecordFiles.{Progress}
-use Rattle.record_drawer.specs.Sheets.{Draws, EndsAt}
+use Rattle.record_drawer.specs.Sheets.{DrawsPast, EndsAt}
 use Rattle.record_drawer.proofs.Sheeted.{draws_of, same_some}
 use Rattle.record_drawer.proofs.sheet.Sheet.end.Goals as goal
 
@@ -13,5 +13,5 @@ returns-clause-ok g c = λ p past first some stands.
     let first_setup : c.setup.result.now ≡ p.head.setup = c.setup.ensures.value ∙ ap (λ (q : Progress). q.head.setup) same in (
       c.setup-2.ensures.value ∙ ap (λ (q : Progress). q.head.setup) same,
       subst (λ (s : Setup). EndsAt t.reads t.form s past c.args.told.now c.in_ok-height.height first (g.W.Sink.taken c.draw_end.new.output)) first_setup
-          (c.in_ok-height.ensures.drawn past first (subst (λ (s : Setup). Draws t.reads t.form t.drawing s past first (g.W.Sink.taken c.args.output.now)) (sym first_setup) (draws_of t.reads t.form t.drawing p past first (g.W.Sink.taken c.args.output.now) stands.draws))),
+          (c.in_ok-height.ensures.drawn past first (subst (λ (s : Setup). DrawsPast t.reads t.form t.drawing s past first (g.W.Sink.taken c.args.output.now)) (sym first_setup) (draws_of t.reads t.form t.drawing p past first (g.W.Sink.taken c.args.output.now) stands.draws))),
     )
