@@ -87,19 +87,11 @@ IfAllThere told s past e = AllAreOfThere s past → TellsSafe told s past e
 abbrev pub TellsLook : WatchState → Access → Look → Type 0
 TellsLook w a look = (past : Past) → HasHeard w past → look ≡ look_of (opening_bit w.setup a) (moves_of a past)
 
--- the answer tells whether an access ends a read that a write overlapped
-abbrev pub TellsEnd : WatchState → Access → Bool → Type 0
-TellsEnd w a told = (past : Past) → HasHeard w past → TellsOverlap told (moves_of a past) a.how
-
--- the same, if the access is there
+-- the answer tells whether an access that is there ends a read that a write overlapped
 abbrev pub TellsEndThere : WatchState → Access → Bool → Type 0
 TellsEndThere w a told = (past : Past) → HasHeard w past → IsThere w.setup a → TellsOverlap told (moves_of a past) a.how
 
--- the answer is what was last written to the bit of an access; none while a write of it is open
-abbrev pub TellsHeld : WatchState → Access → Option Bool → Type 0
-TellsHeld w a told = (past : Past) → HasHeard w past → told ≡ held (opening_bit w.setup a) (moves_of a past)
-
--- the same, if the access is there
+-- the answer is what was last written to the bit of an access that is there; none while a write of it is open
 abbrev pub TellsHeldThere : WatchState → Access → Option Bool → Type 0
 TellsHeldThere w a told = (past : Past) → HasHeard w past → IsThere w.setup a → told ≡ held (opening_bit w.setup a) (moves_of a past)
 

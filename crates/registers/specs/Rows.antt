@@ -6,7 +6,6 @@ use Rattle.reader_copies.specs.Runs as copies
 use Rattle.safe_number.specs.Runs.{NumberWrite}
 use Rattle.registers.specs.declared.fields.RegisterName.{RegisterName}
 use Rattle.record.specs.Moves.{field_number}
-use Rattle.record.specs.Places as place
 use Rattle.registers.specs.Memory.{lane_of}
 use Rattle.registers.specs.Begins.{made_of_bit}
 use Rattle.registers.specs.Cursors.{CursorState, lane_number}
@@ -30,10 +29,6 @@ bit_begun made value = if made == 0 then None else Some (record { value = value;
 -- a write as a script has it
 abbrev pub write_kept : CursorState → NumberWrite
 write_kept c = record { width = c.width; bit = c.bit; run = bit_begun (made_of_bit c) (slice_index_or c.bits c.bit false) }
-
--- a read
-abbrev pub read_kept : CursorState → place.Run
-read_kept c = place.Reading c.bits c.begun
 
 -- a settling of a write that was cut, once it has come to this value
 abbrev pub settling_kept : ℕ → Option Bool → CursorState → copies.Settling
