@@ -10,9 +10,9 @@ use Rattle.any_lock.specs.declared.verdicts.AnyLockLaw.{AnyLockLaw}
 use Rattle.any_lock.specs.declared.verdicts.AnyLockVerdict.{AnyLockVerdict}
 use Rattle.any_lock.specs.declared.verdicts.AnyLockVerdict.TheVariants.{Good, Bad}
 use Rattle.judge.specs.Ends.{TrialEnds}
-use Rattle.judge.specs.files.Engines.{Streams}
+use Rattle.files.specs.Engines.{Streams}
 use Rattle.judge.specs.ReasonLines.{AreLinesAt}
-use Rattle.judge.specs.files.declared.faults.Fault.{Fault}
+use Rattle.files.specs.declared.faults.Fault.{Fault}
 use Rattle.judge.specs.AnyJudgements.{AnyTellsVerdict, any_status_of_verdict, any_verdict_line}
 use Rattle.judge.specs.AnyReasons.{any_reason_lines}
 

@@ -6,8 +6,8 @@ use Rattle.record.specs.Doorways.{doorway_begin, number_in_call}
 use Rattle.record.specs.Entries.{Entry, Past}
 use Rattle.record.specs.Places.{is_running}
 use Rattle.record.specs.Stages.{stage}
-use Rattle.judge.specs.auditor.Verdicts.{AllKeep, IsVerdict}
-use Rattle.judge.specs.auditor.declared.verdicts.Verdict.TheVariants as own
+use Rattle.auditor.specs.Verdicts.{AllKeep, IsVerdict}
+use Rattle.auditor.specs.declared.verdicts.Verdict.TheVariants as own
 use Rattle.any_lock.specs.declared.verdicts.AnyLockVerdict.TheVariants as any
 use Rattle.any_lock.specs.Laws.{breaks_history, breaks_safe, breaks_together}
 use Rattle.any_lock.specs.Standings.{has_access}

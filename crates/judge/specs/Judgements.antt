@@ -7,8 +7,8 @@ use Rattle.auditor.specs.declared.verdicts.Verdict.{Verdict}
 use Rattle.auditor.specs.declared.verdicts.Verdict.TheVariants.{Good, Bad}
 use Rattle.record.specs.Entries.{Entry}
 use Rattle.judge.specs.Ends.{TrialEnds}
-use Rattle.judge.specs.files.Engines.{Streams}
-use Rattle.judge.specs.files.declared.faults.Fault.{Fault}
+use Rattle.files.specs.Engines.{Streams}
+use Rattle.files.specs.declared.faults.Fault.{Fault}
 use Rattle.judge.specs.Explanations.{AreLinesOf}
 
 -- the line of a verdict on so many entries

@@ -4,7 +4,7 @@ ghost use Rattle.record.specs.declared.events.Event.TheVariants.{Step};
 ghost use Rattle.record.specs.Records.{entry_of};
 ghost use Rattle.record.specs.Shown.{refusal_text as text_of_refusal};
 ghost use Rattle.auditor.specs.declared.verdicts.Verdict.TheVariants.{Good};
-ghost use Rattle.judge.specs.files.Texts.{GivesText};
+ghost use Rattle.files.specs.Texts.{GivesText};
 ghost use Rattle.judge.specs.ReasonLines.{word_line};
 ghost use Rattle.judge.specs.Explanations.{HasExplained, ReasonsGoOn, Writes, event_or_step, is_crowded, may_line as line_of_may, may_lines, reason_lines, refusal_line, refused_line, without_twin};
 ghost use Rattle.judge.specs.Judgements.{TellsReasons};
