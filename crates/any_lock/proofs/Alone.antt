@@ -3,27 +3,15 @@ use Rattle.std.proofs.Common.{◌≡◌, ◌≢◌, ℕ, zero, suc, ◌<◌, ◌
 use Rattle.std.specs.List.{list_all, list_any}
 use Rattle.std.proofs.lemmas.Bool.{and_parts, cases_eq, cases_lt}
 use Rattle.std.proofs.lemmas.Bool.Decides.{Decides-int_eq}
-use Rattle.plain_store.specs.declared.Reply.{Reply}
+use Rattle.plain_store.specs.{Reply, Setup}
 use Rattle.plain_store.specs.declared.Reply.TheVariants as reply
-use Rattle.plain_store.specs.declared.Setup.{Setup}
 use Rattle.plain_store.proofs.Changes.{same_value-Decides}
-use Rattle.record.specs.declared.marks.Mark.{Mark}
+use Rattle.record.specs.{Entry, IsAlone, Mark, Past, TakesItsPlace, first_of, has, history, inside, inside_after, is_before, is_entered, is_waiting_stage, stage as stage_at, stage_after, takings}
 use Rattle.record.specs.declared.marks.Mark.TheVariants as mark
 use Rattle.record.specs.declared.stages.Stage.TheVariants as stage
-use Rattle.record.specs.Doorways.{first_of, is_before, is_waiting_stage}
-use Rattle.record.specs.Entries.{Entry, Past, has, is_entered}
-use Rattle.record.specs.Headline.{IsAlone, TakesItsPlace}
-use Rattle.record.specs.Histories.{history}
-use Rattle.record.specs.Spans.{takings}
-use Rattle.record.specs.Stages.{inside, inside_after, stage as stage_at, stage_after}
 use Rattle.any_lock.specs.declared.verdicts.AnyLockLaw.TheVariants as law
-use Rattle.any_lock.specs.declared.verdicts.AnyLockVerdict.{AnyLockVerdict}
+use Rattle.any_lock.specs.{AnyLockVerdict, OvertakesNobody, breaks_access, breaks_history, breaks_marks, breaks_overtaken, breaks_together, first_broken, is_that, lowest_below, refusal_of_access, refusal_of_marks, right_reply, same_reply, standing, verdict_after, verdict_with, waits_before}
 use Rattle.any_lock.specs.declared.verdicts.AnyLockVerdict.TheVariants.{Good, Bad}
-use Rattle.any_lock.specs.Headline.{OvertakesNobody}
-use Rattle.any_lock.specs.Laws.{breaks_access, breaks_history, breaks_marks, breaks_overtaken, breaks_together, first_broken, is_that, lowest_below, right_reply, waits_before}
-use Rattle.any_lock.specs.Refusals.{refusal_of_access, refusal_of_marks, same_reply}
-use Rattle.any_lock.specs.Standings.{standing}
-use Rattle.any_lock.specs.Verdicts.{verdict_after, verdict_with}
 use Rattle.any_lock.proofs.Breaks.{none_else, none_if, process_there, unbroken, unrefused, unsome}
 use Rattle.any_lock.proofs.Told.{found_good}
 

@@ -2,22 +2,14 @@
 use Rattle.std.proofs.Common.{◌≡◌, ℕ, ◌<◌, Bool, true, false, not, ◌&&◌, List, [], ◌∷◌, Option, None, Some, is_some, refl, sym, ap, ◌∙◌, subst, true≢false}
 use Rattle.std.specs.Prelude.{nat_lt, if◌then◌else◌}
 use Rattle.std.proofs.lemmas.Bool.{and_parts, ltb-true}
-use Rattle.record.specs.safe_bit.declared.Move.{Move}
+use Rattle.record.specs.safe_bit.{Move, before_read, is_overlapped, last_written}
 use Rattle.record.specs.safe_bit.declared.Move.TheVariants as move
-use Rattle.record.specs.safe_bit.SafeRule.{before_read, is_overlapped, last_written}
-use Rattle.plain_store.specs.declared.Setup.{Setup}
-use Rattle.record.specs.declared.access.Access.{Access}
-use Rattle.record.specs.Entries.{Entry, Past}
-use Rattle.record.specs.Moves.{begins_read, moves_of}
-use Rattle.record.specs.Registers.{opening_bit, width}
-use Rattle.read_law.specs.Safe.{KeepsSafe, MatchBool}
-use Rattle.read_law.specs.Watching.{IsOfThere}
-use Rattle.any_lock.specs.declared.refusals.AccessRefusal.{AccessRefusal}
+use Rattle.plain_store.specs.{Setup}
+use Rattle.record.specs.{Access, Entry, Past, begins_read, moves_of, opening_bit, width}
+use Rattle.read_law.specs.{IsOfThere, KeepsSafe, MatchBool}
+use Rattle.any_lock.specs.{AccessRefusal, access_refusal, breaks_access, breaks_history, breaks_marks, breaks_overtaken, breaks_safe, breaks_together, broken_inside, broken_later, ends_wrongly, first_broken, first_that, is_there, refusal_of_access, refusal_of_marks, same_truth, standing}
 use Rattle.any_lock.specs.declared.refusals.AccessRefusal.TheVariants as access
 use Rattle.any_lock.specs.declared.verdicts.AnyLockLaw.TheVariants as law
-use Rattle.any_lock.specs.Laws.{breaks_access, breaks_history, breaks_marks, breaks_overtaken, breaks_safe, breaks_together, broken_inside, broken_later, ends_wrongly, first_broken}
-use Rattle.any_lock.specs.Refusals.{access_refusal, first_that, is_there, refusal_of_access, refusal_of_marks, same_truth}
-use Rattle.any_lock.specs.Standings.{standing}
 
 -- Tests of which none holds.
 

@@ -2,23 +2,12 @@
 use Rattle.std.proofs.Common.{◌≡◌, ◌≢◌, ℕ, zero, suc, ◌<◌, Bool, true, false, not, ◌&&◌, ◌||◌, cond, List, [], ◌∷◌, Option, None, Some, fold, length, get_or, refl, sym, ap, ◌∙◌, subst, arith, true≢false, ◌⊎◌, inl, inr, ne_eqb}
 use Rattle.std.specs.List.{list_any}
 use Rattle.std.proofs.lemmas.Bool.{cases_eq}
-use Rattle.plain_store.specs.declared.Answer.{Answer}
-use Rattle.plain_store.specs.declared.Setup.{Setup}
-use Rattle.record.specs.declared.access.Access.{Access}
-use Rattle.record.specs.declared.marks.Mark.{Mark}
+use Rattle.plain_store.specs.{Answer, Setup}
+use Rattle.record.specs.{Access, AnswersNoCutCall, Entry, Mark, Past, Stage, has, is_called, is_failed, is_waiting_stage, own, since, stage_after}
 use Rattle.record.specs.declared.marks.Mark.TheVariants as mark
-use Rattle.record.specs.declared.stages.Stage.{Stage}
 use Rattle.record.specs.declared.stages.Stage.TheVariants as stage
-use Rattle.record.specs.Doorways.{is_waiting_stage}
-use Rattle.record.specs.Entries.{Entry, Past, has, is_called, is_failed, own, since}
-use Rattle.record.specs.Headline.{AnswersNoCutCall}
-use Rattle.record.specs.Stages.{stage_after}
-use Rattle.any_lock.specs.declared.refusals.MarkRefusal.{MarkRefusal}
+use Rattle.any_lock.specs.{MarkRefusal, Standing, accessed_by, has_nothing, has_one_mark, is_down, is_in_doorway, is_leaving, is_running, is_settling, its_call, mark_refusal, marked, marked_all, refusal_of_marks, refusal_on, standing, stands_alone}
 use Rattle.any_lock.specs.declared.refusals.MarkRefusal.TheVariants as refusal
-use Rattle.any_lock.specs.declared.standings.Standing.{Standing}
-use Rattle.any_lock.specs.Keeping.{accessed_by, marked, marked_all, refusal_on}
-use Rattle.any_lock.specs.Refusals.{has_nothing, has_one_mark, is_down, is_in_doorway, is_leaving, is_running, is_settling, mark_refusal, refusal_of_marks, stands_alone}
-use Rattle.any_lock.specs.Standings.{its_call, standing}
 use Rattle.any_lock.proofs.Alone.{AllKeep, Keeps, not_not}
 use Rattle.any_lock.proofs.Breaks.{none_else, none_if}
 use Rattle.any_lock.proofs.Markings.{no_failure, none_of, or_false, or_left, or_right, since-mine, with_marks}

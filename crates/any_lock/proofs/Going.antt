@@ -5,21 +5,10 @@ use Rattle.std.proofs.lemmas.Bool.{cases_eq, cases_lt}
 use Rattle.std.proofs.lemmas.Option.{slice_get-get_or, slice_get_past, slice_get_within}
 use Rattle.std.proofs.lemmas.List.{get_or-replicate, get_or-set_same, get_or-set_other, length-replicate}
 use Rattle.std.proofs.lemmas.List.Sums.{fold-append}
-use Rattle.plain_store.specs.declared.Reply.{Reply}
-use Rattle.plain_store.specs.declared.Setup.{Setup}
-use Rattle.plain_store.specs.Setups.{opening_store}
-use Rattle.plain_store.specs.Store.{after}
-use Rattle.record.specs.declared.history.Taken.{Taken}
-use Rattle.record.specs.declared.marks.Mark.{Mark}
+use Rattle.plain_store.specs.{Reply, Setup, after, opening_store}
+use Rattle.record.specs.{Entry, Mark, Past, Taken, history, last_call, own, reply_taken, store_after, takings}
 use Rattle.record.specs.declared.marks.Mark.TheVariants as mark
-use Rattle.record.specs.Calls.{last_call}
-use Rattle.record.specs.Entries.{Entry, Past, own}
-use Rattle.record.specs.Histories.{history, reply_taken, store_after}
-use Rattle.record.specs.Spans.{takings}
-use Rattle.any_lock.specs.declared.standings.Standing.{Standing}
-use Rattle.any_lock.specs.Keeping.{KeptState, Knows, is_taken, is_taken_as}
-use Rattle.any_lock.specs.Laws.{is_that}
-use Rattle.any_lock.specs.Standings.{standing}
+use Rattle.any_lock.specs.{KeptState, Knows, Standing, is_taken, is_taken_as, is_that, standing}
 use Rattle.any_lock.proofs.Steps.{standing-other}
 
 -- a look into a list that was set

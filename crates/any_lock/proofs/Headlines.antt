@@ -1,8 +1,8 @@
 -- A good verdict says the headline.
 use Rattle.std.proofs.Common.{[], ◌∷◌, ◌++◌, reverse, subst}
-use Rattle.plain_store.specs.declared.Setup.{Setup}
-use Rattle.record.specs.Entries.{Past}
-use Rattle.any_lock.specs.Headline.{GoodSaysTheHeadline, KeepsHeadlineThroughout}
+use Rattle.plain_store.specs.{Setup}
+use Rattle.record.specs.{Past}
+use Rattle.any_lock.specs.{GoodSaysTheHeadline, KeepsHeadlineThroughout}
 use Rattle.any_lock.proofs.Alone.{AllKeep, all_alone, all_keep, overtakes_nobody, takes_its_place}
 use Rattle.any_lock.proofs.Cuts.{answers_no_cut_call}
 use Rattle.any_lock.proofs.Stands.{stands_in_history}

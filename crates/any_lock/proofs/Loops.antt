@@ -1,12 +1,9 @@
 -- What is left of a list in a loop, and what is refused of marks and accesses.
 use Rattle.std.proofs.Common.{◌≡◌, ℕ, suc, ◌+◌, ◌<◌, ◌≤◌, Bool, true, false, List, [], ◌∷◌, ◌++◌, Option, None, Some, length, get_or, drop, refl, sym, ap, ◌∙◌, add-one, drop-cons}
 use Rattle.std.proofs.lemmas.List.{drop_all}
-use Rattle.plain_store.specs.declared.Setup.{Setup}
-use Rattle.record.specs.declared.marks.Mark.{Mark}
-use Rattle.any_lock.specs.declared.refusals.MarkRefusal.{MarkRefusal}
-use Rattle.any_lock.specs.declared.standings.Standing.{Standing}
-use Rattle.any_lock.specs.Keeping.{marked, refusal_on}
-use Rattle.any_lock.specs.Refusals.{first_that, mark_refusal}
+use Rattle.plain_store.specs.{Setup}
+use Rattle.record.specs.{Mark}
+use Rattle.any_lock.specs.{MarkRefusal, Standing, first_that, mark_refusal, marked, refusal_on}
 
 -- one less is left
 pub dropped_more : {A : Type 0} (xs : List A) (i : ℕ) (x : A) → i < length xs → x ≡ get_or xs i x → drop i xs ≡ x ∷ drop (i + 1) xs

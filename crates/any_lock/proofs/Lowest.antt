@@ -1,8 +1,8 @@
 -- The lowest number for which a test holds.
 use Rattle.std.proofs.Common.{◌≡◌, ℕ, zero, suc, ◌+◌, ◌<◌, Bool, true, false, cond, ◌⊎◌, ◌≢◌, inl, inr, Option, None, Some, refl, sym, ap, ◌∙◌, arith, add-one}
 use Rattle.std.proofs.lemmas.Bool.{cases_eq}
-use Rattle.record.specs.Doorways.{first_of}
-use Rattle.any_lock.specs.Laws.{lowest_below}
+use Rattle.record.specs.{first_of}
+use Rattle.any_lock.specs.{lowest_below}
 
 -- none below the next one
 pub lowest_none : (n : ℕ) (test : ℕ → Bool) → lowest_below n test ≡ None → test n ≡ false → lowest_below (n + 1) test ≡ None

@@ -3,22 +3,11 @@ use Rattle.std.proofs.Common.{◌≡◌, ℕ, suc, ◌+◌, ◌==◌, Bool, true
 use Rattle.std.specs.List.{list_any}
 use Rattle.std.proofs.lemmas.List.Folds.{list_any-append}
 use Rattle.std.proofs.lemmas.List.Sums.{fold-append}
-use Rattle.plain_store.specs.declared.Command.{Command}
-use Rattle.plain_store.specs.declared.Reply.{Reply}
-use Rattle.plain_store.specs.declared.Setup.{Setup}
-use Rattle.record.specs.declared.access.Access.{Access}
-use Rattle.record.specs.declared.marks.Mark.{Mark}
+use Rattle.plain_store.specs.{Command, Reply, Setup}
+use Rattle.record.specs.{Access, Entry, Mark, Past, call_number, called_in, calls_in, first_of, has, inside, inside_after, is_called, is_entered, is_failed, is_waiting, last_command, number_in_call, own, reply_taken, since, stage as stage_at, stage_after}
 use Rattle.record.specs.declared.marks.Mark.TheVariants as mark
-use Rattle.record.specs.Calls.{call_number, called_in, calls_in, last_command}
-use Rattle.record.specs.Doorways.{first_of, number_in_call}
-use Rattle.record.specs.Entries.{Entry, Past, has, is_called, is_entered, is_failed, is_waiting, own, since}
-use Rattle.record.specs.Histories.{reply_taken}
-use Rattle.record.specs.Stages.{inside, inside_after, stage as stage_at, stage_after}
-use Rattle.any_lock.specs.declared.standings.Standing.{Standing}
-use Rattle.any_lock.specs.Keeping.{marked}
+use Rattle.any_lock.specs.{Standing, begun_by, first_that, has_access, is_withdrawal, left_open, mark_refusal, marked, opened, reply_in, standing, stands_alone}
 use Rattle.any_lock.specs.declared.refusals.MarkRefusal.TheVariants as refusal
-use Rattle.any_lock.specs.Refusals.{first_that, mark_refusal, stands_alone}
-use Rattle.any_lock.specs.Standings.{begun_by, has_access, is_withdrawal, left_open, opened, reply_in, standing}
 use Rattle.any_lock.proofs.Steps.{first_none, if_there, inside-mine, number-called, number-mine, opened-mine, own-mine, stage-mine, standing_by, torn-mine}
 
 -- Marks that need not stand alone.

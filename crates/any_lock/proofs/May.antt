@@ -4,36 +4,18 @@ use Rattle.std.proofs.lemmas.Bool.Decides.{Decides-int_eq, nat_tests}
 use Rattle.std.proofs.lemmas.List.{length-map}
 use Rattle.std.specs.List.{list_all, list_any}
 use Rattle.std.specs.Option.{is_none, is_some}
-use Rattle.record.specs.safe_bit.declared.Move.{Move}
+use Rattle.record.specs.safe_bit.{Move, before_read, is_overlapped, last_written}
 use Rattle.record.specs.safe_bit.declared.Move.TheVariants.{BeginWrite, EndWrite, BeginRead, EndRead, Settle}
-use Rattle.record.specs.safe_bit.SafeRule.{before_read, is_overlapped, last_written}
-use Rattle.plain_store.specs.declared.Answer.{Answer}
+use Rattle.plain_store.specs.{Answer, Reply, Setup}
 use Rattle.plain_store.specs.declared.Answer.TheVariants as answer
-use Rattle.plain_store.specs.declared.Reply.{Reply}
 use Rattle.plain_store.specs.declared.Reply.TheVariants as reply
-use Rattle.plain_store.specs.declared.Setup.{Setup}
 use Rattle.plain_store.proofs.Changes.{same_value-Decides}
-use Rattle.record.specs.declared.access.Access.{Access}
-use Rattle.record.specs.declared.marks.Mark.{Mark}
+use Rattle.record.specs.{Access, Entry, Mark, Past, begins_read, has, history, is_entered, moves_of, opening_bit, takings}
 use Rattle.record.specs.declared.marks.Mark.TheVariants as mark
-use Rattle.record.specs.Entries.{Entry, Past, has, is_entered}
-use Rattle.record.specs.Histories.{history}
-use Rattle.record.specs.Moves.{begins_read, moves_of}
-use Rattle.record.specs.Registers.{opening_bit}
-use Rattle.record.specs.Spans.{takings}
-use Rattle.any_lock.specs.declared.reasons.Remedy.{Remedy}
+use Rattle.any_lock.specs.{AnyLockLaw, MarkRefusal, MaysKeepAllLaws, Remedy, Standing, accessed_by, breaks_access, breaks_history, breaks_marks, breaks_overtaken, breaks_safe, breaks_together, broken_inside, broken_later, change_of, changed, ends_with, ends_wrongly, first_broken, first_that, has_other_reply, is_in_doorway, is_leaving, is_reply, is_that, is_withdrawn, lowest_other, mark_refusal, mark_with, marked, other_value, refusal_of_marks, refusal_on, right_reply, same_reply, same_truth, standing, stands_alone, value_in, waits_before, with_value}
 use Rattle.any_lock.specs.declared.reasons.Remedy.TheVariants.{Value, Taking}
-use Rattle.any_lock.specs.declared.verdicts.AnyLockLaw.{AnyLockLaw}
 use Rattle.any_lock.specs.declared.verdicts.AnyLockLaw.TheVariants as law
-use Rattle.any_lock.specs.Changes.{MaysKeepAllLaws, changed, mark_with}
-use Rattle.any_lock.specs.declared.refusals.MarkRefusal.{MarkRefusal}
 use Rattle.any_lock.specs.declared.refusals.MarkRefusal.TheVariants as refusal
-use Rattle.any_lock.specs.declared.standings.Standing.{Standing}
-use Rattle.any_lock.specs.Keeping.{accessed_by, marked, refusal_on}
-use Rattle.any_lock.specs.Laws.{breaks_access, breaks_history, breaks_marks, breaks_overtaken, breaks_safe, breaks_together, broken_inside, broken_later, ends_wrongly, first_broken, is_that, lowest_other, right_reply, waits_before}
-use Rattle.any_lock.specs.Reasons.{change_of, ends_with, other_value, value_in, with_value}
-use Rattle.any_lock.specs.Refusals.{first_that, has_other_reply, is_in_doorway, is_leaving, is_reply, is_withdrawn, mark_refusal, refusal_of_marks, same_reply, same_truth, stands_alone}
-use Rattle.any_lock.specs.Standings.{standing}
 use Rattle.any_lock.proofs.Alone.{AllKeep, all_keep}
 use Rattle.any_lock.proofs.Breaks.{none_else, none_if, unsome}
 use Rattle.any_lock.proofs.Cuts.{IsSound, Orderly, all_sound, answers_not, cut_after, first_unrefused, is_cut, orderly, rest_unrefused, sound_accessed, sound_marked, unrefused_on}

@@ -2,12 +2,9 @@
 use Rattle.std.proofs.Common.{◌≡◌, ◌≢◌, ℕ, ◌<◌, ◌==◌, Bool, true, false, cond, List, [], ◌∷◌, ◌++◌, Option, None, Some, length, refl, sym, ap, ◌∙◌, subst, arith, ◌⊎◌, inl, inr}
 use Rattle.std.specs.List.{list_any}
 use Rattle.std.proofs.lemmas.Bool.{cases_eq}
-use Rattle.plain_store.specs.declared.Reply.{Reply}
-use Rattle.plain_store.specs.declared.Setup.{Setup}
-use Rattle.record.specs.Entries.{Entry, Past, has, is_called, own, since}
-use Rattle.record.specs.Headline.{CallsTakeOnce}
-use Rattle.record.specs.Spans.{all_takings, entries_of_call, until}
-use Rattle.any_lock.specs.Standings.{its_call, reply_in}
+use Rattle.plain_store.specs.{Reply, Setup}
+use Rattle.record.specs.{CallsTakeOnce, Entry, Past, all_takings, entries_of_call, has, is_called, own, since, until}
+use Rattle.any_lock.specs.{its_call, reply_in}
 use Rattle.any_lock.proofs.Alone.{AllKeep}
 use Rattle.any_lock.proofs.Cuts.{own-other}
 use Rattle.any_lock.proofs.Markings.{or_left, or_right}

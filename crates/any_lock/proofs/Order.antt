@@ -4,23 +4,12 @@ use Rattle.std.specs.List.{list_any}
 use Rattle.std.proofs.lemmas.Bool.{cases_eq}
 use Rattle.std.proofs.lemmas.List.{length-append}
 use Rattle.std.proofs.lemmas.List.Elements.{Contains-append_cases}
-use Rattle.plain_store.specs.declared.Reply.{Reply}
-use Rattle.plain_store.specs.declared.Setup.{Setup}
-use Rattle.record.specs.declared.access.Access.{Access}
-use Rattle.record.specs.declared.marks.Mark.{Mark}
+use Rattle.plain_store.specs.{Reply, Setup}
+use Rattle.record.specs.{Access, Entry, Mark, Past, PlacesKeepOrder, Stage, all_takings, ends_span, has, has_ended, history, is_called, is_waiting_stage, own, reply_taken, takings, takings_of_call, until}
 use Rattle.record.specs.declared.marks.Mark.TheVariants as mark
-use Rattle.record.specs.declared.stages.Stage.{Stage}
 use Rattle.record.specs.declared.stages.Stage.TheVariants as stage
-use Rattle.record.specs.Doorways.{is_waiting_stage}
-use Rattle.record.specs.Entries.{Entry, Past, has, is_called, own}
-use Rattle.record.specs.Headline.{PlacesKeepOrder}
-use Rattle.record.specs.Histories.{history, reply_taken}
-use Rattle.record.specs.Spans.{all_takings, ends_span, has_ended, takings, takings_of_call, until}
 use Rattle.any_lock.specs.declared.refusals.MarkRefusal.TheVariants as refusal
-use Rattle.any_lock.specs.declared.standings.Standing.{Standing}
-use Rattle.any_lock.specs.Keeping.{accessed_by, marked, marked_all, refusal_on}
-use Rattle.any_lock.specs.Refusals.{is_in_doorway, is_leaving, is_settling, mark_refusal}
-use Rattle.any_lock.specs.Standings.{standing}
+use Rattle.any_lock.specs.{Standing, accessed_by, is_in_doorway, is_leaving, is_settling, mark_refusal, marked, marked_all, refusal_on, standing}
 use Rattle.any_lock.proofs.Alone.{AllKeep, Keeps, takes_its_place}
 use Rattle.any_lock.proofs.Breaks.{none_else, none_if}
 use Rattle.any_lock.proofs.Cuts.{IsSound, all_sound, answers_not, cut_after, first_unrefused, is_cut, orderly, own-other, rest_unrefused, rests, sound_accessed, sound_marked, unrefused_on}

@@ -2,8 +2,7 @@
 use Rattle.std.proofs.Common.{◌≡◌, ◌≤◌, Bool, true, false, ◌==◌, if◌then◌else◌, Ok, arith}
 use Rattle.std.proofs.lemmas.Bool.Decides.{nat_tests}
 use Rattle.std.specs.Int.{is_in_range}
-use Rattle.plain_store.specs.Setups.{callers_of, checked}
-use Rattle.plain_store.specs.declared.Setup.{Setup}
+use Rattle.plain_store.specs.{Setup, callers_of, checked}
 use Rattle.plain_store.proofs.GoodSetups.{good-checked}
 
 pub record HasRoom (s : Setup) : Type 0 where

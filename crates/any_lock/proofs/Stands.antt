@@ -7,24 +7,11 @@ use Rattle.std.proofs.lemmas.Option.{slice_get_within}
 use Rattle.std.proofs.lemmas.List.{take-append-le}
 use Rattle.std.proofs.Math.Seq.{take-append_seam}
 use Rattle.plain_store.specs.declared.Answer.TheVariants as answer
-use Rattle.plain_store.specs.declared.Reply.{Reply}
-use Rattle.plain_store.specs.declared.Setup.{Setup}
-use Rattle.plain_store.specs.Store.{reply_to}
-use Rattle.record.specs.declared.access.Access.{Access}
-use Rattle.record.specs.declared.history.Taken.{Taken}
-use Rattle.record.specs.declared.marks.Mark.{Mark}
+use Rattle.plain_store.specs.{Reply, Setup, reply_to}
+use Rattle.record.specs.{Access, Call, Entry, Mark, Past, StandsAt, StandsInHistory, Taken, caller, history, is_called, last_call, own, reply_taken, since, store_after, takings}
 use Rattle.record.specs.declared.marks.Mark.TheVariants as mark
-use Rattle.record.specs.Calls.{last_call}
-use Rattle.record.specs.Entries.{Entry, Past, is_called, own, since}
-use Rattle.record.specs.Headline.{StandsAt, StandsInHistory}
-use Rattle.record.specs.Histories.{history, reply_taken, store_after}
-use Rattle.record.specs.Scripts.{Call, caller}
-use Rattle.record.specs.Spans.{takings}
 use Rattle.any_lock.specs.declared.refusals.MarkRefusal.TheVariants as refusal
-use Rattle.any_lock.specs.declared.standings.Standing.{Standing}
-use Rattle.any_lock.specs.Keeping.{accessed_by, marked, marked_all, refusal_on}
-use Rattle.any_lock.specs.Refusals.{has_other_reply, is_in_doorway, is_leaving, is_reply, is_withdrawn, mark_refusal, same_reply, stands_alone}
-use Rattle.any_lock.specs.Standings.{its_call, reply_in, standing}
+use Rattle.any_lock.specs.{Standing, accessed_by, has_other_reply, is_in_doorway, is_leaving, is_reply, is_withdrawn, its_call, mark_refusal, marked, marked_all, refusal_on, reply_in, same_reply, standing, stands_alone}
 use Rattle.any_lock.proofs.Alone.{AllKeep, Keeps, not_not, same_is, takes_its_place}
 use Rattle.any_lock.proofs.Breaks.{none_else, none_if}
 use Rattle.any_lock.proofs.Cuts.{Orderly, answered_plain, first_unrefused, orderly, own-other, rest_unrefused, unrefused_on}

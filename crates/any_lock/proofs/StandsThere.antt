@@ -1,9 +1,7 @@
 -- What is read at a process's place is where it stands.
 use Rattle.std.proofs.Common.{◌≡◌, ℕ, ◌<◌, get_or, slice_get, ◌∙◌}
-use Rattle.record.specs.Entries.{Past}
-use Rattle.any_lock.specs.declared.standings.Standing.{Standing}
-use Rattle.any_lock.specs.Keeping.{KeptState, Knows}
-use Rattle.any_lock.specs.Standings.{standing}
+use Rattle.record.specs.{Past}
+use Rattle.any_lock.specs.{KeptState, Knows, Standing, standing}
 use Rattle.any_lock.proofs.Unmarked.{given_at}
 
 pub stands_there : (k now : KeptState) (past : Past) (i p : ℕ) (x : Standing) → k ≡ now → i ≡ p → p < now.setup.processes → x ≡ get_or k.standings i x → Knows now past →

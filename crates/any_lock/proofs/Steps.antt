@@ -1,16 +1,9 @@
 -- How the look-backs go on with an entry: with its access, and then mark by mark.
 use Rattle.std.proofs.Common.{◌≡◌, ℕ, ◌==◌, Bool, true, false, cond, [], ◌∷◌, Option, None, Some, fold, length, refl, ap, ◌∙◌, eq-eqb}
 use Rattle.std.specs.List.{list_any}
-use Rattle.plain_store.specs.declared.Setup.{Setup}
-use Rattle.record.specs.declared.access.Access.{Access}
-use Rattle.record.specs.Calls.{call_number, last_command}
-use Rattle.record.specs.Doorways.{first_of, number_in_call}
-use Rattle.record.specs.Entries.{Entry, Past, has, is_called, is_entered, is_failed, is_waiting, own, since}
-use Rattle.record.specs.Stages.{inside, inside_after, stage as stage_at, stage_after}
-use Rattle.any_lock.specs.declared.standings.Begun.{Begun}
-use Rattle.any_lock.specs.declared.standings.Standing.{Standing}
-use Rattle.any_lock.specs.Keeping.{accessed_by, at_rest}
-use Rattle.any_lock.specs.Standings.{begun_by, has_access, is_withdrawal, left_open, opened, reply_in, standing, torn, torn_after, write_of}
+use Rattle.plain_store.specs.{Setup}
+use Rattle.record.specs.{Access, Entry, Past, call_number, first_of, has, inside, inside_after, is_called, is_entered, is_failed, is_waiting, last_command, number_in_call, own, since, stage as stage_at, stage_after}
+use Rattle.any_lock.specs.{Begun, Standing, accessed_by, at_rest, begun_by, has_access, is_withdrawal, left_open, opened, reply_in, standing, torn, torn_after, write_of}
 
 -- Standings by their fields.
 

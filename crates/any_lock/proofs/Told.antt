@@ -1,18 +1,12 @@
 -- The verdict with one more entry.
 use Rattle.std.proofs.Common.{◌≡◌, ℕ, ◌+◌, ◌++◌, Bool, not, List, [], ◌∷◌, length, reverse, Option, Some, None, refl, ap, sym, subst, ◌∙◌}
 use Rattle.std.proofs.lemmas.List.{length-append, length-reverse, reverse-append}
-use Rattle.plain_store.specs.declared.Setup.{Setup}
-use Rattle.record.specs.Entries.{Entry, Past}
-use Rattle.read_law.specs.Watching.{AllAreOfThere, WatchState}
-use Rattle.read_law.specs.Watching.{HasHeard as HasWatched}
-use Rattle.any_lock.specs.declared.verdicts.AnyLockLaw.{AnyLockLaw}
-use Rattle.any_lock.specs.declared.verdicts.AnyLockVerdict.{AnyLockVerdict}
+use Rattle.plain_store.specs.{Setup}
+use Rattle.record.specs.{Entry, Past}
+use Rattle.read_law.specs.{AllAreOfThere, HasHeard as HasWatched, WatchState}
+use Rattle.any_lock.specs.{AnyLockLaw, AnyLockVerdict, AreReasonsAt, AreReasonsIf, AreReasonsOf, BothHeard, HasJudged, JudgeState, KeptState, Knows, breaks_safe, first_broken, verdict_after, verdict_of, verdict_with}
 use Rattle.any_lock.specs.declared.verdicts.AnyLockVerdict.TheVariants.{Good, Bad}
 use Rattle.any_lock.specs.declared.reasons.Reasons.{Reasons}
-use Rattle.any_lock.specs.Judging.{AreReasonsAt, AreReasonsIf, AreReasonsOf, BothHeard, HasJudged, JudgeState}
-use Rattle.any_lock.specs.Keeping.{KeptState, Knows}
-use Rattle.any_lock.specs.Laws.{breaks_safe, first_broken}
-use Rattle.any_lock.specs.Verdicts.{verdict_after, verdict_of, verdict_with}
 use Rattle.any_lock.proofs.Breaks.{access_there, unbroken, unrefused}
 
 -- some entries and one more, the newest first

@@ -4,25 +4,13 @@ use Rattle.std.specs.Prelude.{Contains}
 use Rattle.std.specs.List.{list_any}
 use Rattle.std.proofs.lemmas.Bool.{cases_eq}
 use Rattle.std.proofs.lemmas.List.{append-nil}
-use Rattle.plain_store.specs.declared.Answer.{Answer}
+use Rattle.plain_store.specs.{Answer, Reply, Setup}
 use Rattle.plain_store.specs.declared.Answer.TheVariants as answer
-use Rattle.plain_store.specs.declared.Reply.{Reply}
-use Rattle.plain_store.specs.declared.Setup.{Setup}
-use Rattle.record.specs.declared.access.Access.{Access}
-use Rattle.record.specs.declared.marks.Mark.{Mark}
+use Rattle.record.specs.{Access, Entry, IsAnswerTo, Mark, Past, all_takings, is_called, is_waiting_stage, reply_taken, since, takings}
 use Rattle.record.specs.declared.marks.Mark.TheVariants as mark
 use Rattle.record.specs.declared.stages.Stage.TheVariants as stage
-use Rattle.record.specs.Doorways.{is_waiting_stage}
-use Rattle.record.specs.Entries.{Entry, Past, is_called, since}
-use Rattle.record.specs.Headline.{IsAnswerTo}
-use Rattle.record.specs.Histories.{reply_taken}
-use Rattle.record.specs.Spans.{all_takings, takings}
 use Rattle.any_lock.specs.declared.refusals.MarkRefusal.TheVariants as refusal
-use Rattle.any_lock.specs.declared.standings.Standing.{Standing}
-use Rattle.any_lock.specs.Headline.{AnswersWhatItTook}
-use Rattle.any_lock.specs.Keeping.{accessed_by, marked, marked_all, refusal_on}
-use Rattle.any_lock.specs.Refusals.{has_other_reply, is_in_doorway, is_leaving, is_reply, is_settling, is_withdrawn, mark_refusal, stands_alone}
-use Rattle.any_lock.specs.Standings.{its_call, reply_in, standing}
+use Rattle.any_lock.specs.{AnswersWhatItTook, Standing, accessed_by, has_other_reply, is_in_doorway, is_leaving, is_reply, is_settling, is_withdrawn, its_call, mark_refusal, marked, marked_all, refusal_on, reply_in, standing, stands_alone}
 use Rattle.any_lock.proofs.Alone.{AllKeep, Keeps}
 use Rattle.any_lock.proofs.Breaks.{none_else, none_if}
 use Rattle.any_lock.proofs.Cuts.{IsSound, Orderly, all_sound, answered_plain, answers_not, cut_after, first_unrefused, holds, is_cut, orderly, own-other, rest_unrefused, sound_accessed, sound_marked, unrefused_on}

@@ -2,12 +2,8 @@
 use Rattle.std.proofs.Common.{◌≡◌, ℕ, ◌<◌, false, List, [], ◌∷◌, Some, length, get_or, slice_get, refl, sym, ap, ◌∙◌, arith}
 use Rattle.std.proofs.lemmas.Option.{slice_get-get_or, slice_get_within}
 use Rattle.std.specs.List.{list_any}
-use Rattle.record.specs.declared.access.Access.{Access}
-use Rattle.record.specs.declared.marks.Mark.{Mark}
-use Rattle.record.specs.Entries.{Entry, Past}
-use Rattle.any_lock.specs.declared.standings.Standing.{Standing}
-use Rattle.any_lock.specs.Keeping.{KeptState, Knows, accessed, is_taken}
-use Rattle.any_lock.specs.Standings.{standing}
+use Rattle.record.specs.{Access, Entry, Mark, Past}
+use Rattle.any_lock.specs.{KeptState, Knows, Standing, accessed, is_taken, standing}
 use Rattle.any_lock.proofs.Going.{kept_with, knows_on}
 use Rattle.any_lock.proofs.Steps.{bare, standing-access}
 

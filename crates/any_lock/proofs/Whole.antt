@@ -2,16 +2,10 @@
 use Rattle.std.proofs.Common.{◌≡◌, ℕ, suc, ◌==◌, Bool, true, false, not, ◌&&◌, List, [], ◌∷◌, ◌++◌, Option, None, Some, length, refl, sym, ap, ◌∙◌, subst, arith, true≢false, append_assoc, eqb-true}
 use Rattle.std.proofs.lemmas.List.{append-nil}
 use Rattle.std.specs.List.{list_any}
-use Rattle.plain_store.specs.declared.Setup.{Setup}
-use Rattle.record.specs.declared.access.Access.{Access}
-use Rattle.record.specs.declared.marks.Mark.{Mark}
-use Rattle.record.specs.Entries.{Past}
-use Rattle.any_lock.specs.declared.refusals.MarkRefusal.{MarkRefusal}
+use Rattle.plain_store.specs.{Setup}
+use Rattle.record.specs.{Access, Mark, Past}
+use Rattle.any_lock.specs.{MarkRefusal, Standing, accessed_by, has_nothing, has_one_mark, mark_refusal, marked, marked_all, refusal_behind, refusal_of_marks, refusal_on, standing, stands_alone}
 use Rattle.any_lock.specs.declared.refusals.MarkRefusal.TheVariants as refusal
-use Rattle.any_lock.specs.declared.standings.Standing.{Standing}
-use Rattle.any_lock.specs.Keeping.{accessed_by, marked, marked_all, refusal_on}
-use Rattle.any_lock.specs.Refusals.{has_nothing, has_one_mark, mark_refusal, refusal_behind, refusal_of_marks, stands_alone}
-use Rattle.any_lock.specs.Standings.{standing}
 use Rattle.any_lock.proofs.Markings.{ArePlain, or_false, or_left, or_right, plain-more, standing-alone, standing-marked, with_marks}
 use Rattle.any_lock.proofs.Steps.{standing-access}
 

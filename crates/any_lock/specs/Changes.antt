@@ -1,11 +1,9 @@
 -- An entry with a change.
 use Rattle.std.specs.Prelude.{◌≡◌, map, Option, None, Some}
-use Rattle.plain_store.specs.declared.Setup.{Setup}
+use Rattle.plain_store.specs.{Setup}
 use Rattle.plain_store.specs.declared.Answer.TheVariants.{Reply}
-use Rattle.record.specs.declared.access.Access.{Access}
-use Rattle.record.specs.declared.marks.Mark.{Mark}
+use Rattle.record.specs.{Access, Entry, Mark, Past}
 use Rattle.record.specs.declared.marks.Mark.TheVariants.{Answered, Taken}
-use Rattle.record.specs.Entries.{Entry, Past}
 use Rattle.any_lock.specs.declared.reasons.Remedy.{Remedy}
 use Rattle.any_lock.specs.declared.reasons.Remedy.TheVariants.{Value, Taking}
 use Rattle.any_lock.specs.declared.verdicts.AnyLockLaw.{AnyLockLaw}

@@ -1,11 +1,8 @@
 -- What a good verdict says, whoever made the record.
 use Rattle.std.specs.Prelude.{◌≡◌, ℕ, List, ◌∷◌, ◌++◌, reverse, IsTrue, IsFalse, Contains}
-use Rattle.plain_store.specs.declared.Setup.{Setup}
-use Rattle.record.specs.Entries.{Entry, Past, has, is_entered}
-use Rattle.record.specs.Headline.{AnswersNoCutCall, CallsTakeOnce, IsAlone, IsAnswerTo, PlacesKeepOrder, StandsInHistory, TakesItsPlace}
-use Rattle.record.specs.Spans.{all_takings}
+use Rattle.plain_store.specs.{Answer, Setup}
+use Rattle.record.specs.{AnswersNoCutCall, CallsTakeOnce, Entry, IsAlone, IsAnswerTo, Past, PlacesKeepOrder, StandsInHistory, TakesItsPlace, all_takings, has, is_entered}
 use Rattle.record.specs.declared.marks.Mark.TheVariants.{Answered}
-use Rattle.plain_store.specs.declared.Answer.{Answer}
 use Rattle.any_lock.specs.declared.verdicts.AnyLockVerdict.{AnyLockVerdict}
 use Rattle.any_lock.specs.declared.verdicts.AnyLockVerdict.TheVariants.{Good}
 use Rattle.any_lock.specs.Laws.{waits_before}

@@ -1,11 +1,8 @@
 -- What a judge keeps of the entries that it has heard.
 use Rattle.std.specs.Prelude.{◌≡◌, ◌<◌, ℕ, Bool, not, [], List, ◌∷◌, ◌++◌, length, reverse, Option, None, Some, Ok}
-use Rattle.plain_store.specs.declared.Setup.{Setup}
-use Rattle.plain_store.specs.Setups.{checked}
-use Rattle.record.specs.Entries.{Entry, Past}
-use Rattle.read_law.specs.Watching.{AllAreOfThere, WatchState}
-use Rattle.read_law.specs.Watching.{HasHeard as HasWatched}
-use Rattle.record.specs.declared.access.Access.{Access}
+use Rattle.plain_store.specs.{Setup, checked}
+use Rattle.record.specs.{Access, Entry, Past}
+use Rattle.read_law.specs.{AllAreOfThere, HasHeard as HasWatched, WatchState}
 use Rattle.any_lock.specs.declared.reasons.Reasons.{Reasons}
 use Rattle.any_lock.specs.declared.standings.Standing.{Standing}
 use Rattle.any_lock.specs.declared.verdicts.AnyLockLaw.{AnyLockLaw}

@@ -1,18 +1,10 @@
 -- What a judge keeps of the entries that it has heard, and how that goes on.
 use Rattle.std.specs.Prelude.{slice_set, Result, MatchResult, ◌≡◌, ℕ, ◌+◌, ◌==◌, ◌<◌, ◌≤◌, Bool, true, false, ◌&&◌, List, [], ◌∷◌, fold, length, slice_get, cond, Option, None, Some, Ok}
 use Rattle.plain_store.specs.declared.Command.TheVariants.{Ask}
-use Rattle.plain_store.specs.declared.Reply.{Reply}
-use Rattle.plain_store.specs.declared.Setup.{Setup}
-use Rattle.plain_store.specs.Setups.{checked}
-use Rattle.plain_store.specs.Store.{Contents, after}
-use Rattle.record.specs.declared.access.Access.{Access}
-use Rattle.record.specs.declared.marks.Mark.{Mark}
+use Rattle.plain_store.specs.{Contents, Reply, Setup, after, checked}
+use Rattle.record.specs.{Access, Entry, Mark, Past, first_of, history, stage_after, store_after}
 use Rattle.record.specs.declared.marks.Mark.TheVariants as mark
 use Rattle.record.specs.declared.stages.Stage.TheVariants as stage
-use Rattle.record.specs.Doorways.{first_of}
-use Rattle.record.specs.Entries.{Entry, Past}
-use Rattle.record.specs.Histories.{history, store_after}
-use Rattle.record.specs.Stages.{stage_after}
 use Rattle.any_lock.specs.declared.refusals.MarkRefusal.{MarkRefusal}
 use Rattle.any_lock.specs.declared.standings.Standing.{Standing}
 use Rattle.any_lock.specs.declared.verdicts.AnyLockLaw.{AnyLockLaw}

@@ -1,19 +1,10 @@
 -- The laws that an entry of the record of any lock keeps, by looking back over the entries before it.
 use Rattle.std.specs.Prelude.{◌≡◌, ℕ, zero, suc, ◌==◌, Bool, false, not, ◌&&◌, List, [], ◌∷◌, length, cond, Option, None, Some, is_some, if◌then◌else◌}
 use Rattle.std.specs.List.{list_all}
-use Rattle.record.specs.safe_bit.declared.Move.{Move}
+use Rattle.record.specs.safe_bit.{Move, before_read, is_overlapped, last_written}
 use Rattle.record.specs.safe_bit.declared.Move.TheVariants.{EndRead}
-use Rattle.record.specs.safe_bit.SafeRule.{before_read, is_overlapped, last_written}
-use Rattle.plain_store.specs.declared.Reply.{Reply}
-use Rattle.plain_store.specs.declared.Setup.{Setup}
-use Rattle.plain_store.specs.Store.{reply_to}
-use Rattle.record.specs.declared.marks.Mark.{Mark}
-use Rattle.record.specs.Doorways.{first_of, is_before, is_waiting_stage}
-use Rattle.record.specs.Entries.{Entry, Past, has, is_entered}
-use Rattle.record.specs.Histories.{history, store_after}
-use Rattle.record.specs.Moves.{begins_read, moves_of}
-use Rattle.record.specs.Registers.{opening_bit}
-use Rattle.record.specs.Spans.{takings}
+use Rattle.plain_store.specs.{Reply, Setup, reply_to}
+use Rattle.record.specs.{Entry, Mark, Past, begins_read, first_of, has, history, is_before, is_entered, is_waiting_stage, moves_of, opening_bit, store_after, takings}
 use Rattle.any_lock.specs.declared.verdicts.AnyLockLaw.{AnyLockLaw}
 use Rattle.any_lock.specs.declared.verdicts.AnyLockLaw.TheVariants as law
 use Rattle.any_lock.specs.declared.standings.Standing.{Standing}

@@ -1,12 +1,8 @@
 -- The reasons of an entry that breaks a law, by looking back.
 use Rattle.std.specs.Prelude.{◌≡◌, ℕ, ◌<◌, nat_lt, Bool, true, false, not, ◌&&◌, List, length, slice_index_or, cond, Option, None, Some, is_none}
 use Rattle.record.specs.safe_bit.declared.Move.TheVariants.{BeginWrite, EndWrite, BeginRead, EndRead, Settle}
-use Rattle.plain_store.specs.declared.Setup.{Setup}
-use Rattle.record.specs.declared.access.Access.{Access}
-use Rattle.record.specs.declared.stages.Stage.{Stage}
-use Rattle.record.specs.Doorways.{first_of}
-use Rattle.record.specs.Entries.{Entry, Past}
-use Rattle.record.specs.Histories.{history}
+use Rattle.plain_store.specs.{Setup}
+use Rattle.record.specs.{Access, Entry, Past, Stage, first_of, history}
 use Rattle.any_lock.specs.declared.reasons.Remedy.{Remedy}
 use Rattle.any_lock.specs.declared.reasons.Remedy.TheVariants.{Value, Taking}
 use Rattle.any_lock.specs.declared.reasons.Reasons.{Reasons}

@@ -1,18 +1,11 @@
 -- Where a process stands, by looking back over a past.
 use Rattle.std.specs.Prelude.{ℕ, ◌==◌, Bool, true, false, [], ◌∷◌, length, fold, cond, Option, None, Some, is_some}
 use Rattle.std.specs.List.{list_any}
-use Rattle.record.specs.safe_bit.declared.Move.{Move}
+use Rattle.record.specs.safe_bit.{Move}
 use Rattle.record.specs.safe_bit.declared.Move.TheVariants.{BeginWrite, EndWrite, BeginRead, EndRead, Settle}
-use Rattle.plain_store.specs.declared.Reply.{Reply}
-use Rattle.plain_store.specs.declared.Setup.{Setup}
-use Rattle.record.specs.declared.access.Access.{Access}
-use Rattle.record.specs.declared.marks.Mark.{Mark}
+use Rattle.plain_store.specs.{Reply, Setup}
+use Rattle.record.specs.{Access, Entry, Mark, Past, call_number, doorway_end, has, inside, is_called, is_entered, is_failed, last_command, number_in_call, own, reply_taken, since, stage}
 use Rattle.record.specs.declared.marks.Mark.TheVariants.{Failed, Withdrew}
-use Rattle.record.specs.Calls.{call_number, last_command}
-use Rattle.record.specs.Doorways.{doorway_end, number_in_call}
-use Rattle.record.specs.Entries.{Entry, Past, has, is_called, is_entered, is_failed, own, since}
-use Rattle.record.specs.Histories.{reply_taken}
-use Rattle.record.specs.Stages.{inside, stage}
 use Rattle.any_lock.specs.declared.standings.Begun.{Begun}
 use Rattle.any_lock.specs.declared.standings.Standing.{Standing}
 

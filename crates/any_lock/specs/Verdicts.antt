@@ -1,7 +1,7 @@
 -- The verdict on a record.
 use Rattle.std.specs.Prelude.{◌≡◌, ℕ, List, [], ◌∷◌, length, reverse, Option, None, Some}
-use Rattle.plain_store.specs.declared.Setup.{Setup}
-use Rattle.record.specs.Entries.{Entry, Past}
+use Rattle.plain_store.specs.{Setup}
+use Rattle.record.specs.{Entry, Past}
 use Rattle.any_lock.specs.declared.verdicts.AnyLockLaw.{AnyLockLaw}
 use Rattle.any_lock.specs.declared.verdicts.AnyLockVerdict.{AnyLockVerdict}
 use Rattle.any_lock.specs.declared.verdicts.AnyLockVerdict.TheVariants.{Good, Bad}

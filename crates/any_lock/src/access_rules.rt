@@ -1,8 +1,7 @@
 //! What an access is refused for, by where its process stands.
 ghost use Rattle.std.specs.Prelude.{◌≡◌, Ok};
-ghost use Rattle.plain_store.specs.Setups.{checked};
-ghost use Rattle.record.specs.Moves.{same_bit as same};
-ghost use Rattle.record.specs.Registers.{width as width_of};
+ghost use Rattle.plain_store.specs.{checked};
+ghost use Rattle.record.specs.{same_bit as same, width as width_of};
 ghost use Rattle.any_lock.specs.Refusals.{access_refusal, begins_write, ends, first_that, is_end_of, is_of_bit, is_running as runs, is_settling as stage_settles, is_there as bit_is_there, maker_refusals, may_move, move_refusals, reads};
 
 use crate::refusals::AccessRefusal;

@@ -1,7 +1,7 @@
 //! What a judge makes of one entry: whether it keeps the laws after `Safe`, and what is kept then.
 ghost use Rattle.std.specs.Prelude.{◌≡◌, ◌+◌, ◌-◌, ◌^◌, ◌<◌, ◌≤◌, [], IfOk, Some};
 ghost use Rattle.std.specs.List.{list_all, list_any};
-ghost use Rattle.record.specs.Entries.{is_entered};
+ghost use Rattle.record.specs.{is_entered};
 ghost use Rattle.any_lock.specs.declared.verdicts.AnyLockLaw.{AnyLockLaw as Named};
 ghost use Rattle.any_lock.specs.Keeping.{GoesOn, IsOfEntry, IsOfMarks, OfEntry, OfPast, StandsAfter, is_taken_as};
 ghost use Rattle.any_lock.specs.Laws.{IsFirst, breaks_overtaken, breaks_together, broken_inside, broken_later, takes_rightly};

@@ -1,7 +1,6 @@
 ghost use Rattle.std.specs.Prelude.{◌≡◌, ◌+◌, ◌-◌, ◌^◌, ◌<◌, ◌∷◌, [], IfOk, Ok, Some, length};
-ghost use Rattle.plain_store.specs.Setups.{checked};
-ghost use Rattle.read_law.specs.Entries.{entry_by};
-ghost use Rattle.read_law.specs.Watching.{HasHeard as HasWatched, OfHeard};
+ghost use Rattle.plain_store.specs.{checked};
+ghost use Rattle.read_law.specs.{HasHeard as HasWatched, OfHeard, entry_by};
 ghost use Rattle.any_lock.specs.Headline.{SaysHeadline};
 ghost use Rattle.any_lock.specs.Judging.{HasJudged, HearOn, IsExplained, IsSafe, JudgesOn, OfJudged, TellsReasons, Finds};
 ghost use Rattle.any_lock.specs.Verdicts.{verdict_of, verdict_with};

@@ -1,5 +1,5 @@
 ghost use Rattle.std.specs.Prelude.{◌≡◌, IfOk, Ok, length};
-ghost use Rattle.plain_store.specs.Setups.{checked};
+ghost use Rattle.plain_store.specs.{checked};
 ghost use Rattle.any_lock.specs.Changes.{MaysKeepAllLaws};
 ghost use Rattle.any_lock.specs.Headline.{GoodSaysTheHeadline, SaysHeadline};
 ghost use Rattle.any_lock.specs.Verdicts.{verdict_of};

@@ -2,9 +2,9 @@
 //! and how many commands and entries there were.
 ghost use Rattle.std.specs.Prelude.{◌≡◌, ℕ, ◌+◌, ◌-◌, ◌^◌, ◌<◌, cond, [], IfOk, Ok, Some, option_map, slice_get};
 ghost use Rattle.std.specs.List.{list_any};
-ghost use Rattle.plain_store.specs.Setups.{checked};
-ghost use Rattle.record.specs.Doorways.{is_before as before};
-ghost use Rattle.read_law.specs.Entries.{entry_by};
+ghost use Rattle.plain_store.specs.{checked};
+ghost use Rattle.record.specs.{is_before as before};
+ghost use Rattle.read_law.specs.{entry_by};
 ghost use Rattle.any_lock.specs.Keeping.{IsOfAccess, Knows, KnowsOn, KnowsOnAt, OfEntry, OfPast, StandsAfter, TakesInto, made_at, is_taken, with_standing};
 ghost use Rattle.any_lock.specs.Laws.{is_ahead, is_other_ahead, is_other_inside, other_ahead, other_inside, right_reply};
 ghost use Rattle.any_lock.specs.Refusals.{has_nothing, is_crowded, refusal_of_access, refusal_of_marks, stands_alone as is_alone};

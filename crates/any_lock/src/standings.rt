@@ -2,7 +2,7 @@
 ghost use Rattle.std.specs.Prelude.{◌≡◌, ◌<◌, ℕ, None, Some, IfErr, OnOk};
 ghost use Rattle.plain_store.specs.declared.Setup.{Setup as Given};
 ghost use Rattle.record.specs.declared.marks.Mark.TheVariants.{Called, Left};
-ghost use Rattle.record.specs.Doorways.{first_of};
+ghost use Rattle.record.specs.{first_of};
 ghost use Rattle.any_lock.specs.Keeping.{IsRefusedFor, accessed, at_rest, marked, marked_all, refusal_on};
 ghost use Rattle.any_lock.specs.Refusals.{mark_refusal};
 ghost use Rattle.any_lock.specs.Standings.{begins as begins_access, settles as settles_bit, write_of as write_in};

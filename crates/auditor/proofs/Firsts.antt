@@ -1,13 +1,11 @@
 -- The first law that an entry breaks.
 use Rattle.std.proofs.Common.{◌≡◌, ℕ, suc, ◌<◌, List, [], ◌∷◌, ◌++◌, length, reverse, take, drop, slice_index_or, ap, ◌∙◌, arith, append_assoc}
 use Rattle.std.proofs.lemmas.List.{reverse-append, length-reverse, length-take-le}
-use Rattle.plain_store.specs.declared.Setup.{Setup}
-use Rattle.record.specs.Entries.{Entry, Past}
-use Rattle.read_law.specs.Safe.{KeepsSafe}
-use Rattle.auditor.specs.declared.verdicts.Law.{Law}
+use Rattle.plain_store.specs.{Setup}
+use Rattle.record.specs.{Entry, Past}
+use Rattle.read_law.specs.{KeepsSafe}
+use Rattle.auditor.specs.{AllKeep, BreaksFirst, BreaksNext, IsBadAt, Keeps, Law, number_of}
 use Rattle.auditor.specs.declared.verdicts.Law.TheVariants as law
-use Rattle.auditor.specs.Hearing.{BreaksNext}
-use Rattle.auditor.specs.Verdicts.{AllKeep, BreaksFirst, IsBadAt, Keeps, number_of}
 use Rattle.auditor.proofs.Entries.{entries_split}
 
 pub breaks_safe : (s : Setup) (past : Past) (e : Entry) → (KeepsSafe s past e → ⊥) → BreaksFirst law.Safe s past e

@@ -1,39 +1,22 @@
 -- What an auditor keeps and answers when it has heard an entry.
 use Rattle.std.proofs.Common.{◌≡◌, ℕ, nat_lt, Bool, true, false, List, [], ◌∷◌, length, map, Option, Some, None, Ok, refl, sym, ap, subst, ◌∙◌, true≢false, arith, IsTrue}
 use Rattle.std.specs.List.{list_any}
-use Rattle.plain_store.specs.declared.Reply.{Reply}
-use Rattle.plain_store.specs.declared.Setup.{Setup}
-use Rattle.plain_store.specs.Setups.{checked}
-use Rattle.record.specs.declared.events.Event.{Event}
+use Rattle.plain_store.specs.{Reply, Setup, checked}
+use Rattle.record.specs.{Access, AreGiven, Entry, Event, Mark, Past, Refusal, Taken, entry_of, has, history, past_of, placed, process_of, reply_taken, stage}
 use Rattle.record.specs.declared.events.Event.TheVariants as event
-use Rattle.record.specs.declared.marks.Mark.{Mark}
 use Rattle.record.specs.declared.marks.Mark.TheVariants as mark
-use Rattle.record.specs.declared.refusals.Refusal.{Refusal}
 use Rattle.record.specs.declared.stages.Stage.TheVariants as stages
-use Rattle.record.specs.Entries.{Entry, Past, has}
-use Rattle.record.specs.Given.{AreGiven}
-use Rattle.record.specs.Histories.{history}
-use Rattle.record.specs.Records.{entry_of, past_of, placed, process_of}
-use Rattle.record.specs.Stages.{stage}
 use Rattle.record.proofs.World.{entry-accepted}
 use Rattle.std.specs.Prelude.{◌↔◌, zero, suc}
 use Rattle.std.proofs.lemmas.List.{length_push}
-use Rattle.record.specs.declared.access.Access.{Access}
-use Rattle.record.specs.declared.history.Taken.{Taken}
-use Rattle.record.specs.Histories.{reply_taken}
-use Rattle.world.specs.process.declared.told.Effect.{Effect}
+use Rattle.world.specs.process.{Effect, StepTold, act_of, marks_of, marks_told}
 use Rattle.world.specs.process.declared.told.Effect.TheVariants.{Steps, Calls, Fails, Withdraws, Restarts}
-use Rattle.world.specs.process.declared.told.StepTold.{StepTold}
 use Rattle.world.specs.process.declared.told.StepTold.TheVariants.{Nothing, Waits, WaitsAndEnters, Enters, Took, Leaves, Answers, Settles, SettlesAndTakes, Lies}
-use Rattle.world.specs.Changes.{with_taken}
-use Rattle.world.specs.Cores.{CoreMakes, CoreRefuses, CoreState, CoreSteps, call_in, with_history}
-use Rattle.world.specs.Events.{Adds, entry_with}
-use Rattle.world.specs.process.Telling.{act_of, marks_of, marks_told}
+use Rattle.world.specs.{Adds, CoreMakes, CoreRefuses, CoreState, CoreSteps, call_in, entry_with, with_history, with_taken}
 use Rattle.world.specs.Shows.{Shows, WorldState}
 use Rattle.world.proofs.WorldShows.{past-after}
 use Rattle.auditor.specs.declared.verdicts.Law.TheVariants as law
-use Rattle.auditor.specs.Hearing.{AreAt, AuditorState, BreaksNext, HasHeard, IsCount, IsHeard, event_in, event_marked, flick_in, law_of_misplaced, law_of_wrong, step_told, stepped_as, with_reply}
-use Rattle.auditor.specs.Verdicts.{IsAlike, KeepsAll, tells_event}
+use Rattle.auditor.specs.{AreAt, AuditorState, BreaksNext, HasHeard, IsAlike, IsCount, IsHeard, KeepsAll, event_in, event_marked, flick_in, law_of_misplaced, law_of_wrong, step_told, stepped_as, tells_event, with_reply}
 use Rattle.auditor.proofs.Events.{told-adds}
 use Rattle.auditor.proofs.Marks.{all_placed-again}
 use Rattle.auditor.proofs.Obeys.{obeys}

@@ -1,18 +1,12 @@
 -- The entry of an event keeps each law.
 use Rattle.std.proofs.Common.{◌≡◌, ℕ, ◌==◌, Bool, true, false, cond, List, ◌∷◌, Some, None, Ok, refl, sym, ap, subst, ◌∙◌, true≢false, eqb-true, fold}
-use Rattle.plain_store.specs.declared.Setup.{Setup}
-use Rattle.plain_store.specs.Setups.{checked}
-use Rattle.record.specs.declared.events.Event.{Event}
+use Rattle.plain_store.specs.{Setup, checked}
+use Rattle.record.specs.{AreGiven, Entry, Event, Past, Stage, added, entry_of, has, inside, inside_after, past_of, process_of, refused_at, stage, stepped}
 use Rattle.record.specs.declared.events.Event.TheVariants as event
-use Rattle.record.specs.declared.stages.Stage.{Stage}
 use Rattle.record.specs.declared.stages.Stage.TheVariants as stages
-use Rattle.record.specs.Entries.{Entry, Past, has}
-use Rattle.record.specs.Given.{AreGiven}
-use Rattle.record.specs.Records.{added, entry_of, past_of, process_of, refused_at, stepped}
-use Rattle.record.specs.Stages.{inside, inside_after, stage}
 use Rattle.record.proofs.Width.{IsGood, is_good}
 use Rattle.record.proofs.World.{entry-accepted}
-use Rattle.read_law.specs.laws.Doings.{doing, is_inside}
+use Rattle.read_law.specs.laws.{doing, is_inside}
 use Rattle.read_law.proofs.laws.FrameEvents.{Accepted, accepted}
 use Rattle.read_law.proofs.laws.FrameInside.{inside-is}
 use Rattle.read_law.proofs.laws.FrameMarks.{entered-is}
@@ -20,7 +14,7 @@ use Rattle.read_law.proofs.laws.SafeRecords.{ends_as_it_may}
 use Rattle.world.proofs.history_laws_proofs.Headlines.{alone, history_is_one, in_turn}
 use Rattle.world.proofs.WorldShows.{past-after}
 use Rattle.auditor.specs.declared.verdicts.Law.TheVariants as law
-use Rattle.auditor.specs.Verdicts.{IsMade, IsOfEvent, KeepsAll, KeepsProgram, KeepsUnit, KeepsTogether, OwesAt, tells_event}
+use Rattle.auditor.specs.{IsMade, IsOfEvent, KeepsAll, KeepsProgram, KeepsUnit, KeepsTogether, OwesAt, tells_event}
 
 -- an entry is made by the step that it is of
 pub made_by : (s : Setup) (past : Past) (e : Entry) (p : ℕ) (flick : Bool) → e.process ≡ p → stepped s past p flick ≡ Some e → IsMade s past e

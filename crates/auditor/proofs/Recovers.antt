@@ -1,23 +1,14 @@
 -- An entry that keeps the laws is the entry of an event.
 use Rattle.std.proofs.Common.{◌≡◌, ℕ, ◌<◌, nat_lt, Bool, true, false, cond, List, [], ◌∷◌, length, map, Option, Some, None, refl, sym, ap, ◌∙◌, arith}
 use Rattle.std.proofs.lemmas.Bool.Decides.{nat_tests}
-use Rattle.plain_store.specs.declared.Setup.{Setup}
+use Rattle.plain_store.specs.{Setup}
 use Rattle.record.specs.declared.events.Event.TheVariants as event
-use Rattle.record.specs.declared.marks.Mark.{Mark}
-use Rattle.record.specs.declared.refusals.Refusal.{Refusal}
+use Rattle.record.specs.{Entry, Mark, Next, Past, Refusal, Stage, TakesItsPlace, entry_made, entry_of, has, history, marks_at, nth, own, placed, program, refused_at, since, stage, starts, stepped, valued}
 use Rattle.record.specs.declared.refusals.Refusal.TheVariants.{NoProcess}
-use Rattle.record.specs.declared.stages.Stage.{Stage}
 use Rattle.record.specs.declared.stages.Stage.TheVariants as stages
-use Rattle.record.specs.Entries.{Entry, Past, has, own, since, starts}
-use Rattle.record.specs.Histories.{history}
-use Rattle.record.specs.Moves.{valued}
-use Rattle.record.specs.Records.{entry_made, entry_of, placed, program, refused_at, stepped}
-use Rattle.record.specs.Scripts.{Next, marks_at, nth}
-use Rattle.record.specs.Stages.{stage}
 use Rattle.record.proofs.Local.{option_map-some}
 use Rattle.auditor.specs.declared.verdicts.Law.TheVariants as law
-use Rattle.record.specs.Headline.{TakesItsPlace}
-use Rattle.auditor.specs.Verdicts.{IsAlike, IsMade, IsOfEvent, KeepsAll, OwesAt, tells_event}
+use Rattle.auditor.specs.{IsAlike, IsMade, IsOfEvent, KeepsAll, OwesAt, tells_event}
 use Rattle.auditor.proofs.Marks.{same_marks}
 
 -- what a step makes has the process, and marks with their place

@@ -2,27 +2,16 @@
 use Rattle.std.proofs.Common.{◌≡◌, ℕ, ◌<◌, nat_lt, Bool, true, false, cond, List, [], ◌∷◌, length, map, Option, Some, None, Ok, refl, sym, ap, subst, ◌∙◌, true≢false, arith}
 use Rattle.std.specs.List.{list_any}
 use Rattle.std.proofs.lemmas.Bool.Decides.{nat_tests}
-use Rattle.plain_store.specs.declared.Setup.{Setup}
-use Rattle.plain_store.specs.Setups.{checked}
-use Rattle.record.specs.declared.events.Event.{Event}
+use Rattle.plain_store.specs.{Setup, checked}
+use Rattle.record.specs.{AreGiven, Entry, Event, Mark, Past, Refusal, Stage, added, entry_of, has, history, is_entered, past_of, placed, process_of, refused, refused_at, stage, stepped}
 use Rattle.record.specs.declared.events.Event.TheVariants as event
-use Rattle.record.specs.declared.marks.Mark.{Mark}
 use Rattle.record.specs.declared.marks.Mark.TheVariants as mark
-use Rattle.record.specs.declared.refusals.Refusal.{Refusal}
 use Rattle.record.specs.declared.refusals.Refusal.TheVariants.{NoProcess}
-use Rattle.record.specs.declared.stages.Stage.{Stage}
 use Rattle.record.specs.declared.stages.Stage.TheVariants as stages
-use Rattle.record.specs.Entries.{Entry, Past, has, is_entered}
-use Rattle.record.specs.Given.{AreGiven}
-use Rattle.record.specs.Histories.{history}
-use Rattle.record.specs.Records.{added, entry_of, past_of, placed, process_of, refused, refused_at, stepped}
-use Rattle.record.specs.Stages.{stage}
 use Rattle.record.proofs.Width.{is_good}
 use Rattle.record.proofs.World.{entry-accepted}
-use Rattle.auditor.specs.declared.verdicts.Law.{Law}
+use Rattle.auditor.specs.{AreAt, BreaksNext, IsAlike, IsMade, IsOfEvent, Keeps, KeepsAll, KeepsProgram, Law, OwesAt, event_in, flick_in, number_of, tells_event}
 use Rattle.auditor.specs.declared.verdicts.Law.TheVariants as law
-use Rattle.auditor.specs.Hearing.{AreAt, BreaksNext, event_in, flick_in}
-use Rattle.auditor.specs.Verdicts.{IsAlike, IsMade, IsOfEvent, Keeps, KeepsAll, KeepsProgram, OwesAt, number_of, tells_event}
 use Rattle.auditor.proofs.Events.{IsNoStep, calls, fails, withdraws, restarts, step-tells-none, tells-it}
 use Rattle.auditor.proofs.ToldAgain.{told_again}
 use Rattle.auditor.proofs.Marks.{same_marks}

@@ -1,12 +1,10 @@
 -- A record has one verdict.
 use Rattle.std.proofs.Common.{◌≡◌, ◌⊎◌, ℕ, zero, suc, ◌<◌, List, [], ◌∷◌, ◌++◌, length, reverse, length-append, refl, sym, ap, subst, ◌∙◌, arith, inl, inr}
-use Rattle.plain_store.specs.declared.Setup.{Setup}
-use Rattle.record.specs.Entries.{Entry, Past}
-use Rattle.auditor.specs.declared.verdicts.Law.{Law}
+use Rattle.plain_store.specs.{Setup}
+use Rattle.record.specs.{Entry, Past}
+use Rattle.auditor.specs.{AllKeep, BreaksFirst, IsBadAt, IsVerdict, KeepsAll, Law, Verdict, number_of}
 use Rattle.auditor.specs.declared.verdicts.Law.TheVariants as law
-use Rattle.auditor.specs.declared.verdicts.Verdict.{Verdict}
 use Rattle.auditor.specs.declared.verdicts.Verdict.TheVariants.{Good, Bad}
-use Rattle.auditor.specs.Verdicts.{AllKeep, BreaksFirst, IsBadAt, IsVerdict, KeepsAll, number_of}
 
 -- an entry in a past in which all laws are kept keeps them
 keeps-in : (s : Setup) (later : Past) (e : Entry) (past : Past) → AllKeep s (later ++ e ∷ past) → KeepsAll s past e

@@ -1,19 +1,12 @@
 -- Pasts in which each entry keeps all laws are those of lists of events.
 use Rattle.std.proofs.Common.{◌≡◌, List, [], ◌∷◌, reverse, Option, Some, None, Ok, refl, sym, ap, subst, ◌∙◌}
 use Rattle.std.proofs.lemmas.List.{reverse-reverse}
-use Rattle.plain_store.specs.declared.Setup.{Setup}
-use Rattle.plain_store.specs.Setups.{checked}
-use Rattle.record.specs.declared.events.Event.{Event}
-use Rattle.record.specs.Entries.{Entry, Past}
-use Rattle.record.specs.Records.{entry_of, past_of}
+use Rattle.plain_store.specs.{Setup, checked}
+use Rattle.record.specs.{AreGiven, Entry, Event, KeepsHeadlineThroughout, Past, entry_of, past_of}
 use Rattle.record.proofs.Width.{is_good}
 use Rattle.read_law.proofs.laws.HeldThere.{access_there}
 use Rattle.world.proofs.WorldShows.{past-after}
-use Rattle.auditor.specs.Hearing.{AuditorState, HasHeard}
-use Rattle.auditor.specs.Verdicts.{AllKeep, GoodAccessesAreThere, GoodIsOfEvents, IsGoodOfEvents, IsOfEvent, IsTrueRecord, IsVerdict, OfEventsIsGood}
-use Rattle.auditor.specs.declared.verdicts.Verdict.{Verdict}
-use Rattle.record.specs.Given.{AreGiven}
-use Rattle.record.specs.Headline.{KeepsHeadlineThroughout}
+use Rattle.auditor.specs.{AllKeep, AuditorState, GoodAccessesAreThere, GoodIsOfEvents, HasHeard, IsGoodOfEvents, IsOfEvent, IsTrueRecord, IsVerdict, OfEventsIsGood, Verdict}
 use Rattle.world.proofs.history_laws_proofs.Given.{given_before}
 use Rattle.world.proofs.history_laws_proofs.Headlines.{throughout}
 use Rattle.auditor.proofs.Obeys.{obeys}

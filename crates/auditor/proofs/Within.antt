@@ -1,18 +1,12 @@
 -- An entry with an access and without a mark, of a process that is within a number access.
 use Rattle.std.proofs.Common.{◌≡◌, ℕ, ◌<◌, ◌↔◌, Bool, false, true≢false, List, [], Option, None, Some, refl, sym, subst}
 use Rattle.std.specs.Prelude.{IfSome}
-use Rattle.record.specs.declared.access.Access.{Access}
+use Rattle.record.specs.{Access, Entry, Past, Taken, history}
 use Rattle.record.specs.declared.events.Event.TheVariants as event
-use Rattle.record.specs.declared.history.Taken.{Taken}
-use Rattle.record.specs.Entries.{Entry, Past}
-use Rattle.record.specs.Histories.{history}
 use Rattle.world.specs.process.declared.told.StepTold.TheVariants.{Nothing}
-use Rattle.world.specs.Cores.{CoreState, CoreStepsQuietly, with_history}
-use Rattle.world.specs.Events.{Adds}
-use Rattle.world.specs.Walks.{left_in}
+use Rattle.world.specs.{Adds, CoreState, CoreStepsQuietly, left_in, with_history}
 use Rattle.world.proofs.WithinStages.{within-unsettled}
-use Rattle.auditor.specs.declared.verdicts.Law.{Law}
-use Rattle.auditor.specs.Hearing.{AuditorState, BreaksNext, HasHeard, IsHeard, flick_in, law_of_wrong}
+use Rattle.auditor.specs.{AuditorState, BreaksNext, HasHeard, IsHeard, Law, flick_in, law_of_wrong}
 use Rattle.auditor.proofs.Hearing.{heard_on, heard_wrong}
 
 -- what the auditor knows of its step that it has made

@@ -1,25 +1,15 @@
 -- What an auditor keeps, and what it answers to an entry.
 use Rattle.std.specs.Prelude.{◌≡◌, ◌↔◌, ℕ, ◌+◌, ◌<◌, ◌≤◌, ◌^◌, IsTrue, map, nat_lt, Bool, true, false, Contains, List, [], ◌∷◌, length, Option, None, Some}
 use Rattle.record.specs.safe_bit.declared.Move.TheVariants.{BeginWrite, EndWrite, BeginRead, EndRead, Settle}
-use Rattle.record.specs.declared.access.Access.{Access}
-use Rattle.plain_store.specs.declared.Setup.{Setup}
-use Rattle.record.specs.declared.events.Event.{Event}
+use Rattle.record.specs.{Access, Entry, Event, Mark, Past, Taken, history, past_of, placed, reply_taken, stage, takings}
+use Rattle.plain_store.specs.{Reply, Setup}
 use Rattle.record.specs.declared.events.Event.TheVariants.{Call, Fail, Withdraw, Restart}
-use Rattle.record.specs.declared.marks.Mark.{Mark}
 use Rattle.record.specs.declared.marks.Mark.TheVariants.{Called, Failed, Withdrew, Restarted}
-use Rattle.record.specs.Entries.{Entry, Past}
-use Rattle.record.specs.Histories.{history, reply_taken}
-use Rattle.record.specs.Records.{past_of, placed}
-use Rattle.record.specs.Spans.{takings}
-use Rattle.record.specs.Stages.{stage}
-use Rattle.record.specs.declared.history.Taken.{Taken}
 use Rattle.record.specs.declared.stages.Stage.TheVariants.{Settling}
-use Rattle.read_law.specs.Entries.{entry_by}
-use Rattle.plain_store.specs.declared.Reply.{Reply}
-use Rattle.world.specs.Cores.{CoreState, with_history}
+use Rattle.read_law.specs.{entry_by}
+use Rattle.world.specs.{CoreState, with_history}
 use Rattle.world.specs.Shows.{Shows}
-use Rattle.world.specs.process.declared.told.StepTold.{StepTold}
-use Rattle.world.specs.process.Telling.{marks_told}
+use Rattle.world.specs.process.{StepTold, marks_told}
 use Rattle.auditor.specs.declared.verdicts.Law.{Law}
 use Rattle.auditor.specs.declared.verdicts.Law.TheVariants as law
 use Rattle.auditor.specs.Verdicts.{IsAlike, Keeps, KeepsAll, number_of}

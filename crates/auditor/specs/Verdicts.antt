@@ -1,19 +1,10 @@
 -- The laws that an entry keeps, by looking back over the entries before it, and the verdict on a record.
 use Rattle.std.specs.Prelude.{◌≡◌, ℕ, ◌<◌, Bool, true, false, List, [], ◌∷◌, ◌++◌, length, map, reverse, Some, Ok, IsTrue}
-use Rattle.plain_store.specs.declared.Setup.{Setup}
-use Rattle.plain_store.specs.Setups.{checked}
-use Rattle.record.specs.declared.events.Event.{Event}
-use Rattle.record.specs.declared.marks.Mark.{Mark}
+use Rattle.plain_store.specs.{Setup, checked}
+use Rattle.record.specs.{AreGiven, Entry, Event, KeepsHeadlineThroughout, Mark, OvertakesNobody, Past, Stage, TakesItsPlace, entry_of, has, inside, is_entered, past_of, placed, record_of, stage, stepped}
 use Rattle.record.specs.declared.marks.Mark.TheVariants.{Called, Failed, Withdrew, Restarted}
-use Rattle.record.specs.declared.stages.Stage.{Stage}
 use Rattle.record.specs.declared.stages.Stage.TheVariants.{Idle, Settling, Down}
-use Rattle.record.specs.Entries.{Entry, Past, has, is_entered}
-use Rattle.record.specs.Given.{AreGiven}
-use Rattle.record.specs.Headline.{KeepsHeadlineThroughout, OvertakesNobody, TakesItsPlace}
-use Rattle.record.specs.Records.{entry_of, past_of, placed, record_of, stepped}
-use Rattle.record.specs.Stages.{inside, stage}
-use Rattle.read_law.specs.Safe.{KeepsSafe}
-use Rattle.read_law.specs.Watching.{AllAreOfThere}
+use Rattle.read_law.specs.{AllAreOfThere, KeepsSafe}
 use Rattle.auditor.specs.declared.verdicts.Law.{Law}
 use Rattle.auditor.specs.declared.verdicts.Law.TheVariants as law
 use Rattle.auditor.specs.declared.verdicts.Verdict.{Verdict}

@@ -1,5 +1,5 @@
 ghost use Rattle.std.specs.Prelude.{◌≡◌, IfOk, Ok, reverse};
-ghost use Rattle.plain_store.specs.Setups.{checked};
+ghost use Rattle.plain_store.specs.{checked};
 ghost use Rattle.auditor.specs.Hearing.{BreaksNext};
 ghost use Rattle.auditor.specs.declared.verdicts.Verdict.TheVariants.{Good};
 ghost use Rattle.auditor.specs.Verdicts.{BreaksFirst, IsGoodOfEvents, IsTrueRecord, IsVerdict};

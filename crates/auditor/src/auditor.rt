@@ -1,8 +1,8 @@
 ghost use Rattle.std.specs.Prelude.{◌≡◌, ◌↔◌, false, IfOk, IfSome, IsTrue, Ok, Some, None, []};
 ghost use Rattle.std.specs.List.{list_any};
-ghost use Rattle.plain_store.specs.Setups.{checked};
+ghost use Rattle.plain_store.specs.{checked};
 ghost use Rattle.record.specs.declared.stages.Stage.TheVariants.{Settling};
-ghost use Rattle.read_law.specs.Entries.{entry_by};
+ghost use Rattle.read_law.specs.{entry_by};
 ghost use Rattle.auditor.specs.Hearing.{HasHeard, Hears, HearsEvent, TellsSettling, event_in, law_of_misplaced, law_of_wrong};
 ghost use Rattle.auditor.specs.Verdicts.{tells_event};
 

@@ -1,12 +1,12 @@
 //! Whether an entry is the one that is expected.
 ghost use Rattle.std.specs.Prelude.{◌≡◌, ◌↔◌, ℕ, true, false, IsTrue, Option, Some, None, map};
 ghost use Rattle.std.specs.List.{list_any};
-ghost use Rattle.record.specs.Records.{placed};
-ghost use Rattle.world.specs.process.Telling.{marks_told};
+ghost use Rattle.record.specs.{placed};
+ghost use Rattle.world.specs.process.{marks_told};
 ghost use Rattle.auditor.specs.Hearing.{CountsOn, IsCount, TellsAlike, event_in, flick_in};
 ghost use Rattle.auditor.specs.Verdicts.{tells_event};
 ghost use Rattle.auditor.specs.Hearing.{AreAt};
-ghost use Rattle.read_law.specs.Entries.{entry_by};
+ghost use Rattle.read_law.specs.{entry_by};
 
 use plain_store::{Answer, Command, Name, Reply, Text, Value};
 use record::{Access, Entry, Event, Field, Mark, Move};

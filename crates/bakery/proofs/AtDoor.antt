@@ -1,19 +1,12 @@
 -- The parts of a call at the door, and what its accesses there lead to.
 use Rattle.std.proofs.Common.{◌≡◌, ℕ, ◌+◌, ◌==◌, Bool, true, false, cond, List, [], ◌∷◌, ◌++◌, refl, sym, ap, subst}
-use Rattle.record.specs.declared.marks.Mark.{Mark}
+use Rattle.record.specs.{Call, Mark, Place, Stage, Wait, bits_with, enter, entered_if_none, first_full, greatest, is_fresh, is_last, is_queued, is_waiting_stage, lets_by, marks_of, max_of, new_run, others, place_after, processes, run_after, stage_at, waits_of}
 use Rattle.record.specs.declared.marks.Mark.TheVariants as mark
-use Rattle.record.specs.declared.stages.Stage.{Stage}
 use Rattle.record.specs.declared.stages.Stage.TheVariants as stage
-use Rattle.plain_store.specs.declared.Command.{Command}
-use Rattle.record.specs.Doorways.{is_queued, is_waiting_stage}
+use Rattle.plain_store.specs.{Command}
 use Rattle.record.specs.Parts.{Part, Raises, Asks, TakesTicket, Lowers, Refuses, Waits, AsksCommit, AsksStamp, AsksImage, WritesImage, WritesStamp, WritesCommit, Clears, Over, first_marks, last_marks, part_after, stage_of, to_b, to_d, to_e}
-use Rattle.record.specs.Places.{Place, bits_with, enter, is_fresh, is_last, marks_of, new_run, place_after, run_after, stage_at}
-use Rattle.record.specs.Program.{Wait, entered_if_none, first_full, greatest, lets_by, max_of, waits_of}
-use Rattle.record.specs.Registers.{others, processes}
-use Rattle.record.specs.Scripts.{Call}
-use Rattle.process.specs.laws.Doings.{runs}
-use Rattle.process.specs.Alone.{full_at, ticket_at}
-use Rattle.process.specs.Places.{stage_doing}
+use Rattle.process.specs.laws.{runs}
+use Rattle.process.specs.{full_at, stage_doing, ticket_at}
 use Rattle.bakery.specs.Doors.{goes_on, marks_told, tells_wait, told_at}
 
 -- a part of the doorway or of the waiting

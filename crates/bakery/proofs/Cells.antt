@@ -2,8 +2,8 @@
 use Rattle.std.proofs.Common.{ℕ, ◌<◌, List, length, inl, inr, subst, arith}
 use Rattle.std.proofs.lemmas.Bool.{cases_lt}
 use Rattle.std.proofs.lemmas.List.{get_or_past}
-use Rattle.reader_copies.specs.Row.{HasCell}
-use Rattle.record.specs.declared.access.Field.{Field}
+use Rattle.reader_copies.specs.{HasCell}
+use Rattle.record.specs.{Field}
 use Rattle.record.specs.declared.access.Field.TheVariants.{Choosing, Ticket, Commit, Stamp0, Stamp1, Image0, Image1}
 use Rattle.bakery.specs.Locks.{LockRows, no_lock, row_in, lock_of}
 

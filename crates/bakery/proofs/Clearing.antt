@@ -1,17 +1,12 @@
 -- The clearing of a ticket is that of a call that has come to its last part.
 use Rattle.std.proofs.Common.{◌≡◌, Bool, true, false, cond, refl, sym, ap, ◌∙◌}
-use Rattle.plain_store.specs.declared.Answer.{Answer}
+use Rattle.plain_store.specs.{Answer}
 use Rattle.plain_store.specs.declared.Command.TheVariants.{Ask}
-use Rattle.record.specs.Closings.{Withdraws, Quit, is_last_written, no_ticket}
-use Rattle.record.specs.Cuts.{torn_at}
+use Rattle.record.specs.{Call, Place, Quit, Reading, Run, Withdraws, Writing, access_at, enter, is_last_written, no_ticket, place_after, torn_at, write_moved}
 use Rattle.record.specs.Parts.{Part, Raises, Asks, TakesTicket, Lowers, Refuses, Waits, AsksCommit, AsksStamp, AsksImage, WritesImage, WritesStamp, WritesCommit, Clears, Over}
-use Rattle.record.specs.Places.{Place, Run, Writing, Reading, access_at, enter, place_after, write_moved}
-use Rattle.record.specs.Scripts.{Call}
-use Rattle.safe_number.specs.Runs.{NumberWrite}
-use Rattle.process.specs.laws.Doings.{closes}
-use Rattle.process.specs.Alone.{torn_of}
-use Rattle.process.specs.Places.{ProcessState, may_step, stepped}
-use Rattle.process.specs.Serving.{next_at}
+use Rattle.safe_number.specs.{NumberWrite}
+use Rattle.process.specs.laws.{closes}
+use Rattle.process.specs.{ProcessState, may_step, next_at, stepped, torn_of}
 use Rattle.bakery.specs.Leavings.{clearing_at, leaving_at}
 
 -- what is said of a clearing that has come so far

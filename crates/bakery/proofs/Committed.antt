@@ -2,11 +2,9 @@
 use Rattle.std.proofs.Common.{◌≡◌, ℕ, zero, suc, ◌+◌, ◌<◌, true, List, [], ◌∷◌, ◌++◌, length, map, get_or, refl, ◌∙◌, arith}
 use Rattle.std.specs.List.{range_with_len}
 use Rattle.std.proofs.lemmas.List.FromFn.{length-map-range_with_len, map-range_with_len_more}
-use Rattle.record.specs.declared.access.Field.{Field}
-use Rattle.plain_store.specs.declared.Setup.{Setup}
-use Rattle.record.specs.Program.{newest_process}
-use Rattle.record.specs.Registers.{width}
-use Rattle.bakery.specs.Newest.{IsReadable, IsQuiet, values_of, version_in}
+use Rattle.record.specs.{Field, newest_process, width}
+use Rattle.plain_store.specs.{Setup}
+use Rattle.bakery.specs.{IsReadable, IsQuiet, values_of, version_in}
 use Rattle.bakery.specs.Registers.{Data, DataRow, FitsSetup, register_at, data_of, no_data, is_data}
 use Rattle.bakery.proofs.Holdings.{length-values}
 use Rattle.bakery.proofs.NewestSteps.{process-in}

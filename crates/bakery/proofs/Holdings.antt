@@ -3,11 +3,11 @@ use Rattle.std.proofs.Common.{◌≡◌, ℕ, zero, suc, ◌+◌, ◌*◌, ◌^�
 use Rattle.std.proofs.Math.Seq.{drop-cons}
 use Rattle.std.proofs.lemmas.List.{length-map, length-take, drop-drop}
 use Rattle.reader_copies.specs.safe_bit.Cell.{Cell, new_cell}
-use Rattle.reader_copies.specs.Row.{cell_at}
-use Rattle.safe_number.specs.Bytes.{number_of_bits}
+use Rattle.reader_copies.specs.{cell_at}
+use Rattle.safe_number.specs.{number_of_bits}
 use Rattle.safe_number.proofs.Bits.{number-fits}
-use Rattle.record.specs.Registers.{bytes_of_bits}
-use Rattle.bakery.specs.Newest.{values_of}
+use Rattle.record.specs.{bytes_of_bits}
+use Rattle.bakery.specs.{values_of}
 use mir.Val.{bool_byte}
 
 -- the value of a copy

@@ -6,9 +6,9 @@ use Rattle.std.proofs.lemmas.List.Sums.{fold-append}
 use Rattle.std.proofs.Math.Seq.{get_or-append_seam}
 use Rattle.std.proofs.lemmas.List.{length-map}
 use Rattle.process.proofs.Greatest.{fold-least, greatest-there, place-here, place-later}
-use Rattle.record.specs.Program.{Version, newest_stamp, newest_process, version_of, index_of}
+use Rattle.record.specs.{Version, newest_stamp, newest_process, version_of, index_of}
 use Rattle.bakery.specs.declared.newest.Newest.{Newest}
-use Rattle.bakery.specs.Newest.{newest_of}
+use Rattle.bakery.specs.{newest_of}
 
 -- what is greater than all stands nowhere
 place-above : (n a : ℕ) (xs : List ℕ) → fold max a xs < n → index_of n xs ≡ length xs

@@ -3,16 +3,13 @@ use Rattle.std.proofs.Common.{◌≡◌, ℕ, zero, suc, ◌+◌, ◌<◌, Bool,
 use Rattle.std.proofs.lemmas.List.FromFn.{length-map-range_with_len, get_or-map-range_with_len}
 use Rattle.std.specs.List.{range_with_len}
 use Rattle.reader_copies.specs.safe_bit.Cell.{Cell, new_cell}
-use Rattle.reader_copies.specs.Row.{new_row, cell_at, IsClosed}
-use Rattle.safe_number.specs.Bytes.{bit_in, bits_in}
-use Rattle.safe_number.specs.Runs.{preset_number}
-use Rattle.record.specs.declared.access.Field.{Field}
+use Rattle.reader_copies.specs.{new_row, cell_at, IsClosed}
+use Rattle.safe_number.specs.{bit_in, bits_in, preset_number}
+use Rattle.record.specs.{Field, width}
 use Rattle.record.specs.declared.access.Field.TheVariants.{Image0}
 use Rattle.safe_number.proofs.Numbers.{range_same, get-bits}
-use Rattle.store_image.specs.Image.{image_of}
-use Rattle.plain_store.specs.Setups.{opening_store}
-use Rattle.plain_store.specs.declared.Setup.{Setup}
-use Rattle.record.specs.Registers.{width}
+use Rattle.store_image.specs.{image_of}
+use Rattle.plain_store.specs.{Setup, opening_store}
 use Rattle.bakery.specs.Registers.{Data, data_from, register_from, opening_cell, zero_cell}
 
 -- a constant over a range

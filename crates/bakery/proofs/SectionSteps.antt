@@ -1,19 +1,13 @@
 -- What an access of a section leads to, and its marks.
 use Rattle.std.proofs.Common.{◌≡◌, ℕ, ◌==◌, Bool, true, false, cond, List, [], ◌∷◌, ◌++◌, Option, is_some, refl, sym, ap, subst, ◌∙◌}
-use Rattle.plain_store.specs.declared.Answer.{Answer}
+use Rattle.plain_store.specs.{Answer, Contents, changes}
 use Rattle.plain_store.specs.declared.Answer.TheVariants as answer
-use Rattle.plain_store.specs.Store.{Contents, changes}
-use Rattle.record.specs.declared.marks.Mark.{Mark}
+use Rattle.record.specs.{Call, Mark, Place, Version, bits_with, enter, is_fresh, is_last, marks_of, max_of, newest_stamp, pending_at, place_after, reply, run_after, store_read}
 use Rattle.record.specs.declared.marks.Mark.TheVariants as mark
-use Rattle.record.specs.Cuts.{pending_at}
 use Rattle.record.specs.Parts.{Part, Raises, Asks, TakesTicket, Lowers, Refuses, Waits, AsksCommit, AsksStamp, AsksImage, WritesImage, WritesStamp, WritesCommit, Clears, Over, first_marks, is_over, last_marks, part_after, to_e, to_g}
-use Rattle.record.specs.Places.{Place, bits_with, enter, is_fresh, is_last, marks_of, place_after, run_after}
-use Rattle.record.specs.Program.{Version, max_of, newest_stamp, reply, store_read}
-use Rattle.record.specs.Scripts.{Call}
-use Rattle.process.specs.laws.Doings.{Doing, Rests, Lies, Runs, Closes, call, runs}
-use Rattle.process.specs.Alone.{answer_at, answer_of, change_of}
-use Rattle.process.specs.Places.{ProcessState, changes_at, changes_read, marks_on, may_step, stepped}
-use Rattle.bakery.specs.declared.section_progress.SectionProgress.{SectionProgress}
+use Rattle.process.specs.laws.{Doing, Rests, Lies, Runs, Closes, call, runs}
+use Rattle.process.specs.{ProcessState, answer_at, answer_of, change_of, changes_at, changes_read, marks_on, may_step, stepped}
+use Rattle.bakery.specs.{SectionProgress}
 use Rattle.bakery.specs.Sections.{goes, goes_on, is_going, is_of_data, marks_told, progress_on, told_at}
 
 -- a part from E to G

@@ -1,22 +1,13 @@
 -- What a unit does is what the closing machine does, at whatever closing it shows.
 use Rattle.std.proofs.Common.{◌≡◌, ℕ, Bool, true, false, cond, List, [], ◌∷◌, Option, None, Some, option_map, refl, sym, ap, ◌∙◌}
-use Rattle.reader_copies.specs.Runs.{settled_at, settle_after}
-use Rattle.record.specs.declared.access.TornBit.{TornBit}
-use Rattle.record.specs.safe_number.Runs.{new_write}
+use Rattle.reader_copies.specs.{settled_at, settle_after}
+use Rattle.record.specs.{Call, Change, Field, Mark, Next, TornBit, cut, is_commit, taken_with, write_moved}
+use Rattle.record.specs.safe_number.{new_write}
 use Rattle.plain_store.specs.declared.Command.TheVariants.{Ask}
-use Rattle.record.specs.declared.access.Field.{Field}
-use Rattle.record.specs.declared.Mark.{Mark}
 use Rattle.record.specs.declared.Mark.TheVariants as mark
 use Rattle.record.specs.Closings.{Closing, Withdraws, Settles, Frees, Lowers, Quit, Ended, closing_after, closing_next, freeing, is_last_settled, is_last_written, no_ticket, settled_marks}
-use Rattle.record.specs.Cuts.{Change}
-use Rattle.record.specs.Failures.{cut, taken_with}
-use Rattle.record.specs.Places.{write_moved}
-use Rattle.record.specs.Scripts.{Call, Next}
-use Rattle.record.specs.Unit.{is_commit}
-use Rattle.process.specs.laws.Doings.{Doing, Closes, call, closes}
-use Rattle.process.specs.Alone.{unit_with}
-use Rattle.process.specs.Places.{ProcessState, may_step, stepped}
-use Rattle.process.specs.Serving.{next_at}
+use Rattle.process.specs.laws.{Doing, Closes, call, closes}
+use Rattle.process.specs.{ProcessState, may_step, next_at, stepped, unit_with}
 use Rattle.bakery.specs.Units.{marks_told, remains, unit_at, work_at}
 
 -- what is said of a unit at a closing

@@ -1,8 +1,7 @@
 -- The widths of the registers of a good setup.
 use Rattle.std.proofs.Common.{◌≡◌, ◌≤◌, Ok, arith}
 use Rattle.std.proofs.lemmas.Bool.Decides.{nat_tests}
-use Rattle.plain_store.specs.Setups.{checked}
-use Rattle.plain_store.specs.declared.Setup.{Setup}
+use Rattle.plain_store.specs.{Setup, checked}
 use Rattle.plain_store.proofs.GoodSetups.{good-checked}
 
 -- the ranges of a good setup

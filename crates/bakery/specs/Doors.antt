@@ -2,23 +2,11 @@
 use Rattle.std.specs.Prelude.{◌≡◌, ◌<◌, ℕ, Bool, true, false, List, [], ◌∷◌, length, IfSome, Option, None, Some}
 use Rattle.plain_store.specs.declared.Answer.TheVariants as answer
 use Rattle.plain_store.specs.declared.Command.TheVariants.{Ask}
-use Rattle.record.specs.declared.access.Access.{Access}
-use Rattle.record.specs.declared.access.Field.{Field}
-use Rattle.record.specs.declared.access.TornBit.{TornBit}
-use Rattle.record.specs.declared.marks.Mark.{Mark}
+use Rattle.record.specs.{Access, Call, Field, Mark, Place, Raises, Stage, TornBit, access_at, enter, is_queued, is_waiting_stage, marks_of, place_after, stage_at, torn_at}
 use Rattle.record.specs.declared.marks.Mark.TheVariants as mark
-use Rattle.record.specs.declared.stages.Stage.{Stage}
 use Rattle.record.specs.declared.stages.Stage.TheVariants as stage
-use Rattle.record.specs.Cuts.{torn_at}
-use Rattle.record.specs.Doorways.{is_queued, is_waiting_stage}
-use Rattle.record.specs.Parts.{Raises}
-use Rattle.record.specs.Places.{Place, access_at, enter, marks_of, place_after, stage_at}
-use Rattle.record.specs.Scripts.{Call}
-use Rattle.process.specs.laws.Doings.{Runs, runs}
-use Rattle.process.specs.laws.Steps.{reads_of}
-use Rattle.process.specs.Alone.{full_of, ticket_of}
-use Rattle.process.specs.Places.{ProcessState, stage_doing}
-use Rattle.process.specs.Serving.{next_at}
+use Rattle.process.specs.laws.{Runs, reads_of, runs}
+use Rattle.process.specs.{ProcessState, full_of, next_at, stage_doing, ticket_of}
 use Rattle.bakery.specs.declared.door_progress.DoorProgress.{DoorProgress}
 use Rattle.bakery.specs.declared.door_progress.DoorProgress.TheVariants as told
 use Rattle.bakery.specs.Locks.{LockRows, CanAccess, answered, lock_of, locks_without_reads, row_in}

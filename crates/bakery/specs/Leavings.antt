@@ -1,17 +1,10 @@
 -- The clearing of a ticket: it is that of a call that has come to its last part.
 use Rattle.std.specs.Prelude.{◌≡◌, ℕ, Bool, Option}
-use Rattle.plain_store.specs.declared.Answer.{Answer}
+use Rattle.plain_store.specs.{Answer, Setup}
 use Rattle.plain_store.specs.declared.Command.TheVariants.{Ask}
-use Rattle.plain_store.specs.declared.Setup.{Setup}
-use Rattle.record.specs.declared.access.Access.{Access}
-use Rattle.record.specs.declared.access.TornBit.{TornBit}
-use Rattle.record.specs.Closings.{Withdraws}
-use Rattle.record.specs.Cuts.{torn_at}
-use Rattle.record.specs.Parts.{Part, Clears}
-use Rattle.record.specs.Places.{Place, Run, Writing, access_at, enter, place_after}
-use Rattle.record.specs.Scripts.{Call}
-use Rattle.process.specs.laws.Doings.{Doing, Closes, Rests}
-use Rattle.process.specs.Places.{ProcessState}
+use Rattle.record.specs.{Access, Call, Clears, Part, Place, Run, TornBit, Withdraws, Writing, access_at, enter, place_after, torn_at}
+use Rattle.process.specs.laws.{Doing, Closes, Rests}
+use Rattle.process.specs.{ProcessState}
 
 -- how far the clearing has come, as a withdrawal of some call has it
 abbrev pub clearing_by : Run → Doing

@@ -1,14 +1,10 @@
 -- The locks of all processes: their registers, and what one access makes of them.
 use Rattle.std.specs.Prelude.{ℕ, Bool, List, [], replicate, slice_index_or, slice_set}
 use Rattle.reader_copies.specs.safe_bit.Cell.{Cell}
-use Rattle.reader_copies.specs.declared.Made.{Made}
-use Rattle.reader_copies.specs.Row.{answer_at, row_after, without_reads, new_row, CanMake, HasCell}
-use Rattle.record.specs.declared.access.Access.{Access}
-use Rattle.record.specs.declared.access.Field.{Field}
+use Rattle.reader_copies.specs.{CanMake, HasCell, Made, answer_at, new_row, row_after, without_reads}
+use Rattle.record.specs.{Access, Field, ended_with, width}
 use Rattle.record.specs.declared.access.Field.TheVariants.{Choosing, Ticket}
-use Rattle.plain_store.specs.declared.Setup.{Setup}
-use Rattle.record.specs.Moves.{ended_with}
-use Rattle.record.specs.Registers.{width}
+use Rattle.plain_store.specs.{Setup}
 
 -- the two registers of one process's lock, each with its copies, reader by reader
 pub record LockRows : Type 0 where

@@ -1,9 +1,8 @@
 -- What an access of a memory unit makes of the registers of its process.
 use Rattle.std.specs.Prelude.{List}
 use Rattle.reader_copies.specs.safe_bit.Cell.{Cell}
-use Rattle.reader_copies.specs.Row.{row_after, CanMake}
-use Rattle.record.specs.declared.access.Access.{Access}
-use Rattle.record.specs.declared.access.Field.{Field}
+use Rattle.reader_copies.specs.{row_after, CanMake}
+use Rattle.record.specs.{Access, Field}
 use Rattle.record.specs.declared.access.Field.TheVariants.{Choosing, Ticket}
 use Rattle.bakery.specs.Locks.{LockRows, made_by}
 use Rattle.bakery.specs.Registers.{Data, register_of, with_register}

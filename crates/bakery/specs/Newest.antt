@@ -1,15 +1,11 @@
 -- The committed store with the greatest stamp, off the registers.
 use Rattle.std.specs.Prelude.{◌≡◌, ℕ, ◌*◌, ◌<◌, ◌≤◌, Bool, false, List, [], ◌∷◌, ◌++◌, length, map, slice_index_or}
 use Rattle.reader_copies.specs.safe_bit.Cell.{Cell}
-use Rattle.reader_copies.specs.Row.{cell_at, HasCell}
-use Rattle.record.specs.declared.access.Field.{Field}
-use Rattle.safe_number.specs.Bytes.{IsBytesOf, number_of_bits}
-use Rattle.store_image.specs.Reading.{store_in}
-use Rattle.plain_store.specs.Setups.{callers_of}
-use Rattle.plain_store.specs.declared.Setup.{Setup}
-use Rattle.plain_store.specs.Store.{Contents}
-use Rattle.record.specs.Program.{Version, newest_stamp, newest_process, version_of, stamp_field, image_field}
-use Rattle.record.specs.Registers.{processes, image_bytes, bytes_of_bits}
+use Rattle.reader_copies.specs.{cell_at, HasCell}
+use Rattle.record.specs.{Field, Version, bytes_of_bits, image_bytes, image_field, newest_process, newest_stamp, processes, stamp_field, version_of}
+use Rattle.safe_number.specs.{IsBytesOf, number_of_bits}
+use Rattle.store_image.specs.{store_in}
+use Rattle.plain_store.specs.{Contents, Setup, callers_of}
 use Rattle.bakery.specs.declared.newest.Newest.{Newest}
 use Rattle.bakery.specs.Registers.{Data, DataRow, data_of, register_of, register_at}
 

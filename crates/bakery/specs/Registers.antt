@@ -2,15 +2,10 @@
 use Rattle.std.specs.Prelude.{◌≡◌, ℕ, ◌<◌, Bool, true, false, List, [], length, map, slice_index_or, slice_set}
 use Rattle.std.specs.List.{range_with_len}
 use Rattle.reader_copies.specs.safe_bit.Cell.{Cell, new_cell, read_answer}
-use Rattle.reader_copies.specs.declared.Made.{Made}
-use Rattle.reader_copies.specs.Row.{cell_at, row_after, without_reads, CanMake, HasCell, IsRow}
-use Rattle.record.specs.declared.access.Access.{Access}
-use Rattle.record.specs.declared.access.Field.{Field}
+use Rattle.reader_copies.specs.{CanMake, HasCell, IsRow, Made, cell_at, row_after, without_reads}
+use Rattle.record.specs.{Access, Field, copy, ended_with, opening_bit, processes, width}
 use Rattle.record.specs.declared.access.Field.TheVariants.{Choosing, Ticket, Commit, Stamp0, Stamp1, Image0, Image1}
-use Rattle.plain_store.specs.declared.Setup.{Setup}
-use Rattle.record.specs.Moves.{ended_with}
-use Rattle.record.specs.Newest.{copy}
-use Rattle.record.specs.Registers.{processes, width, opening_bit}
+use Rattle.plain_store.specs.{Setup}
 
 -- the registers of one process: its commit bit, its two stamps, its two images
 pub record Data : Type 0 where

@@ -1,17 +1,11 @@
 -- A process inside the critical section: parts E to G of its call, and what is told of each access.
 use Rattle.std.specs.Prelude.{◌≡◌, ◌<◌, ℕ, Bool, true, false, cond, List, [], ◌∷◌, Option, None, Some, is_some}
-use Rattle.plain_store.specs.declared.Answer.{Answer}
+use Rattle.plain_store.specs.{Answer, Setup}
 use Rattle.plain_store.specs.declared.Answer.TheVariants as answer
-use Rattle.plain_store.specs.declared.Setup.{Setup}
-use Rattle.record.specs.declared.access.Access.{Access}
-use Rattle.record.specs.declared.marks.Mark.{Mark}
+use Rattle.record.specs.{Access, AsksCommit, AsksImage, AsksStamp, Mark, Part, WritesCommit, WritesImage, WritesStamp, width}
 use Rattle.record.specs.declared.marks.Mark.TheVariants as mark
-use Rattle.record.specs.Parts.{Part, AsksCommit, AsksStamp, AsksImage, WritesImage, WritesStamp, WritesCommit}
-use Rattle.record.specs.Registers.{width}
-use Rattle.process.specs.laws.Doings.{Doing, Runs}
-use Rattle.process.specs.laws.Steps.{reads_of}
-use Rattle.process.specs.Alone.{answer_of, change_of}
-use Rattle.process.specs.Places.{ProcessState, changes_read}
+use Rattle.process.specs.laws.{Doing, Runs, reads_of}
+use Rattle.process.specs.{ProcessState, answer_of, change_of, changes_read}
 use Rattle.bakery.specs.declared.section_progress.SectionProgress.{SectionProgress}
 use Rattle.bakery.specs.declared.section_progress.SectionProgress.TheVariants as told
 use Rattle.bakery.specs.Registers.{DataRow, is_data, without_reads_at}

@@ -1,19 +1,13 @@
 -- The memory unit: what remains of its work; and that its accesses are those of any closing of the failure rule.
 use Rattle.std.specs.Prelude.{◌≡◌, ℕ, Bool, false, cond, List, [], ◌∷◌, Option, None, Some, option_map}
-use Rattle.reader_copies.specs.Runs.{settled_at}
-use Rattle.record.specs.declared.access.Access.{Access}
-use Rattle.record.specs.declared.access.TornBit.{TornBit}
+use Rattle.reader_copies.specs.{settled_at}
+use Rattle.record.specs.{Access, Call, Change, Mark, Next, TornBit, cut}
 use Rattle.plain_store.specs.declared.Command.TheVariants.{Ask}
-use Rattle.plain_store.specs.declared.Setup.{Setup}
-use Rattle.record.specs.declared.Mark.{Mark}
+use Rattle.plain_store.specs.{Setup}
 use Rattle.record.specs.declared.Mark.TheVariants as mark
 use Rattle.record.specs.Closings.{Closing, Settles, Frees, Lowers, closing_next, closing_after, settled_marks}
-use Rattle.record.specs.Cuts.{Change}
-use Rattle.record.specs.Failures.{cut}
-use Rattle.record.specs.Scripts.{Call, Next}
-use Rattle.process.specs.laws.Doings.{Doing, Closes, Lies, is_inside_closing}
-use Rattle.process.specs.Alone.{settles}
-use Rattle.process.specs.Places.{ProcessState, may_step}
+use Rattle.process.specs.laws.{Doing, Closes, Lies, is_inside_closing}
+use Rattle.process.specs.{ProcessState, may_step, settles}
 use Rattle.bakery.specs.declared.unit_progress.UnitProgress.{UnitProgress}
 use Rattle.bakery.specs.declared.unit_progress.UnitProgress.TheVariants as progress
 

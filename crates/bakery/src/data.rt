@@ -1,6 +1,6 @@
 ghost use Rattle.std.specs.Prelude.{◌≡◌, ◌≤◌, ◌*◌, true, IfOk, Ok, length, take};
-ghost use Rattle.reader_copies.specs.Row.{answer_at, HasCell, CanMake};
-ghost use Rattle.plain_store.specs.Setups.{checked, opening_store};
+ghost use Rattle.reader_copies.specs.{answer_at, HasCell, CanMake};
+ghost use Rattle.plain_store.specs.{checked, opening_store};
 ghost use Rattle.bakery.specs.Newest.{image_held, version_held, values_of, IsReadable};
 ghost use Rattle.bakery.specs.Registers.{is_data, register_of, data_after, data_from, register_from, opening_cell, zero_cell};
 

@@ -1,5 +1,5 @@
 ghost use Rattle.std.specs.Prelude.{◌≡◌, ◌<◌, IfOk, Ok, length};
-ghost use Rattle.plain_store.specs.Setups.{checked};
+ghost use Rattle.plain_store.specs.{checked};
 ghost use Rattle.bakery.specs.Newest.{newest_store, IsQuiet};
 ghost use Rattle.bakery.specs.Registers.{data_of, register_at, row_from, opening_cell, after_access, answered, without_reads_at, HasCopy, MayMake, FitsSetup};
 
@@ -22,7 +22,7 @@ pub struct DataRow {
 
 impl Model for DataRow {
     ghost use Rattle.std.specs.Prelude.{◌≡◌, Ok};
-    ghost use Rattle.plain_store.specs.Setups.{checked};
+    ghost use Rattle.plain_store.specs.{checked};
     ghost use Rattle.bakery.specs.Registers.{DataRow as Seen};
 
     ghost Value = { Seen };

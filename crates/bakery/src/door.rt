@@ -1,11 +1,8 @@
 ghost use Rattle.std.specs.Prelude.{◌≡◌, ◌<◌, true, Ok, IfOk, IfSome, IsOk, []};
-ghost use Rattle.plain_store.specs.Setups.{checked};
+ghost use Rattle.plain_store.specs.{checked};
 ghost use Rattle.plain_store.specs.declared.Command.TheVariants.{Ask};
-ghost use Rattle.record.specs.Cuts.{IsTornOf};
-ghost use Rattle.record.specs.Places.{value_of};
-ghost use Rattle.process.specs.Alone.{torn_of};
-ghost use Rattle.process.specs.Places.{called, marks_on, process_after, restarted, stage_doing, stepped};
-ghost use Rattle.process.specs.Serving.{next_at};
+ghost use Rattle.record.specs.{IsTornOf, value_of};
+ghost use Rattle.process.specs.{called, marks_on, next_at, process_after, restarted, stage_doing, stepped, torn_of};
 ghost use Rattle.bakery.specs.Doors.{BeginsCalls, CallGoesOn, CallTears, IsInTurn, IsNextOfCall, MarksOfCall, MayDrop, dropped, goes_on, is_going, is_waiting, marks_told, progress_on, tells_wait};
 ghost use Rattle.bakery.specs.Locks.{answered, locks_after};
 
@@ -29,7 +26,7 @@ pub struct Door {
 }
 
 impl Model for Door {
-    ghost use Rattle.process.specs.Places.{ProcessState};
+    ghost use Rattle.process.specs.{ProcessState};
 
     ghost Value = { ProcessState };
 

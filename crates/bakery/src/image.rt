@@ -1,8 +1,8 @@
 //! The image of a setup: its size, and the store that bytes stand for.
 ghost use Rattle.std.specs.Prelude.{◌≡◌, ◌≤◌, length, Ok};
-ghost use Rattle.store_image.specs.Reading.{store_in};
-ghost use Rattle.plain_store.specs.Setups.{checked, callers_of};
-ghost use Rattle.record.specs.Registers.{image_bytes};
+ghost use Rattle.store_image.specs.{store_in};
+ghost use Rattle.plain_store.specs.{checked, callers_of};
+ghost use Rattle.record.specs.{image_bytes};
 
 use plain_store::Setup;
 use store_image::Image;

@@ -1,11 +1,8 @@
 ghost use Rattle.std.specs.Prelude.{◌≡◌, ◌<◌, [], false, not, true, Ok, IfSome};
-ghost use Rattle.reader_copies.specs.Runs.{progress_of};
-ghost use Rattle.plain_store.specs.Setups.{checked};
-ghost use Rattle.record.specs.Cuts.{IsTornOf};
-ghost use Rattle.record.specs.Places.{value_of};
-ghost use Rattle.process.specs.Alone.{torn_of};
-ghost use Rattle.process.specs.Places.{may_step, process_after, stepped, withdrawn};
-ghost use Rattle.process.specs.Serving.{next_at};
+ghost use Rattle.reader_copies.specs.{progress_of};
+ghost use Rattle.plain_store.specs.{checked};
+ghost use Rattle.record.specs.{IsTornOf, value_of};
+ghost use Rattle.process.specs.{may_step, next_at, process_after, stepped, torn_of, withdrawn};
 ghost use Rattle.bakery.specs.Leavings.{BeginsClearing, CallGoesOn, CallTears, IsNextOfCall};
 ghost use Rattle.bakery.specs.Locks.{CanAccess, lock_after};
 
@@ -27,7 +24,7 @@ pub struct Leaving {
 }
 
 impl Model for Leaving {
-    ghost use Rattle.process.specs.Places.{ProcessState};
+    ghost use Rattle.process.specs.{ProcessState};
 
     ghost Value = { ProcessState };
 

@@ -1,7 +1,7 @@
 ghost use Rattle.std.specs.Prelude.{◌≡◌, ◌<◌, ◌≤◌, Ok, IfOk, length};
 ghost use Rattle.std.specs.Borrow.{sem};
-ghost use Rattle.reader_copies.specs.Row.{answer_at, new_row, HasCell};
-ghost use Rattle.plain_store.specs.Setups.{checked};
+ghost use Rattle.reader_copies.specs.{answer_at, new_row, HasCell};
+ghost use Rattle.plain_store.specs.{checked};
 ghost use Rattle.bakery.specs.Locks.{new_lock, new_locks, row_in, CanAccess, HasCopy, lock_after, lock_of, lock_without_reads, locks_after, answer_to, answered, locks_without_reads};
 ghost use Rattle.bakery.specs.Lending.{LendsLock};
 

@@ -1,11 +1,7 @@
 ghost use Rattle.std.specs.Prelude.{◌≡◌, ◌<◌, IfOk, IfSome, IsOk, Ok, [], false, true};
-ghost use Rattle.plain_store.specs.Setups.{checked};
-ghost use Rattle.record.specs.Cuts.{IsTornOf};
-ghost use Rattle.record.specs.Moves.{ended_with};
-ghost use Rattle.record.specs.Places.{value_of};
-ghost use Rattle.process.specs.Alone.{called_inside, change_of, torn_of};
-ghost use Rattle.process.specs.Places.{marks_on, process_after, restarted, stepped};
-ghost use Rattle.process.specs.Serving.{next_at};
+ghost use Rattle.plain_store.specs.{checked};
+ghost use Rattle.record.specs.{IsTornOf, ended_with, value_of};
+ghost use Rattle.process.specs.{called_inside, change_of, marks_on, next_at, process_after, restarted, stepped, torn_of};
 ghost use Rattle.bakery.specs.Registers.{after_access, answered, is_data, FitsSetup, MayMake};
 ghost use Rattle.bakery.specs.Sections.{dropped, goes_on, is_going, marks_told, progress_on, IsInRange};
 
@@ -31,7 +27,7 @@ pub struct Section {
 }
 
 impl Model for Section {
-    ghost use Rattle.process.specs.Places.{ProcessState};
+    ghost use Rattle.process.specs.{ProcessState};
 
     ghost Value = { ProcessState };
 

@@ -1,9 +1,7 @@
 ghost use Rattle.std.specs.Prelude.{◌≡◌, ◌<◌, [], false, true, Ok, IfSome};
-ghost use Rattle.plain_store.specs.Setups.{checked};
-ghost use Rattle.record.specs.Cuts.{IsTornOf};
-ghost use Rattle.process.specs.Alone.{settling_with};
-ghost use Rattle.process.specs.Places.{may_step, process_after, stepped};
-ghost use Rattle.process.specs.Serving.{next_at};
+ghost use Rattle.plain_store.specs.{checked};
+ghost use Rattle.record.specs.{IsTornOf};
+ghost use Rattle.process.specs.{may_step, next_at, process_after, settling_with, stepped};
 ghost use Rattle.bakery.specs.Locks.{lock_after};
 ghost use Rattle.bakery.specs.Memory.{CanAccess, versions_after};
 ghost use Rattle.bakery.specs.Units.{BeginsClosings, ClosingGoesOn, IsNextOfClosing, MarksOfClosing, remains};
@@ -29,7 +27,7 @@ pub struct Unit {
 }
 
 impl Model for Unit {
-    ghost use Rattle.process.specs.Places.{ProcessState};
+    ghost use Rattle.process.specs.{ProcessState};
 
     ghost Value = { ProcessState };
 

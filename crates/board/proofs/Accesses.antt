@@ -5,43 +5,25 @@ use Rattle.std.specs.Prelude.{slice_index, fold}
 use mathlib.Core.Option.{some}
 use lib.ListN.{get_elem?}
 use Rattle.record.specs.safe_bit.Cell.{Cell, cell_after}
-use Rattle.record.specs.safe_bit.SafeRule.{read_value}
-use Rattle.record.specs.safe_bit.declared.Move.{Move}
-use Rattle.record.specs.declared.access.Access.{Access}
-use Rattle.plain_store.specs.declared.Setup.{Setup}
-use Rattle.record.specs.declared.events.Event.{Event}
+use Rattle.record.specs.safe_bit.{Move, read_value}
+use Rattle.record.specs.{Access, Entry, Event, Mark, Past, Refusal, call_number, ended, ended_with, entry_of, history, last_command, moves_of, opening_bit, own, past_of, placed, same_bit, stage, stage_after, value_of, valued}
+use Rattle.plain_store.specs.{Setup}
 use Rattle.record.specs.declared.events.Event.TheVariants as event
-use Rattle.record.specs.declared.marks.Mark.{Mark}
-use Rattle.record.specs.declared.refusals.Refusal.{Refusal}
-use Rattle.record.specs.Calls.{last_command, call_number}
-use Rattle.record.specs.Entries.{Entry, Past, own}
-use Rattle.record.specs.Histories.{history}
-use Rattle.record.specs.Moves.{ended, ended_with, moves_of, same_bit, valued}
-use Rattle.record.specs.Places.{value_of}
-use Rattle.record.specs.Records.{entry_of, past_of, placed}
-use Rattle.record.specs.Registers.{opening_bit}
-use Rattle.record.specs.Stages.{stage, stage_after}
 use Rattle.record.proofs.Accepted.{accepted_adds}
 use Rattle.record.proofs.Local.{command-plain, calls-plain}
 use Rattle.record.proofs.Singles.{is_write}
 use Rattle.record.proofs.Staging.{no_called, stage-placed}
 use Rattle.record.proofs.Width.{IsGood, is_good}
-use Rattle.laws.specs.Doings.{doing}
-use Rattle.laws.specs.Held.{IsThere, cell_held}
-use Rattle.laws.specs.Steps.{marks_with, next_of}
+use Rattle.laws.specs.{IsThere, cell_held, doing, marks_with, next_of}
 use Rattle.laws.proofs.Frame.{own-own}
 use Rattle.laws.proofs.FrameCells.{OnCopy, on-copy}
 use Rattle.laws.proofs.HeldCells.{held-entry}
 use Rattle.laws.proofs.HeldThere.{access_there}
 use Rattle.laws.proofs.Steps.{StepIs, step_is}
-use Rattle.board.specs.Ports.{IsUnended}
+use Rattle.board.specs.{IsUnended, Knows, OwnView, Shows, ViewState, counted_at, entries_of, entry_stepped, goes, own_view, refusal_in, shown, stage_in, with_step, word_of, words_in}
 use Rattle.board.proofs.Doings.{known_unended, next_goes, step_allowed}
-use Rattle.board.specs.Agreement.{Knows, Shows}
-use Rattle.history_laws.specs.Stamps.{changes_taken}
+use Rattle.history_laws.specs.{changes_taken}
 use Rattle.board.specs.Calls.{Calls, calls_after, calls_of, changes_of}
-use Rattle.board.specs.Views.{OwnView, ViewState, counted_at, entries_of, entry_stepped, own_view, refusal_in, stage_in, with_step}
-use Rattle.board.specs.WordSteps.{goes}
-use Rattle.board.specs.Words.{shown, word_of, words_in}
 use Rattle.board.proofs.WordNumbers.{one_bit, one_word, word_below}
 use Rattle.board.proofs.Along.{Along, along_entry, kept}
 use Rattle.board.proofs.Happenings.{calls_own, entries_own, given_more, past_after, refused_is}

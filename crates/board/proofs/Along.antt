@@ -7,31 +7,16 @@ use mathlib.Core.Logic.{dite}
 use native.Mathlib.Decide.{ℕ_discrete}
 use lib.ListN.{get_elem?}
 use Rattle.atomic_table.proofs.Lists.{at_set, set_else}
-use Rattle.record.specs.declared.access.Access.{Access}
-use Rattle.plain_store.specs.declared.Reply.{Reply}
-use Rattle.plain_store.specs.declared.Setup.{Setup}
-use Rattle.plain_store.specs.Setups.{opening_store}
-use Rattle.plain_store.specs.Store.{Contents, changes}
-use Rattle.record.specs.declared.events.Event.{Event}
-use Rattle.record.specs.declared.history.Taken.{Taken}
-use Rattle.record.specs.Calls.{last_command, call_number}
-use Rattle.record.specs.Entries.{Entry, Past, has, is_called, own}
-use Rattle.record.specs.Given.{AreGiven}
-use Rattle.record.specs.Histories.{history, reply_taken}
-use Rattle.record.specs.Headline.{count_changes}
-use Rattle.record.specs.Records.{entry_of, past_of}
+use Rattle.record.specs.{Access, AreGiven, Entry, Event, Past, Taken, call_number, count_changes, entry_of, has, history, is_called, last_command, own, past_of, reply_taken}
+use Rattle.plain_store.specs.{Contents, Reply, Setup, changes, opening_store}
 use Rattle.record.proofs.Width.{IsGood}
-use Rattle.laws.specs.Doings.{doing, is_inside}
-use Rattle.laws.specs.Held.{IsThere, cell_held}
+use Rattle.laws.specs.{IsThere, cell_held, doing, is_inside}
 use Rattle.laws.proofs.Frame.{own-other, doing-other}
 use Rattle.laws.proofs.FrameInside.{inside-is}
 use Rattle.history_laws.proofs.ReadStamps.{history_stands}
 use Rattle.history_laws.proofs.CountedChanges.{history-none, history-takes, taken_at, then}
-use Rattle.board.specs.Agreement.{IsIn, IsQuiet, Knows, KnowsSeats, Shows}
-use Rattle.history_laws.specs.Stamps.{changes_taken}
-use Rattle.board.specs.Calls.{IsPrefix, calls_after, calls_of, changes_of, changing}
-use Rattle.board.specs.Views.{OwnView, ViewState, counted_at, entries_of, own_view}
-use Rattle.board.specs.Words.{shown, word_of, words_in}
+use Rattle.board.specs.{IsIn, IsPrefix, IsQuiet, Knows, KnowsSeats, OwnView, Shows, ViewState, calls_after, calls_of, changes_of, changing, counted_at, entries_of, own_view, shown, word_of, words_in}
+use Rattle.history_laws.specs.{changes_taken}
 
 -- Changes.
 

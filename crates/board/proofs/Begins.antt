@@ -1,27 +1,18 @@
 -- What ends with an access has begun with the access before, and with none after an event without an access.
 use Rattle.std.proofs.Common.{◌≡◌, ◌≢◌, ℕ, ◌+◌, ◌*◌, ◌%◌, ◌==◌, ◌||◌, Bool, true, false, cond, if◌then◌else◌, List, [], ◌∷◌, refl, sym, ap, ◌∙◌, subst, arith, Some, None, eq-eqb}
 use Rattle.std.specs.Prelude.{unwrap_or}
-use Rattle.record.specs.safe_bit.declared.Move.{Move}
+use Rattle.record.specs.safe_bit.{Move}
 use Rattle.record.specs.safe_bit.declared.Move.TheVariants.{BeginWrite, EndWrite, BeginRead, EndRead, Settle}
 use Rattle.record.specs.reader_copies.Runs as copies
-use Rattle.record.specs.declared.access.Access.{Access}
-use Rattle.record.specs.declared.access.Field.{Field}
+use Rattle.record.specs.{Access, Call, Event, Field, Part, Place, Raises, Reading, Run, Writing, access_at, access_of, bit_written, bits_with, enter, is_last, is_over, next_written, part_after, place_after, run_after, write_moved, written_at}
 use Rattle.record.specs.declared.access.Field.TheVariants.{Choosing, Ticket}
-use Rattle.record.specs.Accesses.{access_of}
-use Rattle.record.specs.safe_number.Runs.{NumberWrite, new_write}
-use Rattle.plain_store.specs.declared.Command.{Command}
-use Rattle.plain_store.specs.declared.Setup.{Setup}
-use Rattle.record.specs.declared.events.Event.{Event}
+use Rattle.record.specs.safe_number.{NumberWrite, new_write}
+use Rattle.plain_store.specs.{Command, Setup}
 use Rattle.record.specs.declared.events.Event.TheVariants as event
 use Rattle.record.specs.Closings.{Closing, Withdraws, Settles, Frees, Lowers, Quit, Ended, closing_after, freeing, is_last_settled, is_last_written, no_ticket}
-use Rattle.record.specs.Parts.{Part, Raises, is_over, part_after, written_at}
-use Rattle.record.specs.Places.{Place, Run, Writing, Reading, access_at, bit_written, bits_with, enter, is_last, next_written, place_after, run_after, write_moved}
-use Rattle.record.specs.Scripts.{Call}
-use Rattle.laws.specs.Doings.{Doing, Rests, Lies, Runs, Closes, call, closes, runs}
-use Rattle.laws.specs.Steps.{being_written, cut_of, does_then, next_of}
-use Rattle.process.specs.Places.{next_number}
-use Rattle.board.specs.Ports.{IsUnended}
-use Rattle.board.specs.Views.{MayHappen, OwnView, with_event}
+use Rattle.laws.specs.{Closes, Doing, Lies, Rests, Runs, being_written, call, closes, cut_of, does_then, next_of, runs}
+use Rattle.process.specs.{next_number}
+use Rattle.board.specs.{IsUnended, MayHappen, OwnView, with_event}
 
 -- nothing ends with the next access
 abbrev pub Fresh : Setup → ℕ → Doing → Type 0

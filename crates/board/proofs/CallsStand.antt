@@ -4,37 +4,21 @@ use Rattle.std.specs.Prelude.{fold}
 use Rattle.std.specs.List.{list_any}
 use Rattle.std.proofs.lemmas.Bool.{eqb-false}
 use Rattle.std.proofs.lemmas.List.{append-nil, length-append}
-use Rattle.plain_store.specs.declared.Answer.{Answer}
-use Rattle.plain_store.specs.declared.Command.{Command}
-use Rattle.plain_store.specs.declared.Reply.{Reply}
-use Rattle.plain_store.specs.declared.Setup.{Setup}
-use Rattle.plain_store.specs.Setups.{checked, opening_store}
-use Rattle.plain_store.specs.Store.{Contents, changes, reply_to}
-use Rattle.record.specs.declared.events.Event.{Event}
-use Rattle.record.specs.declared.marks.Mark.{Mark}
+use Rattle.plain_store.specs.{Answer, Command, Contents, Reply, Setup, changes, checked, opening_store, reply_to}
+use Rattle.record.specs.{AreGiven, Entry, Event, IsAnswerTo, Mark, Past, Stage, all_takings, calls_in, entry_of, has, history, is_called, last_command, own, past_of, reply_taken, since, stage, stage_after, store_after, takings, value_of}
 use Rattle.record.specs.declared.marks.Mark.TheVariants as mark
-use Rattle.record.specs.declared.stages.Stage.{Stage}
-use Rattle.record.specs.Calls.{calls_in, last_command}
-use Rattle.record.specs.Entries.{Entry, Past, own, has, since, is_called}
-use Rattle.record.specs.Given.{AreGiven}
-use Rattle.record.specs.Headline.{IsAnswerTo}
-use Rattle.record.specs.Histories.{history, reply_taken, store_after}
-use Rattle.record.specs.Places.{value_of}
-use Rattle.record.specs.Records.{entry_of, past_of}
-use Rattle.record.specs.Spans.{takings, all_takings}
-use Rattle.record.specs.Stages.{stage, stage_after}
 use Rattle.record.proofs.Width.{IsGood, is_good}
-use Rattle.laws.specs.Doings.{Doing, Rests, Lies, call, doing}
+use Rattle.laws.specs.{Doing, Rests, Lies, call, doing}
 use Rattle.laws.proofs.Frame.{Does, Happens, a_call, a_withdrawal, a_failure, a_restart, a_step, a_closing}
 use Rattle.laws.proofs.FrameEvents.{accepted, does_all}
-use Rattle.history_laws.specs.Stamps.{changes_taken}
+use Rattle.history_laws.specs.{changes_taken}
 use Rattle.history_laws.proofs.CountedChanges.{history-takes, taken_at}
 use Rattle.history_laws.proofs.DataHeadline.{taken}
 use Rattle.history_laws.proofs.Given.{given_before}
 use Rattle.history_laws.proofs.Told.{SaysAfter, says}
 use Rattle.history_laws.proofs.Took.{EachAnswer, begins, goes, doing-few}
 use Rattle.board.specs.Calls.{Calls, and_then, calls_after, calls_of, changes_of, changing}
-use Rattle.board.specs.Lists.{StandsIn}
+use Rattle.board.specs.{StandsIn}
 use Rattle.board.proofs.Along.{changes_none, so_many_changes}
 use Rattle.board.proofs.Changes.{changing-push, store_of_changes}
 use Rattle.board.proofs.EntryMarks.{StepMarks, plain, takes, answers, downs, call_marks, closing_marks, plain-calls, plain-quiet, plain-reply, plain-takings, plain-uncalled, quiet-before, both-false, tells}

@@ -1,16 +1,10 @@
 -- The changes alone make the store that the history makes.
 use Rattle.std.proofs.Common.{◌≡◌, ℕ, zero, suc, Bool, true, false, cond, List, [], ◌∷◌, ◌++◌, take, fold, refl, sym, ap, ◌∙◌}
-use Rattle.plain_store.specs.declared.Setup.{Setup}
-use Rattle.plain_store.specs.Setups.{opening_store}
-use Rattle.plain_store.specs.Store.{Contents, changes}
-use Rattle.record.specs.declared.history.Taken.{Taken}
-use Rattle.record.specs.Entries.{Past}
-use Rattle.record.specs.Headline.{count_changes}
-use Rattle.record.specs.Histories.{history, store_after}
+use Rattle.plain_store.specs.{Contents, Setup, changes, opening_store}
+use Rattle.record.specs.{Past, Taken, count_changes, history, store_after}
 use Rattle.history_laws.proofs.CountedChanges.{then}
 use Rattle.history_laws.proofs.Sounding.{after_is_same}
-use Rattle.board.specs.Calls.{changes_of, changing}
-use Rattle.board.specs.Lists.{store_at}
+use Rattle.board.specs.{changes_of, changing, store_at}
 
 -- a command that changes nothing leaves the store, call numbers too
 same-then : (store : Contents) (t : Taken) → changes store t.command ≡ false → then store t ≡ store

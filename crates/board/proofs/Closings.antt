@@ -9,31 +9,16 @@ use lib.ListN.{get_elem?}
 use Rattle.atomic_table.proofs.Lists.{set_else}
 use Rattle.atomic_table.specs.Table.{State, Joins}
 use Rattle.record.specs.safe_bit.Cell.{Cell}
-use Rattle.record.specs.declared.access.Field.{Field}
+use Rattle.record.specs.{Event, Field, Past, Stage, Taken, Version, bits_held, bytes_of_bits, cell_after, copy, history, image_bytes, image_field, inside, is_running, is_somebody_inside, is_version, newest_bytes, newest_process, own, past_of, processes, stage, stamp_field, store_after, version_held, version_of, versions_held, width}
 use Rattle.record.specs.declared.access.Field.TheVariants.{Commit}
-use Rattle.record.specs.safe_number.Bytes.{number_of_bits}
+use Rattle.record.specs.safe_number.{number_of_bits}
 use Rattle.record.proofs.safe_number.Numbers.{range_same}
 use Rattle.plain_store.specs.declared.Command.TheVariants.{Ask}
-use Rattle.plain_store.specs.declared.Setup.{Setup}
-use Rattle.plain_store.specs.Setups.{callers_of, opening_store}
-use Rattle.plain_store.specs.Store.{Contents, changes}
-use Rattle.store_image.specs.Reading.{store_in}
-use Rattle.record.specs.declared.events.Event.{Event}
-use Rattle.record.specs.declared.history.Taken.{Taken}
-use Rattle.record.specs.declared.stages.Stage.{Stage}
+use Rattle.plain_store.specs.{Contents, Setup, callers_of, changes, opening_store}
+use Rattle.store_image.specs.{store_in}
 use Rattle.record.specs.declared.stages.Stage.TheVariants as stage
-use Rattle.record.specs.Entries.{Past, own}
-use Rattle.record.specs.Headline.{is_version}
-use Rattle.record.specs.Histories.{history, store_after}
-use Rattle.record.specs.Newest.{bits_held, cell_after, copy, is_somebody_inside, newest_bytes, version_held, versions_held}
-use Rattle.record.specs.Places.{is_running}
-use Rattle.record.specs.Program.{Version, image_field, newest_process, stamp_field, version_of}
-use Rattle.record.specs.Records.{past_of}
-use Rattle.record.specs.Registers.{bytes_of_bits, image_bytes, processes, width}
-use Rattle.record.specs.Stages.{inside, stage}
 use Rattle.record.proofs.Width.{IsGood, is_good}
-use Rattle.laws.specs.Doings.{Doing, call, doing, is_inside}
-use Rattle.laws.specs.Held.{IsThere, cell_held}
+use Rattle.laws.specs.{Doing, IsThere, call, cell_held, doing, is_inside}
 use Rattle.laws.proofs.Frame.{Does, at_rest, lying, running, leaving, settling}
 use Rattle.laws.proofs.FrameEvents.{does_all}
 use Rattle.laws.proofs.FrameInside.{inside-is}
@@ -46,13 +31,9 @@ use Rattle.history_laws.proofs.Headlines.{throughout}
 use Rattle.history_laws.proofs.Sound.{IsStoreOf}
 use Rattle.history_laws.proofs.Sounding.{after_is_same}
 use Rattle.board.proofs.Doings.{stage_known}
-use Rattle.board.specs.Agreement.{Agree, IsIn, IsQuiet, KnowsSeats, Shows}
+use Rattle.board.specs.{Agree, IsIn, IsQuiet, IsStill, KnowsSeats, Leaves, OwnView, Shows, StandsIn, ViewState, bits_shown, bytes_shown, own_view, shown, spent_view, stage_in, version_shown, versions_shown, with_joined, word_of}
 use Rattle.board.specs.Calls.{Calls, changes_of, changing}
-use Rattle.board.specs.Lists.{StandsIn}
 use Rattle.board.proofs.CallsStand.{calls_in_the_changes}
-use Rattle.board.specs.Closings.{IsStill, Leaves, bits_shown, bytes_shown, version_shown, versions_shown}
-use Rattle.board.specs.Views.{OwnView, ViewState, own_view, spent_view, stage_in, with_joined}
-use Rattle.board.specs.Words.{shown, word_of}
 use Rattle.board.proofs.Seats.{is_first, joins, some_processes}
 use Rattle.board.proofs.ShownBits.{newest-below}
 

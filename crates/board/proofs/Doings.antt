@@ -1,31 +1,16 @@
 -- What a process does has not come to its end; and it has a next access where its stage allows a step.
 use Rattle.std.proofs.Common.{◌≡◌, ℕ, Bool, true, false, cond, List, ◌∷◌, [], ◌==◌, refl, sym, ◌∙◌, arith}
 use Rattle.std.specs.Prelude.{Option, None, Some}
-use Rattle.record.specs.declared.access.Access.{Access}
-use Rattle.plain_store.specs.declared.Command.{Command}
-use Rattle.plain_store.specs.declared.Setup.{Setup}
-use Rattle.record.specs.declared.events.Event.{Event}
+use Rattle.record.specs.{Access, Call, Entry, Event, Mark, Past, Stage, call_number, last_call, last_command, last_write, own, past_of, refused_at, settling_from, stage, start_in, unfinished}
+use Rattle.plain_store.specs.{Command, Setup}
 use Rattle.record.specs.declared.events.Event.TheVariants as event
-use Rattle.record.specs.declared.marks.Mark.{Mark}
 use Rattle.record.specs.declared.marks.Mark.TheVariants as mark
-use Rattle.record.specs.declared.stages.Stage.{Stage}
-use Rattle.record.specs.Closings.{settling_from}
-use Rattle.record.specs.Calls.{call_number, last_call, last_command}
-use Rattle.record.specs.Entries.{Entry, Past, own}
-use Rattle.record.specs.Records.{past_of, refused_at, start_in}
-use Rattle.record.specs.Scripts.{Call}
-use Rattle.record.specs.Unit.{last_write, unfinished}
-use Rattle.record.specs.Stages.{stage}
 use Rattle.record.proofs.Width.{IsGood}
 use Rattle.laws.proofs.Doings as laws
 use Rattle.laws.proofs.FrameInside.{stage-is}
-use Rattle.laws.specs.Doings.{Doing, Closes, does_after, doing, goes_on}
-use Rattle.laws.specs.Steps.{does_then, next_of}
-use Rattle.process.specs.Places.{may_step, stage_doing}
-use Rattle.process.specs.Serving.{next_at}
-use Rattle.board.specs.Ports.{IsUnended}
-use Rattle.board.specs.Views.{OwnView, process_at, with_event}
-use Rattle.board.specs.WordSteps.{goes_at}
+use Rattle.laws.specs.{Closes, Doing, does_after, does_then, doing, goes_on, next_of}
+use Rattle.process.specs.{may_step, next_at, stage_doing}
+use Rattle.board.specs.{IsUnended, OwnView, goes_at, process_at, with_event}
 
 -- It has not come to its end.
 

@@ -1,17 +1,13 @@
 -- Driving a port: word steps, one after the other.
 use Rattle.std.proofs.Common.{◌≡◌, ℕ, suc, ◌<◌, Bool, true, ap, ◌∙◌, subst, arith}
-use Rattle.plain_store.specs.declared.Answer.{Answer}
-use Rattle.plain_store.specs.declared.Setup.{Setup}
-use Rattle.process.specs.flicks.Flicks.{FlickState, after_flick, flick_of}
-use Rattle.record.specs.declared.stages.Stage.{Stage}
+use Rattle.plain_store.specs.{Answer, Setup}
+use Rattle.process.specs.flicks.{FlickState, after_flick, flick_of}
+use Rattle.record.specs.{Stage}
 use Rattle.record.specs.declared.stages.Stage.TheVariants as stage
-use Rattle.process.specs.declared.told.StepTold.{StepTold}
+use Rattle.process.specs.{StepTold}
 use Rattle.process.specs.declared.told.StepTold.TheVariants as tells
 use Rattle.board.specs.declared.driving.Driven.TheVariants as driven
-use Rattle.board.specs.Driving.{Drives, Walks, flicks_after}
-use Rattle.board.specs.Ports.{PortState, SamePort}
-use Rattle.board.specs.Views.{OwnView}
-use Rattle.board.specs.WordSteps.{LeadsTo, WordStep, goes, goes_at}
+use Rattle.board.specs.{Drives, LeadsTo, OwnView, PortState, SamePort, Walks, WordStep, flicks_after, goes, goes_at}
 
 -- a process that is neither idle nor down has a next access
 pub goes_unless : (st : Stage) → (st ≡ stage.Idle → ⊥) → (st ≡ stage.Down → ⊥) → goes_at st ≡ true

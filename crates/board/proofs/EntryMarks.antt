@@ -3,24 +3,12 @@ use Rattle.std.proofs.Common.{◌≡◌, ℕ, ◌&&◌, ◌||◌, Bool, true, fa
 use Rattle.std.specs.Prelude.{fold, if◌then◌else◌}
 use Rattle.std.specs.List.{list_any}
 use Rattle.record.specs.reader_copies.Runs as copies
-use Rattle.plain_store.specs.declared.Answer.{Answer}
+use Rattle.plain_store.specs.{Answer, Reply, changes}
 use Rattle.plain_store.specs.declared.Answer.TheVariants as answer
-use Rattle.plain_store.specs.declared.Reply.{Reply}
-use Rattle.plain_store.specs.Store.{changes}
-use Rattle.record.specs.declared.marks.Mark.{Mark}
+use Rattle.record.specs.{Call, Mark, Next, Part, Place, Stage, Wait, bits_with, entered_if_none, first_marks, is_called, is_fresh, is_last, last_marks, lets_by, marks_of, placed, reply, reply_taken, stage_after, store_read, takings, waits_of}
 use Rattle.record.specs.declared.marks.Mark.TheVariants.{Called, Taken, Left, Answered, Settled, Down, Restarted}
-use Rattle.record.specs.declared.stages.Stage.{Stage}
 use Rattle.record.specs.Closings.{Closing, Withdraws, Settles, Frees, Lowers, Quit, Ended, closing_next, is_last_settled, is_last_written, is_unwritten, no_ticket, settled_marks}
-use Rattle.record.specs.Entries.{is_called}
-use Rattle.record.specs.Histories.{reply_taken}
-use Rattle.record.specs.Parts.{Part, first_marks, last_marks}
 use Rattle.record.specs.Parts as part
-use Rattle.record.specs.Places.{Place, bits_with, is_fresh, is_last, marks_of}
-use Rattle.record.specs.Program.{Wait, entered_if_none, lets_by, reply, store_read, waits_of}
-use Rattle.record.specs.Records.{placed}
-use Rattle.record.specs.Scripts.{Call, Next}
-use Rattle.record.specs.Spans.{takings}
-use Rattle.record.specs.Stages.{stage_after}
 use Rattle.board.specs.Calls.{Calls, calls_after}
 use Rattle.board.proofs.Standing.{is_quiet}
 

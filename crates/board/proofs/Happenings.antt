@@ -6,40 +6,24 @@ use mathlib.Core.Option.{some}
 use lib.ListN.{get_elem?}
 use Rattle.atomic_table.proofs.Lists.{set_again}
 use Rattle.record.specs.safe_bit.Cell.{Cell, without_read}
-use Rattle.plain_store.specs.declared.Command.{Command}
-use Rattle.plain_store.specs.declared.Setup.{Setup}
-use Rattle.record.specs.declared.events.Event.{Event}
+use Rattle.plain_store.specs.{Command, Setup}
+use Rattle.record.specs.{AreGiven, Entry, Event, Mark, Past, Raises, Refusal, call_number, calls_full, calls_in, enter, entry_of, has, inside, inside_after, is_call, is_called, is_event, last_command, own, past_of, placed, process_of, refused, refused_at, reply_taken, stage, withdrawing}
 use Rattle.record.specs.declared.events.Event.TheVariants as event
-use Rattle.record.specs.declared.marks.Mark.{Mark}
 use Rattle.record.specs.declared.marks.Mark.TheVariants as mark
-use Rattle.record.specs.declared.refusals.Refusal.{Refusal}
 use Rattle.record.specs.declared.refusals.Refusal.TheVariants.{NoProcess, CallsFull}
-use Rattle.record.specs.Calls.{last_command, call_number, calls_in}
-use Rattle.record.specs.Closings.{withdrawing}
-use Rattle.record.specs.Entries.{Entry, Past, has, is_called, own}
-use Rattle.record.specs.Given.{AreGiven, is_event}
-use Rattle.record.specs.Parts.{Raises}
-use Rattle.record.specs.Places.{enter}
-use Rattle.record.specs.Records.{calls_full, entry_of, is_call, past_of, placed, process_of, refused, refused_at}
-use Rattle.record.specs.Histories.{reply_taken}
-use Rattle.record.specs.Stages.{inside, inside_after, stage}
 use Rattle.record.proofs.Accepted.{accepted_adds}
 use Rattle.record.proofs.Width.{IsGood, is_good}
 use Rattle.record.proofs.World.{entry-accepted}
-use Rattle.laws.specs.Doings.{Doing, Rests, Runs, Closes, call, doing, is_inside}
-use Rattle.laws.specs.Held.{cell_held, drops}
-use Rattle.laws.specs.Steps.{cut_of}
+use Rattle.laws.specs.{Closes, Doing, Rests, Runs, call, cell_held, cut_of, doing, drops, is_inside}
 use Rattle.laws.proofs.Cuts.{cut_is}
 use Rattle.laws.proofs.Frame.{doing-goes, own-own}
 use Rattle.laws.proofs.FrameInside.{inside-is}
 use Rattle.laws.proofs.HeldCells.{held-marks}
 use Rattle.board.proofs.Doings.{stage_known}
-use Rattle.board.specs.Agreement.{Knows, Shows, are_neighbours}
-use Rattle.history_laws.specs.Stamps.{changes_taken}
+use Rattle.board.specs.{Knows, MayAllHappen, MayHappen, OwnView, Shows, ViewState, are_neighbours, at_events, counted_at, entries_of, entry_marked, own_view, refusal_in, shown, stage_in, with_event, with_events}
+use Rattle.history_laws.specs.{changes_taken}
 use Rattle.board.specs.Calls.{Calls, calls_after, calls_of}
-use Rattle.process.specs.Places.{next_number}
-use Rattle.board.specs.Views.{MayAllHappen, MayHappen, OwnView, ViewState, at_events, counted_at, entries_of, entry_marked, own_view, refusal_in, stage_in, with_event, with_events}
-use Rattle.board.specs.Words.{shown}
+use Rattle.process.specs.{next_number}
 use Rattle.board.proofs.Neighbours.{marked_reads, one_more}
 use Rattle.board.proofs.Along.{Along, along_entry, changes_none, kept, seen_along, set_at, set_set}
 

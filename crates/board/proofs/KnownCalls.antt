@@ -2,19 +2,11 @@
 use Rattle.std.proofs.Common.{◌≡◌, ◌≢◌, ℕ, ◌==◌, true, false, cond, List, [], ◌∷◌, ◌++◌, Some, None, refl, sym, subst, eq-eqb, ne_eqb}
 use Rattle.std.specs.Prelude.{fold}
 use Rattle.std.specs.List.{list_any}
-use Rattle.plain_store.specs.declared.Command.{Command}
-use Rattle.plain_store.specs.declared.Reply.{Reply}
-use Rattle.plain_store.specs.declared.Setup.{Setup}
-use Rattle.record.specs.declared.history.Taken.{Taken}
-use Rattle.record.specs.declared.marks.Mark.{Mark}
+use Rattle.plain_store.specs.{Command, Reply, Setup}
+use Rattle.record.specs.{Entry, Mark, Past, Stage, Taken, all_takings, called_in, calls_in, has, is_called, last_command, own, since, stage, stage_after, takings}
 use Rattle.record.specs.declared.marks.Mark.TheVariants as mark
-use Rattle.record.specs.declared.stages.Stage.{Stage}
-use Rattle.record.specs.Calls.{called_in, calls_in, last_command}
-use Rattle.record.specs.Entries.{Entry, Past, own, has, since, is_called}
-use Rattle.record.specs.Spans.{takings, all_takings}
-use Rattle.record.specs.Stages.{stage, stage_after}
 use Rattle.laws.proofs.Frame.{own-other, own-own}
-use Rattle.history_laws.specs.Stamps.{changes_taken}
+use Rattle.history_laws.specs.{changes_taken}
 use Rattle.history_laws.proofs.HistoryItems.{calls-uncalled}
 use Rattle.history_laws.proofs.Told.{since-uncalled}
 use Rattle.board.specs.Calls.{Calls, calls_after, calls_of, changes_of}

@@ -2,16 +2,12 @@
 use Rattle.std.proofs.Common.{◌≡◌, ℕ, Bool, true, Some, arith}
 use Rattle.std.specs.Prelude.{fold}
 use Rattle.record.specs.safe_bit.declared.Move.TheVariants.{BeginRead}
-use Rattle.record.specs.declared.access.Access.{Access}
-use Rattle.plain_store.specs.declared.Setup.{Setup}
-use Rattle.record.specs.Stages.{stage_after}
-use Rattle.laws.specs.Doings.{Doing}
-use Rattle.laws.specs.Steps.{marks_with, next_of}
-use Rattle.process.specs.Telling.{marks_told}
-use Rattle.process.specs.declared.told.StepTold.{StepTold}
+use Rattle.record.specs.{Access, stage_after}
+use Rattle.plain_store.specs.{Setup}
+use Rattle.laws.specs.{Doing, marks_with, next_of}
+use Rattle.process.specs.{StepTold, marks_told}
 use Rattle.board.specs.Calls.{Calls, calls_after}
-use Rattle.board.specs.Views.{OwnView, stage_in}
-use Rattle.board.specs.WordSteps.{LeadsTo, goes}
+use Rattle.board.specs.{LeadsTo, OwnView, goes, stage_in}
 
 -- what a step leads to; the calls are those of its marks
 pub leads : (s : Setup) (told : StepTold) (o middle after : OwnView) (place : ℕ) → goes s middle ≡ true → stage_in s after ≡ fold stage_after (stage_in s middle) (marks_told told) → middle.calls ≡ o.calls → after.calls ≡ fold (calls_after place) middle.calls (marks_told told) →

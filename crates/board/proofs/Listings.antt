@@ -2,23 +2,14 @@
 use Rattle.std.proofs.Common.{◌≡◌, ℕ, Bool, true, false, List, [], ◌∷◌, length, sym, ap, subst, ◌∙◌, Option, Some}
 use Rattle.std.specs.Prelude.{IfSome, fold}
 use Rattle.record.specs.safe_bit.declared.Move.TheVariants.{BeginRead}
-use Rattle.record.specs.declared.access.Access.{Access}
-use Rattle.plain_store.specs.declared.Command.{Command}
-use Rattle.plain_store.specs.declared.Setup.{Setup}
+use Rattle.record.specs.{Access, Taken}
+use Rattle.plain_store.specs.{Command, Setup}
 use Rattle.record.specs.declared.events.Event.TheVariants as event
-use Rattle.record.specs.declared.history.Taken.{Taken}
-use Rattle.laws.specs.Doings.{is_inside}
-use Rattle.laws.specs.Steps.{does_then}
-use Rattle.process.specs.Places.{ProcessState, changes_pending, changes_read, marks_on, stepped}
-use Rattle.process.specs.Telling.{changes_told, marks_told}
-use Rattle.process.specs.declared.told.StepTold.{StepTold}
+use Rattle.laws.specs.{does_then, is_inside}
+use Rattle.process.specs.{ProcessState, StepTold, changes_pending, changes_read, changes_told, marks_on, marks_told, stepped}
 use Rattle.board.specs.declared.pending.Pending.{Pending}
-use Rattle.board.specs.Calls.{calls_after}
+use Rattle.board.specs.{IsNext, IsTied, Loads, OwnView, Stores, ViewState, at_events, calls_after, loaded, new_view, process_at, with_pending}
 use Rattle.board.specs.Listing.{KnowsPlace, Lists, may_take}
-use Rattle.board.specs.Ports.{IsNext, IsTied, with_pending}
-use Rattle.board.specs.Views.{OwnView, ViewState, at_events, new_view, process_at}
-use Rattle.board.specs.Words.{loaded}
-use Rattle.board.specs.WordSteps.{Loads, Stores}
 use Rattle.board.proofs.Leads.{begin_calls}
 use Rattle.board.proofs.Places.{cut_takes, is_place, may_take_on, may_take_writes}
 use Rattle.board.proofs.Ties.{begins, next_own}

@@ -6,41 +6,23 @@ use mathlib.Core.Option.{some}
 use lib.ListN.{get_elem?}
 use Rattle.atomic_table.specs.Table.{State, keeps, Allows}
 use Rattle.record.specs.safe_bit.Cell.{Cell, cell_after, read_answer}
-use Rattle.record.specs.safe_bit.SafeRule.{read_value}
-use Rattle.record.specs.safe_bit.declared.Move.{Move}
+use Rattle.record.specs.safe_bit.{Move, read_value}
 use Rattle.record.specs.safe_bit.declared.Move.TheVariants.{EndWrite, BeginRead, EndRead}
-use Rattle.record.specs.reader_copies.Written.{IsWrite}
-use Rattle.record.specs.declared.access.Access.{Access}
-use Rattle.plain_store.specs.Setups.{checked}
-use Rattle.plain_store.specs.declared.Setup.{Setup}
-use Rattle.record.specs.declared.events.Event.{Event}
+use Rattle.record.specs.reader_copies.{IsWrite}
+use Rattle.record.specs.{Access, AreGiven, Event, Past, Taken, ended, history, moves_of, opening_bit, past_of, placed, reply_taken, stage, stage_after, value_of, valued}
+use Rattle.plain_store.specs.{Setup, checked}
 use Rattle.record.specs.declared.events.Event.TheVariants as event
-use Rattle.record.specs.Entries.{Past}
-use Rattle.record.specs.Given.{AreGiven}
-use Rattle.record.specs.Moves.{ended, moves_of, valued}
-use Rattle.record.specs.Places.{value_of}
-use Rattle.record.specs.declared.history.Taken.{Taken}
-use Rattle.record.specs.Histories.{history, reply_taken}
-use Rattle.record.specs.Records.{past_of, placed}
-use Rattle.record.specs.Registers.{opening_bit}
-use Rattle.record.specs.Stages.{stage, stage_after}
 use Rattle.record.proofs.Singles.{is_write, is_write-true}
 use Rattle.record.proofs.Width.{IsGood, is_good}
-use Rattle.laws.specs.Doings.{doing, is_inside}
-use Rattle.laws.specs.Held.{cell_held}
-use Rattle.laws.specs.Steps.{being_written, marks_with, next_of}
+use Rattle.laws.specs.{being_written, cell_held, doing, is_inside, marks_with, next_of}
 use Rattle.laws.proofs.Ends.{ends_what_began}
 use Rattle.laws.proofs.FrameCells.{itself}
 use Rattle.laws.proofs.FrameSteps.{valued-write}
 use Rattle.laws.proofs.HeldCells.{held-entry, held_answers}
 use Rattle.board.proofs.Doings.{stage_known}
 use Rattle.board.proofs.Reached.{known_where}
-use Rattle.board.specs.Agreement.{Agree, Knows, Shows, are_neighbours, is_pair}
-use Rattle.board.specs.Calls.{IsPrefix, changes_of}
-use Rattle.history_laws.specs.Stamps.{changes_taken, stamp_read}
-use Rattle.board.specs.Views.{MayAllHappen, OwnView, ViewState, at_events, own_view, stage_in, with_events, with_step}
-use Rattle.board.specs.Words.{closed_word, loaded, shown, stored, word_of}
-use Rattle.board.specs.WordSteps.{GoesOn, Loads, Makes, Stores}
+use Rattle.board.specs.{Agree, GoesOn, IsPrefix, Knows, Loads, Makes, MayAllHappen, OwnView, Shows, Stores, ViewState, are_neighbours, at_events, changes_of, closed_word, is_pair, loaded, own_view, shown, stage_in, stored, with_events, with_step, word_of}
+use Rattle.history_laws.specs.{changes_taken, stamp_read}
 use Rattle.board.proofs.Along.{changes_entry, changes_none, prefix-trans, set_at, set_set, so_many_changes}
 use Rattle.board.proofs.CallsStand.{calls_in_the_changes}
 use Rattle.board.proofs.ReadBegins.{begin_inside, begin_untaken, ending, reads_on}

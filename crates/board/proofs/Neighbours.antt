@@ -1,12 +1,10 @@
 -- Begin and end of each read are neighbours.
 use Rattle.std.proofs.Common.{◌≡◌, ◌==◌, ◌&&◌, Bool, true, false, [], ◌∷◌, Option, Some, None, refl, ap, ◌∙◌, eq-eqb, arith}
 use Rattle.std.specs.Prelude.{not}
-use Rattle.record.specs.safe_bit.declared.Move.{Move}
-use Rattle.record.specs.declared.access.Access.{Access}
-use Rattle.record.specs.Entries.{Entry, Past}
-use Rattle.record.specs.Moves.{same_bit}
+use Rattle.record.specs.safe_bit.{Move}
+use Rattle.record.specs.{Access, Entry, Past, same_bit}
 use Rattle.record.proofs.Singles.{is_write}
-use Rattle.board.specs.Agreement.{are_neighbours, is_of_read, is_pair, is_whole_read, reads}
+use Rattle.board.specs.{are_neighbours, is_of_read, is_pair, is_whole_read, reads}
 
 -- an entry that is of no read ends none
 no-pair : (a b : Move) → is_of_read b ≡ false → is_pair a b ≡ false

@@ -8,12 +8,9 @@ use Rattle.std.proofs.lemmas.List.{length-map}
 use Rattle.std.proofs.lemmas.List.Sorted.{Contains-permutation, IsPermutation-sym, length_permutation}
 use mathlib.Core.Logic.{dite}
 use native.Mathlib.Decide.{ℕ_discrete}
-use Rattle.record.specs.declared.calls.Placed.{Placed}
-use Rattle.plain_store.specs.declared.Setup.{Setup}
-use Rattle.plain_store.specs.Store.{Contents}
-use Rattle.board.specs.Boards.{ArePortsOf, BoardState}
-use Rattle.board.specs.Closings.{AreFirstPortsOf, AreInOrder, AreListsOf, AreMadeWith, AreOfAll, AreQuiet, FirstLeaves, IsPlaceOf, Leaves, done_calls}
-use Rattle.board.specs.Ports.{PortState}
+use Rattle.record.specs.{Placed}
+use Rattle.plain_store.specs.{Contents, Setup}
+use Rattle.board.specs.{AreFirstPortsOf, AreInOrder, AreListsOf, AreMadeWith, AreOfAll, ArePortsOf, AreQuiet, BoardState, FirstLeaves, IsPlaceOf, Leaves, PortState, done_calls}
 use Rattle.board.proofs.PortLists.{item_at}
 
 -- what stands in a list stands in each permutation of it

@@ -2,24 +2,14 @@
 use Rattle.std.proofs.Common.{◌≡◌, ℕ, zero, suc, ◌+◌, Bool, true, false, List, [], ◌∷◌, ◌++◌, length, take, slice_get, Option, None, Some, refl, sym, ap, subst, ◌∙◌, arith}
 use Rattle.std.specs.Prelude.{nat_lt}
 use Rattle.std.proofs.lemmas.List.Sums.{fold-append}
-use Rattle.plain_store.specs.declared.Answer.{Answer}
+use Rattle.plain_store.specs.{Answer, Caller, Command, Contents, Reply, Setup, Value, changes, is_new, number_of, opening_store, outcome, reply_to, value_at, with_written}
 use Rattle.plain_store.specs.declared.Answer.TheVariants as answer
-use Rattle.plain_store.specs.declared.Caller.{Caller}
-use Rattle.plain_store.specs.declared.Command.{Command}
 use Rattle.plain_store.specs.declared.Command.TheVariants.{Read, Write}
-use Rattle.plain_store.specs.declared.Reply.{Reply}
 use Rattle.plain_store.specs.declared.Reply.TheVariants as reply
-use Rattle.plain_store.specs.declared.Setup.{Setup}
-use Rattle.plain_store.specs.declared.Value.{Value}
-use Rattle.plain_store.specs.Outcomes.{is_new, outcome}
-use Rattle.plain_store.specs.Setups.{opening_store}
-use Rattle.plain_store.specs.Store.{Contents, changes, number_of, reply_to, value_at, with_written}
 use Rattle.plain_store.proofs.Changes.{value_at-put}
-use Rattle.record.specs.declared.history.Taken.{Taken}
-use Rattle.record.specs.Histories.{store_after}
+use Rattle.record.specs.{Placed, Taken, store_after}
 use Rattle.history_laws.proofs.CountedChanges.{then}
-use Rattle.board.specs.Lists.{PlacedAsAnswered, StandsIn, caller_of, change_at, store_at}
-use Rattle.record.specs.declared.calls.Placed.{Placed}
+use Rattle.board.specs.{PlacedAsAnswered, StandsIn, caller_of, change_at, store_at}
 
 -- the store at the next place is that after the change
 take-next : {X : Type 0} (xs : List X) (k : ℕ) (x : X) → slice_get xs k ≡ Some x → take (suc k) xs ≡ take k xs ++ x ∷ []

@@ -1,24 +1,16 @@
 -- A port's process and what its seat knows, over an event without an access.
 use Rattle.std.proofs.Common.{◌≡◌, ℕ, ◌==◌, arith, Bool, true, false, cond, [], ◌∷◌, refl, sym, ap, ◌∙◌, subst, Option, Some, None}
 use Rattle.std.specs.Prelude.{Ok, Err, Result}
-use Rattle.plain_store.specs.Commands.{is_command}
-use Rattle.plain_store.specs.declared.Command.{Command}
-use Rattle.plain_store.specs.declared.Setup.{Setup}
-use Rattle.record.specs.declared.events.Event.{Event}
+use Rattle.plain_store.specs.{Command, Setup, is_command}
+use Rattle.record.specs.{Event, Refusal, Stage, refused_at}
 use Rattle.record.specs.declared.events.Event.TheVariants as event
-use Rattle.record.specs.declared.refusals.Refusal.{Refusal}
-use Rattle.record.specs.declared.stages.Stage.{Stage}
 use Rattle.record.specs.declared.stages.Stage.TheVariants as stage
 use Rattle.record.specs.declared.refusals.Refusal.TheVariants.{AlreadyFailed}
-use Rattle.record.specs.Records.{refused_at}
-use Rattle.laws.specs.Steps.{next_of}
-use Rattle.process.specs.Places.{ProcessState, next_number, process_after}
+use Rattle.laws.specs.{next_of}
+use Rattle.process.specs.{ProcessState, next_number, process_after}
 use Rattle.process.specs.Places as places
 use Rattle.board.specs.declared.pending.Pending.{Pending}
-use Rattle.board.specs.Pending.{events_of, nothing}
-use Rattle.board.specs.Ports.{IsTied, IsUnended, PortState, SamePort, answer_to, port_after, with_pending}
-use Rattle.board.specs.Views.{MayAllHappen, MayHappen, OwnView, ViewState, at_events, new_own, new_view, process_at, refusal_in, stage_in, with_event, with_events}
-use Rattle.board.specs.WordSteps.{IsBetween}
+use Rattle.board.specs.{IsBetween, IsTied, IsUnended, MayAllHappen, MayHappen, OwnView, PortState, SamePort, ViewState, answer_to, at_events, events_of, new_own, new_view, nothing, port_after, process_at, refusal_in, stage_in, with_event, with_events, with_pending}
 use Rattle.board.proofs.Begins.{event_fresh}
 use Rattle.board.proofs.Doings.{event_unended}
 use Rattle.board.proofs.Happenings.{same_process, same_process_all}

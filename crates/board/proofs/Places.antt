@@ -2,36 +2,17 @@
 use Rattle.std.proofs.Common.{◌≡◌, ℕ, Bool, true, false, cond, List, [], ◌∷◌, ◌++◌, ◌&&◌, length, refl, sym, ap, ◌∙◌, Option, Some, None, arith}
 use Rattle.std.specs.Prelude.{IfSome, option_map}
 use Rattle.record.specs.safe_bit.declared.Move.TheVariants.{BeginRead}
-use Rattle.record.specs.declared.access.Access.{Access}
-use Rattle.record.specs.declared.access.Field.{Field}
-use Rattle.record.specs.declared.access.TornBit.{TornBit}
-use Rattle.plain_store.specs.declared.Command.{Command}
-use Rattle.plain_store.specs.declared.Reply.{Reply}
-use Rattle.plain_store.specs.declared.Setup.{Setup}
+use Rattle.record.specs.{Access, Call, Change, Field, Mark, Part, Taken, TornBit, begun_at, begun_closing, bits_with, cut, first_marks, is_commit, is_fresh, is_last, last_marks, newest_stamp, pending_at, reply_taken, torn_at, torn_closing}
+use Rattle.plain_store.specs.{Command, Reply, Setup}
 use Rattle.record.specs.reader_copies.Runs as copies
-use Rattle.record.specs.declared.history.Taken.{Taken}
-use Rattle.record.specs.declared.marks.Mark.{Mark}
 use Rattle.record.specs.declared.marks.Mark.TheVariants as mark
 use Rattle.record.specs.Closings.{Closing, Withdraws, Settles, Frees, Lowers, Quit, Ended, is_last_settled, is_last_written, is_unwritten, no_ticket, settled_marks}
-use Rattle.record.specs.Cuts.{Change, pending_at, torn_at, torn_closing}
-use Rattle.record.specs.Failures.{begun_at, begun_closing, cut}
-use Rattle.record.specs.Histories.{reply_taken}
-use Rattle.record.specs.Parts.{Part, first_marks, last_marks}
 use Rattle.record.specs.Parts as part
-use Rattle.record.specs.Places.{bits_with, is_fresh, is_last}
-use Rattle.record.specs.Program.{newest_stamp}
-use Rattle.record.specs.Scripts.{Call}
-use Rattle.record.specs.Unit.{is_commit}
-use Rattle.laws.specs.Doings.{Doing, Rests, Lies, Runs, Closes, call, is_inside, is_inside_at, is_inside_closing}
-use Rattle.laws.specs.Steps.{cut_of, does_then, marks_with, next_of}
-use Rattle.history_laws.specs.Stamps.{stamp_at, stamp_read}
-use Rattle.process.specs.declared.told.StepTold.{StepTold}
+use Rattle.laws.specs.{Closes, Doing, Lies, Rests, Runs, call, cut_of, does_then, is_inside, is_inside_at, is_inside_closing, marks_with, next_of}
+use Rattle.history_laws.specs.{stamp_at, stamp_read}
+use Rattle.process.specs.{StepTold, changes_pending, changes_read, changes_told, marks_told}
 use Rattle.process.specs.declared.told.StepTold.TheVariants as told
-use Rattle.process.specs.Places.{changes_pending, changes_read}
-use Rattle.process.specs.Telling.{changes_told, marks_told}
-use Rattle.board.specs.Listing.{IsPlace, may_take}
-use Rattle.board.specs.Views.{OwnView}
-use Rattle.board.specs.WordSteps.{Makes}
+use Rattle.board.specs.{IsPlace, Makes, OwnView, may_take}
 
 -- The marks of what is taken.
 

@@ -1,22 +1,14 @@
 -- A process of a record is where its accesses lead, in the call that is kept of it.
 use Rattle.std.proofs.Common.{◌≡◌, ℕ, List, refl, sym, ap, subst, ◌∙◌}
-use Rattle.plain_store.specs.declared.Setup.{Setup}
-use Rattle.record.specs.declared.events.Event.{Event}
-use Rattle.record.specs.Calls.{last_command, call_number}
-use Rattle.record.specs.Entries.{Past, own, since, starts}
-use Rattle.record.specs.Parts.{is_over}
-use Rattle.record.specs.Places.{accesses_of}
-use Rattle.record.specs.Records.{past_of}
-use Rattle.record.specs.Stages.{stage}
+use Rattle.plain_store.specs.{Setup}
+use Rattle.record.specs.{Event, Past, accesses_of, call_number, is_over, last_command, own, past_of, since, stage, starts}
 use Rattle.record.proofs.OpenSteps.{failing_at, leaving_at, place_at}
 use Rattle.record.proofs.Standing.{at_place}
 use Rattle.record.proofs.Width.{IsGood}
-use Rattle.laws.specs.Doings.{Doing, Rests, Lies, Runs, Closes, doing}
-use Rattle.laws.specs.Steps.{IsCallOf, IsLive, IsReached}
+use Rattle.laws.specs.{Closes, Doing, IsCallOf, IsLive, IsReached, Lies, Rests, Runs, doing}
 use Rattle.laws.proofs.Frame.{Does, at_rest, lying, running, leaving, settling}
 use Rattle.laws.proofs.FrameEvents.{does_all}
-use Rattle.board.specs.Views.{own_view}
-use Rattle.board.specs.WordSteps.{IsWhere}
+use Rattle.board.specs.{IsWhere, own_view}
 
 pub known_where : (s : Setup) → IsGood s → (events : List Event) (p : ℕ) → IsWhere s (own_view s (past_of s events) p)
 known_where s g events p = facts (does_all s g events p)

@@ -1,13 +1,10 @@
 -- The begin of a read: what comes after it, and what it leaves.
 use Rattle.std.proofs.Common.{◌≡◌, ℕ, Bool, true, false, map, Some, None, arith}
 use Rattle.record.specs.safe_bit.declared.Move.TheVariants.{BeginRead, EndRead}
-use Rattle.record.specs.declared.access.Access.{Access}
-use Rattle.plain_store.specs.declared.Setup.{Setup}
-use Rattle.record.specs.Histories.{reply_taken}
-use Rattle.record.specs.Records.{placed}
-use Rattle.laws.specs.Doings.{Doing, is_inside}
-use Rattle.laws.specs.Steps.{does_then, marks_with, next_of}
-use Rattle.board.specs.Ports.{IsUnended}
+use Rattle.record.specs.{Access, placed, reply_taken}
+use Rattle.plain_store.specs.{Setup}
+use Rattle.laws.specs.{Doing, does_then, is_inside, marks_with, next_of}
+use Rattle.board.specs.{IsUnended}
 
 -- the same access as the end of its read
 abbrev pub ending : Access → Access

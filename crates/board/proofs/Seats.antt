@@ -6,23 +6,12 @@ use lib.ListN.{get_elem?}
 use Rattle.atomic_table.proofs.Lists.{at_set, at_snoc, set_else, at_longer}
 use Rattle.atomic_table.specs.Table.{State, Splits, Joins}
 use Rattle.record.specs.safe_bit.declared.Move.TheVariants.{BeginRead}
-use Rattle.record.specs.declared.access.Access.{Access}
+use Rattle.record.specs.{Access, Entry, Event, Past, call_number, last_command, opening_bit, own, past_of}
 use Rattle.record.specs.declared.access.Field.TheVariants.{Choosing}
-use Rattle.plain_store.specs.Store.{are_pairs}
-use Rattle.plain_store.specs.Setups.{checked}
-use Rattle.plain_store.specs.declared.Setup.{Setup}
-use Rattle.record.specs.declared.events.Event.{Event}
-use Rattle.record.specs.Calls.{call_number, last_command}
-use Rattle.record.specs.Entries.{Entry, Past, own}
-use Rattle.record.specs.Records.{past_of}
-use Rattle.record.specs.Registers.{opening_bit}
+use Rattle.plain_store.specs.{Setup, are_pairs, checked}
 use Rattle.record.proofs.Width.{is_good}
-use Rattle.laws.specs.Doings.{Rests, doing}
-use Rattle.laws.specs.Held.{IsThere}
-use Rattle.board.specs.Agreement.{Agree, IsIn, IsQuiet, Knows, KnowsSeats, Shows}
-use Rattle.board.specs.Calls.{calls_of, changes_of, no_calls}
-use Rattle.board.specs.Views.{OwnView, ViewState, first_view, new_own, new_view, entries_of, own_view, spent_view, with_joined, with_made}
-use Rattle.board.specs.Words.{closed_word, opening_word, word_of, words_in}
+use Rattle.laws.specs.{IsThere, Rests, doing}
+use Rattle.board.specs.{Agree, IsIn, IsQuiet, Knows, KnowsSeats, OwnView, Shows, ViewState, calls_of, changes_of, closed_word, entries_of, first_view, new_own, new_view, no_calls, opening_word, own_view, spent_view, with_joined, with_made, word_of, words_in}
 use Rattle.board.proofs.WordNumbers.{bit_of_word, word_below}
 use Rattle.board.proofs.Along.{set_at, was_view}
 

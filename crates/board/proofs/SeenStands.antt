@@ -1,21 +1,12 @@
 -- The calls of a view stand in the changes that it has seen, over a word step and over an event without an access; and what was seen stays seen.
 use Rattle.std.proofs.Common.{◌≡◌, ℕ, zero, suc, Bool, true, [], ◌∷◌, inl, inr, refl, sym, ap, ◌∙◌}
 use Rattle.std.proofs.lemmas.List.{append-nil}
-use Rattle.process.specs.flicks.Flicks.{FlickState, flick_of}
-use Rattle.plain_store.specs.declared.Answer.{Answer}
-use Rattle.plain_store.specs.declared.Command.{Command}
-use Rattle.plain_store.specs.declared.Setup.{Setup}
-use Rattle.plain_store.specs.Store.{are_pairs}
+use Rattle.process.specs.flicks.{FlickState, flick_of}
+use Rattle.plain_store.specs.{Answer, Command, Setup, are_pairs}
 use Rattle.record.specs.declared.events.Event.TheVariants as event
-use Rattle.record.specs.Records.{past_of}
-use Rattle.board.specs.Calls.{IsPrefix, called, changes_of}
-use Rattle.board.specs.Closings.{StandsInRecord}
-use Rattle.board.specs.Driving.{Drives, EndsWith, Walks, WalksTo, flicks_after}
-use Rattle.board.specs.declared.driving.Driven.{Driven}
+use Rattle.record.specs.{past_of}
+use Rattle.board.specs.{Driven, Drives, EndsWith, IsPrefix, StandsInRecord, StandsInSeen, ViewState, Walks, WalksTo, WordStep, at_events, called, changes_of, flicks_after, new_view}
 use Rattle.board.specs.declared.driving.Driven.TheVariants as driven
-use Rattle.board.specs.Lists.{StandsInSeen}
-use Rattle.board.specs.Views.{ViewState, at_events, new_view}
-use Rattle.board.specs.WordSteps.{WordStep}
 use Rattle.board.proofs.Along.{prefix-trans}
 use Rattle.board.proofs.Stands.{finished_stand, stands_in_longer, stands_push}
 

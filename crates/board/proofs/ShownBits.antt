@@ -10,17 +10,13 @@ use Rattle.std.proofs.lemmas.List.FromFn.{get_or-map-range_with_len, length-map-
 use mir.Val.{bool_byte}
 use mathlib.Core.Option.{some, some-injective, some-ne-none}
 use lib.ListN.{get_elem?}
-use Rattle.record.specs.declared.access.Field.{Field}
+use Rattle.record.specs.{Field, Version, bytes_of_bits, copy, index_of, newest_process, newest_stamp, stamp_field, width}
 use Rattle.record.specs.declared.access.Field.TheVariants.{Commit}
-use Rattle.record.specs.safe_number.Bytes.{number_of_bits}
-use Rattle.plain_store.specs.declared.Setup.{Setup}
-use Rattle.record.specs.Newest.{copy}
-use Rattle.record.specs.Program.{Version, newest_process, newest_stamp, index_of, stamp_field}
-use Rattle.record.specs.Registers.{bytes_of_bits, width}
+use Rattle.record.specs.safe_number.{number_of_bits}
+use Rattle.plain_store.specs.{Setup}
 use Rattle.record.proofs.safe_number.Bits.{number-fits}
 use Rattle.process.proofs.Greatest.{greatest-there}
-use Rattle.board.specs.Closings.{bits_shown, version_shown, versions_shown}
-use Rattle.board.specs.Words.{word_of}
+use Rattle.board.specs.{bits_shown, version_shown, versions_shown, word_of}
 
 -- the word that is found at a place
 pub word_at : (words : List ℕ) (k found : ℕ) → get_elem? words k ≡ some found → slice_index words k ≡ found

@@ -2,21 +2,11 @@
 use Rattle.std.proofs.Common.{◌≡◌, ℕ, suc, ◌+◌, ◌≤◌, ◌==◌, Bool, true, false, cond, List, [], ◌∷◌, ◌++◌, length, take, slice_get, Option, None, Some, refl, sym, ap, subst, ◌∙◌, arith}
 use Rattle.std.specs.Prelude.{IfSome, option_map}
 use Rattle.std.proofs.lemmas.List.{length-append}
-use Rattle.plain_store.specs.declared.Answer.{Answer}
+use Rattle.plain_store.specs.{Answer, Caller, Command, Contents, Reply, Setup, changes, reply_to}
 use Rattle.plain_store.specs.declared.Answer.TheVariants as answer
-use Rattle.plain_store.specs.declared.Caller.{Caller}
-use Rattle.plain_store.specs.declared.Command.{Command}
-use Rattle.plain_store.specs.declared.Reply.{Reply}
-use Rattle.plain_store.specs.declared.Setup.{Setup}
-use Rattle.plain_store.specs.Store.{Contents, changes, reply_to}
-use Rattle.record.specs.declared.history.Taken.{Taken}
-use Rattle.record.specs.declared.stages.Stage.{Stage}
+use Rattle.record.specs.{IsAnswerTo, Placed, Stage, Taken, store_after}
 use Rattle.record.specs.declared.stages.Stage.TheVariants as stage
-use Rattle.record.specs.Headline.{IsAnswerTo}
-use Rattle.record.specs.Histories.{store_after}
-use Rattle.board.specs.Calls.{and_then, called}
-use Rattle.board.specs.Lists.{PlacedAsAnswered, StandsAt, StandsIn, caller_of, change_at, place_after, store_at}
-use Rattle.record.specs.declared.calls.Placed.{Placed}
+use Rattle.board.specs.{PlacedAsAnswered, StandsAt, StandsIn, and_then, called, caller_of, change_at, place_after, store_at}
 use Rattle.board.proofs.Stands.{ComesLast, behind_all, comes_last, last_is, stands_front, stands_longer, stands_push, store-longer}
 
 -- a stage in which no call is under way

@@ -2,15 +2,10 @@
 use Rattle.std.proofs.Common.{◌≡◌, ◌⊎◌, ℕ, zero, suc, ◌+◌, ◌<◌, ◌≤◌, Bool, true, false, cond, List, [], ◌∷◌, ◌++◌, length, slice_get, Option, None, Some, inl, inr, refl, sym, ap, subst, ◌∙◌, arith}
 use Rattle.std.proofs.lemmas.List.{length-append, take-append-le}
 use Rattle.std.proofs.lemmas.Option.{slice_get_within}
-use Rattle.plain_store.specs.declared.Caller.{Caller}
-use Rattle.plain_store.specs.declared.Setup.{Setup}
-use Rattle.plain_store.specs.Store.{Contents, changes, reply_to}
-use Rattle.record.specs.declared.history.Taken.{Taken}
-use Rattle.record.specs.Histories.{store_after}
+use Rattle.plain_store.specs.{Caller, Contents, Setup, changes, reply_to}
+use Rattle.record.specs.{Placed, Taken, store_after}
 use Rattle.record.proofs.Singles.{get-left}
-use Rattle.board.specs.Calls.{IsPrefix, and_then}
-use Rattle.board.specs.Lists.{PlacedAsAnswered, StandsAt, StandsIn, caller_of, place_after, store_at}
-use Rattle.record.specs.declared.calls.Placed.{Placed}
+use Rattle.board.specs.{IsPrefix, PlacedAsAnswered, StandsAt, StandsIn, and_then, caller_of, place_after, store_at}
 
 -- In a longer list.
 

@@ -1,13 +1,10 @@
 -- The seat of a port whose process is idle or down.
 use Rattle.std.proofs.Common.{◌≡◌, Bool, true, false, refl, sym, ◌∙◌, inl, inr, Option, Some, None}
-use Rattle.plain_store.specs.declared.Command.{Command}
-use Rattle.plain_store.specs.declared.Setup.{Setup}
+use Rattle.plain_store.specs.{Command, Setup}
 use Rattle.record.specs.declared.stages.Stage.TheVariants as stage
-use Rattle.process.specs.Places.{ProcessState}
+use Rattle.process.specs.{ProcessState}
 use Rattle.board.specs.declared.pending.Pending.{Pending}
-use Rattle.board.specs.Closings.{IsStill}
-use Rattle.board.specs.Ports.{IsTied, with_pending}
-use Rattle.board.specs.Views.{ViewState}
+use Rattle.board.specs.{IsStill, IsTied, ViewState, with_pending}
 use Rattle.board.proofs.Pendings.{down, settling}
 
 -- its process is still too, and what is pending, a restart at most, has left its calls

@@ -2,26 +2,15 @@
 use Rattle.std.proofs.Common.{◌≡◌, ℕ, Bool, true, false, refl, sym, ap, ◌∙◌, subst, Some, arith}
 use Rattle.std.specs.Prelude.{fold}
 use Rattle.atomic_table.specs.Table.{State, Me, Allows}
-use Rattle.record.specs.safe_bit.declared.Move.{Move}
+use Rattle.record.specs.safe_bit.{Move}
 use Rattle.record.specs.safe_bit.declared.Move.TheVariants.{BeginWrite, EndWrite, BeginRead, EndRead, Settle}
-use Rattle.record.specs.reader_copies.Written.{IsWrite}
-use Rattle.record.specs.declared.access.Access.{Access}
-use Rattle.plain_store.specs.declared.Setup.{Setup}
-use Rattle.record.specs.Stages.{stage_after}
-use Rattle.laws.specs.Held.{IsThere}
-use Rattle.laws.specs.Steps.{being_written, next_of}
-use Rattle.process.specs.Places.{ProcessState, marks_on, may_step, stepped}
-use Rattle.process.specs.Serving.{next_at}
-use Rattle.process.specs.Telling.{marks_told}
-use Rattle.process.specs.declared.told.StepTold.{StepTold}
-use Rattle.board.specs.Agreement.{Agree}
-use Rattle.board.specs.Calls.{calls_after}
+use Rattle.record.specs.reader_copies.{IsWrite}
+use Rattle.record.specs.{Access, stage_after}
+use Rattle.plain_store.specs.{Setup}
+use Rattle.laws.specs.{IsThere, being_written, next_of}
+use Rattle.process.specs.{ProcessState, StepTold, marks_on, marks_told, may_step, next_at, stepped}
+use Rattle.board.specs.{Agree, IsBetween, IsNext, IsTied, IsUnended, LeadsTo, Loads, OwnView, Stores, ViewState, calls_after, closed_word, events_of, loaded, nothing, process_at, stage_in, stored, with_pending, with_step, word_of}
 use Rattle.board.specs.declared.pending.Pending.{Pending}
-use Rattle.board.specs.Pending.{events_of, nothing}
-use Rattle.board.specs.Ports.{IsNext, IsTied, IsUnended, with_pending}
-use Rattle.board.specs.Views.{OwnView, ViewState, process_at, stage_in, with_step}
-use Rattle.board.specs.Words.{closed_word, loaded, stored, word_of}
-use Rattle.board.specs.WordSteps.{IsBetween, LeadsTo, Loads, Stores}
 use Rattle.board.proofs.Begins.{step_follows}
 use Rattle.board.proofs.Doings.{does_unended, may_go, next_goes, next_there}
 use Rattle.board.proofs.Happenings.{same_process_all}

@@ -2,18 +2,11 @@
 use Rattle.std.specs.Prelude.{◌≡◌, ◌⊎◌, ℕ, ◌<◌, ◌≤◌, ◌==◌, ◌&&◌, not, Bool, true, false, List, [], ◌∷◌, length, slice_index, None, Some, Ok}
 use mathlib.Core.Option.{some}
 use lib.ListN.{get_elem?}
-use Rattle.record.specs.safe_bit.declared.Move.{Move}
+use Rattle.record.specs.safe_bit.{Move}
 use Rattle.record.specs.safe_bit.declared.Move.TheVariants.{BeginRead, EndRead}
-use Rattle.record.specs.declared.access.Access.{Access}
-use Rattle.plain_store.specs.declared.Setup.{Setup}
-use Rattle.plain_store.specs.Setups.{checked}
-use Rattle.record.specs.declared.events.Event.{Event}
-use Rattle.record.specs.Entries.{Entry, Past, own}
-use Rattle.record.specs.Given.{AreGiven}
-use Rattle.record.specs.Moves.{same_bit}
-use Rattle.record.specs.Records.{past_of}
-use Rattle.laws.specs.Doings.{Doing, Rests, Lies, doing, is_inside}
-use Rattle.laws.specs.Held.{IsThere, cell_held}
+use Rattle.record.specs.{Access, AreGiven, Entry, Event, Past, own, past_of, same_bit}
+use Rattle.plain_store.specs.{Setup, checked}
+use Rattle.laws.specs.{Doing, IsThere, Lies, Rests, cell_held, doing, is_inside}
 use Rattle.board.specs.Calls.{IsPrefix, changes_of}
 use Rattle.board.specs.Views.{ViewState, own_view}
 use Rattle.board.specs.Words.{shown, word_of, words_in}

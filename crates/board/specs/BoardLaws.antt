@@ -3,30 +3,17 @@ use Rattle.std.specs.Prelude.{◌≡◌, ℕ, ◌+◌, ◌<◌, false, true, Lis
 use mathlib.Core.Option.{some}
 use lib.ListN.{get_elem?}
 use Rattle.record.specs.safe_bit.declared.Move.TheVariants.{BeginRead}
-use Rattle.record.specs.declared.access.Access.{Access}
-use Rattle.plain_store.specs.declared.Answer.{Answer}
+use Rattle.record.specs.{Access, EachPastGiven, Event, KeepsHeadlineThroughout, Past, Placed, Taken, count_changes, history, past_of, process_of, refused, stage, store_after}
+use Rattle.plain_store.specs.{Answer, Setup, Value, changes, checked, opening_store}
 use Rattle.plain_store.specs.declared.Answer.TheVariants as answer
 use Rattle.plain_store.specs.declared.Command.TheVariants.{Read, Write}
 use Rattle.plain_store.specs.declared.Reply.TheVariants as reply
-use Rattle.plain_store.specs.declared.Setup.{Setup}
-use Rattle.plain_store.specs.declared.Value.{Value}
-use Rattle.plain_store.specs.Setups.{checked, opening_store}
-use Rattle.plain_store.specs.Store.{changes}
-use Rattle.record.specs.declared.events.Event.{Event}
-use Rattle.record.specs.declared.history.Taken.{Taken}
-use Rattle.record.specs.Entries.{Past}
-use Rattle.record.specs.Given.{EachPastGiven}
-use Rattle.record.specs.Headline.{KeepsHeadlineThroughout, count_changes}
-use Rattle.record.specs.Histories.{history, store_after}
-use Rattle.record.specs.Records.{past_of, process_of, refused}
-use Rattle.record.specs.Stages.{stage}
-use Rattle.laws.specs.Held.{IsThere}
+use Rattle.laws.specs.{IsThere}
 use Rattle.board.specs.Agreement.{Agree, Shows, are_neighbours}
-use Rattle.process.specs.flicks.Flicks.{FlickState}
+use Rattle.process.specs.flicks.{FlickState}
 use Rattle.board.specs.Driving.{Drives}
 use Rattle.board.specs.declared.driving.Driven.{Driven}
 use Rattle.board.specs.Calls.{IsPrefix, and_then, calls_of, changes_of}
-use Rattle.record.specs.declared.calls.Placed.{Placed}
 use Rattle.board.specs.Lists.{StandsIn, store_at}
 use Rattle.board.specs.Views.{MayAllHappen, ViewState, refusal_in, stage_in, with_events}
 use Rattle.board.specs.Words.{bit_of, word_of, words_in}

@@ -2,14 +2,12 @@
 use Rattle.std.specs.Prelude.{◌≡◌, ◌≤◌, ℕ, suc, List, [], Ok, Some, true, length, slice_get, vec_capacity}
 use Rattle.std.specs.Global.{Vec}
 use Rattle.atomic_table.specs.Seated.{TableId}
-use Rattle.plain_store.specs.declared.Setup.{Setup}
-use Rattle.plain_store.specs.Setups.{checked}
-use Rattle.plain_store.specs.Store.{are_pairs}
+use Rattle.plain_store.specs.{Setup, are_pairs, checked}
 use Rattle.board.specs.declared.layout.WordLayout.{WordLayout}
 use Rattle.board.specs.Ports.{PortState}
 use Rattle.board.specs.Views.{new_own}
 use Rattle.board.specs.Words.{layout_of, words_in}
-use Rattle.record.specs.declared.calls.Placed.{Placed}
+use Rattle.record.specs.{Placed}
 
 -- the table of its words, and its setup
 pub record BoardState : Type 0 where

@@ -1,18 +1,10 @@
 -- The calls of a process, as its port lists them, and the changes of the store.
 use Rattle.std.specs.Prelude.{◌≡◌, ℕ, ◌==◌, cond, List, [], ◌∷◌, ◌++◌, fold, Option, None, Some, option_map}
-use Rattle.plain_store.specs.declared.Answer.{Answer}
-use Rattle.plain_store.specs.declared.Command.{Command}
-use Rattle.plain_store.specs.declared.Setup.{Setup}
-use Rattle.plain_store.specs.Setups.{opening_store}
-use Rattle.plain_store.specs.Store.{Contents, after, changes}
-use Rattle.record.specs.declared.history.Taken.{Taken}
-use Rattle.record.specs.declared.marks.Mark.{Mark}
+use Rattle.plain_store.specs.{Answer, Command, Contents, Setup, after, changes, opening_store}
+use Rattle.record.specs.{Mark, Past, Placed, Taken, history}
 use Rattle.record.specs.declared.marks.Mark.TheVariants.{Called, Answered, Down}
 use Rattle.record.specs.declared.marks.Mark.TheVariants as mark
-use Rattle.record.specs.Entries.{Past}
-use Rattle.record.specs.Histories.{history}
-use Rattle.history_laws.specs.Stamps.{changes_taken}
-use Rattle.record.specs.declared.calls.Placed.{Placed}
+use Rattle.history_laws.specs.{changes_taken}
 
 -- those of these commands, taken one after the other, that change the store
 abbrev pub changing : Contents → List Taken → List Taken

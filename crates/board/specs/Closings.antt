@@ -6,25 +6,13 @@ use Rattle.std.specs.Slots.{slots_items}
 use Rattle.std.specs.declared.alloc.Global.{Global}
 use Rattle.atomic_table.specs.declared.Closed.{Closed}
 use Rattle.atomic_table.specs.Seated.{TableId}
-use Rattle.record.specs.declared.access.Field.{Field}
+use Rattle.record.specs.{AreGiven, Event, Field, KeepsHeadlineThroughout, Placed, Taken, Version, bytes_of_bits, copy, image_bytes, image_field, lists_of, newest_process, past_of, processes, stamp_field, store_after, version_of, width}
 use Rattle.record.specs.declared.access.Field.TheVariants.{Commit}
-use Rattle.record.specs.safe_number.Bytes.{number_of_bits}
-use Rattle.plain_store.specs.declared.Setup.{Setup}
-use Rattle.plain_store.specs.Setups.{callers_of}
-use Rattle.plain_store.specs.Store.{Contents}
-use Rattle.store_image.specs.Reading.{store_in}
-use Rattle.record.specs.declared.events.Event.{Event}
-use Rattle.record.specs.declared.history.Taken.{Taken}
+use Rattle.record.specs.safe_number.{number_of_bits}
+use Rattle.plain_store.specs.{Contents, Setup, callers_of}
+use Rattle.store_image.specs.{store_in}
 use Rattle.record.specs.declared.stages.Stage.TheVariants.{Down, Idle}
-use Rattle.record.specs.CallLists.{lists_of}
-use Rattle.record.specs.Given.{AreGiven}
-use Rattle.record.specs.Headline.{KeepsHeadlineThroughout}
-use Rattle.record.specs.Histories.{store_after}
-use Rattle.record.specs.Newest.{copy}
-use Rattle.record.specs.Program.{Version, image_field, newest_process, stamp_field, version_of}
-use Rattle.record.specs.Records.{past_of}
-use Rattle.record.specs.Registers.{bytes_of_bits, image_bytes, processes, width}
-use Rattle.laws.specs.Doings.{doing}
+use Rattle.laws.specs.{doing}
 use Rattle.board.specs.Agreement.{IsIn, IsQuiet}
 use Rattle.board.specs.Boards.{BoardState, IsOf}
 use Rattle.board.specs.declared.closing.Closing.{Closing}
@@ -33,7 +21,6 @@ use Rattle.board.specs.Lists.{StandsIn}
 use Rattle.board.specs.Ports.{PortState}
 use Rattle.board.specs.Views.{OwnView, ViewState, stage_in}
 use Rattle.board.specs.Words.{word_of}
-use Rattle.record.specs.declared.calls.Placed.{Placed}
 
 -- the bits that words show of a register, by the copies of reader 0
 abbrev pub bits_shown : Setup → List ℕ → ℕ → Field → List Bool

@@ -1,11 +1,10 @@
 -- What a port knows of the place of its call, and what a word step tells its list.
 use Rattle.std.specs.Prelude.{◌≡◌, ℕ, Bool, true, false, length, fold, Option, Some}
-use Rattle.record.specs.Closings.{Settles}
-use Rattle.laws.specs.Doings.{Doing, Closes, is_inside}
-use Rattle.history_laws.specs.Stamps.{stamp_read}
-use Rattle.process.specs.declared.told.StepTold.{StepTold}
+use Rattle.record.specs.{Settles}
+use Rattle.laws.specs.{Doing, Closes, is_inside}
+use Rattle.history_laws.specs.{stamp_read}
+use Rattle.process.specs.{StepTold, marks_told}
 use Rattle.process.specs.declared.told.StepTold.TheVariants as told
-use Rattle.process.specs.Telling.{marks_told}
 use Rattle.board.specs.Calls.{Calls, calls_after}
 use Rattle.board.specs.Views.{ViewState}
 

@@ -1,20 +1,10 @@
 -- How the calls of a process stand in a list of changes: each one that was taken at its place, and the places in order.
 use Rattle.std.specs.Prelude.{◌≡◌, ℕ, ◌+◌, ◌<◌, ◌≤◌, ◌==◌, true, cond, List, length, take, slice_get, Option, None, Some}
-use Rattle.plain_store.specs.declared.Answer.{Answer}
+use Rattle.plain_store.specs.{Answer, Caller, Command, Contents, Reply, Setup, changes, reply_to}
 use Rattle.plain_store.specs.declared.Answer.TheVariants as answer
-use Rattle.plain_store.specs.declared.Caller.{Caller}
-use Rattle.plain_store.specs.declared.Command.{Command}
-use Rattle.plain_store.specs.declared.Reply.{Reply}
-use Rattle.plain_store.specs.declared.Setup.{Setup}
-use Rattle.plain_store.specs.Store.{Contents, changes, reply_to}
-use Rattle.record.specs.declared.events.Event.{Event}
-use Rattle.record.specs.declared.history.Taken.{Taken}
-use Rattle.record.specs.Given.{AreGiven}
-use Rattle.record.specs.Histories.{store_after}
-use Rattle.record.specs.Records.{past_of}
+use Rattle.record.specs.{AreGiven, Event, Placed, Taken, past_of, store_after}
 use Rattle.board.specs.Calls.{IsPrefix, and_then, changes_of}
 use Rattle.board.specs.Views.{ViewState}
-use Rattle.record.specs.declared.calls.Placed.{Placed}
 
 -- who makes call k of process p, counted from 0: in version 2 its number is k + 1, in version 1 it is 0
 abbrev pub caller_of : Setup → ℕ → ℕ → Caller

@@ -1,7 +1,7 @@
 -- What has happened to a process since the last word step of its port, as events.
 use Rattle.std.specs.Prelude.{ℕ, Bool, true, false, List, [], ◌∷◌, ◌++◌, Option, None, Some}
-use Rattle.plain_store.specs.declared.Command.{Command}
-use Rattle.record.specs.declared.events.Event.{Event}
+use Rattle.plain_store.specs.{Command}
+use Rattle.record.specs.{Event}
 use Rattle.record.specs.declared.events.Event.TheVariants as event
 use Rattle.board.specs.declared.pending.Pending.{Pending}
 

@@ -1,19 +1,12 @@
 -- What a port is to its callers, and what its fields keep.
 use Rattle.std.specs.Prelude.{◌≡◌, ◌⊎◌, ℕ, Bool, false, List, [], ◌∷◌, Option, Result, Ok, Err, None, Some}
 use Rattle.atomic_table.specs.Seated.{TableId}
-use Rattle.record.specs.declared.access.Access.{Access}
-use Rattle.plain_store.specs.declared.Command.{Command}
-use Rattle.plain_store.specs.declared.Setup.{Setup}
-use Rattle.record.specs.Closings.{Quit, Ended}
-use Rattle.record.specs.Parts.{is_over}
-use Rattle.record.specs.declared.calls.Placed.{Placed}
-use Rattle.record.specs.declared.events.Event.{Event}
+use Rattle.record.specs.{Access, Ended, Event, Placed, Quit, Refusal, is_over}
+use Rattle.plain_store.specs.{Command, Setup}
 use Rattle.record.specs.declared.events.Event.TheVariants.{Call}
-use Rattle.record.specs.declared.refusals.Refusal.{Refusal}
 use Rattle.record.specs.declared.refusals.Refusal.TheVariants.{Memory}
-use Rattle.laws.specs.Doings.{Doing, Runs, Closes}
-use Rattle.laws.specs.Steps.{next_of}
-use Rattle.process.specs.Places.{ProcessState}
+use Rattle.laws.specs.{Closes, Doing, Runs, next_of}
+use Rattle.process.specs.{ProcessState}
 use Rattle.board.specs.declared.pending.Pending.{Pending}
 use Rattle.board.specs.Calls.{Calls}
 use Rattle.board.specs.Listing.{KnowsPlace}

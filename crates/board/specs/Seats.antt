@@ -4,11 +4,10 @@ use Rattle.atomic_table.specs.declared.Seat.{Seat}
 use Rattle.atomic_table.specs.Seated.{TableId}
 use Rattle.atomic_table.specs.Table.{Allows, State}
 use Rattle.record.specs.safe_bit.declared.Move.TheVariants.{BeginRead}
-use Rattle.record.specs.declared.access.Access.{Access}
-use Rattle.record.specs.reader_copies.Written.{IsWrite}
-use Rattle.plain_store.specs.declared.Setup.{Setup}
-use Rattle.process.specs.Places.{ProcessState}
-use Rattle.process.specs.declared.told.StepTold.{StepTold}
+use Rattle.record.specs.{Access}
+use Rattle.record.specs.reader_copies.{IsWrite}
+use Rattle.plain_store.specs.{Setup}
+use Rattle.process.specs.{ProcessState, StepTold}
 use Rattle.board.specs.Agreement.{Agree}
 use Rattle.board.specs.declared.pending.Pending.{Pending}
 use Rattle.board.specs.Listing.{KnowsPlace, Lists}

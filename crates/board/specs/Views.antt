@@ -1,27 +1,13 @@
 -- The view of a seat: what it knows of its process, and what an event of that process makes of it.
 use Rattle.std.specs.Prelude.{◌≡◌, ℕ, ◌+◌, ◌==◌, Bool, true, false, cond, List, [], ◌∷◌, fold, map, Option, None, option_map}
-use Rattle.plain_store.specs.declared.Command.{Command}
+use Rattle.plain_store.specs.{Command, Setup}
 use Rattle.plain_store.specs.declared.Command.TheVariants.{Ask}
-use Rattle.plain_store.specs.declared.Setup.{Setup}
-use Rattle.record.specs.declared.events.Event.{Event}
+use Rattle.record.specs.{Entry, Event, Mark, Past, Raises, Refusal, Stage, Taken, call_number, ended_with, enter, has, is_called, is_event, last_command, own, placed, process_of, withdrawing}
 use Rattle.record.specs.declared.events.Event.TheVariants as event
-use Rattle.record.specs.declared.history.Taken.{Taken}
-use Rattle.record.specs.declared.marks.Mark.{Mark}
 use Rattle.record.specs.declared.marks.Mark.TheVariants.{Called, Failed, Withdrew, Restarted}
-use Rattle.record.specs.declared.refusals.Refusal.{Refusal}
-use Rattle.record.specs.declared.stages.Stage.{Stage}
-use Rattle.record.specs.Calls.{last_command, call_number}
-use Rattle.record.specs.Closings.{withdrawing}
-use Rattle.record.specs.Entries.{Entry, Past, has, is_called, own}
-use Rattle.record.specs.Given.{is_event}
-use Rattle.record.specs.Moves.{ended_with}
-use Rattle.record.specs.Parts.{Raises}
-use Rattle.record.specs.Places.{enter}
-use Rattle.record.specs.Records.{placed, process_of}
-use Rattle.laws.specs.Doings.{Doing, Rests, Runs, Closes, call, doing}
-use Rattle.laws.specs.Steps.{cut_of, does_then, marks_with, next_of}
-use Rattle.process.specs.Places.{ProcessState, next_number, refusal_of, stage_doing}
-use Rattle.history_laws.specs.Stamps.{changes_taken}
+use Rattle.laws.specs.{Closes, Doing, Rests, Runs, call, cut_of, does_then, doing, marks_with, next_of}
+use Rattle.process.specs.{ProcessState, next_number, refusal_of, stage_doing}
+use Rattle.history_laws.specs.{changes_taken}
 use Rattle.board.specs.Calls.{Calls, calls_after, calls_of, no_calls}
 
 -- an entry, with this as the place of what it takes

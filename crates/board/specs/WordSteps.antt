@@ -1,20 +1,15 @@
 -- What a word step of a port is: the next access of its process, or of that one's memory unit; of a read, begin and end.
 use Rattle.std.specs.Prelude.{◌≡◌, ◌⊎◌, ℕ, Bool, true, false, List, [], length, None, Some, fold}
 use Rattle.record.specs.safe_bit.declared.Move.TheVariants.{BeginRead, BeginWrite, EndRead, EndWrite}
-use Rattle.record.specs.safe_bit.declared.Move.{Move}
-use Rattle.record.specs.declared.access.Access.{Access}
-use Rattle.record.specs.reader_copies.Written.{IsWrite}
-use Rattle.plain_store.specs.declared.Setup.{Setup}
-use Rattle.record.specs.declared.history.Taken.{Taken}
+use Rattle.record.specs.safe_bit.{Move}
+use Rattle.record.specs.{Access, Stage, Taken, reply_taken, stage_after}
+use Rattle.record.specs.reader_copies.{IsWrite}
+use Rattle.plain_store.specs.{Setup}
 use Rattle.record.specs.declared.marks.Mark.TheVariants.{Answered, Down}
-use Rattle.record.specs.declared.stages.Stage.{Stage}
 use Rattle.record.specs.declared.stages.Stage.TheVariants as stage
-use Rattle.record.specs.Histories.{reply_taken}
-use Rattle.record.specs.Stages.{stage_after}
-use Rattle.laws.specs.Doings.{is_inside}
-use Rattle.laws.specs.Steps.{IsCallOf, IsLive, IsReached, being_written, marks_with, next_of}
-use Rattle.history_laws.specs.Stamps.{stamp_read}
-use Rattle.process.specs.declared.told.StepTold.{StepTold}
+use Rattle.laws.specs.{IsCallOf, IsLive, IsReached, being_written, is_inside, marks_with, next_of}
+use Rattle.history_laws.specs.{stamp_read}
+use Rattle.process.specs.{StepTold}
 use Rattle.process.specs.declared.told.StepTold.TheVariants as told
 use Rattle.board.specs.Calls.{IsPrefix, calls_after}
 use Rattle.board.specs.Lists.{StandsInSeen}

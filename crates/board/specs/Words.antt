@@ -1,14 +1,11 @@
 -- The words of a board: one for each single-reader bit of each register, and what it shows of that bit.
 use Rattle.std.specs.Prelude.{◌≡◌, ◌<◌, slice_index, ℕ, ◌+◌, ◌-◌, ◌*◌, ◌/◌, ◌%◌, ◌==◌, nat_lt, Bool, true, false, cond, List, [], ◌∷◌, map, take}
 use Rattle.record.specs.safe_bit.Cell.{Cell}
-use Rattle.record.specs.safe_bit.declared.Move.{Move}
+use Rattle.record.specs.safe_bit.{Move}
 use Rattle.record.specs.safe_bit.declared.Move.TheVariants.{BeginWrite, EndWrite, BeginRead, EndRead, Settle}
-use Rattle.record.specs.declared.access.Access.{Access}
-use Rattle.record.specs.declared.access.Field.{Field}
+use Rattle.record.specs.{Access, Field, field_number, opening_bit, width}
 use Rattle.record.specs.declared.access.Field.TheVariants.{Choosing, Ticket, Commit, Stamp0, Stamp1, Image0, Image1}
-use Rattle.plain_store.specs.declared.Setup.{Setup}
-use Rattle.record.specs.Moves.{field_number}
-use Rattle.record.specs.Registers.{opening_bit, width}
+use Rattle.plain_store.specs.{Setup}
 use Rattle.board.specs.declared.layout.WordLayout.{WordLayout}
 
 -- the registers of an owner, in order

@@ -2,7 +2,7 @@
 ghost use Rattle.std.specs.Prelude.{◌≡◌, ◌+◌, ◌<◌, Ok, IfOk, OnOk, [], vec_len};
 ghost use Rattle.board.specs.Seats.{IsSeated};
 ghost use Rattle.board.specs.Views.{first_view};
-ghost use Rattle.plain_store.specs.Setups.{checked};
+ghost use Rattle.plain_store.specs.{checked};
 
 use crate::layout::WordLayout;
 use crate::opening::opening_words;

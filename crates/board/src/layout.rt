@@ -1,7 +1,7 @@
 //! Where the words of a board's bits lie, worked out once, since each word step asks it.
 ghost use Rattle.std.specs.Prelude.{◌≡◌, ◌<◌, Ok};
-ghost use Rattle.plain_store.specs.Setups.{checked};
-ghost use Rattle.record.specs.Moves.{field_number};
+ghost use Rattle.plain_store.specs.{checked};
+ghost use Rattle.record.specs.{field_number};
 ghost use Rattle.board.specs.Words.{first_bit, layout_of, word_of};
 
 use crate::words::{first_bit, row_bits};

@@ -1,8 +1,8 @@
 //! What the words of a board open at: each at its bit's opening value.
 ghost use Rattle.std.specs.Prelude.{◌≡◌, ◌*◌, ◌<◌, Ok, IfOk, vec_len};
-ghost use Rattle.record.specs.safe_number.Bytes.{bit_in};
-ghost use Rattle.plain_store.specs.Setups.{checked, opening_store};
-ghost use Rattle.store_image.specs.Image.{image_of};
+ghost use Rattle.record.specs.safe_number.{bit_in};
+ghost use Rattle.plain_store.specs.{checked, opening_store};
+ghost use Rattle.store_image.specs.{image_of};
 ghost use Rattle.board.specs.Words.{AreOpening, opening_word, row_bits, words_in};
 
 use crate::words::{bit_of, row_bits, words_in};

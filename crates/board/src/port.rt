@@ -1,7 +1,7 @@
 //! Ports, each of which runs one process.
 ghost use Rattle.std.specs.Prelude.{◌≡◌, ◌↔◌, IsTrue, ℕ, OnErr, OnOk, true, []};
-ghost use Rattle.plain_store.specs.Store.{are_pairs};
-ghost use Rattle.process.specs.Places.{process_after};
+ghost use Rattle.plain_store.specs.{are_pairs};
+ghost use Rattle.process.specs.{process_after};
 ghost use Rattle.record.specs.declared.Event.TheVariants.{Fail, Restart, Withdraw};
 ghost use Rattle.board.specs.Boards.{IsOf};
 ghost use Rattle.board.specs.Closings.{IsSeatOf, IsStill, StandsInRecord};

@@ -1,6 +1,6 @@
 //! The rule of the table, and what its steps tell.
 ghost use Rattle.std.specs.Prelude.{Bool};
-ghost use Rattle.plain_store.specs.declared.Setup.{Setup};
+ghost use Rattle.plain_store.specs.{Setup};
 ghost use Rattle.board.specs.Views.{ViewState};
 
 use atomic_table::{Join, Play, Split, TableRule};

@@ -1,10 +1,9 @@
 //! The image that the words of a board show, off the copies of reader 0.
 ghost use Rattle.std.specs.Prelude.{◌≡◌, ◌+◌, ◌*◌, ◌<◌, ◌≤◌, length, take, Ok};
 ghost use Rattle.std.specs.Slots.{slots_len, IsFull};
-ghost use Rattle.store_image.specs.Reading.{store_in};
-ghost use Rattle.plain_store.specs.Setups.{callers_of, checked};
-ghost use Rattle.record.specs.Program.{newest_process, newest_stamp, version_of};
-ghost use Rattle.record.specs.Registers.{image_bytes, width};
+ghost use Rattle.store_image.specs.{store_in};
+ghost use Rattle.plain_store.specs.{callers_of, checked};
+ghost use Rattle.record.specs.{image_bytes, newest_process, newest_stamp, version_of, width};
 ghost use Rattle.board.specs.Closings.{bit_shown, bytes_of, number_shown, store_shown, version_shown, versions_shown, words_of};
 ghost use Rattle.board.specs.Words.{words_in};
 

@@ -1,7 +1,7 @@
 //! One word step of a port: a load or a store of one word.
 ghost use Rattle.std.specs.Prelude.{◌≡◌, ◌<◌, Bool, true};
-ghost use Rattle.record.specs.reader_copies.Written.{IsWrite};
-ghost use Rattle.process.specs.Places.{may_step};
+ghost use Rattle.record.specs.reader_copies.{IsWrite};
+ghost use Rattle.process.specs.{may_step};
 ghost use Rattle.board.specs.Lists.{StandsInSeen};
 ghost use Rattle.board.specs.Pending.{nothing};
 ghost use Rattle.board.specs.Ports.{IsTied};

@@ -1,8 +1,8 @@
 //! Which word stands for which single-reader bit: the words go by the owner of the bit, then by its reader, then by the
 //! bits of the owner's registers in order. So a read of a register is of words that lie side by side.
 ghost use Rattle.std.specs.Prelude.{◌≡◌, ◌+◌, ◌<◌, ◌≤◌, Ok};
-ghost use Rattle.plain_store.specs.Setups.{checked};
-ghost use Rattle.record.specs.Registers.{width};
+ghost use Rattle.plain_store.specs.{checked};
+ghost use Rattle.record.specs.{width};
 ghost use Rattle.board.specs.Words.{bit_of, first_bit, row_bits, words_in};
 
 use plain_store::Setup;

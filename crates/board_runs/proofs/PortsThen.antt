@@ -3,9 +3,7 @@ use Rattle.std.proofs.Common.{◌≡◌, ◌<◌, ◌≤◌, ℕ, zero, suc, Lis
 use Rattle.std.specs.Prelude.{slice_get}
 use Rattle.std.proofs.lemmas.List.{length-set}
 use Rattle.std.proofs.lemmas.Option.{get_or_from_slice_get, slice_get-get_or, slice_get_within}
-use Rattle.board.specs.Boards.{BoardState, IsOf}
-use Rattle.board.specs.Closings.{AreFirstPortsOf}
-use Rattle.board.specs.Ports.{PortState, SamePort}
+use Rattle.board.specs.{AreFirstPortsOf, BoardState, IsOf, PortState, SamePort}
 
 -- port k of a board
 abbrev pub IsPort : BoardState → ℕ → PortState → Type 0

@@ -1,6 +1,5 @@
 //! What a port does at a line of a scenario.
-ghost use Rattle.board.specs.Boards.{IsOf};
-ghost use Rattle.board.specs.Ports.{SamePort};
+ghost use Rattle.board.specs.{IsOf, SamePort};
 
 use board::{Board, Driven, Port};
 use flicks::Flicks;

@@ -1,9 +1,7 @@
 //! The ports of a board that carry out the lines of a scenario, by turns on one thread, or each on a thread of its own.
 ghost use Rattle.std.specs.Prelude.{◌≡◌, Ok, IfOk};
-ghost use Rattle.board.specs.Boards.{ArePortsOf, IsOf};
-ghost use Rattle.board.specs.Closings.{AreFirstPortsOf};
-ghost use Rattle.board.specs.Ports.{SamePort};
-ghost use Rattle.plain_store.specs.Setups.{checked};
+ghost use Rattle.board.specs.{AreFirstPortsOf, ArePortsOf, IsOf, SamePort};
+ghost use Rattle.plain_store.specs.{checked};
 
 use crate::left::Left;
 use crate::lines::{carry_out, process_of, set_flicks};

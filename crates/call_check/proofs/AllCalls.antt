@@ -6,12 +6,9 @@ use Rattle.std.proofs.lemmas.List.Elements.{All-append, All-cons, All-head, All-
 use Rattle.std.proofs.lemmas.Option.{slice_get_read, slice_get_within}
 use Rattle.std.specs.Global.{Vec}
 use Rattle.std.specs.List.{slice_get}
-use Rattle.plain_store.specs.declared.Setup.{Setup}
-use Rattle.call_check.specs.declared.calls.Call.{Call}
-use Rattle.record.specs.declared.calls.Placed.{Placed}
-use Rattle.call_check.specs.Following.{AreFew, ArePart, IsFew}
-use Rattle.record.specs.CallLists.{lists_of}
-use Rattle.call_check.specs.Weighing.{all_calls, all_calls_from, calls_from}
+use Rattle.plain_store.specs.{Setup}
+use Rattle.call_check.specs.{AreFew, ArePart, Call, IsFew, all_calls, all_calls_from, calls_from}
+use Rattle.record.specs.{Placed, lists_of}
 use Rattle.call_check.proofs.Followed.{from_some, none_some}
 use Rattle.call_check.proofs.Places.{get_back, get_front}
 

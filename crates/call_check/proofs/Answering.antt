@@ -2,15 +2,10 @@
 use Rattle.std.proofs.Common.{◌≡◌, ◌⊎◌, inl, inr, ℕ, ◌≤◌, true, false, List, [], ◌∷◌, ◌++◌, length, Option, Some, None, refl, sym, ap, subst, ◌∙◌, arith, eqb-true}
 use Rattle.std.specs.List.{All}
 use Rattle.std.proofs.lemmas.List.Elements.{All-head, All-tail}
-use Rattle.plain_store.specs.declared.Answer.{Answer}
+use Rattle.plain_store.specs.{Answer, Contents, Setup, after, changes}
 use Rattle.plain_store.specs.declared.Answer.TheVariants.{Reply, TicketsFull, StampsFull, Withdrawn}
 use Rattle.plain_store.specs.declared.Reply.{Reply as AReply}
-use Rattle.plain_store.specs.declared.Setup.{Setup}
-use Rattle.plain_store.specs.Store.{Contents, after, changes}
-use Rattle.call_check.specs.declared.calls.Call.{Call}
-use Rattle.call_check.specs.OneHistory.{AreAnsweredFrom, IsAnsweredBy}
-use Rattle.call_check.specs.SaidOverLists.{fits_place, store_through}
-use Rattle.call_check.specs.Weighing.{caller_of, is_place}
+use Rattle.call_check.specs.{AreAnsweredFrom, Call, IsAnsweredBy, caller_of, fits_place, is_place, store_through}
 use Rattle.call_check.proofs.Quiet.{quiet_leaves}
 
 -- the place that a test finds

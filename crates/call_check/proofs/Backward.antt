@@ -5,12 +5,9 @@ use Rattle.std.proofs.lemmas.Bool.{ltb-true}
 use Rattle.std.proofs.lemmas.List.{get_or-take, length-take}
 use Rattle.std.proofs.lemmas.List.Folds.{Any-from_list_any}
 use Rattle.std.proofs.lemmas.Option.{get_or_from_slice_get, slice_get_within}
-use Rattle.plain_store.specs.declared.Setup.{Setup}
-use Rattle.plain_store.specs.Store.{Contents, changes, reply_to}
-use Rattle.call_check.specs.declared.calls.Call.{Call}
-use Rattle.record.specs.declared.calls.Placed.{Placed}
-use Rattle.call_check.specs.SaidOverLists.{ComesBefore, AreGood, IsOfItsStore, fits_place, is_change, number_of_changes, store_below}
-use Rattle.call_check.specs.Weighing.{IsBad, above, several, falling, wrong_reply, without_place, with_place, HasWrongReply, IsEnd, NoneIsBad, all_calls, caller_of, changes_at, falls, is_above, is_past, is_place, store_at}
+use Rattle.plain_store.specs.{Contents, Setup, changes, reply_to}
+use Rattle.call_check.specs.{AreGood, Call, ComesBefore, HasWrongReply, IsBad, IsEnd, IsOfItsStore, NoneIsBad, above, all_calls, caller_of, changes_at, falling, falls, fits_place, is_above, is_change, is_past, is_place, number_of_changes, several, store_at, store_below, with_place, without_place, wrong_reply}
+use Rattle.record.specs.{Placed}
 use Rattle.call_check.proofs.Orders.{change_is, falls_is, fits_other, fits_reply, order_to, past_is}
 use Rattle.call_check.proofs.Positions.{call_of, call_at}
 use Rattle.call_check.proofs.StoresInTurn.{ends_there, stores_there}

@@ -1,16 +1,8 @@
 -- Who calls: to a store of version 1 all callers are the same.
 use Rattle.std.proofs.Common.{◌≡◌, ℕ, ◌+◌, true, false, if◌then◌else◌, ◌==◌, nat_lt, List, length, slice_index, slice_set, sym, ap, ◌∙◌, arith}
 use Rattle.std.proofs.lemmas.List.{get_or_past, set_past}
-use Rattle.plain_store.specs.declared.Caller.{Caller}
-use Rattle.plain_store.specs.declared.Command.{Command}
-use Rattle.plain_store.specs.declared.Setup.{Setup}
-use Rattle.plain_store.specs.Commands.{name_of}
-use Rattle.plain_store.specs.Outcomes.{outcome}
-use Rattle.plain_store.specs.Setups.{callers_of}
-use Rattle.plain_store.specs.Store.{Contents, after, changes, pairs_after, reply_to, value_for}
-use Rattle.call_check.specs.declared.calls.Call.{Call}
-use Rattle.call_check.specs.Following.{IsCaller}
-use Rattle.call_check.specs.Weighing.{caller_of}
+use Rattle.plain_store.specs.{Caller, Command, Contents, Setup, after, callers_of, changes, name_of, outcome, pairs_after, reply_to, value_for}
+use Rattle.call_check.specs.{Call, IsCaller, caller_of}
 
 -- numbers that are not there read the same, and take no writing
 same_read : (numbers : List ℕ) (p q : ℕ) → length numbers ≡ 0 → slice_index numbers p ≡ slice_index numbers q

@@ -4,11 +4,8 @@ use Rattle.std.specs.List.{All, filter}
 use Rattle.std.proofs.lemmas.Bool.{eqb-false}
 use Rattle.std.proofs.lemmas.Bool.Decides.{nat_tests}
 use Rattle.std.proofs.lemmas.List.Elements.{All-head, All-tail}
-use Rattle.plain_store.specs.declared.Setup.{Setup}
-use Rattle.plain_store.specs.Store.{changes}
-use Rattle.call_check.specs.declared.calls.Call.{Call}
-use Rattle.call_check.specs.SaidOverLists.{is_change, is_change_from, number_of_changes, store_below}
-use Rattle.call_check.specs.Weighing.{changes_at, is_place}
+use Rattle.plain_store.specs.{Setup, changes}
+use Rattle.call_check.specs.{Call, changes_at, is_change, is_change_from, is_place, number_of_changes, store_below}
 use Rattle.call_check.proofs.InPlaces.{place_is, place_is_none}
 
 -- one filter behind another

@@ -7,16 +7,10 @@ use Rattle.std.proofs.lemmas.Option.{slice_get-map, slice_get_read, slice_get_wi
 use Rattle.std.specs.Global.{Vec}
 use Rattle.std.specs.List.{slice_get}
 use Rattle.std.specs.Option.{option_map}
-use Rattle.plain_store.specs.declared.Setup.{Setup}
-use Rattle.plain_store.specs.Setups.{checked}
-use Rattle.plain_store.specs.Store.{Contents}
+use Rattle.plain_store.specs.{Contents, Setup, checked}
 use Rattle.plain_store.proofs.GoodSetups.{few-processes, good-checked}
-use Rattle.record.specs.declared.calls.Placed.{Placed}
-use Rattle.call_check.specs.declared.notes.Note.{Note}
-use Rattle.call_check.specs.declared.verdicts.Weighed.{Weighed}
-use Rattle.call_check.specs.Following.{AreFew, IsFollowed}
-use Rattle.record.specs.CallLists.{lists_of}
-use Rattle.call_check.specs.Weighing.{IsBadAt, IsBadIn, IsLowestBad, IsVerdict, IsWeighed, NoneIsBad, all_calls}
+use Rattle.record.specs.{Placed, lists_of}
+use Rattle.call_check.specs.{AreFew, IsBadAt, IsBadIn, IsFollowed, IsLowestBad, IsVerdict, IsWeighed, NoneIsBad, Note, Weighed, all_calls}
 use Rattle.call_check.proofs.Followed.{from_some}
 use Rattle.call_check.proofs.AllCalls.{all_few}
 

@@ -2,13 +2,8 @@
 use Rattle.std.proofs.Common.{◌≡◌, ℕ, zero, suc, ◌+◌, ◌≤◌, cond, set, Bool, true, false, if◌then◌else◌, ◌==◌, nat_lt, List, [], ◌∷◌, length, filter, Option, None, Some, refl, sym, ap, subst, ◌∙◌, arith}
 use Rattle.std.proofs.lemmas.List.{length-replicate, length-set}
 use Rattle.std.proofs.lemmas.Bool.Decides.{nat_tests}
-use Rattle.plain_store.specs.declared.Caller.{Caller}
-use Rattle.plain_store.specs.declared.Command.{Command}
-use Rattle.plain_store.specs.declared.Setup.{Setup}
-use Rattle.plain_store.specs.Setups.{callers_of, opening_store}
-use Rattle.plain_store.specs.Store.{Contents, after, changes}
-use Rattle.call_check.specs.declared.calls.Call.{Call}
-use Rattle.call_check.specs.Weighing.{after_one, caller_of, calls_at, changes_at, is_place, store_after, store_at}
+use Rattle.plain_store.specs.{Caller, Command, Contents, Setup, after, callers_of, changes, opening_store}
+use Rattle.call_check.specs.{Call, after_one, caller_of, calls_at, changes_at, is_place, store_after, store_at}
 
 -- the callers stay as many
 

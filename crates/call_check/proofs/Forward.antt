@@ -3,12 +3,9 @@ use Rattle.std.proofs.Common.{◌≡◌, ◌≢◌, ℕ, suc, ◌<◌, ◌≤◌
 use Rattle.std.specs.List.{All, AllPairs, slice_get, slice_index_or}
 use Rattle.std.proofs.lemmas.Bool.{eqb-false}
 use Rattle.std.proofs.lemmas.Option.{slice_get-get_or}
-use Rattle.plain_store.specs.declared.Setup.{Setup}
-use Rattle.plain_store.specs.Store.{Contents, reply_to}
-use Rattle.call_check.specs.declared.calls.Call.{Call}
-use Rattle.record.specs.declared.calls.Placed.{Placed}
-use Rattle.call_check.specs.SaidOverLists.{ComesBefore, AreGood, IsOfItsStore, fits_place, is_change, number_of_changes, store_below}
-use Rattle.call_check.specs.Weighing.{IsBad, above, several, falling, wrong_reply, without_place, with_place, IsEnd, NoneIsBad, all_calls, caller_of, changes_at, is_one_of_several, is_past, store_at}
+use Rattle.plain_store.specs.{Contents, Setup, reply_to}
+use Rattle.call_check.specs.{AreGood, Call, ComesBefore, IsBad, IsEnd, IsOfItsStore, NoneIsBad, above, all_calls, caller_of, changes_at, falling, fits_place, is_change, is_one_of_several, is_past, number_of_changes, several, store_at, store_below, with_place, without_place, wrong_reply}
+use Rattle.record.specs.{Placed}
 use Rattle.call_check.proofs.Counting.{none_above, number_is}
 use Rattle.call_check.proofs.Orders.{any_before, change_is, falls_is, fits_from, is_above-from, not_below, order_from, past_is}
 use Rattle.call_check.proofs.Positions.{call_of, each_call}

@@ -3,15 +3,10 @@ use Rattle.std.proofs.Common.{◌≡◌, ℕ, zero, suc, ◌<◌, ◌≤◌, ◌
 use Rattle.std.specs.List.{All, filter, flat_map, slice_index_or}
 use Rattle.std.proofs.lemmas.Bool.Decides.{nat_tests}
 use Rattle.std.proofs.lemmas.List.Elements.{All-cons, All-filter, All-head, All-nil, All-tail, filter_passes}
-use Rattle.plain_store.specs.declared.Setup.{Setup}
-use Rattle.plain_store.specs.Setups.{opening_store}
-use Rattle.plain_store.specs.Store.{Contents, changes, reply_to}
-use Rattle.store_image.specs.Image.{image_of}
-use Rattle.call_check.specs.declared.calls.Call.{Call}
-use Rattle.record.specs.declared.calls.Placed.{Placed}
-use Rattle.call_check.specs.OneHistory.{AreAnsweredFrom, GoodIsOneHistory, IsAnsweredBy, IsHistoryOf, call_lists}
-use Rattle.call_check.specs.SaidOverLists.{AreGood, IsImageAfter, IsOfItsStore, fits_place, number_of_changes, store_below, store_through}
-use Rattle.call_check.specs.Weighing.{all_calls, caller_of, changes_at, is_place}
+use Rattle.plain_store.specs.{Contents, Setup, changes, opening_store, reply_to}
+use Rattle.store_image.specs.{image_of}
+use Rattle.call_check.specs.{AreAnsweredFrom, AreGood, Call, GoodIsOneHistory, IsAnsweredBy, IsHistoryOf, IsImageAfter, IsOfItsStore, all_calls, call_lists, caller_of, changes_at, fits_place, is_place, number_of_changes, store_below, store_through}
+use Rattle.record.specs.{Placed}
 use Rattle.call_check.proofs.Answering.{answered_append, answered_from, one_answered, place_from, quiet_answered, quiet_through, through_append}
 use Rattle.call_check.proofs.Counting.{changing_is, changing_of}
 use Rattle.call_check.proofs.SecondReading.{good_is_said}

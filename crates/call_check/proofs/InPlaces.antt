@@ -3,8 +3,7 @@ use Rattle.std.proofs.Common.{◌≡◌, ◌≢◌, ℕ, zero, suc, ◌<◌, ◌
 use Rattle.std.specs.List.{filter, flat_map}
 use Rattle.std.proofs.lemmas.Bool.{eqb-false}
 use Rattle.std.proofs.lemmas.Bool.Decides.{nat_tests}
-use Rattle.call_check.specs.Merges.{IsMerge, of_none, of_more, over}
-use Rattle.call_check.specs.Weighing.{is_place}
+use Rattle.call_check.specs.{IsMerge, is_place, of_more, of_none, over}
 use Rattle.call_check.proofs.Merging.{in_turn, merge_append}
 
 -- a change stands below all that comes later

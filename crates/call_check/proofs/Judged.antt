@@ -8,13 +8,9 @@ use Rattle.std.proofs.lemmas.List.Folds.{list_any-append}
 use Rattle.std.proofs.lemmas.Option.{slice_get_read, slice_get_within}
 use Rattle.std.specs.List.{slice_get}
 use Rattle.std.specs.Prelude.{nat_le, nat_lt}
-use Rattle.plain_store.specs.declared.Setup.{Setup}
-use Rattle.plain_store.specs.Store.{Contents}
-use Rattle.call_check.specs.declared.calls.Call.{Call}
-use Rattle.record.specs.declared.calls.Placed.{Placed}
-use Rattle.call_check.specs.declared.notes.Note.{Note}
-use Rattle.call_check.specs.Following.{ArePart, IsFollowed, IsJudged, IsLeast, IsNote}
-use Rattle.call_check.specs.Weighing.{HasWrongReply, IsBad, IsBadIn, above, several, falling, wrong_reply, without_place, with_place, falls, is_above, is_one_of_several, is_other_with_place, is_past, is_reply_without_place}
+use Rattle.plain_store.specs.{Contents, Setup}
+use Rattle.call_check.specs.{ArePart, Call, HasWrongReply, IsBad, IsBadIn, IsFollowed, IsJudged, IsLeast, IsNote, Note, above, falling, falls, is_above, is_one_of_several, is_other_with_place, is_past, is_reply_without_place, several, with_place, without_place, wrong_reply}
+use Rattle.record.specs.{Placed}
 use Rattle.call_check.proofs.Followed.{from_some}
 
 -- where nothing else is bad, a call is bad that has another answer and a place

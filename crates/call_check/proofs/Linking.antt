@@ -3,9 +3,7 @@ use Rattle.std.proofs.Common.{◌≡◌, ◌≢◌, ℕ, zero, suc, ◌+◌, ◌
 use Rattle.std.proofs.lemmas.Bool.{cases_lt}
 use Rattle.std.proofs.lemmas.Option.{slice_get_within}
 use Rattle.std.specs.List.{slice_get}
-use Rattle.call_check.specs.declared.calls.Call.{Call}
-use Rattle.call_check.specs.declared.chains.Link.{Link}
-use Rattle.call_check.specs.Following.{AreChains, AreNothing, IsLast, IsLink}
+use Rattle.call_check.specs.{AreChains, AreNothing, Call, IsLast, IsLink, Link}
 use Rattle.call_check.proofs.Followed.{from_some, none_some}
 use Rattle.call_check.proofs.Places.{get_push_new, get_push_old, get_set_other, get_set_same, same_or_not}
 

@@ -2,13 +2,9 @@
 use Rattle.std.proofs.Common.{◌≡◌, ℕ, zero, suc, ◌<◌, ◌≤◌, Bool, true, false, List, [], ◌∷◌, Option, Some, None, refl, ap, subst, arith}
 use Rattle.std.specs.List.{All, AllPairs, filter, flat_map}
 use Rattle.std.proofs.lemmas.List.Elements.{All-head, All-tail, filter-append}
-use Rattle.plain_store.specs.declared.Setup.{Setup}
-use Rattle.plain_store.specs.Store.{changes}
-use Rattle.call_check.specs.declared.calls.Call.{Call}
-use Rattle.record.specs.declared.calls.Placed.{Placed}
-use Rattle.call_check.specs.OneHistory.{call_lists_from}
-use Rattle.call_check.specs.SaidOverLists.{ComesBefore, is_change_from, store_below}
-use Rattle.call_check.specs.Weighing.{all_calls_from, calls_from}
+use Rattle.plain_store.specs.{Setup, changes}
+use Rattle.call_check.specs.{Call, ComesBefore, all_calls_from, call_lists_from, calls_from, is_change_from, store_below}
+use Rattle.record.specs.{Placed}
 use Rattle.call_check.proofs.InPlaces.{AreAbove, AreBelow, AreInOrder, AreSorted, least_after}
 use Rattle.call_check.proofs.Positions.{All-front, All-rest}
 

@@ -1,7 +1,7 @@
 -- How merges are made.
 use Rattle.std.proofs.Common.{List, [], ◌∷◌, ◌++◌, map}
 use Rattle.std.specs.List.{flat_map}
-use Rattle.call_check.specs.Merges.{IsMergeOfTwo, over, of_first, of_second, IsMerge, of_none, of_more}
+use Rattle.call_check.specs.{IsMergeOfTwo, over, of_first, of_second, IsMerge, of_none, of_more}
 
 -- two merges, one behind the other
 pub two_append : {A : Type 0} {xs ys zs us vs ws : List A} → IsMergeOfTwo xs ys zs → IsMergeOfTwo us vs ws → IsMergeOfTwo (xs ++ us) (ys ++ vs) (zs ++ ws)

@@ -5,14 +5,10 @@ use Rattle.std.proofs.lemmas.Bool.Decides.{nat_tests}
 use Rattle.std.proofs.lemmas.Bool.{ltb-true, lt-ltb, leb-true}
 use Rattle.std.proofs.lemmas.List.{get_or-take, length-take}
 use Rattle.std.proofs.lemmas.List.Folds.{list_any_at}
-use Rattle.plain_store.specs.declared.Answer.{Answer}
+use Rattle.plain_store.specs.{Answer, Contents, Setup, changes}
 use Rattle.plain_store.specs.declared.Answer.TheVariants.{Reply, TicketsFull, StampsFull, Withdrawn}
-use Rattle.plain_store.specs.declared.Setup.{Setup}
-use Rattle.plain_store.specs.Store.{Contents, changes}
-use Rattle.call_check.specs.declared.calls.Call.{Call}
-use Rattle.record.specs.declared.calls.Placed.{Placed}
-use Rattle.call_check.specs.SaidOverLists.{fits_place, is_change_from, store_below}
-use Rattle.call_check.specs.Weighing.{changes_there, falls, is_above, is_other_answer, is_past, is_reply, store_at}
+use Rattle.call_check.specs.{Call, changes_there, falls, fits_place, is_above, is_change_from, is_other_answer, is_past, is_reply, store_at, store_below}
+use Rattle.record.specs.{Placed}
 
 pub not_below : (c k : ℕ) → (c < k → ⊥) → k ≤ c
 not_below c k never = by (nat_lt c k) refl

@@ -1,13 +1,6 @@
 -- A command that would not change the store leaves it as it is.
 use Rattle.std.proofs.Common.{◌≡◌, ℕ, Bool, true, false, not, List, Option, Some, None, refl}
-use Rattle.plain_store.specs.Commands.{name_of}
-use Rattle.plain_store.specs.Outcomes.{is_new}
-use Rattle.plain_store.specs.Pairs.{Pair}
-use Rattle.plain_store.specs.Values.{same_value}
-use Rattle.plain_store.specs.Store.{Contents, after, changes, outcome_in, pairs_after, value_at, value_for, with_written}
-use Rattle.plain_store.specs.declared.Caller.{Caller}
-use Rattle.plain_store.specs.declared.Command.{Command}
-use Rattle.plain_store.specs.declared.Value.{Value}
+use Rattle.plain_store.specs.{Caller, Command, Contents, Pair, Value, after, changes, is_new, name_of, outcome_in, pairs_after, same_value, value_at, value_for, with_written}
 use Rattle.plain_store.proofs.Changes.{put-same, same_value-Decides}
 
 -- what is written and is not new leaves the pairs

@@ -2,9 +2,8 @@
 use Rattle.std.proofs.Common.{◌≡◌, ◌≢◌, ◌==◌, Bool, true, false, refl, ap, subst, eqb-true, arith}
 use Rattle.std.specs.Ordering.{int_eq}
 use Rattle.std.proofs.lemmas.Bool.Decides.{Decides-int_eq, nat_tests}
-use Rattle.plain_store.specs.declared.Reply.{Reply}
+use Rattle.plain_store.specs.{Reply, same_value}
 use Rattle.plain_store.specs.declared.Reply.TheVariants.{Value, Done, Sum, Swapped, Kept, NoName, NotCounter, Overflow, StoreFull, Last}
-use Rattle.plain_store.specs.Values.{same_value}
 use Rattle.plain_store.proofs.Changes.{same_value-Decides}
 
 same_reply : Reply → Reply → Bool

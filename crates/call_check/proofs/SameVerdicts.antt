@@ -1,14 +1,9 @@
 -- Two verdicts on the same lists are the same.
 use Rattle.std.proofs.Common.{◌≡◌, inl, inr, ℕ, suc, ◌<◌, ◌≤◌, List, Some, None, refl, sym, ap, subst, ◌∙◌, arith}
-use Rattle.plain_store.specs.declared.Setup.{Setup}
-use Rattle.plain_store.specs.Store.{Contents}
-use Rattle.call_check.specs.declared.calls.Call.{Call}
-use Rattle.record.specs.declared.calls.Placed.{Placed}
-use Rattle.call_check.specs.declared.verdicts.Weighed.{Weighed}
+use Rattle.plain_store.specs.{Contents, Setup}
+use Rattle.call_check.specs.{Call, IsEnd, IsLowestBad, IsVerdict, VerdictIsOne, Weighed, all_calls, store_at, store_below}
+use Rattle.record.specs.{Placed}
 use Rattle.call_check.specs.declared.verdicts.Weighed.TheVariants.{Good, Bad, BadEnd}
-use Rattle.call_check.specs.OneVerdict.{VerdictIsOne}
-use Rattle.call_check.specs.SaidOverLists.{store_below}
-use Rattle.call_check.specs.Weighing.{IsEnd, IsLowestBad, IsVerdict, all_calls, store_at}
 use Rattle.call_check.proofs.Orders.{not_below}
 use Rattle.call_check.proofs.StoresInTurn.{store_is, stores_before}
 

@@ -1,8 +1,7 @@
 -- The two readings of weighing say the same.
 use Rattle.std.proofs.Common.{sym, ap, ◌∙◌}
-use Rattle.store_image.specs.Image.{image_of}
-use Rattle.call_check.specs.SaidOverLists.{BadEndIsSaidOverLists, GoodIsSaidOverLists, number_of_changes, store_below}
-use Rattle.call_check.specs.Weighing.{all_calls}
+use Rattle.store_image.specs.{image_of}
+use Rattle.call_check.specs.{BadEndIsSaidOverLists, GoodIsSaidOverLists, all_calls, number_of_changes, store_below}
 use Rattle.call_check.proofs.Backward.{ended, none_bad}
 use Rattle.call_check.proofs.Forward.{last_is, said}
 

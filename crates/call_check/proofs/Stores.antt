@@ -5,15 +5,9 @@ use Rattle.std.proofs.lemmas.Bool.Decides.{nat_tests}
 use Rattle.std.proofs.lemmas.List.Elements.{All-filter, All-head, All-same}
 use Rattle.std.proofs.lemmas.Option.{slice_get-get_or, slice_get_within}
 use Rattle.std.specs.List.{slice_get}
-use Rattle.plain_store.specs.declared.Caller.{Caller}
-use Rattle.plain_store.specs.declared.Setup.{Setup}
-use Rattle.plain_store.specs.Store.{Contents, after, changes, reply_to}
-use Rattle.call_check.specs.declared.calls.Call.{Call}
-use Rattle.call_check.specs.declared.notes.Changers.{Changers}
+use Rattle.plain_store.specs.{Caller, Contents, Setup, after, changes, reply_to}
+use Rattle.call_check.specs.{AreBlank, AreFew, AreNotedAt, AreNotedBelow, Call, Changers, HasWrongReply, IsBlank, IsCaller, IsFew, IsFollowed, IsNote, IsNoteBy, Note, after_one, caller_of, calls_at, changes_at, changes_of, changes_there, is_place, store_after, store_at}
 use Rattle.call_check.specs.declared.notes.Changers.TheVariants.{Nothing, One, Several}
-use Rattle.call_check.specs.declared.notes.Note.{Note}
-use Rattle.call_check.specs.Following.{AreBlank, AreFew, AreNotedAt, AreNotedBelow, IsBlank, IsCaller, IsFew, IsFollowed, IsNote, IsNoteBy, changes_of}
-use Rattle.call_check.specs.Weighing.{HasWrongReply, after_one, caller_of, calls_at, changes_at, changes_there, is_place, store_after, store_at}
 use Rattle.call_check.proofs.Followed.{callers_of_store, from_some, none_after, none_at, none_left, none_some}
 use Rattle.call_check.proofs.Places.{same_or_not}
 use Rattle.call_check.proofs.Walking.{is_there}

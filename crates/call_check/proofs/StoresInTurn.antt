@@ -3,11 +3,8 @@ use Rattle.std.proofs.Common.{◌≡◌, ◌≢◌, ◌⊎◌, inl, inr, ℕ, ze
 use Rattle.std.specs.List.{All}
 use Rattle.std.proofs.lemmas.Bool.{eqb-false, le-leb}
 use Rattle.std.proofs.lemmas.List.Elements.{All-filter, All-head, filter_passes}
-use Rattle.plain_store.specs.declared.Setup.{Setup}
-use Rattle.plain_store.specs.Store.{Contents, changes}
-use Rattle.call_check.specs.declared.calls.Call.{Call}
-use Rattle.call_check.specs.SaidOverLists.{store_through, store_below}
-use Rattle.call_check.specs.Weighing.{after_one, calls_at, changes_at, is_one_of_several, is_place, store_after, store_at}
+use Rattle.plain_store.specs.{Contents, Setup, changes}
+use Rattle.call_check.specs.{Call, after_one, calls_at, changes_at, is_one_of_several, is_place, store_after, store_at, store_below, store_through}
 
 module _ (s : Setup) (calls : List Call) where
   -- a store comes from the one before by exactly one change

@@ -5,15 +5,9 @@ use Rattle.std.proofs.lemmas.Bool.Decides.{nat_tests}
 use Rattle.std.proofs.lemmas.Option.{get_or_from_slice_get, slice_get_read, slice_get_within}
 use Rattle.std.specs.Global.{Vec}
 use Rattle.std.specs.List.{slice_get}
-use Rattle.plain_store.specs.declared.Setup.{Setup}
-use Rattle.plain_store.specs.Store.{Contents, changes}
-use Rattle.call_check.specs.declared.calls.Call.{Call}
-use Rattle.record.specs.declared.calls.Placed.{Placed}
-use Rattle.call_check.specs.declared.chains.Link.{Link}
-use Rattle.call_check.specs.declared.notes.Note.{Note}
-use Rattle.call_check.specs.Following.{AreChains, AreFew, AreNotedAt, AreNotedFrom, IsFew, IsLast, IsLink, IsNoteBy, IsOf}
-use Rattle.record.specs.CallLists.{lists_of}
-use Rattle.call_check.specs.Weighing.{all_calls, calls_at, is_place}
+use Rattle.plain_store.specs.{Contents, Setup, changes}
+use Rattle.call_check.specs.{AreChains, AreFew, AreNotedAt, AreNotedFrom, Call, IsFew, IsLast, IsLink, IsNoteBy, IsOf, Link, Note, all_calls, calls_at, is_place}
+use Rattle.record.specs.{Placed, lists_of}
 use Rattle.call_check.proofs.AllCalls.{IsThere, there_in}
 use Rattle.call_check.proofs.Followed.{from_some, none_some}
 use Rattle.call_check.proofs.Places.{get_set_other, get_set_same, same_or_not}

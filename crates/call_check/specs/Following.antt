@@ -3,21 +3,15 @@ use Rattle.std.specs.Prelude.{◌≡◌, ◌≢◌, ◌↔◌, ℕ, suc, ◌+◌
 use Rattle.std.specs.List.{list_any}
 use Rattle.std.specs.Global.{Vec}
 use Rattle.plain_store.specs.declared.Answer.TheVariants as answer
-use Rattle.plain_store.specs.declared.Caller.{Caller}
-use Rattle.plain_store.specs.declared.Command.{Command}
-use Rattle.plain_store.specs.declared.Reply.{Reply}
-use Rattle.plain_store.specs.declared.Setup.{Setup}
-use Rattle.plain_store.specs.Setups.{callers_of}
-use Rattle.plain_store.specs.Store.{Contents, changes, reply_to, after}
+use Rattle.plain_store.specs.{Caller, Command, Contents, Reply, Setup, after, callers_of, changes, reply_to}
 use Rattle.call_check.specs.declared.calls.Call.{Call}
-use Rattle.record.specs.declared.calls.Placed.{Placed}
+use Rattle.record.specs.{Placed, lists_of}
 use Rattle.call_check.specs.declared.chains.Chains.{Chains}
 use Rattle.call_check.specs.declared.chains.Link.{Link}
 use Rattle.call_check.specs.declared.notes.Changers.{Changers}
 use Rattle.call_check.specs.declared.notes.Changers.TheVariants.{Nothing, One, Several}
 use Rattle.call_check.specs.declared.notes.Followed.{Followed}
 use Rattle.call_check.specs.declared.notes.Note.{Note}
-use Rattle.record.specs.CallLists.{lists_of}
 use Rattle.call_check.specs.Weighing.{HasWrongReply, IsBad, IsBadIn, all_calls, caller_of, calls_from, changes_at, changes_there, falls, is_one_of_several, is_past, store_at}
 
 -- in version 2 a call is one of the first 16 lists, and among the first 65,535 of its list

@@ -1,12 +1,10 @@
 -- What a good verdict means: one history of the one-thread store.
 use Rattle.std.specs.Prelude.{◌≡◌, ◌⊎◌, ℕ, suc, List, [], ◌∷◌, map, filter, None, Some, is_some}
 use Rattle.plain_store.specs.declared.Answer.TheVariants as answer
-use Rattle.plain_store.specs.declared.Setup.{Setup}
-use Rattle.plain_store.specs.Setups.{opening_store}
-use Rattle.plain_store.specs.Store.{Contents, reply_to, after}
-use Rattle.store_image.specs.Image.{image_of}
+use Rattle.plain_store.specs.{Contents, Setup, after, opening_store, reply_to}
+use Rattle.store_image.specs.{image_of}
 use Rattle.call_check.specs.declared.calls.Call.{Call}
-use Rattle.record.specs.declared.calls.Placed.{Placed}
+use Rattle.record.specs.{Placed}
 use Rattle.call_check.specs.declared.verdicts.Weighed.TheVariants.{Good}
 use Rattle.call_check.specs.Merges.{IsMerge}
 use Rattle.call_check.specs.SaidOverLists.{store_through}

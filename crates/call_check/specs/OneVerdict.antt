@@ -1,8 +1,7 @@
 -- Weighing finds one thing alone.
 use Rattle.std.specs.Prelude.{◌≡◌, List}
-use Rattle.plain_store.specs.declared.Setup.{Setup}
-use Rattle.plain_store.specs.Store.{Contents}
-use Rattle.record.specs.declared.calls.Placed.{Placed}
+use Rattle.plain_store.specs.{Contents, Setup}
+use Rattle.record.specs.{Placed}
 use Rattle.call_check.specs.declared.verdicts.Weighed.{Weighed}
 use Rattle.call_check.specs.Weighing.{IsWeighed}
 

@@ -1,15 +1,11 @@
 -- What it is for finished calls to be good, said over the lists.
 use Rattle.std.specs.Prelude.{◌≡◌, ◌↔◌, ℕ, zero, suc, ◌<◌, ◌≤◌, Bool, true, false, List, [], ◌∷◌, length, filter, Option, None, Some, is_none, is_some, IsTrue}
 use Rattle.std.specs.List.{All, AllPairs}
-use Rattle.plain_store.specs.declared.Answer.{Answer}
+use Rattle.plain_store.specs.{Answer, Contents, Reply, Setup, after, changes, opening_store, reply_to}
 use Rattle.plain_store.specs.declared.Answer.TheVariants as answer
-use Rattle.plain_store.specs.declared.Reply.{Reply}
-use Rattle.plain_store.specs.declared.Setup.{Setup}
-use Rattle.plain_store.specs.Setups.{opening_store}
-use Rattle.plain_store.specs.Store.{Contents, changes, reply_to, after}
-use Rattle.store_image.specs.Image.{image_of}
+use Rattle.store_image.specs.{image_of}
 use Rattle.call_check.specs.declared.calls.Call.{Call}
-use Rattle.record.specs.declared.calls.Placed.{Placed}
+use Rattle.record.specs.{Placed}
 use Rattle.call_check.specs.declared.verdicts.Weighed.TheVariants.{Good, BadEnd}
 use Rattle.call_check.specs.Weighing.{all_calls, caller_of, changes_at, IsWeighed}
 

@@ -1,16 +1,11 @@
 -- What weighing finds in the ports' lists of finished calls: list p is that of process p, its oldest call first. A place counts the changes taken before a call.
 use Rattle.std.specs.Prelude.{◌≡◌, ◌≢◌, ◌⊎◌, ℕ, zero, suc, ◌+◌, ◌<◌, ◌≤◌, All, ◌==◌, nat_lt, nat_le, Bool, true, false, ◌&&◌, ◌||◌, if◌then◌else◌, List, [], ◌∷◌, ◌++◌, length, take, filter, slice_get, Option, None, Some, is_none, is_some, IsTrue}
 use Rattle.std.specs.List.{list_any}
-use Rattle.plain_store.specs.declared.Answer.{Answer}
+use Rattle.plain_store.specs.{Answer, Caller, Contents, Reply, Setup, after, changes, opening_store, reply_to}
 use Rattle.plain_store.specs.declared.Answer.TheVariants as answer
-use Rattle.plain_store.specs.declared.Caller.{Caller}
-use Rattle.plain_store.specs.declared.Reply.{Reply}
-use Rattle.plain_store.specs.declared.Setup.{Setup}
-use Rattle.plain_store.specs.Setups.{opening_store}
-use Rattle.plain_store.specs.Store.{Contents, changes, reply_to, after}
-use Rattle.store_image.specs.Image.{image_of}
+use Rattle.store_image.specs.{image_of}
 use Rattle.call_check.specs.declared.calls.Call.{Call}
-use Rattle.record.specs.declared.calls.Placed.{Placed}
+use Rattle.record.specs.{Placed}
 use Rattle.call_check.specs.declared.verdicts.Weighed.{Weighed}
 use Rattle.call_check.specs.declared.verdicts.Weighed.TheVariants.{Good, Bad, BadEnd}
 

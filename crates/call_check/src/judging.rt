@@ -1,6 +1,6 @@
 //! Which calls are bad, by what the stores tell of them.
 ghost use Rattle.std.specs.Prelude.{◌≡◌, ◌↔◌, ◌≤◌, ◌+◌, length, IsTrue};
-ghost use Rattle.store_image.specs.Image.{image_of};
+ghost use Rattle.store_image.specs.{image_of};
 ghost use Rattle.call_check.specs.Following.{FindsFirstBad, LeavesLeast, TellsBad, TellsFall, TellsSeveral};
 ghost use Rattle.call_check.specs.Weighing.{is_above, is_other_with_place, is_reply_without_place};
 

@@ -1,7 +1,6 @@
 //! What the stores tell of the calls, one store after each change, up to the place where there is not exactly one change.
 ghost use Rattle.std.specs.Prelude.{◌≡◌, ◌↔◌, ◌<◌, ◌+◌, IfOk, IsTrue, Ok, length};
-ghost use Rattle.plain_store.specs.Setups.{checked};
-ghost use Rattle.plain_store.specs.Store.{changes};
+ghost use Rattle.plain_store.specs.{changes, checked};
 ghost use Rattle.call_check.specs.declared.calls.Call.{Call as Given};
 ghost use Rattle.call_check.specs.Following.{AreBlank, AreChainsOf, AreNotedBy, Counts, FollowsIfFew, IsCaller, IsFew, IsOf, TellsReply, TellsWrong, calls_in, changes_of};
 ghost use Rattle.call_check.specs.Weighing.{changes_at};

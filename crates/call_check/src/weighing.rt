@@ -1,6 +1,6 @@
 ghost use Rattle.std.specs.Prelude.{◌≡◌, ◌≤◌, IfOk, Ok, length};
-ghost use Rattle.plain_store.specs.Setups.{checked};
-ghost use Rattle.record.specs.CallLists.{lists_of};
+ghost use Rattle.plain_store.specs.{checked};
+ghost use Rattle.record.specs.{lists_of};
 ghost use Rattle.call_check.specs.Weighing.{AreShort, IsWeighed};
 
 use crate::notes::Followed;

@@ -1,15 +1,9 @@
 -- What marks make of what is kept, field by field.
 use Rattle.std.proofs.Common.{◌≡◌, ℕ, Bool, true, false, ◌||◌, List, [], ◌∷◌, Option, None, Some, fold, is_some, refl, sym, ap, ◌∙◌}
 use Rattle.std.specs.List.{list_any}
-use Rattle.record.specs.declared.marks.Mark.{Mark}
+use Rattle.record.specs.{Mark, called_in, first_of, is_called, is_entered, is_failed, is_waiting}
 use Rattle.record.specs.declared.marks.Mark.TheVariants as mark
-use Rattle.record.specs.Calls.{called_in}
-use Rattle.record.specs.Doorways.{first_of}
-use Rattle.record.specs.Entries.{is_called, is_entered, is_failed, is_waiting}
-use Rattle.calls.specs.declared.called.Marked.{Marked}
-use Rattle.calls.specs.declared.standing.CallStanding.{CallStanding}
-use Rattle.calls.specs.Columns.{answer_after, ends_waiting, goes_on_after, is_answered, is_left, is_taken, is_withdrawal, place_after, ticket_after}
-use Rattle.calls.specs.Stepping.{first_if, marked_all, marked_on, with_mark}
+use Rattle.calls.specs.{CallStanding, Marked, answer_after, ends_waiting, first_if, goes_on_after, is_answered, is_left, is_taken, is_withdrawal, marked_all, marked_on, place_after, ticket_after, with_mark}
 use Rattle.calls.proofs.InCall.{first_none, if_there}
 
 -- a field of what marks make is what they make of the field

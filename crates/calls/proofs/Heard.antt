@@ -5,19 +5,11 @@ use Rattle.std.proofs.lemmas.Option.{slice_get-get_or, slice_get_past, slice_get
 use Rattle.std.proofs.lemmas.List.{get_or-set_same, get_or-set_other}
 use Rattle.std.proofs.lemmas.List.FromFn.{get_or-map-range_with_len, length-map-range_with_len, map-range_with_len_more}
 use Rattle.std.specs.List.{range_with_len}
-use Rattle.plain_store.specs.declared.Setup.{Setup}
-use Rattle.record.specs.safe_bit.declared.Move.{Move}
-use Rattle.record.specs.declared.access.Access.{Access}
-use Rattle.record.specs.declared.marks.Mark.{Mark}
-use Rattle.record.specs.Entries.{Entry, Past}
-use Rattle.calls.specs.declared.called.Called.{Called}
-use Rattle.calls.specs.declared.called.EntryKnown.{EntryKnown}
-use Rattle.calls.specs.declared.standing.CallStanding.{CallStanding}
-use Rattle.world.specs.Walks.{ends_overlapped_read}
-use Rattle.calls.specs.Columns.{is_read, is_write, makes_itself}
-use Rattle.calls.specs.Hearing.{ComesInTurn, GoesBy, GoesOn, HasHeard, TableState, ended_call}
-use Rattle.calls.specs.Passing.{HasNotFailed, HaveRoom, Passes, passed, reads_begun, writes_begun}
-use Rattle.calls.specs.Stepping.{AreFew, at_rest, heard, standing}
+use Rattle.plain_store.specs.{Setup}
+use Rattle.record.specs.safe_bit.{Move}
+use Rattle.record.specs.{Access, Entry, Mark, Past}
+use Rattle.calls.specs.{AreFew, CallStanding, Called, ComesInTurn, EntryKnown, GoesBy, GoesOn, HasHeard, HasNotFailed, HaveRoom, Passes, TableState, at_rest, ended_call, heard, is_read, is_write, makes_itself, passed, reads_begun, standing, writes_begun}
+use Rattle.world.specs.{ends_overlapped_read}
 use Rattle.calls.proofs.InCall.{calls-few, count-few}
 use Rattle.calls.proofs.Passing.{HasPassed, passed_by, passes, reads_few, writes_few}
 use Rattle.calls.proofs.Steps.{standing-heard, standing-other}

@@ -1,9 +1,7 @@
 -- How the look-backs over a call go on with an entry.
 use Rattle.std.proofs.Common.{◌≡◌, ℕ, suc, ◌≤◌, ◌==◌, Bool, true, false, cond, [], ◌∷◌, Option, None, Some, length, refl, eq-eqb, arith}
-use Rattle.record.specs.Doorways.{first_of, number_in_call}
-use Rattle.record.specs.Entries.{Entry, Past, has, is_called, own}
-use Rattle.record.specs.Calls.{calls_in}
-use Rattle.calls.specs.Columns.{count_in_call, more_if, over_call}
+use Rattle.record.specs.{Entry, Past, calls_in, first_of, has, is_called, number_in_call, own}
+use Rattle.calls.specs.{count_in_call, more_if, over_call}
 
 -- the number of an entry, where a test holds
 abbrev pub if_there : Bool → ℕ → Option ℕ

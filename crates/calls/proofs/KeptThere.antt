@@ -1,8 +1,7 @@
 -- What is read at a process's place is what is kept of it.
 use Rattle.std.proofs.Common.{◌≡◌, ℕ, List, Some, get_or, slice_get, sym, ◌∙◌}
 use Rattle.std.proofs.lemmas.Option.{slice_get-get_or, slice_get_within}
-use Rattle.calls.specs.declared.standing.CallStanding.{CallStanding}
-use Rattle.calls.specs.Hearing.{TableState}
+use Rattle.calls.specs.{CallStanding, TableState}
 
 -- what stands at an index, looked up in two ways
 given_at : (xs : List CallStanding) (i : ℕ) (x k : CallStanding) → slice_get xs i ≡ Some k → get_or xs i x ≡ k

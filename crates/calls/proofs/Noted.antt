@@ -1,13 +1,8 @@
 -- What is kept with one access more.
 use Rattle.std.proofs.Common.{◌≡◌, ℕ, Bool, true, false, ◌&&◌, not, cond, Option, None, Some, is_none, is_some, refl, ◌∙◌}
-use Rattle.plain_store.specs.declared.Setup.{Setup}
-use Rattle.record.specs.declared.access.Access.{Access}
-use Rattle.record.specs.Doorways.{first_of}
-use Rattle.calls.specs.declared.called.Accesses.{Accesses}
-use Rattle.calls.specs.declared.called.EntryKnown.{EntryKnown}
-use Rattle.calls.specs.declared.called.Marked.{Marked}
-use Rattle.calls.specs.Columns.{is_read, is_write, more_if}
-use Rattle.calls.specs.Stepping.{waits_by, with_access}
+use Rattle.plain_store.specs.{Setup}
+use Rattle.record.specs.{Access, first_of}
+use Rattle.calls.specs.{Accesses, EntryKnown, Marked, is_read, is_write, more_if, waits_by, with_access}
 
 none_told : (o : Option ℕ) (b : Bool) → is_some o ≡ not b → b ≡ is_none o
 none_told None true is = refl

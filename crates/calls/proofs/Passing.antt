@@ -1,20 +1,11 @@
 -- What is kept of a process goes on with many entries at once.
 use Rattle.std.proofs.Common.{◌≡◌, ℕ, zero, suc, ◌+◌, ◌≤◌, ◌==◌, Bool, true, false, ◌&&◌, cond, ◌∷◌, Option, None, Some, is_none, length, refl, sym, ap, subst, ◌∙◌, arith}
-use Rattle.plain_store.specs.declared.Setup.{Setup}
-use Rattle.record.specs.safe_bit.declared.Move.{Move}
+use Rattle.plain_store.specs.{Setup}
+use Rattle.record.specs.safe_bit.{Move}
 use Rattle.record.specs.safe_bit.declared.Move.TheVariants.{BeginWrite, EndWrite, BeginRead, EndRead, Settle}
-use Rattle.record.specs.declared.access.Access.{Access}
-use Rattle.record.specs.Doorways.{first_of}
-use Rattle.record.specs.Entries.{Past}
-use Rattle.record.specs.Registers.{width}
-use Rattle.calls.specs.declared.called.Accesses.{Accesses}
-use Rattle.calls.specs.declared.called.EntryKnown.{EntryKnown}
-use Rattle.calls.specs.declared.standing.CallStanding.{CallStanding}
-use Rattle.world.specs.Walks.{ends_overlapped_read}
-use Rattle.calls.specs.Columns.{ends_number, is_read, is_write, more_if}
-use Rattle.calls.specs.Hearing.{IsKnown}
-use Rattle.calls.specs.Passing.{HasNotFailed, Passes, begun_among, follows, of_read, passed, quiet_entry, reads_begun, with_passed, writes_begun}
-use Rattle.calls.specs.Stepping.{standing, with_access}
+use Rattle.record.specs.{Access, Past, first_of, width}
+use Rattle.calls.specs.{Accesses, CallStanding, EntryKnown, HasNotFailed, IsKnown, Passes, begun_among, ends_number, follows, is_read, is_write, more_if, of_read, passed, quiet_entry, reads_begun, standing, with_access, with_passed, writes_begun}
+use Rattle.world.specs.{ends_overlapped_read}
 use Rattle.calls.proofs.Steps.{standing-heard, standing-other}
 
 -- The first access.

@@ -1,25 +1,11 @@
 -- What is kept of a process is what looking back finds: it goes on with an entry as the look-backs do.
 use Rattle.std.proofs.Common.{◌≡◌, ℕ, suc, ◌==◌, Bool, true, false, ◌&&◌, cond, ◌∷◌, Option, None, Some, fold, is_none, is_some, length, refl, sym, ap, ◌∙◌, eq-eqb, add-one}
-use Rattle.plain_store.specs.declared.Answer.{Answer}
-use Rattle.plain_store.specs.declared.Command.{Command}
-use Rattle.plain_store.specs.declared.Setup.{Setup}
-use Rattle.record.specs.declared.access.Access.{Access}
-use Rattle.record.specs.declared.marks.Mark.{Mark}
-use Rattle.record.specs.Calls.{called_in, calls_in, last_command}
-use Rattle.record.specs.Doorways.{number_in_call}
-use Rattle.record.specs.Entries.{Entry, Past, has, is_called, is_entered, is_failed, is_waiting, own}
-use Rattle.record.specs.Moves.{moves_of}
-use Rattle.record.specs.Registers.{width}
-use Rattle.world.specs.laws.Doings.{doing}
-use Rattle.world.specs.process.Looks.{number_read}
-use Rattle.world.specs.Walks.{ends_overlapped, ends_overlapped_read}
-use Rattle.calls.specs.declared.called.Accesses.{Accesses}
-use Rattle.calls.specs.declared.called.EntryKnown.{EntryKnown}
-use Rattle.calls.specs.declared.called.Marked.{Marked}
-use Rattle.calls.specs.declared.standing.CallStanding.{CallStanding}
-use Rattle.calls.specs.Columns.{accesses, answer_after, called, called_at, count_in_call, ends_number, ends_waiting, has_access, holds_up, is_answered, is_calling, is_left, is_read, is_taken, is_unmarked, is_withdrawal, is_write, makes_itself, marked, more_if, number_after, over_call, place_after, tells_waiting, ticket_after, ticket_in_call, waited_for}
-use Rattle.calls.specs.Hearing.{IsKnown, TellsRead}
-use Rattle.calls.specs.Stepping.{accessed_by, begun, first_if, heard, marked_all, no_accesses, no_marks, standing, waits_by, with_access, with_mark}
+use Rattle.plain_store.specs.{Answer, Command, Setup}
+use Rattle.record.specs.{Access, Entry, Mark, Past, called_in, calls_in, has, is_called, is_entered, is_failed, is_waiting, last_command, moves_of, number_in_call, own, width}
+use Rattle.world.specs.laws.{doing}
+use Rattle.world.specs.process.{number_read}
+use Rattle.world.specs.{ends_overlapped, ends_overlapped_read}
+use Rattle.calls.specs.{Accesses, CallStanding, EntryKnown, IsKnown, Marked, TellsRead, accessed_by, accesses, answer_after, begun, called, called_at, count_in_call, ends_number, ends_waiting, first_if, has_access, heard, holds_up, is_answered, is_calling, is_left, is_read, is_taken, is_unmarked, is_withdrawal, is_write, makes_itself, marked, marked_all, more_if, no_accesses, no_marks, number_after, over_call, place_after, standing, tells_waiting, ticket_after, ticket_in_call, waited_for, waits_by, with_access, with_mark}
 use Rattle.calls.proofs.Folds.{answer-on, answered-on, called_has, door_end-on, entered-on, failed-on, fold-field, fold-first, left-on, marked_all-is, place-on, taken-on, ticket-on, wait_end-on, with_marks, withdrew-on}
 use Rattle.calls.proofs.InCall.{first_none, number-called, number-mine, number-other, over-called, over-mine, over-other}
 

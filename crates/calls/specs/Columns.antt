@@ -1,22 +1,14 @@
 -- What became of a call: each number is found by looking back over a past.
 use Rattle.std.specs.Prelude.{ℕ, ◌+◌, ◌==◌, nat_lt, Bool, true, false, ◌&&◌, List, [], ◌∷◌, length, fold, cond, Option, None, Some, is_none, is_some, bit_or, ◌^◌}
-use Rattle.record.specs.safe_bit.declared.Move.{Move}
+use Rattle.record.specs.safe_bit.{Move}
 use Rattle.record.specs.safe_bit.declared.Move.TheVariants.{BeginWrite, BeginRead, EndRead}
-use Rattle.plain_store.specs.declared.Answer.{Answer}
-use Rattle.plain_store.specs.declared.Setup.{Setup}
-use Rattle.record.specs.declared.access.Access.{Access}
-use Rattle.record.specs.declared.access.Field.{Field}
+use Rattle.plain_store.specs.{Answer, Setup}
+use Rattle.record.specs.{Access, Entry, Field, Mark, Past, calls_in, doorway_end, first_of, has, is_below, is_called, is_entered, is_failed, last_command, number_in_call, own, width}
 use Rattle.record.specs.declared.access.Field.TheVariants.{Choosing, Ticket}
-use Rattle.record.specs.declared.marks.Mark.{Mark}
 use Rattle.record.specs.declared.marks.Mark.TheVariants.{Waiting, Entered, Taken, Left, Answered, Failed, Down, Withdrew}
-use Rattle.record.specs.Calls.{calls_in, last_command}
-use Rattle.record.specs.Doorways.{doorway_end, first_of, number_in_call}
-use Rattle.record.specs.Entries.{Entry, Past, has, is_called, is_entered, is_failed, own}
-use Rattle.record.specs.Program.{is_below}
-use Rattle.record.specs.Registers.{width}
-use Rattle.world.specs.laws.Doings.{doing}
-use Rattle.world.specs.process.Looks.{number_read}
-use Rattle.world.specs.Walks.{ends_overlapped_read}
+use Rattle.world.specs.laws.{doing}
+use Rattle.world.specs.process.{number_read}
+use Rattle.world.specs.{ends_overlapped_read}
 use Rattle.calls.specs.declared.called.Accesses.{Accesses}
 use Rattle.calls.specs.declared.called.Called.{Called as Told}
 use Rattle.calls.specs.declared.called.Marked.{Marked}

@@ -1,17 +1,13 @@
 -- What a table of calls keeps of the entries that it has heard.
 use Rattle.std.specs.Prelude.{◌≡◌, ℕ, ◌<◌, true, false, not, ◌&&◌, List, ◌∷◌, length, cond, slice_get, slice_set, ◌-◌, ◌^◌, Option, None, Some, Ok}
-use Rattle.plain_store.specs.declared.Setup.{Setup}
-use Rattle.plain_store.specs.Setups.{checked}
-use Rattle.record.specs.declared.access.Access.{Access}
-use Rattle.record.specs.declared.marks.Mark.{Mark}
-use Rattle.record.specs.Entries.{Entry, Past}
-use Rattle.record.specs.Registers.{width}
+use Rattle.plain_store.specs.{Setup, checked}
+use Rattle.record.specs.{Access, Entry, Mark, Past, width}
 use Rattle.calls.specs.declared.called.Called.{Called}
 use Rattle.calls.specs.declared.called.EntryKnown.{EntryKnown}
 use Rattle.calls.specs.declared.standing.CallStanding.{CallStanding}
-use Rattle.world.specs.laws.Doings.{doing}
-use Rattle.world.specs.process.Looks.{number_read}
-use Rattle.world.specs.Walks.{ends_overlapped_read}
+use Rattle.world.specs.laws.{doing}
+use Rattle.world.specs.process.{number_read}
+use Rattle.world.specs.{ends_overlapped_read}
 use Rattle.calls.specs.Columns.{called, ends_number, is_calling, is_unmarked}
 use Rattle.calls.specs.Passing.{HaveRoom, passed}
 use Rattle.calls.specs.Stepping.{AreFew, heard, standing}

@@ -2,11 +2,8 @@
 use Rattle.std.specs.Prelude.{ℕ, ◌-◌, ◌==◌, Bool, ◌||◌, List, [], ◌∷◌, ◌++◌, codes, cond, flat_map, length, Option, None, Some}
 use Rattle.std.specs.Fmt.{decimal}
 use Rattle.std.specs.List.{list_any}
-use Rattle.plain_store.specs.declared.Answer.{Answer}
-use Rattle.plain_store.specs.declared.Setup.{Setup}
-use Rattle.plain_store.specs.Shown.{answer_text, command_text}
-use Rattle.record.specs.Entries.{Past}
-use Rattle.record.specs.Registers.{processes}
+use Rattle.plain_store.specs.{Answer, Setup, answer_text, command_text}
+use Rattle.record.specs.{Past, processes}
 use Rattle.calls.specs.declared.called.Called.{Called}
 use Rattle.calls.specs.declared.called.Marked.{Marked}
 use Rattle.calls.specs.Hearing.{ended_call, open_call}

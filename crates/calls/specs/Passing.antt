@@ -1,15 +1,12 @@
 -- Entries within a number access, many at once: their accesses begin and end in turns, and are of one kind.
 use Rattle.std.specs.Prelude.{◌≡◌, ℕ, zero, suc, ◌+◌, ◌/◌, ◌<◌, ◌^◌, Bool, true, false, ◌||◌, if◌then◌else◌, [], ◌∷◌, cond, Some, None}
-use Rattle.plain_store.specs.declared.Setup.{Setup}
-use Rattle.record.specs.safe_bit.declared.Move.{Move}
+use Rattle.plain_store.specs.{Setup}
+use Rattle.record.specs.safe_bit.{Move}
 use Rattle.record.specs.safe_bit.declared.Move.TheVariants.{BeginWrite, EndWrite, BeginRead, EndRead, Settle}
-use Rattle.record.specs.declared.access.Access.{Access}
-use Rattle.record.specs.Doorways.{first_of, number_in_call}
-use Rattle.record.specs.Entries.{Entry, Past, has, is_failed}
-use Rattle.record.specs.Registers.{width}
+use Rattle.record.specs.{Access, Entry, Past, first_of, has, is_failed, number_in_call, width}
 use Rattle.calls.specs.declared.called.Accesses.{Accesses}
 use Rattle.calls.specs.declared.standing.CallStanding.{CallStanding}
-use Rattle.world.specs.Walks.{ends_overlapped_read}
+use Rattle.world.specs.{ends_overlapped_read}
 use Rattle.calls.specs.Columns.{ends_number, is_read, is_read_end, is_write, more_if}
 
 -- a write ends

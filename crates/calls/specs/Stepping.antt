@@ -1,14 +1,9 @@
 -- How what is kept of a process goes on with an entry.
 use Rattle.std.specs.Prelude.{ℕ, ◌+◌, ◌-◌, ◌^◌, ◌<◌, Bool, true, false, ◌&&◌, List, fold, cond, Option, None, Some, is_none}
-use Rattle.plain_store.specs.declared.Command.{Command}
+use Rattle.plain_store.specs.{Command, Setup}
 use Rattle.plain_store.specs.declared.Command.TheVariants.{Ask}
-use Rattle.plain_store.specs.declared.Setup.{Setup}
-use Rattle.record.specs.declared.access.Access.{Access}
-use Rattle.record.specs.declared.marks.Mark.{Mark}
+use Rattle.record.specs.{Access, Mark, Past, called_in, first_of}
 use Rattle.record.specs.declared.marks.Mark.TheVariants as mark
-use Rattle.record.specs.Calls.{called_in}
-use Rattle.record.specs.Doorways.{first_of}
-use Rattle.record.specs.Entries.{Past}
 use Rattle.calls.specs.declared.called.Accesses.{Accesses}
 use Rattle.calls.specs.declared.called.EntryKnown.{EntryKnown}
 use Rattle.calls.specs.declared.called.Marked.{Marked}

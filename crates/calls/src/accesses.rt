@@ -1,8 +1,7 @@
 //! What an access tells of the call that makes it: what it begins or ends, and the number that is read.
 ghost use Rattle.std.specs.Prelude.{◌≡◌, ◌+◌, ◌-◌, ◌^◌, ◌<◌, ◌&&◌, Some, Ok};
-ghost use Rattle.plain_store.specs.Setups.{checked};
-ghost use Rattle.record.specs.Program.{is_below as below};
-ghost use Rattle.record.specs.Registers.{width};
+ghost use Rattle.plain_store.specs.{checked};
+ghost use Rattle.record.specs.{is_below as below, width};
 ghost use Rattle.calls.specs.Columns.{ends_number, holds_up as holds, is_read as begins_read, is_write as begins_write, more_if as one_more_if, number_after as after, tells_waiting, with_bit as bit_with};
 ghost use Rattle.calls.specs.Passing.{of_read, reads_begun, writes_begun};
 ghost use Rattle.calls.specs.Stepping.{waits_by};

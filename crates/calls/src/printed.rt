@@ -3,7 +3,7 @@ ghost use Rattle.std.specs.Prelude.{◌≡◌, ◌++◌, ◌∷◌, ◌||◌, co
 ghost use Rattle.std.specs.List.{list_any};
 ghost use Rattle.std.specs.String.{string_bytes};
 ghost use Rattle.std.specs.Fmt.{decimal};
-ghost use Rattle.plain_store.specs.Shown.{answer_text, command_text};
+ghost use Rattle.plain_store.specs.{answer_text, command_text};
 ghost use Rattle.calls.specs.Lines.{answer_field, call_head, call_line, doubled, field, is_special as special, line_of, number_field, numbers as numbers_of, number_text, waited as waited_by};
 
 use crate::called::{Called, Marked};

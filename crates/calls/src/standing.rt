@@ -1,9 +1,7 @@
 //! What is kept of a process, entry by entry.
 ghost use Rattle.std.specs.Prelude.{◌≡◌, ◌-◌, ◌^◌, ◌<◌, ◌&&◌, not, cond, None, Some, Ok};
-ghost use Rattle.plain_store.specs.Setups.{checked};
-ghost use Rattle.record.specs.Calls.{called_in as command_in};
-ghost use Rattle.record.specs.Doorways.{first_of as first};
-ghost use Rattle.record.specs.Registers.{width};
+ghost use Rattle.plain_store.specs.{checked};
+ghost use Rattle.record.specs.{called_in as command_in, first_of as first, width};
 ghost use Rattle.calls.specs.Passing.{HaveRoom, passed, with_passed};
 ghost use Rattle.calls.specs.Stepping.{AreFew, accessed, heard, at_rest, begun, marked_all, marked_on, no_accesses, no_marks, with_access, with_mark};
 

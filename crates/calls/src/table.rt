@@ -1,7 +1,6 @@
 ghost use Rattle.std.specs.Prelude.{◌≡◌, ◌+◌, ◌-◌, ◌^◌, ◌<◌, ◌∷◌, [], IfOk, Ok, Some, None, slice_get};
-ghost use Rattle.plain_store.specs.Setups.{checked};
-ghost use Rattle.record.specs.Calls.{calls_in};
-ghost use Rattle.record.specs.Entries.{Entry as Noted, Past, own};
+ghost use Rattle.plain_store.specs.{checked};
+ghost use Rattle.record.specs.{Entry as Noted, Past, calls_in, own};
 ghost use Rattle.record.specs.declared.access.Access.{Access as AccessMade};
 ghost use Rattle.calls.specs.declared.standing.CallStanding.{CallStanding as Stood};
 ghost use Rattle.calls.specs.Passing.{HasNotFailed, Passes};

@@ -1,9 +1,7 @@
 -- The line of processes, and some of them as a group.
 use Rattle.std.proofs.Common.{◌≡◌, ℕ, zero, suc, ◌+◌, ◌<◌, min, Bool, true, false, ◌==◌, cond, List, [], ◌∷◌, ◌++◌, length, get_or, set, take, refl, ap, sym, ◌∙◌, arith}
 use Rattle.std.proofs.lemmas.List.{length-append, set_past}
-use Rattle.columns.specs.States.{group_of, line_of_first, lined_up, places_from, ticket_in}
-use Rattle.columns.specs.declared.state.Group.{Group}
-use Rattle.columns.specs.declared.state.State.{State}
+use Rattle.columns.specs.{Group, State, group_of, line_of_first, lined_up, places_from, ticket_in}
 
 -- the line of one process more
 pub line_more : (state : State) (p : ℕ) → line_of_first state (p + 1) ≡ cond (ticket_in state p == 0) (line_of_first state p) (lined_up state p (line_of_first state p))

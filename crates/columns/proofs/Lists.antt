@@ -3,12 +3,7 @@ use Rattle.std.proofs.Common.{◌≡◌, ℕ, zero, suc, ◌+◌, ◌-◌, ◌*�
 use Rattle.std.specs.List.{cons_option}
 use Rattle.std.proofs.lemmas.List.{map-append, map-set, take_more}
 use Rattle.std.proofs.lemmas.List.Elements.{filter_map-append}
-use Rattle.columns.specs.Columns.{Seen, Wording, capped, row_shared, seen}
-use Rattle.columns.specs.Layouts.{has_changes, has_notes}
-use Rattle.columns.specs.Placings.{drawn_apart, last_of, moved_to}
-use Rattle.columns.specs.Told.{told_in}
-use Rattle.columns.specs.declared.columns.Column.{Column}
-use Rattle.columns.specs.declared.told.RunLine.{RunLine}
+use Rattle.columns.specs.{Column, RunLine, Seen, Wording, capped, drawn_apart, has_changes, has_notes, last_of, moved_to, row_shared, seen, told_in}
 
 -- what the columns of a band need below its knots, where so much is needed already
 abbrev pub room_left : ℕ → List Seen → ℕ

@@ -3,13 +3,9 @@ use Rattle.std.proofs.Common.{◌≡◌, ◌<◌, ◌⊎◌, inl, inr, ℕ, zero
 use Rattle.std.proofs.lemmas.Bool.{cases_eq, eq-eqb, ne_eqb, cond-true, cond-false, ltb-false}
 use Rattle.std.proofs.lemmas.Grind.{fold-append}
 use Rattle.std.proofs.lemmas.List.{length-set, get_or-set_same, get_or-set_other}
-use Rattle.record.specs.declared.marks.Mark.{Mark}
-use Rattle.record.specs.declared.stages.Stage.{Stage}
+use Rattle.record.specs.{Mark, Past, Stage, stage, stage_after}
 use Rattle.record.specs.declared.stages.Stage.TheVariants.{Idle}
-use Rattle.record.specs.Entries.{Past}
-use Rattle.record.specs.Stages.{stage, stage_after}
-use Rattle.columns.specs.Stages.{StagesAreTheRecords, marks_in, marks_said, nothing_told, stage_among, stages_marked, stages_told}
-use Rattle.columns.specs.declared.told.Saying.{Saying}
+use Rattle.columns.specs.{Saying, StagesAreTheRecords, marks_in, marks_said, nothing_told, stage_among, stages_marked, stages_told}
 use Rattle.columns.specs.declared.told.Saying.TheVariants.{Marked, Refused, Tired, Shown, Judged, Ended}
 
 -- the stage of a process after a mark of one

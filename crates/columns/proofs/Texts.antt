@@ -3,11 +3,8 @@ use Rattle.std.proofs.Common.{◌≡◌, ℕ, List, ◌++◌, codes, Result, Ok,
 use Rattle.std.specs.Fmt.{decimal}
 use Rattle.std.specs.Int.{from_bool}
 use Rattle.std.specs.declared.alloc.AllocError.{AllocError}
-use Rattle.record.specs.Shown.{mark_text, refusal_text}
-use Rattle.record.specs.declared.marks.Mark.{Mark}
-use Rattle.record.specs.declared.refusals.Refusal.{Refusal}
-use Rattle.columns.specs.Overlaps.{field_text, read_text, title_text}
-use Rattle.columns.specs.declared.reads.OverlappedRead.{OverlappedRead}
+use Rattle.record.specs.{Mark, Refusal, mark_text, refusal_text}
+use Rattle.columns.specs.{OverlappedRead, field_text, read_text, title_text}
 
 pub marked_is : (event p : ℕ) (mark : Mark) → decimal event ++ (codes " " ++ (decimal p ++ (codes " " ++ mark_text mark))) ≡ decimal event ++ codes " " ++ decimal p ++ codes " " ++ mark_text mark
 marked_is event p mark = simp append_assoc

@@ -3,9 +3,8 @@ use Rattle.std.specs.Prelude.{◌≡◌, ℕ, ◌+◌, ◌*◌, max, min, Bool, 
 use Rattle.std.specs.Fmt.{decimal}
 use Rattle.std.specs.Global.{Vec}
 use Rattle.std.specs.Option.{option_or, option_to_list}
-use Rattle.record.specs.Shown.{mark_text, refusal_text}
-use Rattle.record.specs.plain_store.Shown.{answer_text, command_text, reply_text}
-use Rattle.record.specs.declared.marks.Mark.{Mark}
+use Rattle.record.specs.{Mark, mark_text, refusal_text}
+use Rattle.record.specs.plain_store.{answer_text, command_text, reply_text}
 use Rattle.record.specs.declared.marks.Mark.TheVariants.{Answered, Called, Taken}
 use Rattle.columns.specs.Overlaps.{bit_text, saw_text}
 use Rattle.columns.specs.Told.{change_told, event_told, mark_told, place_told, process_told}

@@ -1,10 +1,7 @@
 -- The stages that lines have told, and that the record gives.
 use Rattle.std.specs.Prelude.{◌≡◌, ◌<◌, ℕ, cond, nat_lt, List, [], ◌∷◌, ◌++◌, flat_map, fold, get_or, map, replicate, set}
-use Rattle.record.specs.declared.marks.Mark.{Mark}
-use Rattle.record.specs.declared.stages.Stage.{Stage}
+use Rattle.record.specs.{Mark, Past, Stage, stage, stage_after}
 use Rattle.record.specs.declared.stages.Stage.TheVariants.{Idle}
-use Rattle.record.specs.Entries.{Past}
-use Rattle.record.specs.Stages.{stage, stage_after}
 use Rattle.columns.specs.declared.told.Saying.{Saying}
 use Rattle.columns.specs.declared.told.Saying.TheVariants.{Marked}
 

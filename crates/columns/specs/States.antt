@@ -1,8 +1,7 @@
 -- What lines have told of all processes: who stands in line, what each bar says, and how a line leads on.
 use Rattle.std.specs.Prelude.{◌≡◌, ℕ, zero, suc, ◌+◌, ◌-◌, ◌^◌, min, Bool, true, false, ◌==◌, cond, nat_le, nat_lt, List, [], ◌∷◌, ◌++◌, get_or, length, map, replicate, set, take, Option, None, Some}
-use Rattle.record.specs.declared.marks.Mark.{Mark}
+use Rattle.record.specs.{Mark, Stage}
 use Rattle.record.specs.declared.marks.Mark.TheVariants as mark
-use Rattle.record.specs.declared.stages.Stage.{Stage}
 use Rattle.record.specs.declared.stages.Stage.TheVariants as stage
 use Rattle.columns.specs.Stages.{nothing_told, stage_among, stages_marked, stages_told}
 use Rattle.columns.specs.declared.state.Group.{Group}

@@ -1,10 +1,8 @@
 -- The lines of a run's text, as values.
 use Rattle.std.specs.Prelude.{ℕ, Bool, true, false, List, ◌++◌, codes, map, Option, None, Some, option_map}
 use Rattle.std.specs.Fmt.{decimal}
-use Rattle.record.specs.Shown.{mark_text, refusal_text}
-use Rattle.record.specs.declared.marks.Mark.{Mark}
+use Rattle.record.specs.{Mark, Refusal, mark_text, refusal_text}
 use Rattle.record.specs.declared.marks.Mark.TheVariants.{Taken}
-use Rattle.record.specs.declared.refusals.Refusal.{Refusal}
 use Rattle.columns.specs.declared.columns.Column.{Column}
 use Rattle.columns.specs.declared.told.TakenChange.{TakenChange}
 use Rattle.columns.specs.declared.told.RunLine.{RunLine}

@@ -10,7 +10,7 @@ use Rattle.clap.specs.Walk.{Held, Names, Row, Rule, Walk, answers_to, arg_by_ind
 use Rattle.clap.specs.Words.{App, Text, takes}
 use Rattle.clap.proofs.OnLiterals.{clap_on_literals}
 use Rattle.command_line.proofs.Simple.{bakery_is_simple}
-use Rattle.command_line.specs.Meaning.{EachRunsFile, Listed, Meant, RunsEachFile, RunsFile, asked_of, asked_of_command, bakery, command_app, command_named, commands, explains_file, has_flag, is_plain_word, meaning, runs_file}
+use Rattle.command_line.specs.{EachRunsFile, Listed, Meant, RunsEachFile, RunsFile, asked_of, asked_of_command, bakery, command_app, command_named, commands, explains_file, has_flag, is_plain_word, meaning, runs_file}
 
 no_hyphen : (b : Bool) → not b ≡ true → b ≡ false
 no_hyphen false e = refl

@@ -2,7 +2,7 @@
 use Rattle.std.proofs.Common.{refl, ap, ◌∙◌, ◌&&◌, ◌≡◌, true}
 use Rattle.clap.specs.Faults.{is_free_app}
 use Rattle.clap.specs.Words.{built, is_simple, is_simple_and_free}
-use Rattle.command_line.specs.Meaning.{bakery}
+use Rattle.command_line.specs.{bakery}
 
 pub bakery_is_simple : is_simple bakery ≡ true
 bakery_is_simple = refl

@@ -1,8 +1,7 @@
 -- What the commands taken change: the value of a name among pairs, and a pair as it is shown.
 use Rattle.std.proofs.Common.{◌≡◌, ℕ, ◌+◌, true, false, List, drop, slice_get, Some, refl, ap, ◌∙◌}
 use Rattle.std.specs.Str.{bytes_eq}
-use Rattle.plain_store.specs.Pairs.{Pair}
-use Rattle.plain_store.specs.Store.{value_at}
+use Rattle.plain_store.specs.{Pair, value_at}
 use Rattle.plain_store.proofs.OpeningPairs.{drop-next}
 
 -- the pair of the name that is sought

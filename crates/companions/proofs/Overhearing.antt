@@ -2,23 +2,18 @@
 use Rattle.std.proofs.Common.{◌≡◌, ◌≢◌, ℕ, ◌<◌, ◌==◌, ◌&&◌, Bool, true, false, cond, get_or, List, [], ◌∷◌, ◌++◌, length, Option, None, Some, true≢false, refl, ap, sym, subst, ◌∙◌, append-nil, arith, inl, inr}
 use Rattle.std.proofs.lemmas.Bool.{cases_lt}
 use Rattle.std.proofs.lemmas.Bool.Decides.{nat_tests}
-use Rattle.record.specs.declared.access.Access.{Access}
-use Rattle.record.specs.safe_bit.declared.Move.{Move}
+use Rattle.record.specs.{Access, Entry, Past, begins_read, moves_of, same_bit}
+use Rattle.record.specs.safe_bit.{Move}
 use Rattle.record.specs.safe_bit.declared.Move.TheVariants.{BeginRead}
 use Rattle.plain_store.specs.declared.setups.Setup.{Setup as Given}
 use Rattle.plain_store.proofs.GoodSetups.{few-processes}
-use Rattle.record.specs.Entries.{Entry, Past}
-use Rattle.record.specs.Moves.{begins_read, moves_of, same_bit}
-use Rattle.read_law.specs.Looks.{ends_overlapped}
-use Rattle.read_law.specs.Watching.{HasHeard}
-use Rattle.read_law.specs.laws.Held.{IsThere}
+use Rattle.read_law.specs.{HasHeard, ends_overlapped}
+use Rattle.read_law.specs.laws.{IsThere}
 use Rattle.read_law.proofs.Hears.{heard_none}
-use Rattle.picture.specs.columns.declared.reads.OverlappedRead.{OverlappedRead}
+use Rattle.picture.specs.columns.{OverlappedRead}
 use Rattle.picture.specs.declared.reads.Reads.{Reads as Mode}
 use Rattle.picture.specs.declared.reads.Reads.TheVariants.{Hidden, Shown}
-use Rattle.companions.specs.declared.overlaps.BegunRead.{BegunRead}
-use Rattle.companions.specs.declared.overlaps.OverlapsHeard.{OverlapsHeard}
-use Rattle.companions.specs.Overlaps.{Hears, Overhears, begun_with, ended_of, first_three, is_begin, is_there, overlapped_by, overlapped_with, read_begun, read_ended}
+use Rattle.companions.specs.{BegunRead, Hears, Overhears, OverlapsHeard, begun_with, ended_of, first_three, is_begin, is_there, overlapped_by, overlapped_with, read_begun, read_ended}
 
 -- what has heard entries has heard one more
 pub hears_on : (s : Given) (past : Past) (reads : List OverlappedRead) (e : Entry) (old new : OverlapsHeard) → new.setup ≡ old.setup → new.watch.setup ≡ old.watch.setup →

@@ -1,8 +1,7 @@
 -- The words of a store that is empty, or not.
 use Rattle.std.proofs.Common.{◌≡◌, ℕ, List, [], ◌∷◌, length, refl, arith}
-use Rattle.plain_store.specs.Pairs.{Pair}
-use Rattle.plain_store.specs.StoreLine.{store_words}
-use Rattle.companions.specs.StoreChanges.{words_by}
+use Rattle.plain_store.specs.{Pair, store_words}
+use Rattle.companions.specs.{words_by}
 
 pub words_none : (pairs : List Pair) → length pairs ≡ 0 → [] ≡ words_by pairs
 words_none [] none = refl

@@ -1,17 +1,12 @@
 -- The reads of a record that writes overlap.
 use Rattle.std.specs.Prelude.{◌≡◌, ◌<◌, ℕ, ◌==◌, Bool, true, false, ◌&&◌, nat_lt, cond, get_or, List, [], ◌∷◌, length, Option, None, Some, Ok}
-use Rattle.record.specs.safe_bit.declared.Move.{Move}
+use Rattle.record.specs.safe_bit.{Move}
 use Rattle.record.specs.safe_bit.declared.Move.TheVariants.{BeginRead, EndRead}
-use Rattle.record.specs.declared.access.Access.{Access}
-use Rattle.plain_store.specs.Setups.{checked}
-use Rattle.plain_store.specs.declared.setups.Setup.{Setup}
-use Rattle.record.specs.Entries.{Entry, Past}
-use Rattle.record.specs.Moves.{moves_of, same_bit}
-use Rattle.record.specs.Registers.{width}
-use Rattle.read_law.specs.Looks.{ends_overlapped}
-use Rattle.read_law.specs.Watching.{HasHeard}
-use Rattle.picture.specs.Sheets.{held_in_64}
-use Rattle.picture.specs.columns.declared.reads.OverlappedRead.{OverlappedRead}
+use Rattle.record.specs.{Access, Entry, Past, moves_of, same_bit, width}
+use Rattle.plain_store.specs.{Setup, checked}
+use Rattle.read_law.specs.{HasHeard, ends_overlapped}
+use Rattle.picture.specs.{held_in_64}
+use Rattle.picture.specs.columns.{OverlappedRead}
 use Rattle.picture.specs.declared.reads.Reads.{Reads as Mode}
 use Rattle.picture.specs.declared.reads.Reads.TheVariants.{Hidden, Shown}
 use Rattle.companions.specs.declared.overlaps.BegunRead.{BegunRead}

@@ -1,13 +1,8 @@
 -- What commands change in a store, and how that is shown.
 use Rattle.std.specs.Prelude.{ℕ, if◌then◌else◌, List, [], ◌∷◌, Option, None, Some}
 use Rattle.std.specs.String.{string_bytes}
-use Rattle.plain_store.specs.Commands.{name_of}
-use Rattle.plain_store.specs.Pairs.{Pair}
-use Rattle.plain_store.specs.Store.{Contents, after, changes, value_at}
-use Rattle.plain_store.specs.StoreLine.{pair_text, store_words as in_words}
-use Rattle.plain_store.specs.declared.commands.Caller.{Caller}
-use Rattle.plain_store.specs.declared.commands.Command.{Command}
-use Rattle.picture.specs.columns.declared.told.TakenChange.{TakenChange}
+use Rattle.plain_store.specs.{Caller, Command, Contents, Pair, after, changes, name_of, pair_text, store_words as in_words, value_at}
+use Rattle.picture.specs.columns.{TakenChange}
 
 -- what a command changed: the pair of its name, and the store after it
 pub record Changed : Type 0 where

@@ -2,11 +2,9 @@
 ghost use Rattle.std.specs.Prelude.{◌≡◌, ◌<◌, ◌&&◌, ℕ, cond, [], ◌∷◌, ◌++◌, List, get_or, length, nat_lt, set, IfOk, IfSome, None, Ok, OnOk, Some};
 ghost use Rattle.std.specs.Option.{option_to_list};
 ghost use Rattle.record.specs.safe_bit.declared.Move.TheVariants.{EndRead};
-ghost use Rattle.plain_store.specs.Setups.{checked};
+ghost use Rattle.plain_store.specs.{checked};
 ghost use Rattle.plain_store.specs.declared.setups.Setup.{Setup as Given};
-ghost use Rattle.record.specs.Entries.{Entry, Past};
-ghost use Rattle.record.specs.Moves.{same_bit as same};
-ghost use Rattle.record.specs.Registers.{width};
+ghost use Rattle.record.specs.{Entry, Past, same_bit as same, width};
 ghost use Rattle.picture.specs.columns.declared.reads.OverlappedRead.{OverlappedRead as Ended};
 ghost use Rattle.picture.specs.declared.reads.Reads.{Reads as Mode};
 ghost use Rattle.companions.specs.Overlaps.{Hears, Overhears, ended_of, first_three, overlapped_by, overlapped_with, read_begun, read_ended, shown_of};

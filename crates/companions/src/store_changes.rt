@@ -1,9 +1,7 @@
 //! What the commands taken change in the one-thread store beside a picture, and how that is shown.
 ghost use Rattle.std.specs.Prelude.{◌≡◌, Ok, IfOk, OnOk, option_map};
 ghost use Rattle.std.specs.String.{string_bytes};
-ghost use Rattle.plain_store.specs.Commands.{name_of};
-ghost use Rattle.plain_store.specs.Setups.{checked, opening_store as store_at_first};
-ghost use Rattle.plain_store.specs.Store.{after, changes, value_at};
+ghost use Rattle.plain_store.specs.{after, changes, checked, name_of, opening_store as store_at_first, value_at};
 ghost use Rattle.companions.specs.StoreChanges.{change_by, changed, pair_words, store_words as words_of_store, words_by};
 
 use picture::TakenChange;

@@ -1,24 +1,16 @@
 -- One process makes the Steps of a line: `step`, and `go` while the process is not where it is to go.
 use Rattle.std.proofs.Common.{◌≡◌, ℕ, zero, suc, ◌+◌, ◌-◌, ◌<◌, ◌≤◌, arith, Bool, true, false, cond, List, [], ◌∷◌, ◌++◌, IfOk, Option, None, Some, Result, Ok, Err, is_none, refl, ap, sym, subst, ◌∙◌, add-one, add-zero, inl, inr}
-use Rattle.plain_store.specs.declared.setups.Setup.{Setup}
-use Rattle.record.specs.declared.access.Access.{Access}
+use Rattle.plain_store.specs.{Setup}
+use Rattle.record.specs.{Access, Mark}
 use Rattle.record.specs.declared.events.Event.TheVariants.{Step}
-use Rattle.record.specs.declared.marks.Mark.{Mark}
-use Rattle.scenario.specs.declared.lines.Line.{Line}
+use Rattle.scenario.specs.{Line}
 use Rattle.scenario.specs.declared.lines.Line.TheVariants as line
-use Rattle.scenario.specs.files.declared.faults.Fault.{Fault}
-use Rattle.world.specs.flicks.Flicks.{FlickState, after_flick, flick_of}
+use Rattle.scenario.specs.files.{Fault}
+use Rattle.world.specs.flicks.{FlickState, after_flick, flick_of}
 use Rattle.world.specs.Shows.{Shows, WorldState}
 use Rattle.world.specs.Walks.{StepsQuietly, Walks, left_in}
 use Rattle.world.proofs.WorldWithin.{left-on}
-use Rattle.course.specs.Courses.{CourseState, Follows, IsQuiet, QuietTurns, course}
-use Rattle.course.specs.Happenings.{Happening, Tries, past_after, tried}
-use Rattle.course.specs.Listening.{ComesOn, ComesTo, HearsFrom, HearsStep, IsNewest, KnowsOr, MakesSteps, MaySteps, PassBy, PassWithin, PassesAlone, RunsTo, StepsWithin, TellsStep, overlapped_in}
-use Rattle.course.specs.Runs.{Run, is_there, may_step, next_step, past_in, stepped}
-use Rattle.course.specs.Steppers.{IsAlone, left_told}
-use Rattle.course.specs.Telling.{AddsMarks, TellsOf, entry_made}
-use Rattle.course.specs.Turns.{Turn, made_turn, rest_of, step_turn, turn_of, turns_in}
-use Rattle.course.specs.declared.told.Told.{Told}
+use Rattle.course.specs.{AddsMarks, ComesOn, ComesTo, CourseState, Follows, Happening, HearsFrom, HearsStep, IsAlone, IsNewest, IsQuiet, KnowsOr, MakesSteps, MaySteps, PassBy, PassWithin, PassesAlone, QuietTurns, Run, RunsTo, StepsWithin, TellsOf, TellsStep, Told, Tries, Turn, course, entry_made, is_there, left_told, made_turn, may_step, next_step, overlapped_in, past_after, past_in, rest_of, step_turn, stepped, tried, turn_of, turns_in}
 use Rattle.course.specs.declared.told.Told.TheVariants as told
 use Rattle.course.proofs.CourseTurns.{turn_next}
 use Rattle.course.proofs.Goes.{go_steps}

@@ -2,9 +2,8 @@
 use Rattle.std.proofs.Common.{◌≡◌, ◌≤◌, ℕ, List, length, replicate, set, slice_index, ap, arith, inl, inr}
 use Rattle.std.proofs.lemmas.Bool.{cases_eq, cases_lt}
 use Rattle.std.proofs.lemmas.List.{get_or-replicate, get_or-set_other, get_or-set_same, get_or_past, length-replicate, length-set}
-use Rattle.world.specs.Seats.{Seat}
-use Rattle.world.specs.Walks.{KeepOthers, left_in}
-use Rattle.course.specs.Counts.{IsCounted}
+use Rattle.world.specs.{KeepOthers, Seat, left_in}
+use Rattle.course.specs.{IsCounted}
 
 -- at first nothing is known
 pub none_known : (n p : ℕ) → slice_index (replicate n 0) p ≡ 0

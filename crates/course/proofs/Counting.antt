@@ -1,17 +1,10 @@
 -- What is heard of a run is counted, and has its text.
 use Rattle.std.proofs.Common.{◌≡◌, ℕ, zero, suc, ◌+◌, List, ◌∷◌, ◌++◌, length, Some, refl, ap, sym, subst, ◌∙◌, arith, add-zero, append-nil}
-use Rattle.plain_store.specs.declared.setups.Setup.{Setup}
+use Rattle.plain_store.specs.{Setup}
 use Rattle.record.specs.declared.events.Event.TheVariants.{Step}
-use Rattle.record.specs.declared.history.Taken.{Taken}
-use Rattle.course.specs.Happenings.{Happening, Tries, past_after, refusals}
-use Rattle.course.specs.Listening.{Happens, PassQuietly, StepsOn}
-use Rattle.course.specs.Summaries.{counted}
-use Rattle.course.specs.Telling.{told_text}
-use Rattle.course.specs.Texts.{text_of}
+use Rattle.record.specs.{Taken}
+use Rattle.course.specs.{Happening, Happens, PassQuietly, Stepped, StepsOn, Summary, Told, Tries, counted, past_after, refusals, text_of, told_text}
 use Rattle.course.specs.Writing.{Counts}
-use Rattle.course.specs.declared.summaries.Summary.{Summary}
-use Rattle.course.specs.declared.told.Stepped.{Stepped}
-use Rattle.course.specs.declared.told.Told.{Told}
 use Rattle.course.proofs.Tellings.{Quietly, counts_more, quiet_counts, told_is}
 
 -- so many events more

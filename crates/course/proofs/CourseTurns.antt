@@ -2,37 +2,17 @@
 use Rattle.std.proofs.Common.{◌≡◌, ℕ, zero, suc, arith, ◌-◌, ◌<◌, ◌≤◌, Bool, true, false, nat_lt, cond, length, List, [], ◌∷◌, IfOk, Result, Ok, Err, Option, None, Some, option_map, refl, ap, sym, subst, ◌∙◌, inl, inr}
 use Rattle.std.proofs.lemmas.Bool.Decides.{nat_tests}
 use Rattle.std.specs.declared.alloc.AllocError.{AllocError}
-use Rattle.plain_store.specs.declared.setups.Setup.{Setup}
-use Rattle.record.specs.declared.access.Access.{Access}
-use Rattle.record.specs.declared.events.Event.{Event}
-use Rattle.record.specs.declared.history.Taken.{Taken}
-use Rattle.record.specs.declared.refusals.Refusal.{Refusal}
+use Rattle.plain_store.specs.{Setup}
+use Rattle.record.specs.{Access, Entry, Event, Mark, Past, Refusal, Stage, Taken, added, entry_of, history, is_event, marked, moves_of, past_of, process_of, refused, stage}
 use Rattle.record.specs.declared.refusals.Refusal.TheVariants.{NoProcess, Memory}
-use Rattle.record.specs.declared.stages.Stage.{Stage}
-use Rattle.record.specs.Given.{is_event}
-use Rattle.record.specs.Histories.{history}
 use Rattle.record.specs.declared.events.Event.TheVariants as event
-use Rattle.record.specs.declared.marks.Mark.{Mark}
-use Rattle.record.specs.Entries.{Entry, Past}
-use Rattle.record.specs.Moves.{moves_of}
-use Rattle.record.specs.Records.{added, entry_of, marked, past_of, process_of, refused}
-use Rattle.record.specs.Stages.{stage}
-use Rattle.scenario.specs.declared.lines.Line.{Line}
+use Rattle.scenario.specs.{Line, Target}
 use Rattle.scenario.specs.declared.lines.Line.TheVariants as line
-use Rattle.scenario.specs.declared.lines.Target.{Target}
-use Rattle.world.specs.process.Telling.{act_of}
-use Rattle.world.specs.Events.{Adds, GoesOn, IsTurnedAway, entry_with, stage_in}
-use Rattle.world.specs.flicks.Flicks.{FlickState, after_set}
-use Rattle.world.specs.flicks.declared.Flick.{Flick}
+use Rattle.world.specs.process.{act_of}
+use Rattle.world.specs.{Adds, GoesOn, IsTurnedAway, ends_overlapped, ends_overlapped_read, entry_with, stage_in}
+use Rattle.world.specs.flicks.{Flick, FlickState, after_set}
 use Rattle.world.specs.Shows.{Shows, WorldState}
-use Rattle.world.specs.Walks.{ends_overlapped, ends_overlapped_read}
-use Rattle.course.specs.Courses.{CourseState, Follows, Makes, course}
-use Rattle.course.specs.Happenings.{Tries, Lacks, Looks, tried}
-use Rattle.course.specs.Runs.{Run, has_step, is_there, past_in}
-use Rattle.course.specs.Telling.{IsMarked, TellsOf, entry_made, is_step}
-use Rattle.course.specs.Turns.{Turn, ends, go_turn, happens, next_turn, on_turn, turn_of}
-use Rattle.course.specs.declared.told.Accepted.{Accepted}
-use Rattle.course.specs.declared.told.Told.{Told}
+use Rattle.course.specs.{Accepted, CourseState, Follows, IsMarked, Lacks, Looks, Makes, Run, TellsOf, Told, Tries, Turn, course, ends, entry_made, go_turn, happens, has_step, is_step, is_there, next_turn, on_turn, past_in, tried, turn_of}
 use Rattle.course.specs.declared.told.Told.TheVariants as told
 use Rattle.course.proofs.Refusals.{shows_refused}
 

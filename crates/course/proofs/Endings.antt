@@ -1,9 +1,8 @@
 -- What follows from how a listener's writing ended.
 use Rattle.std.proofs.Common.{◌≡◌, ℕ, ◌+◌, Result, Ok, Err, IfErr, OnErr, OnOk, List, Option, subst, sym, ◌∙◌, add-zero}
-use Rattle.scenario.specs.files.declared.faults.Fault.{Fault}
+use Rattle.scenario.specs.files.{Fault}
 use Rattle.scenario.specs.files.declared.faults.Fault.TheVariants as fault
-use Rattle.course.specs.Takings.{Took, took_none}
-use Rattle.course.specs.Writing.{IsWriteFault, failed_write}
+use Rattle.course.specs.{IsWriteFault, Took, failed_write, took_none}
 
 -- where it went well no call failed
 pub ok_whole : {A P R : Type 0} (r : Result A Fault) (m n : ℕ) → (P → n ≡ m → R) → OnOk r P → n ≡ m + failed_write r → OnOk r R

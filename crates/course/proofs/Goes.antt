@@ -1,22 +1,13 @@
 -- `go`: Steps without a mark leave the process where it is, so that it is away until one has marks.
 use Rattle.std.proofs.Common.{◌≡◌, ℕ, zero, suc, arith, ◌<◌, true, false, nat_lt, List, Some, refl, ap, sym, subst, ◌∙◌, inl, inr}
-use Rattle.plain_store.specs.declared.setups.Setup.{Setup}
-use Rattle.record.specs.declared.events.Event.{Event}
-use Rattle.record.specs.declared.stages.Stage.{Stage}
-use Rattle.record.specs.Records.{past_of}
-use Rattle.record.specs.Stages.{stage}
+use Rattle.plain_store.specs.{Setup}
+use Rattle.record.specs.{Event, Stage, past_of, stage}
 use Rattle.scenario.specs.declared.lines.Line.TheVariants as line
-use Rattle.scenario.specs.declared.lines.Target.{Target}
-use Rattle.world.specs.Events.{stage_in}
-use Rattle.world.specs.flicks.Flicks.{FlickState}
+use Rattle.scenario.specs.{Target}
+use Rattle.world.specs.{stage_in}
+use Rattle.world.specs.flicks.{FlickState}
 use Rattle.world.specs.Shows.{Shows, WorldState}
-use Rattle.course.specs.Courses.{CourseState, Follows, QuietTurns, course}
-use Rattle.course.specs.Happenings.{Happening, Lacks, Tires, tried}
-use Rattle.course.specs.Listening.{ComesOn, ComesTo}
-use Rattle.course.specs.Runs.{Run, is_there, past_in}
-use Rattle.course.specs.Steppers.{IsAlone, IsAway}
-use Rattle.course.specs.Telling.{Tells}
-use Rattle.course.specs.Turns.{Turn, ends, go_turn, happens, on_turn, turn_of}
+use Rattle.course.specs.{ComesOn, ComesTo, CourseState, Follows, Happening, IsAlone, IsAway, Lacks, QuietTurns, Run, Tells, Tires, Turn, course, ends, go_turn, happens, is_there, on_turn, past_in, tried, turn_of}
 use Rattle.course.specs.declared.told.Told.TheVariants as told
 use Rattle.course.proofs.CourseTurns.{stage_told}
 

@@ -1,15 +1,10 @@
 -- A run only adds to what has happened, and so to its text.
 use Rattle.std.proofs.Common.{◌≡◌, ℕ, zero, suc, Bool, true, false, nat_lt, List, [], ◌∷◌, ◌++◌, refl, ap, sym, ◌∙◌, append_assoc}
-use Rattle.plain_store.specs.declared.setups.Setup.{Setup}
-use Rattle.record.specs.Stages.{stage}
-use Rattle.scenario.specs.declared.lines.Line.{Line}
+use Rattle.plain_store.specs.{Setup}
+use Rattle.record.specs.{stage}
+use Rattle.scenario.specs.{Line, Target}
 use Rattle.scenario.specs.declared.lines.Line.TheVariants as line
-use Rattle.scenario.specs.declared.lines.Target.{Target}
-use Rattle.course.specs.Happenings.{Happening, Lacks, Tires}
-use Rattle.course.specs.Runs.{Run, goes, is_there, may_step, movers, past_in, picked, run_after, runs, stepped, steps, wanders, with_happening}
-use Rattle.course.specs.Growing.{text_longer}
-use Rattle.course.specs.Texts.{text_of}
-use Rattle.course.specs.Turns.{go_rest, once, rest_of}
+use Rattle.course.specs.{Happening, Lacks, Run, Tires, go_rest, goes, is_there, may_step, movers, once, past_in, picked, rest_of, run_after, runs, stepped, steps, text_longer, text_of, wanders, with_happening}
 
 -- what has happened after is what had happened before, and more
 pub record Grows (before after : List Happening) : Type 0 where

@@ -1,18 +1,13 @@
 -- A store is known by its image, and the newest store by that of the registers.
 use Rattle.std.proofs.Common.{◌≡◌, ◌*◌, ◌+◌, Bool, true, false, cond, List, [], ◌++◌, length, Option, Some, None, option_map, IfSome, refl, ap, sym, ◌∙◌, arith}
-use Rattle.record.specs.store_image.Image.{IsStore, image_of, store_read}
-use Rattle.plain_store.specs.Store.{Contents}
-use Rattle.record.specs.store_image.Reading.{used_in}
+use Rattle.record.specs.store_image.{IsStore, image_of, store_read, used_in}
+use Rattle.plain_store.specs.{Contents}
 use Rattle.record.proofs.store_image.ImageBytes.{length-image_of, store_read-image_of}
 use Rattle.record.proofs.store_image.Readings.{used_in-image_of}
-use Rattle.record.specs.declared.events.Event.{Event}
-use Rattle.record.specs.Entries.{Past}
-use Rattle.record.specs.Histories.{history, store_after}
-use Rattle.record.specs.Newest.{is_somebody_inside, newest}
-use Rattle.record.specs.Records.{past_of}
+use Rattle.record.specs.{Event, Past, history, is_somebody_inside, newest, past_of, store_after}
 use Rattle.world.proofs.history_laws_proofs.DataAlways.{data_of}
 use Rattle.world.specs.Shows.{Shows, WorldState}
-use Rattle.course.specs.Texts.{newest_store}
+use Rattle.course.specs.{newest_store}
 
 -- stores with one image are one
 pub same_image : (a b : Contents) → IsStore a → IsStore b → image_of a ≡ image_of b → a ≡ b

@@ -1,10 +1,8 @@
 -- Each entry of a run is one of a process that is there.
 use Rattle.std.proofs.Common.{◌≡◌, ◌<◌, nat_lt, true, List, Some, sym, subst, arith}
 use Rattle.std.proofs.lemmas.Bool.Decides.{nat_tests}
-use Rattle.plain_store.specs.declared.Setup.{Setup}
-use Rattle.record.specs.declared.events.Event.{Event}
-use Rattle.record.specs.Entries.{Entry}
-use Rattle.record.specs.Records.{entry_of, past_of, process_of}
+use Rattle.plain_store.specs.{Setup}
+use Rattle.record.specs.{Entry, Event, entry_of, past_of, process_of}
 use Rattle.record.proofs.World.{entry-accepted}
 
 pub process_there : (s : Setup) (events : List Event) (event : Event) (e : Entry) → e.process ≡ process_of event → entry_of s (past_of s events) event ≡ Some e → e.process < s.processes

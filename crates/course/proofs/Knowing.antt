@@ -6,22 +6,14 @@ use Rattle.std.proofs.lemmas.Bool.Decides.{nat_tests}
 use Rattle.std.proofs.lemmas.List.Elements.{All-filter, filter_passes}
 use Rattle.std.proofs.lemmas.List.FromFn.{get_or-range_with_len, length-range_with_len}
 use Rattle.std.proofs.lemmas.Nat.{mod_below}
-use Rattle.plain_store.specs.declared.setups.Setup.{Setup}
+use Rattle.plain_store.specs.{Setup}
 use Rattle.record.specs.declared.events.Event.TheVariants.{Step}
-use Rattle.record.specs.declared.refusals.Refusal.{Refusal}
+use Rattle.record.specs.{Refusal, Stage, processes, refused_at, stage}
 use Rattle.record.specs.declared.refusals.Refusal.TheVariants.{NoProcess}
-use Rattle.record.specs.declared.stages.Stage.{Stage}
 use Rattle.record.specs.declared.stages.Stage.TheVariants as stages
-use Rattle.record.specs.Records.{refused_at}
-use Rattle.record.specs.Registers.{processes}
-use Rattle.record.specs.Stages.{stage}
-use Rattle.world.specs.flicks.Flicks.{pick_of}
+use Rattle.world.specs.flicks.{pick_of}
 use Rattle.world.specs.Shows.{Shows, WorldState}
-use Rattle.course.specs.Happenings.{Happening, Tries, past_after, tried}
-use Rattle.course.specs.Listening.{HearsFrom, HearsStep, HearsUpTo, KnowsOr, Learns, MaySteps, Needs, PassWithin}
-use Rattle.course.specs.Runs.{Run, has_step, movers, past_in, pick_among}
-use Rattle.course.specs.Telling.{AddsMarks, TellsOf}
-use Rattle.course.specs.declared.told.Told.{Told}
+use Rattle.course.specs.{AddsMarks, Happening, HearsFrom, HearsStep, HearsUpTo, KnowsOr, Learns, MaySteps, Needs, PassWithin, Run, TellsOf, Told, Tries, has_step, movers, past_after, past_in, pick_among, tried}
 use Rattle.course.specs.declared.told.Told.TheVariants as told
 use Rattle.course.proofs.Refusals.{entry_by, not_refused}
 use Rattle.course.proofs.Wanders.{stage_quiet}

@@ -1,35 +1,18 @@
 -- What the auditor of a run has heard: no entry breaks a law.
 use Rattle.std.proofs.Common.{◌≡◌, List, [], ◌∷◌, length, reverse, Option, None, Some, Ok, refl, ap, sym, subst, ◌∙◌}
 use Rattle.std.proofs.lemmas.List.{length-reverse, reverse-reverse}
-use Rattle.plain_store.specs.declared.setups.Setup.{Setup}
-use Rattle.plain_store.specs.Setups.{checked}
-use Rattle.record.specs.declared.events.Event.{Event}
+use Rattle.plain_store.specs.{Setup, checked}
+use Rattle.record.specs.{AreGiven, Entry, Event, Past, Refusal, Taken, entry_of, past_of, refused, with_event}
 use Rattle.record.specs.declared.events.Event.TheVariants.{Step}
-use Rattle.record.specs.declared.history.Taken.{Taken}
-use Rattle.record.specs.declared.refusals.Refusal.{Refusal}
-use Rattle.record.specs.Entries.{Entry, Past}
-use Rattle.record.specs.Given.{AreGiven}
-use Rattle.record.specs.Records.{entry_of, past_of, refused, with_event}
 use Rattle.world.proofs.WorldShows.{past-after}
-use Rattle.auditor.specs.Hearing.{AuditorState, HasHeard, IsHeard}
-use Rattle.auditor.specs.Verdicts.{AllKeep, IsVerdict, KeepsAll}
-use Rattle.auditor.specs.declared.verdicts.Law.{Law}
+use Rattle.auditor.specs.{AllKeep, AuditorState, HasHeard, IsHeard, IsVerdict, KeepsAll, Law}
 use Rattle.auditor.specs.declared.verdicts.Verdict.TheVariants.{Good}
 use Rattle.auditor.proofs.Obeys.{obeys}
 use Rattle.auditor.proofs.Whole.{good_of}
-use Rattle.scenario.specs.Reading.{Script}
-use Rattle.course.specs.Happenings.{Happening, Tries, Lacks, Tires, Looks, accepted, past_after, tried}
-use Rattle.course.specs.Listening.{Happens, StepsOn}
-use Rattle.course.specs.Telling.{TellsOf, entry_made}
-use Rattle.course.specs.declared.told.Accepted.{Accepted}
-use Rattle.course.specs.declared.told.Stepped.{Stepped}
-use Rattle.course.specs.declared.told.Told.{Told}
+use Rattle.scenario.specs.{Script}
+use Rattle.course.specs.{Accepted, Audit, Audits, Happening, Happens, Lacks, Looks, Stepped, StepsOn, TellsOf, Tires, Told, Tries, accepted, entry_made, happenings, past_after, run_record, tried}
 use Rattle.course.specs.declared.told.Told.TheVariants as told
-use Rattle.course.specs.Judging.{Audits}
-use Rattle.course.specs.declared.judging.Audit.{Audit}
-use Rattle.course.specs.Runs.{happenings}
 use Rattle.course.proofs.Refusals.{past_kept}
-use Rattle.course.specs.RunRecords.{run_record}
 
 -- the accepted events have the record of all that were tried
 pub past_accepted : (s : Setup) (events : List Event) → past_of s (accepted s events) ≡ past_of s events

@@ -1,20 +1,13 @@
 -- A replay between two lines: what has happened, what was written, and the lines to come.
 use Rattle.std.proofs.Common.{◌≡◌, ℕ, List, [], ◌∷◌, ◌++◌, Option, Ok, refl, ap, sym, subst, ◌∙◌, append_assoc}
 use Rattle.std.specs.Io.KnownBytes.{Appends}
-use Rattle.scenario.specs.files.Streams.{WritesFront}
-use Rattle.plain_store.specs.declared.setups.Setup.{Setup}
-use Rattle.plain_store.specs.Setups.{checked}
-use Rattle.record.specs.Given.{AreGiven}
+use Rattle.scenario.specs.files.{WritesFront}
+use Rattle.plain_store.specs.{Setup, checked}
+use Rattle.record.specs.{AreGiven}
 use Rattle.world.proofs.history_laws_proofs.Headlines.{throughout}
-use Rattle.scenario.specs.declared.lines.Line.{Line}
-use Rattle.course.specs.Courses.{CourseState, Follows}
-use Rattle.course.specs.Happenings.{Happening, tried}
-use Rattle.course.specs.Replays.{CutsLine, MakesLine, Moves, RunKeepsHeadline}
-use Rattle.course.specs.Runs.{Run, run_after, run_at_start, runs}
-use Rattle.course.specs.Summaries.{summary_of}
-use Rattle.course.specs.Texts.{text_of}
+use Rattle.scenario.specs.{Line}
+use Rattle.course.specs.{CourseState, CutsLine, Follows, Happening, MakesLine, Moves, Run, RunKeepsHeadline, Summary, run_after, run_at_start, runs, summary_of, text_of, tried}
 use Rattle.course.specs.Writing.{Counts, WritesPart}
-use Rattle.course.specs.declared.summaries.Summary.{Summary}
 use Rattle.course.proofs.Grows.{TextGrows, lines_grow, text_grows}
 use Rattle.course.proofs.Written.{appends_both, appends_none, front_after, front_longer}
 

@@ -1,22 +1,12 @@
 -- A line that is being played: what was heard of it, and what is left.
 use Rattle.std.specs.Prelude.{OnOk}
 use Rattle.std.proofs.Common.{◌≡◌, ℕ, Bool, ◌<◌, ◌≤◌, List, [], ◌∷◌, ◌++◌, map, Option, None, Some, Result, Ok, Err, IfErr, IfOk, IsErrAnd, refl, ap, sym, subst, ◌∙◌, arith}
-use Rattle.plain_store.specs.declared.setups.Setup.{Setup}
-use Rattle.plain_store.specs.Setups.{checked}
-use Rattle.record.specs.declared.events.Event.{Event}
-use Rattle.record.specs.declared.history.Taken.{Taken}
-use Rattle.record.specs.Given.{AreGiven}
-use Rattle.record.specs.Histories.{history}
-use Rattle.scenario.specs.declared.lines.Line.{Line}
-use Rattle.scenario.specs.files.declared.faults.Fault.{Fault}
-use Rattle.world.specs.Shows.{WorldState}
-use Rattle.course.specs.Courses.{CourseState, Follows}
-use Rattle.course.specs.Happenings.{Happening, Tries, past_after, tried}
-use Rattle.course.specs.Listening.{ComesTo, Happens, HearsStep, HearsUpTo, Keeps, LearnsTold, MakesStep, Plays, room_wanted}
-use Rattle.course.specs.Runs.{Run, past_in, run_after, run_at_start, runs}
-use Rattle.course.specs.Telling.{Tells}
-use Rattle.course.specs.Turns.{Turn, rest_of, turn_of, turns_in}
-use Rattle.course.specs.declared.told.Told.{Told}
+use Rattle.plain_store.specs.{Setup, checked}
+use Rattle.record.specs.{AreGiven, Event, Taken, history}
+use Rattle.scenario.specs.{Line}
+use Rattle.scenario.specs.files.{Fault}
+use Rattle.world.specs.{WorldState}
+use Rattle.course.specs.{ComesTo, CourseState, Follows, Happening, Happens, HearsStep, HearsUpTo, Keeps, LearnsTold, MakesStep, Plays, Run, Tells, Told, Tries, Turn, past_after, past_in, rest_of, room_wanted, run_after, run_at_start, runs, tried, turn_of, turns_in}
 use Rattle.course.proofs.Grows.{Grows, rest_grows}
 use Rattle.course.proofs.Runnings.{rest_quiet}
 use Rattle.course.proofs.TurnLaw.{rest_none, rest_whole, turn_on}

@@ -2,14 +2,8 @@
 use Rattle.std.proofs.Common.{◌≡◌, true, List, ◌∷◌, Option, None, Some, refl, ap, sym, ◌∙◌}
 use Rattle.std.proofs.lemmas.Bool.{and_from}
 use Rattle.std.specs.List.{list_all}
-use Rattle.record.specs.declared.access.Access.{Access}
-use Rattle.plain_store.specs.declared.setups.Setup.{Setup}
-use Rattle.record.specs.declared.events.Event.{Event}
-use Rattle.record.specs.declared.marks.Mark.{Mark}
-use Rattle.record.specs.declared.refusals.Refusal.{Refusal}
-use Rattle.record.specs.Entries.{Entry, Past}
-use Rattle.record.specs.Given.{is_event}
-use Rattle.record.specs.Records.{added, entry_of, past_of, process_of, refused}
+use Rattle.record.specs.{Access, Entry, Event, Mark, Past, Refusal, added, entry_of, is_event, past_of, process_of, refused}
+use Rattle.plain_store.specs.{Setup}
 use Rattle.world.specs.Shows.{Shows, WorldState, world_of}
 
 -- an event that is refused adds no entry

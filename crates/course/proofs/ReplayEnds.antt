@@ -5,16 +5,10 @@ use Rattle.scenario.proofs.files.CutTexts.{input_tells}
 use Rattle.scenario.proofs.CutTexts.{scenario_tells_at_limit}
 use Rattle.scenario.proofs.files.EngineEnds.{text_told, read_to_end}
 use Rattle.scenario.specs.files.Engines.{Streams, Ran, text_by, text_or_none}
-use Rattle.scenario.specs.Reading.{Script, scenario_of}
-use Rattle.scenario.specs.files.Streams.{ReadsInput, WritesFront}
-use Rattle.scenario.specs.files.declared.faults.Fault.{Fault}
-use Rattle.scenario.specs.files.declared.faults.LineFault.{LineFault}
+use Rattle.scenario.specs.{Script, scenario_of}
+use Rattle.scenario.specs.files.{Fault, LineFault, ReadsInput, WritesFront}
 use Rattle.scenario.specs.files.declared.faults.Fault.TheVariants.{Line, Read, Write, Memory}
-use Rattle.course.specs.Replays.{InputKeepsHeadline, IsSummaryOf, RunKeepsHeadline, ended}
-use Rattle.course.specs.Runs.{happenings}
-use Rattle.course.specs.Summaries.{summary_of}
-use Rattle.course.specs.Writing.{IsWriteFault, failed_write}
-use Rattle.course.specs.declared.summaries.Summary.{Summary}
+use Rattle.course.specs.{InputKeepsHeadline, IsSummaryOf, IsWriteFault, RunKeepsHeadline, Summary, ended, failed_write, happenings, summary_of}
 
 -- a fault is one without the answer too
 pub ended_err : {A : Type 0} (result : Result A Fault) (P : Fault → Type 0) → IsErrAnd result P → IsErrAnd (ended result) P

@@ -1,21 +1,14 @@
 -- Steps of a line, one after another: those without a mark are heard, and each leaves who makes the next.
 use Rattle.std.proofs.Common.{◌≡◌, ℕ, zero, suc, ◌+◌, ◌≤◌, Bool, List, [], ◌∷◌, ◌++◌, Option, None, Some, refl, ap, sym, subst, ◌∙◌, arith}
-use Rattle.plain_store.specs.declared.setups.Setup.{Setup}
-use Rattle.record.specs.declared.events.Event.{Event}
+use Rattle.plain_store.specs.{Setup}
+use Rattle.record.specs.{Event, entry_of, past_of}
 use Rattle.record.specs.declared.events.Event.TheVariants.{Step}
-use Rattle.record.specs.Records.{entry_of, past_of}
-use Rattle.scenario.specs.declared.lines.Line.{Line}
-use Rattle.scenario.specs.files.declared.faults.Fault.{Fault}
-use Rattle.world.specs.flicks.Flicks.{FlickState, after_flick, flick_of}
+use Rattle.scenario.specs.{Line}
+use Rattle.scenario.specs.files.{Fault}
+use Rattle.world.specs.flicks.{FlickState, after_flick, flick_of}
 use Rattle.world.specs.Shows.{Shows, WorldState}
-use Rattle.world.specs.Walks.{StepsQuietly}
-use Rattle.course.specs.Courses.{CourseState, Follows, IsQuiet, Makes, QuietTurns, course}
-use Rattle.course.specs.Happenings.{Happening, Tries, tried}
-use Rattle.course.specs.Listening.{ComesOn, ComesTo, HearsFrom, HearsStep, TellsStep}
-use Rattle.course.specs.Runs.{Run, next_step, past_in, stepped}
-use Rattle.course.specs.Telling.{AddsMarks, Tells, TellsOf}
-use Rattle.course.specs.Turns.{Turn, made_turn, rest_of, turn_of, turns_in}
-use Rattle.course.specs.declared.told.Told.{Told}
+use Rattle.world.specs.{StepsQuietly}
+use Rattle.course.specs.{AddsMarks, ComesOn, ComesTo, CourseState, Follows, Happening, HearsFrom, HearsStep, IsQuiet, Makes, QuietTurns, Run, Tells, TellsOf, TellsStep, Told, Tries, Turn, course, made_turn, next_step, past_in, rest_of, stepped, tried, turn_of, turns_in}
 use Rattle.course.proofs.Grows.{Grows, rest_grows}
 use Rattle.course.proofs.TurnLaw.{turn_less, turn_on}
 

@@ -1,22 +1,15 @@
 -- A Step by what a world says of it: it has no mark and is heard, or it is told.
 use Rattle.std.proofs.Common.{◌≡◌, ℕ, Bool, List, [], ◌∷◌, map, length, IfOk, IfErr, OnOk, OnErr, Result, Ok, Err, Some, refl, ap, sym, subst}
-use Rattle.record.specs.declared.events.Event.{Event}
+use Rattle.record.specs.{Event, Refusal, Taken, entry_of, history, past_of, placed}
 use Rattle.record.specs.declared.events.Event.TheVariants.{Step}
-use Rattle.record.specs.declared.history.Taken.{Taken}
-use Rattle.record.specs.declared.refusals.Refusal.{Refusal}
-use Rattle.record.specs.Histories.{history}
-use Rattle.record.specs.Records.{entry_of, past_of, placed}
-use Rattle.world.specs.Events.{Adds, GoesOn, IsRefused, KeepsTheHeadline}
+use Rattle.world.specs.{Adds, GoesOn, IsRefused, KeepsTheHeadline, StepsQuietly, TellsOverlapped}
 use Rattle.world.specs.Shows.{Shows, WorldState}
-use Rattle.world.specs.Walks.{StepsQuietly, TellsOverlapped}
-use Rattle.world.specs.process.Telling.{act_of, marks_of}
+use Rattle.world.specs.process.{act_of, marks_of}
 use Rattle.world.specs.process.declared.told.Effect.TheVariants.{Steps}
 use Rattle.world.specs.process.declared.told.StepTold.{StepTold as Leads}
 use Rattle.world.specs.process.declared.told.StepTold.TheVariants as step
-use Rattle.world.specs.process.registers.declared.access_made.AccessMade.{AccessMade}
-use Rattle.course.specs.Listening.{TellsStep}
-use Rattle.course.specs.Telling.{told_step}
-use Rattle.course.specs.declared.told.Told.{Told}
+use Rattle.world.specs.process.registers.{AccessMade}
+use Rattle.course.specs.{TellsStep, Told, told_step}
 use Rattle.course.proofs.CourseTurns.{place_is}
 use Rattle.course.proofs.Refusals.{shows_refused}
 

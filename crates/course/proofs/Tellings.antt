@@ -1,18 +1,8 @@
 -- The text of what is told is the text of what happens.
 use Rattle.std.proofs.Common.{◌≡◌, ℕ, ◌+◌, List, [], ◌∷◌, length, Option, None, Some, ap, sym, ◌∙◌, arith, add-zero}
-use Rattle.plain_store.specs.declared.setups.Setup.{Setup}
-use Rattle.record.specs.declared.events.Event.{Event}
-use Rattle.record.specs.declared.refusals.Refusal.{Refusal}
-use Rattle.record.specs.Entries.{Entry, Past}
-use Rattle.record.specs.Records.{added, entry_of, past_of, process_of, refused}
-use Rattle.course.specs.Courses.{IsQuiet}
-use Rattle.course.specs.Happenings.{Happening, Tries, Lacks, Tires, Looks, past_after, refusals, refusals_at, tried}
-use Rattle.course.specs.Summaries.{counted}
-use Rattle.course.specs.Telling.{TellsOf, entry_made, told_text}
-use Rattle.course.specs.Texts.{entry_text, store_text, text_at}
-use Rattle.record.specs.Shown.{refusal_line}
-use Rattle.course.specs.declared.summaries.Summary.{Summary}
-use Rattle.course.specs.declared.told.Told.{Told}
+use Rattle.plain_store.specs.{Setup}
+use Rattle.record.specs.{Entry, Event, Past, Refusal, added, entry_of, past_of, process_of, refusal_line, refused}
+use Rattle.course.specs.{Happening, IsQuiet, Lacks, Looks, Summary, TellsOf, Tires, Told, Tries, counted, entry_made, entry_text, past_after, refusals, refusals_at, store_text, text_at, told_text, tried}
 use Rattle.course.specs.declared.told.Told.TheVariants as told
 use Rattle.course.proofs.Refusals.{entry_added, entry_by, none_added, not_refused}
 

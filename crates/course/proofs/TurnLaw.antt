@@ -1,13 +1,10 @@
 -- The turns of a line make what the line does.
 use Rattle.std.proofs.Common.{◌≡◌, ℕ, zero, suc, ◌≤◌, Bool, true, false, nat_lt, List, [], ◌∷◌, refl, ap, sym, ◌∙◌, arith}
-use Rattle.plain_store.specs.declared.setups.Setup.{Setup}
-use Rattle.record.specs.Stages.{stage}
-use Rattle.scenario.specs.declared.lines.Line.{Line}
+use Rattle.plain_store.specs.{Setup}
+use Rattle.record.specs.{stage}
+use Rattle.scenario.specs.{Line, Target}
 use Rattle.scenario.specs.declared.lines.Line.TheVariants as line
-use Rattle.scenario.specs.declared.lines.Target.{Target}
-use Rattle.course.specs.Happenings.{Lacks, Tires}
-use Rattle.course.specs.Runs.{Run, goes, is_there, may_step, movers, past_in, picked, run_after, stepped, steps, wanders, with_happening}
-use Rattle.course.specs.Turns.{Turn, ends, go_rest, go_turn, happens, on_turn, once, rest_of, step_turn, turn_of, turns_in, wander_turn}
+use Rattle.course.specs.{Lacks, Run, Tires, Turn, ends, go_rest, go_turn, goes, happens, is_there, may_step, movers, on_turn, once, past_in, picked, rest_of, run_after, step_turn, stepped, steps, turn_of, turns_in, wander_turn, wanders, with_happening}
 
 -- with all its turns it does all
 pub rest_whole : (s : Setup) (line : Line) (run : Run) → rest_of s line (turns_in line) run ≡ run_after s line run

@@ -1,16 +1,10 @@
 -- What has happened after a turn, and what it tells.
 use Rattle.std.proofs.Common.{◌≡◌, ℕ, zero, suc, Bool, true, false, nat_lt, List, [], ◌∷◌, Option, None, Some, refl, subst}
-use Rattle.plain_store.specs.declared.setups.Setup.{Setup}
-use Rattle.record.specs.Entries.{Past}
-use Rattle.record.specs.Stages.{stage}
-use Rattle.scenario.specs.declared.lines.Line.{Line}
+use Rattle.plain_store.specs.{Setup}
+use Rattle.record.specs.{Past, stage}
+use Rattle.scenario.specs.{Line, Target}
 use Rattle.scenario.specs.declared.lines.Line.TheVariants as line
-use Rattle.scenario.specs.declared.lines.Target.{Target}
-use Rattle.course.specs.Happenings.{Happening, Lacks}
-use Rattle.course.specs.Runs.{Run, is_there, movers, past_in}
-use Rattle.course.specs.Telling.{IsMarked, Tells, TellsOf}
-use Rattle.course.specs.Turns.{Turn, ends, go_turn, happens, on_turn, turn_of, wander_turn}
-use Rattle.course.specs.declared.told.Told.{Told}
+use Rattle.course.specs.{Happening, IsMarked, Lacks, Run, Tells, TellsOf, Told, Turn, ends, go_turn, happens, is_there, movers, on_turn, past_in, turn_of, wander_turn}
 pub use Rattle.course.proofs.Counting.{with_events}
 
 -- what has happened after a turn: one thing more, or nothing, and then the line has ended

@@ -1,24 +1,14 @@
 -- Steps of picked processes without a mark: who may be picked stays the same.
 use Rattle.std.proofs.Common.{◌≡◌, ℕ, zero, suc, arith, ◌-◌, ◌<◌, ◌≤◌, ◌==◌, Bool, true, false, cond, List, [], ◌∷◌, ◌++◌, filter, fold, length, slice_index, Option, None, Some, refl, ap, sym, subst, ◌∙◌}
-use Rattle.plain_store.specs.declared.setups.Setup.{Setup}
-use Rattle.record.specs.declared.events.Event.{Event}
+use Rattle.plain_store.specs.{Setup}
+use Rattle.record.specs.{Entry, Event, Past, past_of, processes, stage, stage_after}
 use Rattle.record.specs.declared.events.Event.TheVariants as event
-use Rattle.record.specs.Entries.{Entry, Past}
-use Rattle.record.specs.Records.{past_of}
-use Rattle.record.specs.Registers.{processes}
-use Rattle.record.specs.Stages.{stage, stage_after}
-use Rattle.scenario.specs.declared.lines.Line.{Line}
+use Rattle.scenario.specs.{Line}
 use Rattle.scenario.specs.declared.lines.Line.TheVariants as line
-use Rattle.scenario.specs.files.declared.faults.Fault.{Fault}
-use Rattle.world.specs.flicks.Flicks.{FlickState, flick_of, after_flick, pick_of, after_pick}
-use Rattle.world.specs.Shows.{WorldState}
-use Rattle.course.specs.Courses.{Follows, Makes, course}
-use Rattle.course.specs.Happenings.{Happening, Tries, tried}
-use Rattle.course.specs.Listening.{ComesOn, ComesTo, HearsStep, KnowsOr, TellsStep}
-use Rattle.course.specs.Runs.{Run, after_pick_in, has_step, movers, next_step, past_in}
-use Rattle.course.specs.Telling.{AddsMarks, TellsOf}
-use Rattle.course.specs.Turns.{Turn, ends, made_turn, rest_of, turn_of, wander_turn}
-use Rattle.course.specs.declared.told.Told.{Told}
+use Rattle.scenario.specs.files.{Fault}
+use Rattle.world.specs.flicks.{FlickState, flick_of, after_flick, pick_of, after_pick}
+use Rattle.world.specs.{WorldState}
+use Rattle.course.specs.{AddsMarks, ComesOn, ComesTo, Follows, Happening, HearsStep, KnowsOr, Makes, Run, TellsOf, TellsStep, Told, Tries, Turn, after_pick_in, course, ends, has_step, made_turn, movers, next_step, past_in, rest_of, tried, turn_of, wander_turn}
 use Rattle.course.proofs.CourseTurns.{turn_next}
 use Rattle.course.proofs.Refusals.{entry_by}
 use Rattle.course.proofs.Runnings.{IsStep, drawn_run, one_on, one_stops, one_told, quiet_adds}

@@ -2,22 +2,16 @@
 use Rattle.std.proofs.Common.{◌≡◌, ◌∙◌, ℕ, zero, suc, ◌+◌, ◌-◌, ◌<◌, ◌≤◌, Bool, true, false, cond, List, [], ◌∷◌, Option, None, Some, ap, refl, subst, sym, add-zero, arith, inl, inr}
 use Rattle.std.proofs.lemmas.Bool.{cases_lt}
 use mir.Val.{bool_byte}
-use Rattle.plain_store.specs.declared.setups.Setup.{Setup}
-use Rattle.record.specs.declared.access.Access.{Access}
-use Rattle.record.specs.declared.events.Event.{Event}
+use Rattle.plain_store.specs.{Setup}
+use Rattle.record.specs.{Access, AreGiven, Entry, Event, Past, entry_of}
 use Rattle.record.specs.declared.events.Event.TheVariants.{Step}
-use Rattle.record.specs.Entries.{Entry, Past}
-use Rattle.record.specs.Records.{entry_of}
-use Rattle.record.specs.Given.{AreGiven}
-use Rattle.world.specs.laws.Doings.{doing}
-use Rattle.world.specs.process.Looks.{number_read}
-use Rattle.world.specs.process.Places.{left_at, process_after}
-use Rattle.world.specs.flicks.Flicks.{FlickState, flick_of}
+use Rattle.world.specs.laws.{doing}
+use Rattle.world.specs.process.{left_at, number_read, process_after}
+use Rattle.world.specs.flicks.{FlickState, flick_of}
 use Rattle.world.specs.Shows.{Shows, WorldState}
 use Rattle.world.specs.Walks.{MakesQuietly, StepsQuietly, TellsOverlapped, Walks, left_in}
 use Rattle.world.proofs.WorldWithin.{left-on, left-shown}
-use Rattle.course.specs.Happenings.{Happening, Tries, past_after, tried}
-use Rattle.course.specs.Listening.{IsNewest, PassBy, PassQuietly, PassWithin, StepsOn, StepsWithin, overlapped_in}
+use Rattle.course.specs.{Happening, IsNewest, PassBy, PassQuietly, PassWithin, StepsOn, StepsWithin, Tries, overlapped_in, past_after, tried}
 
 -- it is made within the access
 pub steps_within : (w w' : WorldState) (p : ℕ) (flick : Bool) (before : List Happening) → StepsQuietly w p flick w' → Shows w (tried before) → 0 < left_in w.seats p → StepsWithin w.setup before p flick

@@ -5,10 +5,9 @@ use Rattle.std.proofs.lemmas.List.{take_more}
 use Rattle.std.specs.Io.KnownBytes.{Appends}
 use Rattle.std.specs.declared.alloc.AllocError.{AllocError}
 use Rattle.scenario.proofs.Places.{drop_in}
-use Rattle.scenario.specs.files.Streams.{WritesFront}
-use Rattle.scenario.specs.files.declared.faults.Fault.{Fault}
+use Rattle.scenario.specs.files.{Fault, WritesFront}
 use Rattle.scenario.specs.files.declared.faults.Fault.TheVariants as fault
-use Rattle.course.specs.Writing.{failed_write}
+use Rattle.course.specs.{failed_write}
 pub use Rattle.course.specs.Growing.{appends_both, appends_none, front_after, front_longer, take_after}
 
 -- nothing is a front of every text

@@ -1,7 +1,6 @@
 -- What is known of how far processes are within their number accesses.
 use Rattle.std.specs.Prelude.{ℕ, ◌≤◌, List, slice_index}
-use Rattle.world.specs.Seats.{Seat}
-use Rattle.world.specs.Walks.{left_in}
+use Rattle.world.specs.{Seat, left_in}
 
 -- so many of the next steps of each process, at least, are within its number access
 abbrev pub IsCounted : List ℕ → List Seat → Type 0

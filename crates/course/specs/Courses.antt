@@ -1,9 +1,9 @@
 -- What the cursor of a run keeps, and which run it shows.
 use Rattle.std.specs.Prelude.{◌≡◌, ◌≤◌, ℕ, zero, suc, [], Option, Some}
-use Rattle.plain_store.specs.declared.setups.Setup.{Setup}
-use Rattle.record.specs.Entries.{Past}
-use Rattle.scenario.specs.declared.lines.Line.{Line}
-use Rattle.world.specs.flicks.Flicks.{FlickState}
+use Rattle.plain_store.specs.{Setup}
+use Rattle.record.specs.{Past}
+use Rattle.scenario.specs.{Line}
+use Rattle.world.specs.flicks.{FlickState}
 use Rattle.world.specs.Shows.{Shows, WorldState}
 use Rattle.course.specs.Happenings.{Happening, Tries, past_after, tried}
 use Rattle.course.specs.Runs.{Run, past_in}

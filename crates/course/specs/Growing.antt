@@ -2,8 +2,8 @@
 use Rattle.std.specs.Prelude.{◌≡◌, ℕ, zero, suc, ◌+◌, List, [], ◌∷◌, ◌++◌, length, take, Option, Some, None, refl}
 use Rattle.std.proofs.Common.{ap, sym, subst, ◌∙◌, arith, append-nil, append_assoc}
 use Rattle.std.specs.Io.KnownBytes.{Appends}
-use Rattle.plain_store.specs.declared.setups.Setup.{Setup}
-use Rattle.scenario.specs.files.Streams.{WritesFront}
+use Rattle.plain_store.specs.{Setup}
+use Rattle.scenario.specs.files.{WritesFront}
 use Rattle.course.specs.Happenings.{Happening, past_after}
 use Rattle.course.specs.Texts.{text_at, text_of}
 use Rattle.course.specs.Writing.{Writes, WritesPart}

@@ -1,9 +1,7 @@
 -- What happens in a run: a list of it has the newest first.
 use Rattle.std.specs.Prelude.{ℕ, ◌+◌, List, [], ◌∷◌, None, Some}
-use Rattle.plain_store.specs.declared.setups.Setup.{Setup}
-use Rattle.record.specs.declared.events.Event.{Event}
-use Rattle.record.specs.Entries.{Past}
-use Rattle.record.specs.Records.{past_of, refused}
+use Rattle.plain_store.specs.{Setup}
+use Rattle.record.specs.{Event, Past, past_of, refused}
 
 -- one thing that happens
 pub data Happening : Type 0 where

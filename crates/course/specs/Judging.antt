@@ -1,8 +1,8 @@
 -- What the auditor of a run has heard.
 use Rattle.std.specs.Prelude.{◌≡◌}
-use Rattle.plain_store.specs.declared.setups.Setup.{Setup}
-use Rattle.record.specs.Entries.{Past}
-use Rattle.auditor.specs.Hearing.{HasHeard}
+use Rattle.plain_store.specs.{Setup}
+use Rattle.record.specs.{Past}
+use Rattle.auditor.specs.{HasHeard}
 use Rattle.auditor.specs.declared.verdicts.Verdict.TheVariants.{Good}
 use Rattle.course.specs.declared.judging.Audit.{Audit}
 

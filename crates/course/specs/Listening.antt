@@ -1,26 +1,17 @@
 -- Who hears a run: what is told to it, and what it has heard once a line has made its turns.
 use Rattle.std.specs.Prelude.{◌≡◌, ◌⊎◌, ◌+◌, ◌<◌, ◌≤◌, ℕ, zero, suc, Bool, if◌then◌else◌, List, [], ◌∷◌, Option, None, Some, Ok}
-use Rattle.plain_store.specs.declared.setups.Setup.{Setup}
-use Rattle.plain_store.specs.Setups.{checked}
-use Rattle.record.specs.declared.events.Event.{Event}
+use Rattle.plain_store.specs.{Setup, checked}
+use Rattle.record.specs.{Access, AreGiven, Event, Past, Taken, entry_of, history, moves_of, past_of, refused}
 use Rattle.record.specs.declared.events.Event.TheVariants.{Step}
-use Rattle.record.specs.declared.history.Taken.{Taken}
-use Rattle.record.specs.safe_bit.declared.Move.{Move}
-use Rattle.record.specs.declared.access.Access.{Access}
-use Rattle.record.specs.Entries.{Past}
-use Rattle.record.specs.Given.{AreGiven}
-use Rattle.record.specs.Histories.{history}
-use Rattle.record.specs.Moves.{moves_of}
-use Rattle.record.specs.Records.{entry_of, past_of, refused}
-use Rattle.scenario.specs.declared.lines.Line.{Line}
-use Rattle.scenario.specs.files.declared.faults.Fault.{Fault}
-use Rattle.world.specs.laws.Doings.{doing}
-use Rattle.world.specs.process.Looks.{number_read}
-use Rattle.world.specs.process.Places.{left_at, process_after}
-use Rattle.world.specs.Events.{GoesOn}
+use Rattle.record.specs.safe_bit.{Move}
+use Rattle.scenario.specs.{Line}
+use Rattle.scenario.specs.files.{Fault}
+use Rattle.world.specs.laws.{doing}
+use Rattle.world.specs.process.{left_at, number_read, process_after}
+use Rattle.world.specs.{GoesOn}
 use Rattle.world.specs.Shows.{Shows, WorldState}
 use Rattle.world.specs.Walks.{MakesQuietly, StepsQuietly, Walks, ends_overlapped, ends_overlapped_read}
-use Rattle.world.specs.flicks.Flicks.{FlickState, after_flick, flick_of}
+use Rattle.world.specs.flicks.{FlickState, after_flick, flick_of}
 use Rattle.course.specs.Courses.{CourseState, Follows, IsQuiet, QuietTurns}
 use Rattle.course.specs.Happenings.{Happening, Tries, past_after, tried}
 use Rattle.course.specs.Runs.{Run, past_in, run_after}

@@ -1,12 +1,9 @@
 -- What a line of a replay writes, whatever has happened before.
 use Rattle.std.specs.Prelude.{◌≡◌, ℕ, List, Option, IfSome, Result, Ok, Err}
-use Rattle.plain_store.specs.declared.setups.Setup.{Setup}
-use Rattle.plain_store.specs.Setups.{checked}
-use Rattle.record.specs.Given.{AreGiven}
-use Rattle.record.specs.Headline.{KeepsHeadlineThroughout}
-use Rattle.scenario.specs.Reading.{Script, scenario_of}
-use Rattle.scenario.specs.files.declared.faults.Fault.{Fault}
-use Rattle.scenario.specs.declared.lines.Line.{Line}
+use Rattle.plain_store.specs.{Setup, checked}
+use Rattle.record.specs.{AreGiven, KeepsHeadlineThroughout}
+use Rattle.scenario.specs.{Line, Script, scenario_of}
+use Rattle.scenario.specs.files.{Fault}
 use Rattle.course.specs.Courses.{CourseState, Follows}
 use Rattle.course.specs.Happenings.{past_after, tried}
 use Rattle.course.specs.Runs.{Run, happenings, run_after}

@@ -1,10 +1,8 @@
 -- The accepted events of a run, and its record.
 use Rattle.std.specs.Prelude.{List, reverse}
-use Rattle.plain_store.specs.declared.setups.Setup.{Setup}
-use Rattle.record.specs.declared.events.Event.{Event}
-use Rattle.record.specs.Entries.{Entry}
-use Rattle.record.specs.Records.{record_of}
-use Rattle.scenario.specs.Reading.{Script}
+use Rattle.plain_store.specs.{Setup}
+use Rattle.record.specs.{Entry, Event, record_of}
+use Rattle.scenario.specs.{Script}
 use Rattle.course.specs.Happenings.{Happening, accepted, tried}
 use Rattle.course.specs.Runs.{happenings}
 

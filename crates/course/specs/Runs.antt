@@ -1,22 +1,13 @@
 -- The run of a scenario: what its lines do, each against the record so far.
 use Rattle.std.specs.Prelude.{ℕ, zero, suc, Bool, true, false, nat_lt, List, [], ◌∷◌, length, filter, slice_index, is_none}
-use Rattle.plain_store.specs.declared.setups.Setup.{Setup}
-use Rattle.record.specs.declared.events.Event.{Event}
+use Rattle.plain_store.specs.{Setup}
+use Rattle.record.specs.{Event, Past, Stage, Taken, history, processes, refused, stage}
 use Rattle.record.specs.declared.events.Event.TheVariants as event
-use Rattle.record.specs.declared.stages.Stage.{Stage}
 use Rattle.record.specs.declared.stages.Stage.TheVariants.{Idle, Doorway, Waiting, Settling, Down}
-use Rattle.record.specs.declared.history.Taken.{Taken}
-use Rattle.record.specs.Entries.{Past}
-use Rattle.record.specs.Histories.{history}
-use Rattle.record.specs.Records.{refused}
-use Rattle.record.specs.Registers.{processes}
-use Rattle.record.specs.Stages.{stage}
-use Rattle.scenario.specs.Reading.{Script}
-use Rattle.scenario.specs.declared.lines.Line.{Line}
+use Rattle.scenario.specs.{Line, Script, Target}
 use Rattle.scenario.specs.declared.lines.Line.TheVariants as line
-use Rattle.scenario.specs.declared.lines.Target.{Target}
 use Rattle.scenario.specs.declared.lines.Target.TheVariants as target
-use Rattle.world.specs.flicks.Flicks.{FlickState, constant_flicks, after_set, flick_of, after_flick, pick_of, after_pick}
+use Rattle.world.specs.flicks.{FlickState, constant_flicks, after_set, flick_of, after_flick, pick_of, after_pick}
 use Rattle.course.specs.Happenings.{Happening, Tries, Lacks, Tires, Looks, past_after}
 
 -- a run so far: what has happened, and where its next flicks and picks come from

@@ -1,10 +1,9 @@
 -- Who makes the next Steps of a line, up to one that has a mark.
 use Rattle.std.specs.Prelude.{◌≡◌, ◌⊎◌, ◌≤◌, ℕ, true, false, nat_lt}
-use Rattle.plain_store.specs.declared.setups.Setup.{Setup}
-use Rattle.record.specs.Stages.{stage}
-use Rattle.scenario.specs.declared.lines.Line.{Line}
+use Rattle.plain_store.specs.{Setup}
+use Rattle.record.specs.{stage}
+use Rattle.scenario.specs.{Line, Target}
 use Rattle.scenario.specs.declared.lines.Line.TheVariants as line
-use Rattle.scenario.specs.declared.lines.Target.{Target}
 use Rattle.course.specs.Runs.{Run, is_there, past_in}
 use Rattle.course.specs.declared.told.Told.{Told}
 use Rattle.course.specs.declared.told.Told.TheVariants as told

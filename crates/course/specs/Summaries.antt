@@ -1,8 +1,8 @@
 -- The three numbers of a run.
 use Rattle.std.specs.Prelude.{◌+◌, ◌^◌, ◌<◌, ◌≤◌, ℕ, List, length}
 use Rattle.std.proofs.Common.{arith}
-use Rattle.plain_store.specs.declared.setups.Setup.{Setup}
-use Rattle.record.specs.Histories.{history}
+use Rattle.plain_store.specs.{Setup}
+use Rattle.record.specs.{history}
 use Rattle.course.specs.Happenings.{Happening, past_after, refusals}
 use Rattle.course.specs.declared.summaries.Summary.{Summary}
 use Rattle.course.specs.declared.told.Told.{Told}

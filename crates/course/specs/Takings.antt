@@ -1,7 +1,7 @@
 -- What a sink took of a text that grows as a listener hears a run.
 use Rattle.std.specs.Prelude.{◌≡◌, ◌+◌, ℕ, List, ◌++◌, Option, Err, refl}
 use Rattle.std.proofs.Common.{ap, sym, ◌∙◌, add-zero}
-use Rattle.scenario.specs.files.declared.faults.Fault.{Fault}
+use Rattle.scenario.specs.files.{Fault}
 use Rattle.scenario.specs.files.declared.faults.Fault.TheVariants.{Memory}
 use Rattle.course.specs.Growing.{part_after, part_longer, part_none, writes_both, writes_none}
 use Rattle.course.specs.Writing.{IsWriteFault, Writes, WritesPart, failed_write}

@@ -1,23 +1,17 @@
 -- What a turn tells of what happens, and its text.
 use Rattle.std.specs.Prelude.{◌≡◌, ℕ, Bool, true, false, List, [], flat_map, map, Option, None, Some, Result, Ok, Err}
-use Rattle.record.specs.declared.access.Access.{Access}
-use Rattle.plain_store.specs.declared.setups.Setup.{Setup}
-use Rattle.record.specs.declared.events.Event.{Event}
+use Rattle.record.specs.{Access, Entry, Event, Mark, Past, Refusal, entry_of, placed, process_of, refusal_line, refused}
+use Rattle.plain_store.specs.{Setup}
 use Rattle.record.specs.declared.events.Event.TheVariants as event
-use Rattle.record.specs.declared.marks.Mark.{Mark}
-use Rattle.record.specs.declared.refusals.Refusal.{Refusal}
 use Rattle.record.specs.declared.refusals.Refusal.TheVariants.{NoProcess}
-use Rattle.record.specs.Entries.{Entry, Past}
-use Rattle.record.specs.Records.{entry_of, placed, process_of, refused}
-use Rattle.world.specs.process.Telling.{marks_of}
+use Rattle.world.specs.process.{marks_of}
 use Rattle.world.specs.process.declared.told.Effect.TheVariants.{Steps}
 use Rattle.world.specs.process.declared.told.StepTold.{StepTold as Leads}
 use Rattle.world.specs.process.declared.told.StepTold.TheVariants as step
-use Rattle.world.specs.process.registers.declared.access_made.AccessMade.{AccessMade}
-use Rattle.world.specs.Walks.{ends_overlapped_read}
+use Rattle.world.specs.process.registers.{AccessMade}
+use Rattle.world.specs.{ends_overlapped_read}
 use Rattle.course.specs.Happenings.{Happening, Tries, Lacks, Tires, Looks}
 use Rattle.course.specs.Texts.{mark_line, newest_store, store_text, turns_line}
-use Rattle.record.specs.Shown.{refusal_line}
 use Rattle.course.specs.declared.told.Accepted.{Accepted}
 use Rattle.course.specs.declared.told.Stepped.{Stepped}
 use Rattle.course.specs.declared.told.Told.{Told}

@@ -1,22 +1,13 @@
 -- The text of a run.
 use Rattle.std.specs.Prelude.{ℕ, cond, List, [], ◌∷◌, ◌++◌, codes, flat_map, length, Option, None, Some, Result}
 use Rattle.std.specs.Fmt.{decimal}
-use Rattle.plain_store.specs.declared.setups.Setup.{Setup}
-use Rattle.plain_store.specs.Store.{Contents}
-use Rattle.record.specs.declared.events.Event.{Event}
-use Rattle.record.specs.declared.marks.Mark.{Mark}
+use Rattle.plain_store.specs.{Contents, Setup, store_words}
+use Rattle.record.specs.{Entry, Event, Mark, Past, added, history, is_somebody_inside, mark_text, process_of, refusal_line, refused, store_after}
 use Rattle.record.specs.declared.refusals.Refusal.TheVariants.{NoProcess}
-use Rattle.record.specs.Entries.{Entry, Past}
-use Rattle.record.specs.Histories.{history, store_after}
-use Rattle.record.specs.Newest.{is_somebody_inside}
-use Rattle.record.specs.Records.{added, process_of, refused}
-use Rattle.record.specs.Shown.{mark_text, refusal_line}
-use Rattle.scenario.specs.files.Engines.{text_by}
-use Rattle.scenario.specs.Reading.{Script, scenario_of}
-use Rattle.scenario.specs.files.declared.faults.LineFault.{LineFault}
+use Rattle.scenario.specs.files.{LineFault, text_by}
+use Rattle.scenario.specs.{Script, scenario_of}
 use Rattle.course.specs.Happenings.{Happening, Tries, Lacks, Tires, Looks, past_after}
 use Rattle.course.specs.Runs.{happenings}
-use Rattle.plain_store.specs.StoreLine.{store_words}
 use Rattle.course.specs.Summaries.{summary_of}
 use Rattle.course.specs.declared.summaries.Summary.{Summary}
 

@@ -1,12 +1,11 @@
 -- A run turn by turn: what the next turn of a line does, and how many turns are left then. It stands beside the definition of the run.
 use Rattle.std.specs.Prelude.{ℕ, zero, suc, nat_lt, Bool, true, false, List, [], ◌∷◌, Option, None, Some}
-use Rattle.plain_store.specs.declared.setups.Setup.{Setup}
+use Rattle.plain_store.specs.{Setup}
 use Rattle.record.specs.declared.events.Event.TheVariants as event
-use Rattle.record.specs.Stages.{stage}
-use Rattle.scenario.specs.declared.lines.Line.{Line}
+use Rattle.record.specs.{stage}
+use Rattle.scenario.specs.{Line, Target}
 use Rattle.scenario.specs.declared.lines.Line.TheVariants as line
-use Rattle.scenario.specs.declared.lines.Target.{Target}
-use Rattle.world.specs.flicks.Flicks.{after_set}
+use Rattle.world.specs.flicks.{after_set}
 use Rattle.course.specs.Happenings.{Happening, Tries, Lacks, Tires, Looks}
 use Rattle.course.specs.Runs.{Run, past_in, with_happening, next_step, stepped, steps, goes, wanders, run_after, may_step, is_there, movers, pick_among, after_pick_in, go_limit}
 

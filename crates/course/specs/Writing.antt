@@ -1,9 +1,8 @@
 -- What an engine writes as its run goes on.
 use Rattle.std.specs.Prelude.{◌≡◌, ℕ, List, ◌++◌, Option, length, Result, Ok, Err}
 use Rattle.std.specs.Io.KnownBytes.{Appends}
-use Rattle.plain_store.specs.declared.setups.Setup.{Setup}
-use Rattle.scenario.specs.files.Streams.{WritesFront}
-use Rattle.scenario.specs.files.declared.faults.Fault.{Fault}
+use Rattle.plain_store.specs.{Setup}
+use Rattle.scenario.specs.files.{Fault, WritesFront}
 use Rattle.scenario.specs.files.declared.faults.Fault.TheVariants.{Line, Read, Write, Memory}
 use Rattle.course.specs.Happenings.{Happening, past_after, refusals}
 use Rattle.course.specs.declared.summaries.Summary.{Summary}

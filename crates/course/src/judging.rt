@@ -1,10 +1,10 @@
 //! A listener, and an auditor that hears each entry beside it.
 ghost use Rattle.std.specs.Prelude.{◌≡◌, ◌↔◌, [], ◌∷◌, List, IfOk, IsTrue, None, Ok, Some, true};
-ghost use Rattle.plain_store.specs.Setups.{checked};
+ghost use Rattle.plain_store.specs.{checked};
 ghost use Rattle.plain_store.specs.declared.setups.Setup.{Setup as Given};
-ghost use Rattle.record.specs.Entries.{Entry as Noted, Past};
+ghost use Rattle.record.specs.{Entry as Noted, Past};
 ghost use Rattle.record.specs.declared.history.Taken.{Taken as Seen};
-ghost use Rattle.auditor.specs.Verdicts.{KeepsAll};
+ghost use Rattle.auditor.specs.{KeepsAll};
 ghost use Rattle.auditor.specs.declared.verdicts.Verdict.TheVariants.{Good};
 ghost use Rattle.course.specs.Happenings.{Happening, past_after};
 ghost use Rattle.course.specs.Judging.{Audits};

@@ -1,6 +1,6 @@
 //! Who hears a run as its course makes it.
 ghost use Rattle.std.specs.Prelude.{◌≡◌, ◌+◌, ◌<◌, ◌≤◌, ◌++◌, ℕ, List, ◌∷◌, Bool, false, OnOk, IfErr};
-ghost use Rattle.plain_store.specs.declared.setups.Setup.{Setup};
+ghost use Rattle.plain_store.specs.{Setup};
 ghost use Rattle.record.specs.declared.events.Event.TheVariants.{Step};
 ghost use Rattle.scenario.specs.files.declared.faults.Fault.{Fault as WhyEnded};
 ghost use Rattle.scenario.specs.files.declared.faults.Fault.TheVariants.{Memory};

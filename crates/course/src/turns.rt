@@ -1,14 +1,11 @@
 //! A run, turn by turn: what the next turn of a line does on the world.
 ghost use Rattle.std.specs.Prelude.{◌≡◌, ◌^◌, ◌-◌, ◌<◌, ◌≤◌, true, false, Ok, Some, IfOk, length, List};
-ghost use Rattle.plain_store.specs.Setups.{checked};
+ghost use Rattle.plain_store.specs.{checked};
 ghost use Rattle.record.specs.declared.Event.{Event as Happening};
 ghost use Rattle.record.specs.declared.Refusal.TheVariants.{Memory};
-ghost use Rattle.record.specs.Given.{is_event};
-ghost use Rattle.record.specs.Histories.{history};
-ghost use Rattle.record.specs.Records.{past_of};
-ghost use Rattle.world.specs.flicks.Flicks.{constant_flicks};
-ghost use Rattle.world.specs.Cores.{with_history};
-ghost use Rattle.world.specs.Events.{stage_in};
+ghost use Rattle.record.specs.{history, is_event, past_of};
+ghost use Rattle.world.specs.flicks.{constant_flicks};
+ghost use Rattle.world.specs.{stage_in, with_history};
 ghost use Rattle.world.specs.Shows.{Shows};
 ghost use Rattle.course.specs.Courses.{Follows, Makes, CourseState};
 ghost use Rattle.course.specs.Happenings.{Tries};

@@ -2,22 +2,14 @@
 use Rattle.std.proofs.Common.{◌≡◌, ◌≤◌, ℕ, suc, ◌+◌, List, [], ◌∷◌, ◌++◌, length, map, Option, None, Some, Contains, refl, ap, sym, ◌∙◌, add-zero, arith}
 use Rattle.std.proofs.lemmas.Grind.{flat_map-append}
 use Rattle.std.proofs.lemmas.List.{length-append, length-map}
-use Rattle.plain_store.specs.declared.Reply.{Reply}
-use Rattle.plain_store.specs.declared.Setup.{Setup}
-use Rattle.record.specs.declared.events.Event.{Event}
-use Rattle.record.specs.declared.history.Taken.{Taken}
-use Rattle.record.specs.declared.marks.Mark.{Mark}
+use Rattle.plain_store.specs.{Reply, Setup}
+use Rattle.record.specs.{Entry, Event, Mark, Past, Taken, entry_of, history, last_call, own, past_of, reply_taken, takings}
 use Rattle.record.specs.declared.marks.Mark.TheVariants as mark
-use Rattle.record.specs.Calls.{last_call}
-use Rattle.record.specs.Entries.{Entry, Past, own}
-use Rattle.record.specs.Histories.{history, reply_taken}
-use Rattle.record.specs.Records.{entry_of, past_of}
-use Rattle.record.specs.Spans.{takings}
 use Rattle.record.proofs.Width.{IsGood, is_good}
-use Rattle.course.specs.history_laws.HistoryLaws.{taken_with}
+use Rattle.course.specs.history_laws.{taken_with}
 use Rattle.course.proofs.history_laws.Places.{at_its_place, grows_by_the_taken}
-use Rattle.companions.specs.picture.columns.Stages.{marks_in}
-use Rattle.drawer.specs.Chains.{ChainIsTheHistory, Knot, knot_of, knots, numbered}
+use Rattle.companions.specs.picture.columns.{marks_in}
+use Rattle.drawer.specs.{ChainIsTheHistory, Knot, knot_of, knots, numbered}
 
 -- a knot of what is taken
 abbrev tied : ℕ → ℕ × Reply → Knot

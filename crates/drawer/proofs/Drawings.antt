@@ -1,26 +1,17 @@
 -- A run that goes on from line to line while it is drawn.
 use Rattle.std.proofs.Common.{◌≡◌, ℕ, suc, ◌+◌, ◌-◌, List, [], ◌∷◌, ◌++◌, length, Option, Some, refl, ap, sym, subst, ◌∙◌, append-nil, append_assoc, arith}
-use Rattle.plain_store.specs.Store.{Contents}
-use Rattle.plain_store.specs.declared.setups.Setup.{Setup}
-use Rattle.record.specs.declared.marks.Mark.{Mark}
-use Rattle.scenario.specs.declared.lines.Line.{Line}
-use Rattle.course.specs.Courses.{CourseState, Follows}
-use Rattle.course.specs.Happenings.{Happening, past_after}
-use Rattle.course.specs.Runs.{Run, past_in, run_after, run_at_start, runs}
-use Rattle.course.specs.Summaries.{summary_of}
-use Rattle.course.specs.Texts.{text_of}
+use Rattle.plain_store.specs.{Contents, Setup}
+use Rattle.record.specs.{Mark}
+use Rattle.scenario.specs.{Line}
+use Rattle.course.specs.{CourseState, Follows, Happening, Run, Summary, past_after, past_in, run_after, run_at_start, runs, summary_of, text_of}
 use Rattle.course.specs.Writing.{Counts}
-use Rattle.course.specs.declared.summaries.Summary.{Summary}
 use Rattle.course.proofs.Onwards.{Onward, onward_end}
 use Rattle.course.proofs.Written.{appends_none}
-use Rattle.companions.specs.picture.Bandings.{Plan}
-use Rattle.companions.specs.picture.Pages.{page_of}
-use Rattle.companions.specs.picture.columns.Stages.{marks_in}
+use Rattle.companions.specs.picture.{Plan, page_of}
+use Rattle.companions.specs.picture.columns.{marks_in}
 use Rattle.companions.specs.picture.declared.reads.Reads.{Reads as Mode}
-use Rattle.drawer.specs.Drawings.{Advances, DrawsBands, DrawsLine, DrawsOn, DrawsRest, HasDrawn, Kept, Recalls, kept}
-use Rattle.drawer.specs.Items.{Gives, SaysEnd, first_line, given_at_end, given_by, given_from, given_last, lines_given, reads_since}
-use Rattle.drawer.specs.declared.drawing.Drawing.{Drawing}
-use Rattle.companions.specs.declared.overlaps.OverlapsHeard.{OverlapsHeard}
+use Rattle.drawer.specs.{Advances, Drawing, DrawsBands, DrawsLine, DrawsOn, DrawsRest, Gives, HasDrawn, Kept, Recalls, SaysEnd, first_line, given_at_end, given_by, given_from, given_last, kept, lines_given, reads_since}
+use Rattle.companions.specs.{OverlapsHeard}
 use Rattle.drawer.proofs.Drawn.{draws_bands, draws_on_both, draws_on_none}
 
 -- from the start of a run on, between two lines, of which the last one has this number in the printed scenario

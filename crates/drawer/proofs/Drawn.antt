@@ -2,25 +2,16 @@
 use Rattle.std.proofs.Common.{◌≡◌, ℕ, true, List, [], ◌∷◌, ◌++◌, codes, flat_map, Option, Some, refl, ap, sym, subst, ◌∙◌, append-nil, append_assoc}
 use Rattle.std.proofs.lemmas.Grind.{flat_map-append}
 use Rattle.std.specs.Io.KnownBytes.{Appends}
-use Rattle.record.specs.declared.marks.Mark.{Mark}
-use Rattle.companions.specs.picture.markup.Elements.{EndsAll, opens_in}
-use Rattle.companions.specs.picture.markup.Titles.{is_at_rest, lines_in, tags_of}
+use Rattle.record.specs.{Mark}
+use Rattle.companions.specs.picture.markup.{EndsAll, is_at_rest, lines_in, opens_in, tags_of}
 use Rattle.companions.proofs.picture.markup.Lines.{lines_on, rests_on}
 use Rattle.companions.proofs.picture.markup.Stacks.{opens_on}
-use Rattle.companions.specs.picture.Bandings.{Item, Plan, Reads, Tells, bands_told, full_told}
-use Rattle.companions.specs.picture.Pages.{GivesRest, GoesOn, SeenPage, band_text, lines_of_band, page_of}
-use Rattle.companions.specs.picture.columns.Stages.{marks_said}
-use Rattle.companions.specs.picture.Standings.{sayings}
-use Rattle.companions.specs.picture.columns.Told.{text_of}
-use Rattle.companions.specs.picture.declared.page.Form.{Form}
-use Rattle.companions.specs.picture.columns.declared.reads.OverlappedRead.{OverlappedRead}
+use Rattle.companions.specs.picture.{Form, GivesRest, GoesOn, Item, Plan, Reads, SeenPage, Tells, band_text, bands_told, full_told, lines_of_band, page_of, sayings}
+use Rattle.companions.specs.picture.columns.{OverlappedRead, RunLine, marks_said, text_of}
 use Rattle.companions.specs.picture.declared.reads.Reads.{Reads as Mode}
-use Rattle.companions.specs.picture.columns.declared.told.RunLine.{RunLine}
-use Rattle.scenario.specs.Reading.{Script}
+use Rattle.scenario.specs.{Script}
 use Rattle.course.proofs.Written.{appends_both, appends_none}
-use Rattle.drawer.specs.Drawings.{Draws, DrawsAll, DrawsBands, DrawsFramed, DrawsOn, DrawsRest, Fills, IsPictureOf, Kept, Writes}
-use Rattle.drawer.specs.Items.{Gives, GivesLine, GivesRead, given, says_of}
-use Rattle.drawer.specs.Pictures.{ended_lines, lines_told, plan_of}
+use Rattle.drawer.specs.{Draws, DrawsAll, DrawsBands, DrawsFramed, DrawsOn, DrawsRest, Fills, Gives, GivesLine, GivesRead, IsPictureOf, Kept, Writes, ended_lines, given, lines_told, plan_of, says_of}
 
 -- lines, and then others
 pub ended-append : (xs ys : List (List ℕ)) → ended_lines (xs ++ ys) ≡ ended_lines xs ++ ended_lines ys

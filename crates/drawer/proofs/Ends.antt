@@ -2,20 +2,15 @@
 use Rattle.std.proofs.Common.{◌≡◌, ℕ, ◌+◌, List, [], ◌++◌, Option, None, Some, Result, Ok, Err, IfErr, IfSome, IsErrAnd, OnOk, ap, append-nil, arith, subst, sym, ◌∙◌}
 use Rattle.files.proofs.CutTexts.{input_ended}
 use Rattle.files.proofs.EngineEnds.{read_to_end}
-use Rattle.files.specs.Checks.{◌>>=◌}
+use Rattle.files.specs.{Fault, LineFault, ReadsInput, ◌>>=◌}
 use Rattle.files.specs.Engines.{Ran, Streams}
-use Rattle.files.specs.Streams.{ReadsInput}
-use Rattle.files.specs.declared.faults.Fault.{Fault}
 use Rattle.files.specs.declared.faults.Fault.TheVariants.{Line, Memory, Read, Write}
-use Rattle.files.specs.declared.faults.LineFault.{LineFault}
 use Rattle.scenario.proofs.CutTexts.{scenario_tells_at_limit}
-use Rattle.scenario.specs.Reading.{Script, scenario_of}
-use Rattle.course.specs.Replays.{ended}
-use Rattle.course.specs.Texts.{replay_text, replayed}
-use Rattle.course.specs.Writing.{IsWriteFault, failed_write}
-use Rattle.companions.specs.picture.declared.page.Form.{Form}
+use Rattle.scenario.specs.{Script, scenario_of}
+use Rattle.course.specs.{IsWriteFault, ended, failed_write, replay_text, replayed}
+use Rattle.companions.specs.picture.{Form}
 use Rattle.companions.specs.picture.declared.reads.Reads.{Reads as Mode}
-use Rattle.drawer.specs.Drawings.{DrawsAll, Drew}
+use Rattle.drawer.specs.{DrawsAll, Drew}
 
 -- a fault of a line
 pub drew_line : (reads : Mode) (form : Form) (result : Result (Unit {0}) Fault) (fault : LineFault) (old new : Streams) → IsErrAnd result (λ told. told ≡ Line fault) → Ran replay_text result old new → Drew reads form result old new

@@ -1,20 +1,15 @@
 -- The lines that the marks of an event give, one by one, and the reads that stand before them.
 use Rattle.std.proofs.Common.{◌≡◌, ◌<◌, ◌≤◌, ℕ, zero, suc, ◌+◌, List, [], ◌∷◌, ◌++◌, length, get_or, map, take, Contains, refl, ap, sym, subst, ◌∙◌, add-zero, append_assoc, arith}
 use Rattle.std.proofs.lemmas.List.{length-append, length-map, map-append, take_more}
-use Rattle.plain_store.specs.declared.Reply.{Reply}
-use Rattle.plain_store.specs.declared.setups.Setup.{Setup}
-use Rattle.scenario.specs.Printing.{open_words, setup_words}
-use Rattle.record.specs.Spans.{takings}
-use Rattle.record.specs.declared.history.Taken.{Taken}
-use Rattle.record.specs.declared.marks.Mark.{Mark}
+use Rattle.plain_store.specs.{Reply, Setup}
+use Rattle.scenario.specs.{open_words, setup_words}
+use Rattle.record.specs.{Mark, Taken, takings}
 use Rattle.record.specs.declared.marks.Mark.TheVariants as mark
-use Rattle.companions.specs.picture.columns.declared.reads.OverlappedRead.{OverlappedRead}
+use Rattle.companions.specs.picture.columns.{OverlappedRead}
 use Rattle.companions.specs.picture.declared.reads.Reads.{Reads as Mode}
 use Rattle.companions.specs.picture.declared.reads.Reads.TheVariants.{Hidden, Shown}
-use Rattle.drawer.specs.Changes.{IsNext, takes}
-use Rattle.drawer.specs.Drawings.{AreNext, all_take}
-use Rattle.drawer.specs.Items.{Gives, GivesLine, GivesRead, Says, first_line, lines_given, waiting}
-use Rattle.companions.specs.Overlaps.{shown_of}
+use Rattle.drawer.specs.{AreNext, Gives, GivesLine, GivesRead, IsNext, Says, all_take, first_line, lines_given, takes, waiting}
+use Rattle.companions.specs.{shown_of}
 
 -- one more, by what is made of each
 pub map_next : {A : Type 0} {B : Type 0} (f : A → B) (xs : List A) (k : ℕ) (d : A) → k < length xs → map f (take (k + 1) xs) ≡ map f (take k xs) ++ f (get_or xs k d) ∷ []

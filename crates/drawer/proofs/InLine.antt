@@ -4,24 +4,15 @@ use Rattle.std.specs.Prelude.{fold}
 use Rattle.std.specs.List.{list_any}
 use Rattle.std.proofs.lemmas.Bool.{ltb-true}
 use Rattle.std.proofs.lemmas.Grind.{fold-append}
-use Rattle.plain_store.specs.declared.Setup.{Setup}
-use Rattle.plain_store.specs.Store.{changes}
+use Rattle.plain_store.specs.{Setup, changes}
 use Rattle.plain_store.proofs.GoodSetups.{few-processes}
-use Rattle.record.specs.declared.events.Event.{Event}
+use Rattle.record.specs.{Call, Entry, Event, Past, Stage, Wait, bits_with, entered_if_none, entry_of, has, history, inside, is_below, is_entered, is_fresh, is_last, lets_by, marks_of, past_of, reply, stage, stage_after, store_read, value_of, waits_of}
 use Rattle.record.specs.declared.marks.Mark.TheVariants.{Taken}
-use Rattle.record.specs.declared.stages.Stage.{Stage}
 use Rattle.record.specs.declared.stages.Stage.TheVariants.{Idle, Doorway, Waiting, Inside, Leaving, Settling, Down}
-use Rattle.record.specs.Entries.{Entry, Past, has, is_entered}
-use Rattle.record.specs.Histories.{history}
 use Rattle.record.specs.Parts.{Part, Lowers, Waits, AsksImage, first_marks, last_marks}
-use Rattle.record.specs.Places.{bits_with, is_fresh, is_last, marks_of, value_of}
-use Rattle.record.specs.Program.{Wait, entered_if_none, is_below, lets_by, reply, store_read, waits_of}
-use Rattle.record.specs.Records.{entry_of, past_of}
-use Rattle.record.specs.Scripts.{Call}
-use Rattle.record.specs.Stages.{inside, stage, stage_after}
 use Rattle.record.proofs.Staging.{stage-placed}
 use Rattle.record.proofs.Width.{IsGood, is_good}
-use Rattle.course.specs.laws.Doings.{call, doing, is_inside}
+use Rattle.course.specs.laws.{call, doing, is_inside, ticket_told}
 use Rattle.course.proofs.laws.Always.{inv_of}
 use Rattle.course.proofs.laws.AtPlaces.{any-stepping}
 use Rattle.course.proofs.laws.DoorwayParts.{both}
@@ -29,15 +20,11 @@ use Rattle.course.proofs.laws.FrameEvents.{accepted}
 use Rattle.course.proofs.laws.FrameInside.{inside-is}
 use Rattle.course.proofs.laws.Invariant.{Inv}
 use Rattle.course.proofs.laws.Theorems.{Enters, enters, mutual_exclusion, of_entered}
-use Rattle.companions.specs.picture.Bandings.{Item, Reads, Tells, state_after}
-use Rattle.companions.specs.picture.columns.Stages.{StagesAreTheRecords, marks_in, stage_among}
-use Rattle.companions.specs.picture.Standings.{sayings}
-use Rattle.companions.specs.picture.columns.States.{at_first, before_in, line_of_first, state_told, ticket_in}
-use Rattle.companions.specs.picture.columns.declared.state.State.{State}
-use Rattle.course.specs.laws.Lines.{ticket_told}
+use Rattle.companions.specs.picture.{Item, Reads, Tells, sayings, state_after}
+use Rattle.companions.specs.picture.columns.{StagesAreTheRecords, State, at_first, before_in, line_of_first, marks_in, stage_among, state_told, ticket_in}
 use Rattle.course.proofs.laws.FirstInLine.{first_inside}
 use Rattle.course.proofs.laws.HeldTickets.{insiders}
-use Rattle.drawer.specs.InLine.{IsFirstInLine, WaitsNoMore, WhoEntersIsFirst, WhoIsInsideIsDrawnFirst, WhoIsInsideIsFirst, state_of_lines}
+use Rattle.drawer.specs.{IsFirstInLine, WaitsNoMore, WhoEntersIsFirst, WhoIsInsideIsDrawnFirst, WhoIsInsideIsFirst, state_of_lines}
 use Rattle.drawer.proofs.Insides as insides
 use Rattle.drawer.proofs.LineOrder.{Below, HasTicket, stands_before}
 use Rattle.drawer.proofs.SeatTickets.{lines_processes, lines_stages, tickets_are}

@@ -1,21 +1,15 @@
 -- A process with the stage `inside` is inside, and no two are.
 use Rattle.std.proofs.Common.{◌≡◌, ◌<◌, ℕ, ◌==◌, Bool, true, false, cond, List, [], ◌∷◌, flat_map, fold, Ok, refl, sym, ◌∙◌, arith}
-use Rattle.plain_store.specs.declared.Setup.{Setup}
-use Rattle.plain_store.specs.Setups.{checked}
+use Rattle.plain_store.specs.{Setup, checked}
 use Rattle.plain_store.proofs.GoodSetups.{few-processes}
-use Rattle.record.specs.declared.marks.Mark.{Mark}
+use Rattle.record.specs.{Mark, Past, Stage, inside, inside_after, past_of, stage, stage_after}
 use Rattle.record.specs.declared.marks.Mark.TheVariants as mark
-use Rattle.record.specs.declared.stages.Stage.{Stage}
 use Rattle.record.specs.declared.stages.Stage.TheVariants.{Idle, Inside}
-use Rattle.record.specs.Entries.{Past}
-use Rattle.record.specs.Records.{past_of}
-use Rattle.record.specs.Stages.{inside, inside_after, stage, stage_after}
 use Rattle.record.proofs.Width.{is_good}
 use Rattle.course.proofs.laws.Always.{inv_of}
 use Rattle.course.proofs.laws.Theorems.{mutual_exclusion}
-use Rattle.companions.specs.picture.columns.Stages.{StagesAreTheRecords, marks_in, marks_said, stage_among, stages_after}
-use Rattle.companions.specs.picture.columns.declared.told.Saying.{Saying}
-use Rattle.drawer.specs.Insides.{OneIsInside}
+use Rattle.companions.specs.picture.columns.{Saying, StagesAreTheRecords, marks_in, marks_said, stage_among, stages_after}
+use Rattle.drawer.specs.{OneIsInside}
 
 -- who has left is not inside
 left_outside : (stage : Stage) (is : Bool) → stage_after stage mark.Left ≡ Inside → is ≡ true

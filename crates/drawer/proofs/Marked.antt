@@ -1,37 +1,19 @@
 -- What a drawing has drawn once more has happened.
 use Rattle.std.proofs.Common.{◌≡◌, ◌+◌, ℕ, zero, suc, false, List, [], ◌∷◌, ◌++◌, length, map, Option, None, Some, is_some, refl, ap, sym, subst, ◌∙◌, append-nil, append_assoc, arith, true≢false}
-use Rattle.plain_store.specs.Store.{Contents}
-use Rattle.plain_store.specs.declared.setups.Setup.{Setup}
-use Rattle.record.specs.declared.events.Event.{Event}
+use Rattle.plain_store.specs.{Contents, Setup}
+use Rattle.record.specs.{Entry, Event, Mark, Past, Taken, entry_of, history, past_of, process_of, refused, store_after}
 use Rattle.record.specs.declared.events.Event.TheVariants.{Step}
-use Rattle.record.specs.declared.history.Taken.{Taken}
-use Rattle.record.specs.declared.marks.Mark.{Mark}
-use Rattle.record.specs.Entries.{Entry, Past}
-use Rattle.record.specs.Histories.{history, store_after}
-use Rattle.record.specs.Records.{entry_of, past_of, process_of, refused}
-use Rattle.companions.specs.picture.columns.Stages.{marks_in}
-use Rattle.companions.specs.picture.columns.declared.reads.OverlappedRead.{OverlappedRead}
-use Rattle.companions.specs.picture.declared.page.Page.{Page}
+use Rattle.companions.specs.picture.columns.{OverlappedRead, marks_in}
+use Rattle.companions.specs.picture.{Page}
 use Rattle.companions.specs.picture.declared.reads.Reads.{Reads as Mode}
 use Rattle.companions.specs.picture.declared.reads.Reads.TheVariants.{Hidden, Shown}
-use Rattle.course.specs.Courses.{IsQuiet}
-use Rattle.course.specs.Happenings.{Happening, Tries, Lacks, Tires, Looks, past_after, tried}
-use Rattle.course.specs.Listening.{Happens, PassQuietly, StepsOn}
-use Rattle.course.specs.Summaries.{counted}
-use Rattle.course.specs.Telling.{TellsOf, entry_made, told_text}
-use Rattle.course.specs.Texts.{text_of}
+use Rattle.course.specs.{Happening, Happens, IsQuiet, Lacks, Looks, PassQuietly, Stepped, StepsOn, Summary, TellsOf, Tires, Told, Tries, counted, entry_made, past_after, text_of, told_text, tried}
 use Rattle.course.specs.Writing.{Counts}
-use Rattle.course.specs.declared.summaries.Summary.{Summary}
-use Rattle.course.specs.declared.told.Stepped.{Stepped}
-use Rattle.course.specs.declared.told.Told.{Told}
 use Rattle.course.specs.declared.told.Told.TheVariants as told
 use Rattle.course.proofs.Counting.{counts_heard, counts_passed, text_heard, text_passed, with_events}
 use Rattle.course.proofs.Refusals.{past_kept}
-use Rattle.drawer.specs.Drawings.{DrawsOn, HasDrawn, Kept, Recalls, kept, marks_told}
-use Rattle.drawer.specs.Items.{Gives, given_at, given_last, lines_given, reads_since, said_of_event, waiting}
-use Rattle.companions.specs.Overlaps.{Overhears, overlapped_by}
-use Rattle.drawer.specs.declared.drawing.Drawing.{Drawing}
-use Rattle.companions.specs.declared.overlaps.OverlapsHeard.{OverlapsHeard}
+use Rattle.drawer.specs.{Drawing, DrawsOn, Gives, HasDrawn, Kept, Recalls, given_at, given_last, kept, lines_given, marks_told, reads_since, said_of_event, waiting}
+use Rattle.companions.specs.{Overhears, OverlapsHeard, overlapped_by}
 use Rattle.drawer.proofs.Drawn.{draws_on_both, draws_on_none}
 
 -- an event that is made adds the marks of its entry

@@ -1,19 +1,14 @@
 -- Head, bands and end are the picture of a run.
 use Rattle.std.proofs.Common.{◌≡◌, ℕ, List, ◌++◌, Option, ap, ◌∙◌}
-use Rattle.plain_store.specs.Setups.{opening_store}
-use Rattle.companions.specs.picture.Bandings.{bands_told}
-use Rattle.companions.specs.picture.Sheets.{page_back, page_front, picture_back, picture_front}
+use Rattle.plain_store.specs.{opening_store}
+use Rattle.companions.specs.picture.{bands_told, page_back, page_front, picture_back, picture_front}
 use Rattle.companions.specs.picture.declared.page.Form.TheVariants as form
 use Rattle.companions.specs.picture.declared.reads.Reads.{Reads as Mode}
-use Rattle.scenario.specs.Reading.{Script}
-use Rattle.companions.specs.picture.columns.Stages.{marks_in}
-use Rattle.course.specs.Happenings.{past_after}
-use Rattle.course.specs.Runs.{happenings}
-use Rattle.course.specs.Texts.{replayed}
-use Rattle.drawer.specs.Drawings.{DrawsBands, IsPictureOf}
-use Rattle.drawer.specs.Items.{run_given}
-use Rattle.companions.specs.StoreChanges.{store_words}
-use Rattle.drawer.specs.Pictures.{plan_of}
+use Rattle.scenario.specs.{Script}
+use Rattle.companions.specs.picture.columns.{marks_in}
+use Rattle.course.specs.{happenings, past_after, replayed}
+use Rattle.drawer.specs.{DrawsBands, IsPictureOf, plan_of, run_given}
+use Rattle.companions.specs.{store_words}
 
 -- a page
 pub is_page : (reads : Mode) (said : Script) (file opening head ending : List ℕ) (b c : Option (List ℕ)) (height : ℕ) → (bands : DrawsBands (plan_of form.Page said.setup) b c (replayed said) (marks_in (past_after said.setup (happenings said))) (run_given reads said) height) →

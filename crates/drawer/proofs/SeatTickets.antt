@@ -4,14 +4,9 @@ use Rattle.std.specs.Prelude.{fold}
 use Rattle.std.proofs.lemmas.Bool.{cases_eq, cond-true, cond-false, eq-eqb, ltb-false, ne_eqb}
 use Rattle.std.proofs.lemmas.Grind.{fold-append}
 use Rattle.std.proofs.lemmas.List.{get_or-set_other, get_or-set_same, length-map, length-set}
-use Rattle.record.specs.declared.marks.Mark.{Mark}
+use Rattle.record.specs.{Mark, Stage}
 use Rattle.record.specs.declared.marks.Mark.TheVariants as mark
-use Rattle.record.specs.declared.stages.Stage.{Stage}
-use Rattle.companions.specs.picture.columns.Stages.{marks_said, stages_marked, stages_told}
-use Rattle.companions.specs.picture.columns.States.{at_first, is_in_doorway, no_seat, not_awaiting, seats_marked, state_marked, state_told, ticket_in}
-use Rattle.companions.specs.picture.columns.declared.seats.KnownProcess.{KnownProcess}
-use Rattle.companions.specs.picture.columns.declared.state.State.{State}
-use Rattle.companions.specs.picture.columns.declared.told.Saying.{Saying}
+use Rattle.companions.specs.picture.columns.{KnownProcess, Saying, State, at_first, is_in_doorway, marks_said, no_seat, not_awaiting, seats_marked, stages_marked, stages_told, state_marked, state_told, ticket_in}
 use Rattle.companions.specs.picture.columns.declared.told.Saying.TheVariants.{Marked}
 use Rattle.drawer.proofs.TicketsShown.{shown_after, shown_told}
 

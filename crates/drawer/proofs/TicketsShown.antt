@@ -3,30 +3,19 @@ use Rattle.std.proofs.Common.{◌≡◌, ◌≢◌, ℕ, ◌==◌, Bool, true, f
 use Rattle.std.specs.Prelude.{fold}
 use Rattle.std.specs.List.{list_any}
 use Rattle.std.proofs.lemmas.Grind.{fold-append}
-use Rattle.plain_store.specs.declared.Setup.{Setup}
-use Rattle.plain_store.specs.Store.{changes}
-use Rattle.record.specs.declared.events.Event.{Event}
-use Rattle.record.specs.declared.marks.Mark.{Mark}
+use Rattle.plain_store.specs.{Setup, changes}
+use Rattle.record.specs.{Call, Entry, Event, Mark, Past, Stage, Wait, bits_with, entered_if_none, entry_of, history, is_fresh, is_last, lets_by, marks_of, past_of, placed, reply, stage, stage_after, store_read, value_of, waits_of}
 use Rattle.record.specs.declared.marks.Mark.TheVariants as mark
-use Rattle.record.specs.declared.stages.Stage.{Stage}
 use Rattle.record.specs.declared.stages.Stage.TheVariants as stages
-use Rattle.record.specs.Entries.{Entry, Past}
-use Rattle.record.specs.Histories.{history}
 use Rattle.record.specs.Parts.{Part, Lowers, Refuses, Waits, AsksImage, WritesCommit, Clears, first_marks, last_marks, stage_of}
-use Rattle.record.specs.Places.{bits_with, is_fresh, is_last, marks_of, value_of}
-use Rattle.record.specs.Program.{Wait, entered_if_none, lets_by, reply, store_read, waits_of}
-use Rattle.record.specs.Records.{entry_of, past_of, placed}
-use Rattle.record.specs.Scripts.{Call}
-use Rattle.record.specs.Stages.{stage, stage_after}
 use Rattle.record.proofs.Width.{IsGood}
-use Rattle.course.specs.laws.Doings.{call, doing}
+use Rattle.course.specs.laws.{call, doing, ticket_after, ticket_told}
 use Rattle.course.proofs.laws.AtPlaces.{IsOfLock, any-closing, any-placed, own-induction}
 use Rattle.course.proofs.laws.Doings as doings
 use Rattle.course.proofs.laws.Frame.{Happens, a_call, a_withdrawal, a_failure, a_restart, a_step, a_closing}
 use Rattle.course.proofs.laws.FrameEvents.{accepted}
 use Rattle.course.proofs.laws.FrameInside.{stage-is}
-use Rattle.companions.specs.picture.columns.Stages.{marks_in}
-use Rattle.course.specs.laws.Lines.{ticket_after, ticket_told}
+use Rattle.companions.specs.picture.columns.{marks_in}
 
 -- what is shown after a mark
 abbrev pub shown_after : ℕ → Mark → ℕ

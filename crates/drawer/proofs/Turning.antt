@@ -2,34 +2,18 @@
 use Rattle.std.proofs.Common.{◌≡◌, ◌≤◌, ℕ, ◌+◌, List, [], ◌∷◌, ◌++◌, length, map, take, Option, None, Some, Ok, refl, ap, sym, subst, ◌∙◌, append-nil, arith}
 use Rattle.std.proofs.lemmas.List.{length-append, length-map, take_all}
 use Rattle.std.proofs.Math.Seq.{take-append_seam}
-use Rattle.plain_store.specs.declared.Reply.{Reply}
-use Rattle.plain_store.specs.Setups.{checked}
-use Rattle.plain_store.specs.Store.{Contents}
-use Rattle.plain_store.specs.declared.setups.Setup.{Setup}
-use Rattle.record.specs.Entries.{Entry, Past}
-use Rattle.record.specs.Histories.{history, store_after}
-use Rattle.record.specs.Records.{entry_of, past_of, process_of, refused}
-use Rattle.record.specs.Spans.{takings}
-use Rattle.record.specs.declared.events.Event.{Event}
-use Rattle.record.specs.declared.history.Taken.{Taken}
-use Rattle.record.specs.declared.marks.Mark.{Mark}
-use Rattle.record.specs.declared.refusals.Refusal.{Refusal}
+use Rattle.plain_store.specs.{Contents, Reply, Setup, checked}
+use Rattle.record.specs.{Entry, Event, Mark, Past, Refusal, Taken, entry_of, history, past_of, process_of, refused, store_after, takings}
 use Rattle.record.proofs.Width.{is_good}
-use Rattle.course.specs.history_laws.HistoryLaws.{taken_with}
+use Rattle.course.specs.history_laws.{taken_with}
 use Rattle.course.proofs.history_laws.Places.{at_its_place, grows_by_the_taken}
-use Rattle.companions.specs.picture.columns.declared.reads.OverlappedRead.{OverlappedRead}
+use Rattle.companions.specs.picture.columns.{OverlappedRead}
 use Rattle.companions.specs.picture.declared.reads.Reads.{Reads as Mode}
-use Rattle.course.specs.Happenings.{Happening, Tries, Lacks, Tires, Looks, past_after, tried}
-use Rattle.course.specs.Telling.{TellsOf, entry_made, marks_made}
-use Rattle.course.specs.Texts.{newest_words}
-use Rattle.course.specs.declared.told.Accepted.{Accepted}
-use Rattle.course.specs.declared.told.Told.{Told}
+use Rattle.course.specs.{Accepted, Happening, Lacks, Looks, TellsOf, Tires, Told, Tries, entry_made, marks_made, newest_words, past_after, tried}
 use Rattle.course.specs.declared.told.Told.TheVariants as told
 use Rattle.course.proofs.Refusals.{none_added, past_kept}
-use Rattle.drawer.specs.Drawings.{AreNext, IsAmong, IsToDraw, Recalls, all_take}
-use Rattle.drawer.specs.Items.{Says, SaysRefusal, SaysStore, SaysTired, given_at, lines_given, read_at, reads_since, said_at, said_of_event, says_mark, waiting}
-use Rattle.companions.specs.Overlaps.{Overhears, overlapped_by}
-use Rattle.companions.specs.declared.overlaps.OverlapsHeard.{OverlapsHeard}
+use Rattle.drawer.specs.{AreNext, IsAmong, IsToDraw, Recalls, Says, SaysRefusal, SaysStore, SaysTired, all_take, given_at, lines_given, read_at, reads_since, said_at, said_of_event, says_mark, waiting}
+use Rattle.companions.specs.{Overhears, OverlapsHeard, overlapped_by}
 use Rattle.drawer.proofs.Chains.{few_taken}
 use Rattle.drawer.proofs.Giving.{are_next, as_many, waiting_map}
 

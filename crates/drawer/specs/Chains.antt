@@ -1,16 +1,9 @@
 -- The chain of the history: what the lines of a run tell of the commands taken.
 use Rattle.std.specs.Prelude.{◌≡◌, ℕ, suc, List, [], ◌∷◌, flat_map, Ok}
-use Rattle.plain_store.specs.declared.Reply.{Reply}
-use Rattle.plain_store.specs.declared.Setup.{Setup}
-use Rattle.plain_store.specs.Setups.{checked}
-use Rattle.record.specs.declared.events.Event.{Event}
-use Rattle.record.specs.declared.history.Taken.{Taken}
-use Rattle.record.specs.declared.marks.Mark.{Mark}
+use Rattle.plain_store.specs.{Reply, Setup, checked}
+use Rattle.record.specs.{Event, Mark, Taken, history, past_of}
 use Rattle.record.specs.declared.marks.Mark.TheVariants as mark
-use Rattle.record.specs.Histories.{history}
-use Rattle.record.specs.Records.{past_of}
-use Rattle.companions.specs.picture.columns.Stages.{marks_in, marks_said}
-use Rattle.companions.specs.picture.columns.declared.told.Saying.{Saying}
+use Rattle.companions.specs.picture.columns.{Saying, marks_in, marks_said}
 
 -- a knot of the chain: whose command was taken, at which place, and with which reply
 pub record Knot : Type 0 where

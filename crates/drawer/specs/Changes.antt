@@ -1,12 +1,9 @@
 -- What the commands taken change in the store.
 use Rattle.std.specs.Prelude.{◌≡◌, ℕ, suc, List, length, slice_get, take, Option, None, Some}
-use Rattle.plain_store.specs.Store.{Contents, after}
-use Rattle.plain_store.specs.declared.setups.Setup.{Setup}
-use Rattle.record.specs.Histories.{store_after}
-use Rattle.record.specs.declared.history.Taken.{Taken}
-use Rattle.record.specs.declared.marks.Mark.{Mark}
+use Rattle.plain_store.specs.{Contents, Setup, after}
+use Rattle.record.specs.{Mark, Taken, store_after}
 use Rattle.record.specs.declared.marks.Mark.TheVariants as mark
-use Rattle.companions.specs.StoreChanges.{Changed, change_by}
+use Rattle.companions.specs.{Changed, change_by}
 
 -- the store after a command taken
 abbrev pub after_taken : Contents → Taken → Contents

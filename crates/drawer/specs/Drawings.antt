@@ -1,42 +1,23 @@
 -- What was written of a run's picture, and what is read back of it.
 use Rattle.std.specs.Prelude.{◌≡◌, ◌<◌, ℕ, true, List, [], ◌∷◌, ◌+◌, ◌++◌, flat_map, length, map, take, Option, Some, IfSome, Result, Ok, Err}
 use Rattle.std.specs.Io.KnownBytes.{Appends, IsAtEnd}
-use Rattle.companions.specs.picture.markup.Elements.{EndsAll, opens_in}
-use Rattle.companions.specs.picture.markup.Titles.{is_at_rest, lines_in, tags_of}
-use Rattle.plain_store.specs.Store.{Contents}
-use Rattle.plain_store.specs.declared.setups.Setup.{Setup}
-use Rattle.record.specs.Entries.{Past}
-use Rattle.record.specs.Histories.{history, store_after}
-use Rattle.record.specs.Records.{process_of}
-use Rattle.record.specs.declared.history.Taken.{Taken}
-use Rattle.record.specs.declared.marks.Mark.{Mark}
+use Rattle.companions.specs.picture.markup.{EndsAll, is_at_rest, lines_in, opens_in, tags_of}
+use Rattle.plain_store.specs.{Contents, Setup}
+use Rattle.record.specs.{Mark, Past, Taken, history, process_of, store_after}
 use Rattle.files.specs.Engines.{Ran, Streams}
-use Rattle.files.specs.declared.faults.Fault.{Fault}
+use Rattle.files.specs.{Fault}
 use Rattle.files.specs.declared.faults.Fault.TheVariants as fault
-use Rattle.scenario.specs.Reading.{Script, scenario_of}
-use Rattle.scenario.specs.declared.lines.Line.{Line}
-use Rattle.companions.specs.picture.Bandings.{Item, Plan, bands_told, full_told, heights_told}
-use Rattle.companions.specs.picture.Pages.{SeenPage, held, page_of, seen_page}
-use Rattle.companions.specs.picture.columns.Stages.{marks_in, marks_said}
-use Rattle.companions.specs.picture.Standings.{sayings}
-use Rattle.companions.specs.picture.declared.page.Form.{Form}
-use Rattle.companions.specs.picture.declared.page.Page.{Page}
-use Rattle.companions.specs.picture.columns.declared.reads.OverlappedRead.{OverlappedRead}
+use Rattle.scenario.specs.{Line, Script, scenario_of}
+use Rattle.companions.specs.picture.{Form, Item, Page, Plan, SeenPage, bands_told, full_told, heights_told, held, page_of, sayings, seen_page}
+use Rattle.companions.specs.picture.columns.{OverlappedRead, marks_in, marks_said}
 use Rattle.companions.specs.picture.declared.reads.Reads.{Reads as Mode}
 use Rattle.drawer.specs.Changes.{IsNext, takes}
 use Rattle.drawer.specs.Items.{Gives, given, given_last, reads_since, run_given}
-use Rattle.companions.specs.Overlaps.{Overhears}
+use Rattle.companions.specs.{Overhears, OverlapsHeard}
 use Rattle.drawer.specs.Pictures.{ended_lines, lines_told, picture_of, plan_of}
 use Rattle.drawer.specs.declared.drawing.Drawing.{Drawing}
-use Rattle.companions.specs.declared.overlaps.OverlapsHeard.{OverlapsHeard}
-use Rattle.course.specs.Courses.{CourseState, Follows}
-use Rattle.course.specs.Happenings.{Happening, past_after}
-use Rattle.course.specs.Listening.{Happens}
-use Rattle.course.specs.Runs.{Run, happenings, run_after}
-use Rattle.course.specs.Telling.{marks_made}
-use Rattle.course.specs.Texts.{replay_text, replayed, text_of}
+use Rattle.course.specs.{CourseState, Follows, Happening, Happens, Run, Told, happenings, marks_made, past_after, replay_text, replayed, run_after, text_of}
 use Rattle.course.specs.Writing.{Counts}
-use Rattle.course.specs.declared.told.Told.{Told}
 use Rattle.course.specs.declared.told.Told.TheVariants as told
 
 -- This markup was written. However it goes on, what is read of it stays as it is.

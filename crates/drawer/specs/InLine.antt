@@ -1,18 +1,10 @@
 -- Who gets inside is first in the line, by what lines tell.
 use Rattle.std.specs.Prelude.{◌≡◌, ◌⊎◌, ◌<◌, ℕ, List, ◌∷◌, flat_map, fold, Contains, IsTrue, Ok, Some}
-use Rattle.plain_store.specs.declared.Setup.{Setup}
-use Rattle.plain_store.specs.Setups.{checked}
-use Rattle.record.specs.declared.events.Event.{Event}
-use Rattle.record.specs.declared.stages.Stage.{Stage}
+use Rattle.plain_store.specs.{Setup, checked}
+use Rattle.record.specs.{Entry, Event, Stage, entry_of, has, is_entered, past_of}
 use Rattle.record.specs.declared.stages.Stage.TheVariants.{Inside, Leaving, Settling}
-use Rattle.record.specs.Entries.{Entry, has, is_entered}
-use Rattle.record.specs.Records.{entry_of, past_of}
-use Rattle.companions.specs.picture.Bandings.{Item, state_after}
-use Rattle.companions.specs.picture.columns.Stages.{marks_in, marks_said, stage_among}
-use Rattle.companions.specs.picture.Standings.{sayings}
-use Rattle.companions.specs.picture.columns.States.{at_first, before_in, queue_of, state_told}
-use Rattle.companions.specs.picture.columns.declared.state.State.{State}
-use Rattle.companions.specs.picture.columns.declared.told.Saying.{Saying}
+use Rattle.companions.specs.picture.{Item, sayings, state_after}
+use Rattle.companions.specs.picture.columns.{Saying, State, at_first, before_in, marks_in, marks_said, queue_of, stage_among, state_told}
 
 -- what these lines have told of a run of so many processes
 abbrev pub state_of_lines : ℕ → List Saying → State

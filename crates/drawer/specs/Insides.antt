@@ -1,12 +1,9 @@
 -- Who is inside, by what lines tell.
 use Rattle.std.specs.Prelude.{◌≡◌, ◌<◌, ℕ, List, flat_map, Ok}
-use Rattle.plain_store.specs.declared.Setup.{Setup}
-use Rattle.plain_store.specs.Setups.{checked}
-use Rattle.record.specs.declared.events.Event.{Event}
+use Rattle.plain_store.specs.{Setup, checked}
+use Rattle.record.specs.{Event, past_of}
 use Rattle.record.specs.declared.stages.Stage.TheVariants.{Inside}
-use Rattle.record.specs.Records.{past_of}
-use Rattle.companions.specs.picture.columns.Stages.{marks_in, marks_said, stage_among, stages_after}
-use Rattle.companions.specs.picture.columns.declared.told.Saying.{Saying}
+use Rattle.companions.specs.picture.columns.{Saying, marks_in, marks_said, stage_among, stages_after}
 
 -- Where lines say the marks of a record, whatever else they say between them, at most one process is inside by the stages that they tell.
 abbrev pub OneIsInside : Type 0

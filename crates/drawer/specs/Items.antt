@@ -1,29 +1,17 @@
 -- What a run gives its picture, item by item: its lines, and the reads that writes overlapped.
 use Rattle.std.specs.Prelude.{ℕ, zero, suc, ◌+◌, ◌-◌, List, [], ◌∷◌, ◌++◌, length, map, Option, None, Some, option_map}
-use Rattle.plain_store.specs.declared.setups.Setup.{Setup}
-use Rattle.record.specs.Histories.{history}
-use Rattle.record.specs.Records.{entry_of, process_of, refused}
-use Rattle.record.specs.Entries.{Entry, Past}
-use Rattle.record.specs.declared.history.Taken.{Taken}
-use Rattle.record.specs.declared.marks.Mark.{Mark}
-use Rattle.record.specs.declared.refusals.Refusal.{Refusal}
+use Rattle.plain_store.specs.{Setup}
+use Rattle.record.specs.{Entry, Mark, Past, Refusal, Taken, entry_of, history, process_of, refused}
 use Rattle.record.specs.declared.refusals.Refusal.TheVariants.{NoProcess}
-use Rattle.scenario.specs.Printing.{open_words, setup_words}
-use Rattle.scenario.specs.Reading.{Script}
+use Rattle.scenario.specs.{Script, open_words, setup_words}
 use Rattle.scenario.specs.declared.lines.Line.{Line as ScenarioLine}
-use Rattle.course.specs.Happenings.{Happening, Tries, Lacks, Tires, Looks, past_after}
-use Rattle.course.specs.Runs.{Run, happenings, run_after, run_at_start}
-use Rattle.course.specs.Summaries.{summary_of}
-use Rattle.course.specs.Texts.{newest_store, newest_words}
-use Rattle.course.specs.declared.summaries.Summary.{Summary}
-use Rattle.companions.specs.picture.Bandings.{Item, Reads, Tells}
-use Rattle.companions.specs.picture.columns.declared.reads.OverlappedRead.{OverlappedRead}
+use Rattle.course.specs.{Happening, Lacks, Looks, Run, Summary, Tires, Tries, happenings, newest_store, newest_words, past_after, run_after, run_at_start, summary_of}
+use Rattle.companions.specs.picture.{Item, Reads, Tells}
+use Rattle.companions.specs.picture.columns.{OverlappedRead, Saying}
 use Rattle.companions.specs.picture.declared.reads.Reads.{Reads as Mode}
-use Rattle.companions.specs.picture.columns.declared.told.Saying.{Saying}
 use Rattle.companions.specs.picture.columns.declared.told.Saying.TheVariants.{Marked, Refused, Tired, Shown, Judged, Ended}
-use Rattle.companions.specs.StoreChanges.{Changed, changed}
+use Rattle.companions.specs.{Changed, changed, overlapped_by, shown_of}
 use Rattle.drawer.specs.Changes.{change_of}
-use Rattle.companions.specs.Overlaps.{overlapped_by, shown_of}
 
 -- what a line says
 pub data Says : Type 0 where

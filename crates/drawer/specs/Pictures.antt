@@ -1,15 +1,12 @@
 -- What a run's picture is told, and what is written of it.
 use Rattle.std.specs.Prelude.{ℕ, List, [], ◌∷◌, ◌++◌, codes, flat_map}
-use Rattle.plain_store.specs.Setups.{opening_store}
-use Rattle.plain_store.specs.declared.setups.Setup.{Setup}
-use Rattle.scenario.specs.Reading.{Script}
-use Rattle.companions.specs.picture.Bandings.{Item, Plan, Reads, Tells, bands_told}
-use Rattle.companions.specs.picture.Sheets.{page_back, page_front, picture_back, picture_front}
-use Rattle.companions.specs.picture.columns.Told.{text_of}
-use Rattle.companions.specs.picture.declared.page.Form.{Form}
+use Rattle.plain_store.specs.{Setup, opening_store}
+use Rattle.scenario.specs.{Script}
+use Rattle.companions.specs.picture.{Form, Item, Plan, Reads, Tells, bands_told, page_back, page_front, picture_back, picture_front}
+use Rattle.companions.specs.picture.columns.{text_of}
 use Rattle.companions.specs.picture.declared.page.Form.TheVariants as form
 use Rattle.companions.specs.picture.declared.reads.Reads.{Reads as Mode}
-use Rattle.companions.specs.StoreChanges.{store_words, words_by}
+use Rattle.companions.specs.{store_words, words_by}
 
 -- the lines among items, of which the newest stands first; they stand in their order
 abbrev pub lines_told : List Item → List (List ℕ)

@@ -1,9 +1,9 @@
 //! What the commands taken change: the one-thread store beside a run.
 ghost use Rattle.std.specs.Prelude.{◌≡◌, ◌+◌, ℕ, IfOk, Ok, OnOk, option_map, take};
-ghost use Rattle.plain_store.specs.Setups.{checked, opening_store as store_at_first};
+ghost use Rattle.plain_store.specs.{checked, opening_store as store_at_first};
 ghost use Rattle.plain_store.specs.declared.setups.Setup.{Setup as Given};
-ghost use Rattle.record.specs.Histories.{store_after};
-ghost use Rattle.companions.specs.StoreChanges.{changed, store_words as words_of_store, words_by};
+ghost use Rattle.record.specs.{store_after};
+ghost use Rattle.companions.specs.{changed, store_words as words_of_store, words_by};
 ghost use Rattle.drawer.specs.Changes.{IsNext, after_taken, change_of, change_taken, takes};
 
 use companions::{TakenChange, opening_store, store_words, words_by_pairs};

@@ -1,26 +1,18 @@
 //! A run told line by line to a picture, whose bands are written as they are full.
 ghost use Rattle.std.specs.Prelude.{◌≡◌, ◌+◌, ◌-◌, ◌^◌, ◌<◌, ℕ, List, [], ◌∷◌, ◌++◌, codes, flat_map, length, map, IfErr, IfOk, Ok, OnOk};
-ghost use Rattle.plain_store.specs.Setups.{checked, opening_store as store_at_first};
+ghost use Rattle.plain_store.specs.{checked, opening_store as store_at_first};
 ghost use Rattle.plain_store.specs.declared.setups.Setup.{Setup as Given};
-ghost use Rattle.record.specs.Entries.{Past};
+ghost use Rattle.record.specs.{Past};
 ghost use Rattle.companions.specs.picture.columns.declared.reads.OverlappedRead.{OverlappedRead as Ended};
 ghost use Rattle.companions.specs.picture.declared.reads.Reads.{Reads as Mode};
-ghost use Rattle.companions.specs.picture.Bandings.{Plan};
-ghost use Rattle.companions.specs.picture.Pages.{held, page_of, seen_page};
-ghost use Rattle.companions.specs.picture.columns.Stages.{marks_in, marks_said};
-ghost use Rattle.companions.specs.picture.columns.Told.{saying_text};
-ghost use Rattle.scenario.specs.Reads.{script};
-ghost use Rattle.course.specs.Courses.{Follows};
-ghost use Rattle.course.specs.Happenings.{Happening, past_after};
-ghost use Rattle.course.specs.Runs.{happenings, run_at_start};
-ghost use Rattle.course.specs.Summaries.{counted, summary_of};
-ghost use Rattle.course.specs.Telling.{told_text};
-ghost use Rattle.course.specs.Texts.{end_line, mark_line, replayed};
-ghost use Rattle.course.specs.Writing.{IsWriteFault, failed_write};
+ghost use Rattle.companions.specs.picture.{Plan, held, page_of, seen_page};
+ghost use Rattle.companions.specs.picture.columns.{marks_in, marks_said, saying_text};
+ghost use Rattle.scenario.specs.{script};
+ghost use Rattle.course.specs.{Follows, Happening, IsWriteFault, counted, end_line, failed_write, happenings, mark_line, past_after, replayed, run_at_start, summary_of, told_text};
 ghost use Rattle.drawer.specs.Changes.{IsNext, takes};
 ghost use Rattle.drawer.specs.Drawings.{AreNext, DrawsBands, DrawsOn, DrawsRest, IsAmong, IsToDraw, Recalls, all_take, kept, marks_told};
 ghost use Rattle.drawer.specs.Items.{GivesRead, SaysEnd, given_at, lines_given, run_given, says_mark, says_of, waiting};
-ghost use Rattle.companions.specs.Overlaps.{Overhears, shown_of};
+ghost use Rattle.companions.specs.{Overhears, shown_of};
 ghost use Rattle.drawer.specs.Pictures.{plan_of};
 
 mod listening;

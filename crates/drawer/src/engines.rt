@@ -1,18 +1,12 @@
 //! The two engines.
 ghost use Rattle.std.specs.Prelude.{◌≡◌, ◌+◌, ◌-◌, ◌^◌, ◌<◌, [], IfErr, IfOk, Ok, OnOk, Some};
-ghost use Rattle.plain_store.specs.Setups.{checked, opening_store};
-ghost use Rattle.companions.specs.StoreChanges.{store_words as store_words_of};
-ghost use Rattle.companions.specs.picture.Pages.{page_names};
-ghost use Rattle.companions.specs.picture.Sheets.{page_back};
-ghost use Rattle.companions.specs.picture.markup.Elements.{opens_in};
-ghost use Rattle.companions.specs.picture.markup.Titles.{lines_in};
-ghost use Rattle.files.specs.Engines.{streams};
-ghost use Rattle.files.specs.Streams.{ReadsFront};
-ghost use Rattle.scenario.specs.Reads.{script};
-ghost use Rattle.course.specs.Replays.{IsSummaryOf, ended};
-ghost use Rattle.course.specs.Runs.{happenings};
-ghost use Rattle.course.specs.Summaries.{summary_of};
-ghost use Rattle.course.specs.Writing.{IsWriteFault, failed_write};
+ghost use Rattle.plain_store.specs.{checked, opening_store};
+ghost use Rattle.companions.specs.{store_words as store_words_of};
+ghost use Rattle.companions.specs.picture.{page_back, page_names};
+ghost use Rattle.companions.specs.picture.markup.{lines_in, opens_in};
+ghost use Rattle.files.specs.{ReadsFront, streams};
+ghost use Rattle.scenario.specs.{script};
+ghost use Rattle.course.specs.{IsSummaryOf, IsWriteFault, ended, failed_write, happenings, summary_of};
 ghost use Rattle.companions.specs.picture.declared.page.Form.TheVariants as form_variants;
 ghost use Rattle.drawer.specs.Drawings.{DrawsAll, DrawsFramed, Drew};
 

@@ -1,9 +1,9 @@
 -- What bits files print, line by line.
 use Rattle.std.proofs.Common.{◌≡◌, ℕ, ◌+◌, ◌<◌, List, ◌++◌, length, drop, get_or, ap, sym, ◌∙◌, append_assoc}
 use Rattle.safe_bit.specs.Cell.{Cell}
-use Rattle.scenario.specs.declared.bit_files.BitLine.{BitLine}
+use Rattle.scenario.specs.{BitLine}
 use Rattle.scenario.proofs.Places.{drop_in}
-use Rattle.engines.specs.BitCells.{cell_text_from, bit_line_text, bit_after}
+use Rattle.engines.specs.{cell_text_from, bit_line_text, bit_after}
 
 -- the text from a line on
 bits_text_step : (bit : Cell) (lines : List BitLine) (k : ℕ) (here : BitLine) → k < length lines → here ≡ get_or lines k here → cell_text_from bit (drop k lines) ≡ bit_line_text bit here ++ cell_text_from (bit_after bit here) (drop (k + 1) lines)

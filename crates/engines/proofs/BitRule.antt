@@ -2,12 +2,12 @@
 use Rattle.std.proofs.Common.{◌≡◌, Bool, true, false, not, if◌then◌else◌, List, [], ◌∷◌, ◌++◌, codes, refl, ap, sym, ◌∙◌, arith}
 use Rattle.std.proofs.lemmas.Bool.Decides.{nat_tests}
 use Rattle.safe_bit.specs.Cell.{Cell, new_cell}
-use Rattle.safe_bit.specs.SafeRule.{Shows}
+use Rattle.safe_bit.specs.{Shows}
 use Rattle.safe_bit.specs.declared.moves.Move.TheVariants as move
 use Rattle.safe_bit.proofs.Showing.{shows_none, shows_more, shows_dropped, answer-shows}
-use Rattle.scenario.specs.declared.bit_files.BitLine.{BitLine}
+use Rattle.scenario.specs.{BitLine}
 use Rattle.scenario.specs.declared.bit_files.BitLine.TheVariants.{Write, End, Settle, Read, Value, Drop}
-use Rattle.engines.specs.BitCells.{can_take, made, made_text, cell_text_from}
+use Rattle.engines.specs.{can_take, made, made_text, cell_text_from}
 use Rattle.engines.specs.Bits.{BitRun, run_at_start, is_in_turn, answer_of, called, call_text, run_after, line_text, bits_text_from, bits_printed}
 
 -- the bit is what was done on it

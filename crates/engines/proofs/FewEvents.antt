@@ -3,21 +3,12 @@ use Rattle.std.proofs.Common.{◌≡◌, ℕ, zero, suc, ◌+◌, ◌*◌, ◌�
 use Rattle.std.proofs.lemmas.Bool.{and_from, and_parts}
 use Rattle.std.proofs.lemmas.Bool.Decides.{nat_tests}
 use Rattle.std.specs.List.{list_all}
-use Rattle.plain_store.specs.Commands.{is_command}
-use Rattle.plain_store.specs.declared.setups.Setup.{Setup}
-use Rattle.course.specs.«record».Given.{is_event}
-use Rattle.course.specs.«record».Records.{past_of, refused}
-use Rattle.course.specs.«record».Stages.{stage}
-use Rattle.course.specs.«record».declared.events.Event.{Event}
+use Rattle.plain_store.specs.{Setup, is_command}
+use Rattle.course.specs.«record».{Event, Refusal, is_event, past_of, refused, stage}
 use Rattle.course.specs.«record».declared.events.Event.TheVariants as event
-use Rattle.course.specs.«record».declared.refusals.Refusal.{Refusal}
-use Rattle.scenario.specs.Scripts.{is_line}
-use Rattle.scenario.specs.Statements.{is_line_of}
-use Rattle.scenario.specs.declared.lines.Line.{Line}
+use Rattle.scenario.specs.{Line, Target, is_line, is_line_of}
 use Rattle.scenario.specs.declared.lines.Line.TheVariants as line
-use Rattle.scenario.specs.declared.lines.Target.{Target}
-use Rattle.course.specs.Happenings.{Lacks, Tires, accepted, tried}
-use Rattle.course.specs.Runs.{Run, go_limit, goes, is_there, may_step, movers, next_step, past_in, pick_among, after_pick_in, picked, run_after, runs, stepped, steps, wanders, with_happening}
+use Rattle.course.specs.{Lacks, Run, Tires, accepted, after_pick_in, go_limit, goes, is_there, may_step, movers, next_step, past_in, pick_among, picked, run_after, runs, stepped, steps, tried, wanders, with_happening}
 
 -- the events that a run has tried
 abbrev pub tries : Run → List Event

@@ -4,17 +4,9 @@ use Rattle.std.proofs.lemmas.Bool.{and_from, and_parts}
 use Rattle.std.proofs.lemmas.List.{length-reverse, reverse-append, reverse-reverse}
 use Rattle.std.proofs.lemmas.List.Folds.{list_all-append}
 use Rattle.std.specs.List.{AllByRecursion, list_all}
-use Rattle.plain_store.specs.Pairs.{is_pair}
-use Rattle.plain_store.specs.Setups.{checked}
-use Rattle.plain_store.specs.Store.{names_differ}
-use Rattle.plain_store.specs.declared.Setup.{Setup}
-use Rattle.course.specs.«record».Entries.{Entry, Past}
-use Rattle.course.specs.«record».Given.{AreGiven, is_event}
-use Rattle.course.specs.«record».Histories.{history}
-use Rattle.course.specs.«record».Records.{entry_of, past_of, record_of}
-use Rattle.course.specs.«record».declared.events.Event.{Event}
-use Rattle.judge.specs.record_file.Printing.{record_text}
-use Rattle.judge.specs.record_file.ReadAgain.{FitLines, FitsLine, IsSetupOfFile, RecordsAreReadAgain, RecordsFitLines}
+use Rattle.plain_store.specs.{Setup, checked, is_pair, names_differ}
+use Rattle.course.specs.«record».{AreGiven, Entry, Event, Past, entry_of, history, is_event, past_of, record_of}
+use Rattle.judge.specs.record_file.{FitLines, FitsLine, IsSetupOfFile, RecordsAreReadAgain, RecordsFitLines, record_text}
 use Rattle.judge.specs.record_file.RecordFiles as reader
 use Rattle.judge.proofs.record_file.RecordsAgain.{record_again}
 use Rattle.judge.proofs.record_file.ShortWords.{short_fits}

@@ -1,9 +1,8 @@
 -- Lines as `format!` puts them together.
 use Rattle.std.proofs.Common.{◌≡◌, ℕ, ◌++◌, codes, append_assoc}
 use Rattle.std.specs.Fmt.{decimal}
-use Rattle.course.specs.«record».declared.marks.Mark.{Mark}
-use Rattle.course.specs.«record».Shown.{mark_text}
-use Rattle.course.specs.Texts.{mark_line, turns_line, end_line}
+use Rattle.course.specs.«record».{Mark, mark_text}
+use Rattle.course.specs.{mark_line, turns_line, end_line}
 
 pub mark_line_is : (number p : ℕ) (mark : Mark) → decimal number ++ (codes " " ++ (decimal p ++ (codes " " ++ (mark_text mark ++ codes "\n")))) ≡ mark_line number p mark
 mark_line_is number p mark = simp append_assoc

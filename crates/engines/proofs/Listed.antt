@@ -1,18 +1,11 @@
 -- The accepted events, one by one.
 use Rattle.std.proofs.Common.{◌≡◌, List, [], ◌∷◌, ◌++◌, reverse, Option, None, Some, refl, ap, sym, ◌∙◌, append-nil}
 use Rattle.std.proofs.lemmas.List.{reverse-append}
-use Rattle.plain_store.specs.declared.setups.Setup.{Setup}
-use Rattle.course.specs.«record».declared.events.Event.{Event}
+use Rattle.plain_store.specs.{Setup}
+use Rattle.course.specs.«record».{Event, Refusal, Taken}
 use Rattle.course.specs.«record».declared.events.Event.TheVariants.{Step}
-use Rattle.course.specs.«record».declared.history.Taken.{Taken}
-use Rattle.course.specs.«record».declared.refusals.Refusal.{Refusal}
-use Rattle.course.specs.Happenings.{Happening, Tries, Lacks, Tires, Looks, accepted, past_after, tried}
-use Rattle.course.specs.Listening.{Happens, StepsOn}
-use Rattle.engines.specs.Listings.{event_told}
-use Rattle.course.specs.RunRecords.{listed}
-use Rattle.course.specs.Telling.{TellsOf, entry_made, told_unmarked}
-use Rattle.course.specs.declared.told.Stepped.{Stepped}
-use Rattle.course.specs.declared.told.Told.{Told}
+use Rattle.course.specs.{Happening, Happens, Lacks, Looks, Stepped, StepsOn, TellsOf, Tires, Told, Tries, accepted, entry_made, listed, past_after, told_unmarked, tried}
+use Rattle.engines.specs.{event_told}
 use Rattle.course.specs.declared.told.Told.TheVariants as told
 use Rattle.course.proofs.Refusals.{not_refused}
 

@@ -2,15 +2,13 @@
 use Rattle.std.proofs.Common.{◌≡◌, ℕ, ◌+◌, ◌<◌, ◌≤◌, Bool, true, false, nat_lt, if◌then◌else◌, List, ◌++◌, length, drop, get_or, Option, None, Some, Result, Ok, Err, IfSome, IsErrAnd, ap, subst, sym, ◌∙◌, arith, refl, append_assoc, codes}
 use Rattle.std.proofs.lemmas.List.{length-set}
 use Rattle.std.specs.Fmt.{decimal}
-use Rattle.plain_store.specs.declared.setups.Setup.{Setup}
-use Rattle.scenario.specs.declared.lines.Line.{Line}
+use Rattle.plain_store.specs.{Setup}
+use Rattle.scenario.specs.{Line}
 use Rattle.scenario.specs.declared.lines.Line.TheVariants as line
 use Rattle.scenario.proofs.Places.{drop_in}
 use Rattle.scenario.specs.files.Engines.{Ran, Streams, text_or_none}
-use Rattle.scenario.specs.files.Streams.{WritesFront}
-use Rattle.scenario.specs.files.declared.faults.Fault.{Fault}
+use Rattle.scenario.specs.files.{Fault, LineFault, WritesFront}
 use Rattle.scenario.specs.files.declared.faults.Fault.TheVariants.{Memory}
-use Rattle.scenario.specs.files.declared.faults.LineFault.{LineFault}
 use Rattle.course.proofs.Written.{front_none}
 use Rattle.engines.specs.Plain.{Run, reply_line, text_from, line_text, run_after, applied}
 

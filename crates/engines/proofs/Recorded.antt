@@ -2,16 +2,12 @@
 use Rattle.std.proofs.Common.{◌≡◌, ℕ, true, ◌+◌, ◌<◌, ◌≤◌, List, [], ◌∷◌, length, reverse, take, get_or, ap, sym, subst, ◌∙◌, inl, inr}
 use Rattle.std.proofs.lemmas.List.{reverse-append, take_all, take_more}
 use Rattle.std.specs.Global.{Vec}
-use Rattle.plain_store.specs.declared.setups.Setup.{Setup}
-use Rattle.course.specs.«record».declared.events.Event.{Event}
-use Rattle.course.specs.«record».declared.refusals.Refusal.{Refusal}
+use Rattle.plain_store.specs.{Setup}
+use Rattle.course.specs.«record».{AreGiven, Entry, Event, Refusal, is_event, past_of}
 use Rattle.course.specs.«record».declared.refusals.Refusal.TheVariants.{Memory}
-use Rattle.course.specs.«record».Entries.{Entry}
-use Rattle.course.specs.«record».Given.{AreGiven, is_event}
-use Rattle.course.specs.«record».Records.{past_of}
-use Rattle.course.specs.world.Events.{IsTurnedAway}
+use Rattle.course.specs.world.{IsTurnedAway}
 use Rattle.course.specs.world.Shows.{Shows, WorldState}
-use Rattle.engines.specs.Listings.{RecordsEvent}
+use Rattle.engines.specs.{RecordsEvent}
 use Rattle.course.proofs.Refusals.{past_kept, shows_refused}
 
 -- an event that is refused

@@ -2,30 +2,19 @@
 use Rattle.std.proofs.Common.{◌≡◌, ℕ, List, [], ◌∷◌, ◌++◌, flat_map, reverse, Option, None, Some, refl, ap, sym, subst, ◌∙◌, append-nil, append_assoc}
 use Rattle.std.proofs.lemmas.List.{reverse-reverse}
 use Rattle.std.specs.Io.KnownBytes.{Appends}
-use Rattle.scenario.specs.files.Streams.{WritesFront}
-use Rattle.plain_store.specs.declared.setups.Setup.{Setup}
+use Rattle.scenario.specs.files.{WritesFront}
+use Rattle.plain_store.specs.{Setup}
 use Rattle.course.specs.«record».declared.events.Event.TheVariants.{Step}
-use Rattle.course.specs.«record».declared.history.Taken.{Taken}
-use Rattle.course.specs.«record».Entries.{Entry, Past}
-use Rattle.judge.specs.record_file.Printing.{entry_line, head_words, step_entry}
-use Rattle.scenario.specs.Printing.{printed_line}
-use Rattle.scenario.specs.Reading.{Script}
-use Rattle.scenario.specs.declared.lines.Line.{Line}
-use Rattle.course.specs.Courses.{CourseState, Follows}
-use Rattle.course.specs.Happenings.{Happening, Tries, Lacks, Tires, Looks, past_after, tried}
-use Rattle.course.specs.Listening.{Happens, StepsOn}
-use Rattle.engines.specs.Recordings.{Copies, CopiesLine, CutsCopy, entries_longer, entries_text, entry_told, lines_more, recorded}
-use Rattle.course.specs.Runs.{Run, run_after, run_at_start, runs}
-use Rattle.course.specs.Telling.{TellsOf, entry_made, told_unmarked}
-use Rattle.course.specs.Writing.{Writes, WritesPart}
-use Rattle.course.specs.declared.told.Stepped.{Stepped}
-use Rattle.course.specs.declared.told.Told.{Told}
+use Rattle.course.specs.«record».{Entry, Past, Taken}
+use Rattle.judge.specs.record_file.{entry_line, head_words, step_entry}
+use Rattle.scenario.specs.{Line, Script, printed_line}
+use Rattle.course.specs.{CourseState, Follows, Happening, Happens, Lacks, Looks, Run, Stepped, StepsOn, TellsOf, Tires, Told, Tries, Writes, WritesPart, entry_made, past_after, run_after, run_at_start, run_record, runs, told_unmarked, tried}
+use Rattle.engines.specs.{Copies, CopiesLine, CutsCopy, entries_longer, entries_text, entry_told, lines_more, recorded}
 use Rattle.course.specs.declared.told.Told.TheVariants as told
 use Rattle.course.proofs.Grows.{Grows, lines_grow}
 use Rattle.course.proofs.Listeners.{run_past}
 use Rattle.course.proofs.Refusals.{past_kept}
 use Rattle.course.proofs.Written.{appends_both, front_after, front_longer}
-use Rattle.course.specs.RunRecords.{run_record}
 
 -- What is told.
 

@@ -1,16 +1,11 @@
 -- What is written of what is told.
 use Rattle.std.proofs.Common.{ℕ, List, ◌∷◌, Option}
 use Rattle.std.specs.Io.KnownBytes.{Appends}
-use Rattle.plain_store.specs.declared.setups.Setup.{Setup}
-use Rattle.course.specs.«record».declared.history.Taken.{Taken}
-use Rattle.scenario.specs.files.Streams.{WritesFront}
-use Rattle.course.specs.Happenings.{Happening}
-use Rattle.course.specs.Listening.{Happens}
-use Rattle.course.specs.Telling.{told_text}
-use Rattle.course.specs.Texts.{text_of}
+use Rattle.plain_store.specs.{Setup}
+use Rattle.course.specs.«record».{Taken}
+use Rattle.scenario.specs.files.{WritesFront}
+use Rattle.course.specs.{Happening, Happens, Summary, Told, text_of, told_text}
 use Rattle.course.specs.Writing.{Counts, Writes, WritesPart}
-use Rattle.course.specs.declared.summaries.Summary.{Summary}
-use Rattle.course.specs.declared.told.Told.{Told}
 use Rattle.course.proofs.Counting.{text_heard}
 
 -- its text

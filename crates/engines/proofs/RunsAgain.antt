@@ -2,18 +2,14 @@
 use Rattle.std.proofs.Common.{◌≡◌, ℕ, ◌+◌, ◌*◌, ◌≤◌, List, length, Option, Result, Ok, Err, OnOk, refl, arith}
 use Rattle.std.proofs.lemmas.List.{length-reverse}
 use Rattle.std.specs.Io.KnownBytes.{Appends}
-use Rattle.course.specs.«record».declared.events.Event.{Event}
-use Rattle.judge.specs.record_file.ReadAgain.{IsSetupOfFile}
+use Rattle.course.specs.«record».{Event}
+use Rattle.judge.specs.record_file.{IsSetupOfFile}
 use Rattle.engines.proofs.FitRecords.{events_reversed, records_again}
-use Rattle.scenario.specs.Reading.{Script, scenario_of}
-use Rattle.scenario.specs.Scripts.{IsScenario}
+use Rattle.scenario.specs.{IsScenario, Script, scenario_of}
 use Rattle.scenario.proofs.TextSaid.{script_said}
-use Rattle.course.specs.Happenings.{accepted}
-use Rattle.course.specs.Runs.{run_at_start, runs}
-use Rattle.engines.specs.RecordedRuns.{RecordedRunsAreReadAgain, WritesRecord}
-use Rattle.engines.specs.Recordings.{recorded}
+use Rattle.course.specs.{accepted, accepted_events, run_at_start, runs}
+use Rattle.engines.specs.{RecordedRunsAreReadAgain, WritesRecord, recorded}
 use Rattle.engines.proofs.FewEvents.{AreFew, accepted_few, lines_few, tries}
-use Rattle.course.specs.RunRecords.{accepted_events}
 
 -- the events of a run that are accepted, the newest first
 abbrev chosen : Script → List Event

@@ -1,18 +1,9 @@
 -- What a process is doing holds replies and answers that fit, whatever its entries are.
 use Rattle.std.proofs.Common.{◌≡◌, ℕ, ◌≤◌, ◌==◌, Bool, true, false, cond, [], ◌∷◌, Option, Some, None, refl}
-use Rattle.course.specs.«record».declared.Access.{Access}
-use Rattle.plain_store.specs.declared.Command.{Command}
-use Rattle.plain_store.specs.declared.Setup.{Setup}
-use Rattle.course.specs.«record».Calls.{last_call}
-use Rattle.course.specs.«record».Closings.{Closing, Settles, closing_after}
-use Rattle.course.specs.«record».Entries.{Entry, Past, own}
-use Rattle.course.specs.«record».Parts.{is_over}
-use Rattle.course.specs.«record».Places.{Place, place_after, value_of}
-use Rattle.course.specs.«record».Records.{start_in}
-use Rattle.course.specs.«record».Unit.{value_written}
-use Rattle.course.specs.«record».declared.marks.Mark.{Mark}
+use Rattle.course.specs.«record».{Access, Closing, Entry, Mark, Past, Place, Settles, closing_after, is_over, last_call, own, place_after, start_in, value_of, value_written}
+use Rattle.plain_store.specs.{Command, Setup}
 use Rattle.course.specs.«record».declared.marks.Mark.TheVariants.{Called, Failed, Withdrew}
-use Rattle.course.specs.laws.Doings.{Doing, Rests, Runs, Closes, call, closes, does_after, doing, goes_on, runs}
+use Rattle.course.specs.laws.{Doing, Rests, Runs, Closes, call, closes, does_after, doing, goes_on, runs}
 use Rattle.judge.proofs.record_file.SoundParts.{is_sound_closing, is_sound_part, sound_closing_after, sound_failing, sound_place}
 
 abbrev pub is_sound_doing : Doing → Bool

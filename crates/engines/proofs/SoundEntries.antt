@@ -6,33 +6,17 @@ use Rattle.std.proofs.lemmas.Bool.Decides.{nat_tests}
 use Rattle.std.proofs.lemmas.List.{length-append}
 use Rattle.std.specs.Int.{is_in_range}
 use Rattle.std.specs.List.{list_all}
-use Rattle.course.specs.«record».declared.access.Access.{Access}
-use Rattle.course.specs.«record».declared.access.Field.{Field}
+use Rattle.course.specs.«record».{Access, Entry, Event, Field, Mark, Next, Part, Past, Place, Taken, added, entry_made, entry_of, history, is_event, is_fresh, marks_of, nth, own, past_of, program, reply_taken, since, starts, stepped, value_of, width}
 use Rattle.course.specs.«record».declared.access.Field.TheVariants.{Choosing, Ticket, Commit, Stamp0, Stamp1, Image0, Image1}
 use Rattle.plain_store.proofs.GoodSetups.{few-processes, good-checked}
-use Rattle.plain_store.specs.Setups.{callers_of, checked, most_bits}
-use Rattle.plain_store.specs.declared.Command.{Command}
-use Rattle.plain_store.specs.declared.Reply.{Reply}
-use Rattle.plain_store.specs.declared.Setup.{Setup}
-use Rattle.course.specs.«record».Entries.{Entry, Past, own, since, starts}
-use Rattle.course.specs.«record».Given.{is_event}
-use Rattle.course.specs.«record».Histories.{history, reply_taken}
-use Rattle.course.specs.«record».Parts.{Part}
+use Rattle.plain_store.specs.{Command, Reply, Setup, callers_of, checked, most_bits}
 use Rattle.course.specs.«record».Parts as part
-use Rattle.course.specs.«record».Places.{Place, is_fresh, marks_of, value_of}
-use Rattle.course.specs.«record».Records.{added, entry_made, entry_of, past_of, program, stepped}
-use Rattle.course.specs.«record».Registers.{width}
-use Rattle.course.specs.«record».Scripts.{Next, nth}
-use Rattle.course.specs.«record».declared.events.Event.{Event}
 use Rattle.course.specs.«record».declared.events.Event.TheVariants as event
-use Rattle.course.specs.«record».declared.history.Taken.{Taken}
-use Rattle.course.specs.«record».declared.marks.Mark.{Mark}
 use Rattle.course.specs.«record».declared.marks.Mark.TheVariants.{Called, Failed, Withdrew, Restarted}
 use Rattle.course.proofs.«record».Local.{option_map-some}
 use Rattle.course.proofs.«record».Width.{is_good}
 use Rattle.course.proofs.«record».World.{entry-accepted}
-use Rattle.course.specs.laws.Doings.{Doing, Runs, call, doing}
-use Rattle.course.specs.laws.Held.{IsThere}
+use Rattle.course.specs.laws.{Doing, IsThere, Runs, call, doing}
 use Rattle.sweeper.proofs.laws.Always.{inv_of}
 use Rattle.sweeper.proofs.laws.Frame.{Happens, a_call, a_withdrawal, a_failure, a_restart, a_step, a_closing}
 use Rattle.sweeper.proofs.laws.FrameEvents.{Accepted, accepted}
@@ -40,7 +24,7 @@ use Rattle.sweeper.proofs.laws.HeldThere.{access_there}
 use Rattle.sweeper.proofs.laws.Invariant.{Own, StandsAt, Wires, next_time, wires}
 use Rattle.sweeper.proofs.laws.Notes.{Notes, notes}
 use Rattle.course.proofs.history_laws.CountedChanges.{history-none, history-takes, taken_at}
-use Rattle.judge.specs.record_file.Given.{is_access, is_entry, is_mark}
+use Rattle.judge.specs.record_file.{is_access, is_entry, is_mark}
 use Rattle.judge.proofs.record_file.FewMarks.{AreFew, closing_few, placed_few, step_few}
 use Rattle.engines.proofs.SoundDoings.{doing_sound, is_sound_doing}
 use Rattle.judge.proofs.record_file.SoundMarks.{TicketFits, closing_sound, placed_sound, step_sound}

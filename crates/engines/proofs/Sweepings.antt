@@ -3,14 +3,13 @@ use Rattle.std.proofs.Common.{◌≡◌, ℕ, ◌+◌, ◌<◌, ◌≤◌, List,
 use Rattle.std.proofs.lemmas.Grind.{flat_map-append}
 use Rattle.std.proofs.lemmas.List.{take_all, take_more}
 use Rattle.std.specs.declared.alloc.AllocError.{AllocError}
-use Rattle.plain_store.specs.declared.commands.Command.{Command}
-use Rattle.course.specs.«record».declared.events.Event.{Event}
-use Rattle.scenario.specs.Reading.{Script}
+use Rattle.plain_store.specs.{Command}
+use Rattle.course.specs.«record».{Event}
+use Rattle.scenario.specs.{Script}
 use Rattle.sweeper.proofs.Goods as goods
-use Rattle.sweeper.specs.Sweeps.{AreAllGood, IsSwept, all_good, cuts}
-use Rattle.sweeper.specs.declared.swept.Swept.{Swept}
-use Rattle.engines.specs.Sweepings.{accepted_calls, call_of, calls_in, run_swept}
-use Rattle.course.specs.RunRecords.{accepted_events}
+use Rattle.sweeper.specs.{AreAllGood, IsSwept, Swept, all_good, cuts}
+use Rattle.engines.specs.{accepted_calls, call_of, calls_in, run_swept}
+use Rattle.course.specs.{accepted_events}
 
 -- one event more
 pub calls_more : (events : List Event) (k : ℕ) (event : Event) → k < length events → event ≡ get_or events k event → calls_in (take (k + 1) events) ≡ calls_in (take k events) ++ call_of event

@@ -1,14 +1,12 @@
 -- What an audit of a scenario's run answers and writes.
 use Rattle.std.specs.Prelude.{◌≡◌, ℕ, List, length, Option, IfSome, Result, Ok}
 use Rattle.std.specs.Io.KnownBytes.{Appends}
-use Rattle.judge.specs.auditor.Verdicts.{IsVerdict}
-use Rattle.judge.specs.auditor.declared.verdicts.Verdict.{Verdict}
+use Rattle.judge.specs.auditor.{IsVerdict, Verdict}
 use Rattle.judge.specs.auditor.declared.verdicts.Verdict.TheVariants.{Good}
-use Rattle.judge.specs.Judgements.{status_of_verdict, verdict_line}
-use Rattle.scenario.specs.files.Engines.{text_by}
-use Rattle.scenario.specs.files.declared.faults.LineFault.{LineFault}
-use Rattle.scenario.specs.Reading.{Script, scenario_of}
-use Rattle.course.specs.RunRecords.{run_record}
+use Rattle.judge.specs.{status_of_verdict, verdict_line}
+use Rattle.scenario.specs.files.{LineFault, text_by}
+use Rattle.scenario.specs.{Script, scenario_of}
+use Rattle.course.specs.{run_record}
 
 -- how many entries the record of a scenario's run has
 abbrev pub run_length : Script → ℕ

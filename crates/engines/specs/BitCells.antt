@@ -2,7 +2,7 @@
 use Rattle.std.specs.Prelude.{ℕ, Bool, not, if◌then◌else◌, List, [], ◌∷◌, ◌++◌, codes}
 use Rattle.safe_bit.specs.Cell.{Cell, cell_after, without_read, read_answer}
 use Rattle.safe_bit.specs.declared.moves.Move.TheVariants as move
-use Rattle.scenario.specs.declared.bit_files.BitLine.{BitLine}
+use Rattle.scenario.specs.{BitLine}
 use Rattle.scenario.specs.declared.bit_files.BitLine.TheVariants.{Write, End, Settle, Read, Value, Drop}
 
 -- whether the bit may take the call now

@@ -1,14 +1,11 @@
 -- What `bits` prints for a file, by the safe rule alone.
 use Rattle.std.specs.Prelude.{ℕ, Bool, true, false, not, if◌then◌else◌, List, [], ◌∷◌, ◌++◌, codes, Result}
-use Rattle.safe_bit.specs.SafeRule.{is_write_open, read_value}
-use Rattle.safe_bit.specs.declared.moves.Move.{Move}
+use Rattle.safe_bit.specs.{Move, is_write_open, read_value}
 use Rattle.safe_bit.specs.declared.moves.Move.TheVariants.{BeginWrite, EndWrite, BeginRead, EndRead}
 use Rattle.safe_bit.specs.declared.moves.Move.TheVariants as move
-use Rattle.scenario.specs.BitFiles.{bits_of}
-use Rattle.scenario.specs.files.Engines.{text_by}
-use Rattle.scenario.specs.declared.bit_files.BitLine.{BitLine}
+use Rattle.scenario.specs.{BitLine, bits_of}
+use Rattle.scenario.specs.files.{LineFault, text_by}
 use Rattle.scenario.specs.declared.bit_files.BitLine.TheVariants.{Write, End, Settle, Read, Value, Drop}
-use Rattle.scenario.specs.files.declared.faults.LineFault.{LineFault}
 
 -- what was done on the bit: its moves, the newest first, and whether a read is open
 pub record BitRun : Type 0 where

@@ -1,11 +1,9 @@
 -- The accepted events of a run, and what an event adds to a record.
 use Rattle.std.specs.Prelude.{◌≡◌, List, [], ◌∷◌, reverse}
 use Rattle.std.specs.Global.{Vec}
-use Rattle.course.specs.«record».declared.events.Event.{Event}
-use Rattle.course.specs.«record».Entries.{Entry}
-use Rattle.course.specs.«record».Records.{past_of}
+use Rattle.course.specs.«record».{Entry, Event, past_of}
 use Rattle.course.specs.world.Shows.{Shows, WorldState}
-use Rattle.course.specs.declared.told.Told.{Told}
+use Rattle.course.specs.{Told}
 use Rattle.course.specs.declared.told.Told.TheVariants as told
 
 -- the event that is told, if one is

@@ -1,20 +1,12 @@
 -- What `plain` prints for a file.
 use Rattle.std.specs.Prelude.{ℕ, ◌+◌, ◌==◌, nat_lt, if◌then◌else◌, List, [], ◌∷◌, ◌++◌, codes, replicate, slice_set, Result}
 use Rattle.std.specs.Fmt.{decimal}
-use Rattle.plain_store.specs.Shown.{reply_text}
-use Rattle.plain_store.specs.Setups.{opening_store}
-use Rattle.plain_store.specs.Store.{Contents, reply_to, after, number_of}
-use Rattle.plain_store.specs.declared.commands.Caller.{Caller}
-use Rattle.plain_store.specs.declared.commands.Command.{Command}
-use Rattle.plain_store.specs.declared.setups.Setup.{Setup}
-use Rattle.course.specs.«record».Shown.{refusal_line}
+use Rattle.plain_store.specs.{Caller, Command, Contents, Setup, after, number_of, opening_store, reply_text, reply_to, show_text}
+use Rattle.course.specs.«record».{refusal_line}
 use Rattle.course.specs.«record».declared.refusals.Refusal.TheVariants.{NoProcess}
-use Rattle.scenario.specs.Reading.{Script, scenario_of}
-use Rattle.scenario.specs.files.declared.faults.LineFault.{LineFault}
-use Rattle.scenario.specs.declared.lines.Line.{Line}
+use Rattle.scenario.specs.{Line, Script, scenario_of}
+use Rattle.scenario.specs.files.{LineFault, text_by}
 use Rattle.scenario.specs.declared.lines.Line.TheVariants as line
-use Rattle.scenario.specs.files.Engines.{text_by}
-use Rattle.plain_store.specs.StoreLine.{show_text}
 
 -- The store, how many calls were applied, and how many of each process.
 pub record Run : Type 0 where

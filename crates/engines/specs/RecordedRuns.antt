@@ -1,14 +1,12 @@
 -- What `record` prints, `judge` reads as that setup and that record.
 use Rattle.std.specs.Prelude.{◌≡◌, ℕ, List, Option, IfSome, Ok}
 use Rattle.std.specs.Io.KnownBytes.{Appends}
-use Rattle.scenario.specs.Reading.{Script, scenario_of}
-use Rattle.scenario.specs.Scripts.{IsScenario}
-use Rattle.judge.specs.record_file.Printing.{record_text}
-use Rattle.judge.specs.record_file.RecordFiles.{record_of}
-use Rattle.plain_store.specs.declared.setups.Setup.{Setup}
-use Rattle.course.specs.«record».Entries.{Entry}
+use Rattle.scenario.specs.{IsScenario, Script, scenario_of}
+use Rattle.judge.specs.record_file.{record_of, record_text}
+use Rattle.plain_store.specs.{Setup}
+use Rattle.course.specs.«record».{Entry}
 use Rattle.engines.specs.Recordings.{recorded}
-use Rattle.course.specs.RunRecords.{run_record}
+use Rattle.course.specs.{run_record}
 
 -- The text of the record of a scenario's run is read as the scenario's setup and that record.
 abbrev pub RecordedRunsAreReadAgain : Type 0

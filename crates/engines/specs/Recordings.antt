@@ -3,23 +3,13 @@ use Rattle.std.specs.Prelude.{◌≡◌, ℕ, List, [], ◌∷◌, ◌++◌, fla
 use Rattle.std.proofs.Common.{ap, sym, ◌∙◌, append-nil, append_assoc}
 use Rattle.std.proofs.lemmas.Grind.{flat_map-append}
 use Rattle.std.proofs.lemmas.List.{reverse-append}
-use Rattle.plain_store.specs.declared.setups.Setup.{Setup}
-use Rattle.judge.specs.record_file.Printing.{entry_line, record_text, step_entry}
-use Rattle.scenario.specs.files.Engines.{text_by}
-use Rattle.scenario.specs.files.declared.faults.LineFault.{LineFault}
-use Rattle.scenario.specs.Reading.{Script, scenario_of}
-use Rattle.scenario.specs.declared.lines.Line.{Line}
-use Rattle.course.specs.Courses.{CourseState, Follows}
-use Rattle.course.specs.«record».declared.access.Access.{Access}
-use Rattle.course.specs.«record».Entries.{Entry, Past}
-use Rattle.course.specs.«record».Records.{entry_of}
-use Rattle.course.specs.Happenings.{Happening, Tries, Lacks, Tires, Looks, past_after}
-use Rattle.course.specs.Runs.{Run, run_after}
-use Rattle.course.specs.Telling.{entry_made}
-use Rattle.course.specs.Writing.{Writes, WritesPart}
-use Rattle.course.specs.declared.told.Told.{Told}
+use Rattle.plain_store.specs.{Setup}
+use Rattle.judge.specs.record_file.{entry_line, record_text, step_entry}
+use Rattle.scenario.specs.files.{LineFault, text_by}
+use Rattle.scenario.specs.{Line, Script, scenario_of}
+use Rattle.course.specs.{CourseState, Follows, Happening, Lacks, Looks, Run, Tires, Told, Tries, Writes, WritesPart, entry_made, past_after, run_after, run_record}
+use Rattle.course.specs.«record».{Access, Entry, Past, entry_of}
 use Rattle.course.specs.declared.told.Told.TheVariants as told
-use Rattle.course.specs.RunRecords.{run_record}
 
 -- the text of the record of a scenario's run: its setup, and a line for each entry
 abbrev pub recorded : Script → List ℕ

@@ -1,13 +1,8 @@
 -- What a replay writes and counts as its run goes on.
 use Rattle.std.specs.Prelude.{◌≡◌, ℕ, ◌+◌, ◌^◌, List, flat_map}
-use Rattle.course.specs.«record».declared.marks.Mark.{Mark}
-use Rattle.course.specs.Runs.{happenings}
-use Rattle.course.specs.Summaries.{CanCount, summary_of}
-use Rattle.course.specs.Telling.{told_text}
-use Rattle.course.specs.Texts.{mark_line}
-use Rattle.course.specs.declared.summaries.Summary.{Summary}
-use Rattle.course.specs.declared.told.Told.{Told}
-use Rattle.scenario.specs.Reading.{Script}
+use Rattle.course.specs.«record».{Mark}
+use Rattle.course.specs.{CanCount, Summary, Told, happenings, mark_line, summary_of, told_text}
+use Rattle.scenario.specs.{Script}
 
 -- the lines of the marks of an event with this number
 abbrev pub mark_lines : ℕ → ℕ → List Mark → List ℕ

@@ -4,7 +4,7 @@ use Rattle.std.specs.Global.{Vec}
 use Rattle.std.specs.Io.KnownBytes.{Appends}
 use Rattle.std.specs.String.{string_bytes}
 use Rattle.std.specs.declared.string.String.{String}
-use Rattle.scenario.specs.files.Streams.{WritesFront}
+use Rattle.scenario.specs.files.{WritesFront}
 
 module _ {W : Type 0} (taken : W → Option (List ℕ)) where
   -- all of it, if the call is done

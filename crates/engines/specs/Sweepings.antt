@@ -1,20 +1,16 @@
 -- What a sweep over a scenario's run answers and writes.
 use Rattle.std.specs.Prelude.{◌≡◌, ℕ, List, [], ◌∷◌, ◌++◌, codes, flat_map, reverse, Option, None, Some, IfSome, Result, Ok}
 use Rattle.std.specs.Io.KnownBytes.{Appends}
-use Rattle.plain_store.specs.declared.commands.Command.{Command}
-use Rattle.course.specs.«record».declared.events.Event.{Event}
+use Rattle.plain_store.specs.{Command}
+use Rattle.course.specs.«record».{Event}
 use Rattle.course.specs.«record».declared.events.Event.TheVariants.{Call, Step, Fail, Withdraw, Restart}
-use Rattle.judge.specs.auditor.declared.verdicts.Verdict.{Verdict}
+use Rattle.judge.specs.auditor.{Verdict}
 use Rattle.judge.specs.auditor.declared.verdicts.Verdict.TheVariants.{Good, Bad}
-use Rattle.sweeper.specs.declared.swept.BadRun.{BadRun}
-use Rattle.sweeper.specs.declared.swept.Swept.{Swept}
-use Rattle.sweeper.specs.Shown.{swept_text}
-use Rattle.sweeper.specs.Sweeps.{IsSwept, all_good, cuts}
-use Rattle.scenario.specs.files.Engines.{text_by}
-use Rattle.scenario.specs.files.declared.faults.LineFault.{LineFault}
-use Rattle.scenario.specs.Reading.{Script, scenario_of}
-use Rattle.judge.specs.Judgements.{status_of_verdict}
-use Rattle.course.specs.RunRecords.{accepted_events}
+use Rattle.sweeper.specs.{BadRun, IsSwept, Swept, all_good, cuts, swept_text}
+use Rattle.scenario.specs.files.{LineFault, text_by}
+use Rattle.scenario.specs.{Script, scenario_of}
+use Rattle.judge.specs.{status_of_verdict}
+use Rattle.course.specs.{accepted_events}
 
 -- the call that an event is, if it is one
 abbrev pub call_of : Event → List (ℕ × Command)

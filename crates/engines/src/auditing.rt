@@ -4,14 +4,10 @@ ghost use Rattle.std.specs.Prelude.{◌≡◌, ◌+◌, ◌-◌, ◌^◌, ◌<�
 ghost use Rattle.judge.specs.auditor.declared.verdicts.Verdict.TheVariants.{Good};
 ghost use Rattle.scenario.specs.files.Engines.{Ran, streams};
 ghost use Rattle.engines.specs.Sinks.{Wrote, WroteFront};
-ghost use Rattle.scenario.specs.files.Streams.{ReadsFront};
-ghost use Rattle.scenario.specs.Reads.{script};
+ghost use Rattle.scenario.specs.files.{ReadsFront};
+ghost use Rattle.scenario.specs.{script};
 ghost use Rattle.engines.specs.Audits.{InputTellsVerdict, IsRunVerdict, TellsVerdict, audit_text, audited, run_length};
-ghost use Rattle.course.specs.Courses.{Follows};
-ghost use Rattle.course.specs.Happenings.{past_after};
-ghost use Rattle.course.specs.Judging.{Audits};
-ghost use Rattle.course.specs.Replays.{ended};
-ghost use Rattle.course.specs.Runs.{happenings, run_at_start};
+ghost use Rattle.course.specs.{Audits, Follows, ended, happenings, past_after, run_at_start};
 ghost use Rattle.course.specs.Writing.{Counts, IsWriteFault, failed_write};
 
 use crate::writing::write_line;

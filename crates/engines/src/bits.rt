@@ -2,7 +2,7 @@
 ghost use Rattle.std.specs.Prelude.{◌≡◌, ◌^◌, ◌-◌, ◌<◌, true, IfOk, Ok};
 ghost use Rattle.std.specs.String.{string_bytes};
 ghost use Rattle.scenario.specs.files.Engines.{Ran, streams};
-ghost use Rattle.scenario.specs.files.Streams.{ReadsFront};
+ghost use Rattle.scenario.specs.files.{ReadsFront};
 ghost use Rattle.engines.specs.BitCells.{can_take, made, made_text, bit_after, bit_line_text};
 ghost use Rattle.engines.specs.Bits.{bits_printed, bits_text};
 

@@ -1,15 +1,13 @@
 //! The events of a run, and the record of events.
 ghost use Rattle.std.specs.Prelude.{◌≡◌, ◌++◌, [], ◌∷◌, ⊤, true, Ok, IfOk, OnOk, reverse};
-ghost use Rattle.plain_store.specs.Setups.{checked};
+ghost use Rattle.plain_store.specs.{checked};
 ghost use Rattle.course.specs.«record».declared.Refusal.TheVariants.{Memory};
-ghost use Rattle.course.specs.«record».Given.{AreGiven, is_event};
-ghost use Rattle.course.specs.«record».Headline.{KeepsHeadlineThroughout};
-ghost use Rattle.course.specs.«record».Records.{record_of as record_made};
-ghost use Rattle.judge.specs.record_file.ReadAgain.{FitLines};
-ghost use Rattle.scenario.specs.Reads.{script};
+ghost use Rattle.course.specs.«record».{AreGiven, KeepsHeadlineThroughout, is_event, record_of as record_made};
+ghost use Rattle.judge.specs.record_file.{FitLines};
+ghost use Rattle.scenario.specs.{script};
 ghost use Rattle.engines.specs.Listings.{RecordsEvent, event_told};
 ghost use Rattle.engines.specs.RecordedRuns.{IsReadAgain};
-ghost use Rattle.course.specs.RunRecords.{accepted_events, listed};
+ghost use Rattle.course.specs.{accepted_events, listed};
 
 use course::{Course, Entry, Event, Listener, Move, Record, Refusal, Stepped, Taken, Told, World};
 use plain_store::{NestedTypes, Setup};

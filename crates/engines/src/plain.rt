@@ -1,11 +1,9 @@
 //! The command `plain`: the calls of a file on one store, in order.
 ghost use Rattle.std.specs.Prelude.{◌≡◌, ◌^◌, ◌-◌, ◌<◌, ◌≤◌, length, IfOk, OnOk, Ok};
-ghost use Rattle.plain_store.specs.Setups.{checked};
-ghost use Rattle.plain_store.specs.Shown.{reply_text};
+ghost use Rattle.plain_store.specs.{checked, reply_text};
 ghost use Rattle.scenario.specs.files.Engines.{Ran, streams};
-ghost use Rattle.scenario.specs.Reads.{script};
-ghost use Rattle.scenario.specs.files.Streams.{ReadsFront};
-ghost use Rattle.scenario.specs.files.Texts.{GivesText};
+ghost use Rattle.scenario.specs.{script};
+ghost use Rattle.scenario.specs.files.{GivesText, ReadsFront};
 ghost use Rattle.engines.specs.Plain.{line_text, printed, run_after, run_at_start, plain_text, call_text, called, applied_text, applied, caller_of, counted, reply_line as line_of_reply};
 
 use course::{Refusal, refusal_line};

@@ -4,15 +4,12 @@ ghost use Rattle.std.specs.Prelude.{◌≡◌, ◌+◌, ◌-◌, ◌^◌, ◌<�
 ghost use Rattle.std.proofs.Common.{◌∙◌};
 ghost use Rattle.scenario.specs.files.Engines.{Ran, streams};
 ghost use Rattle.engines.specs.Sinks.{Wrote, WroteBytes, WroteBytesFront, WroteFront};
-ghost use Rattle.scenario.specs.files.Streams.{ReadsFront};
-ghost use Rattle.judge.specs.record_file.Printing.{entry_line};
-ghost use Rattle.judge.specs.record_file.ReadAgain.{RecordsAreReadAgain, RecordsFitLines};
-ghost use Rattle.scenario.specs.Reads.{script};
+ghost use Rattle.scenario.specs.files.{ReadsFront};
+ghost use Rattle.judge.specs.record_file.{RecordsAreReadAgain, RecordsFitLines, entry_line};
+ghost use Rattle.scenario.specs.{script};
 ghost use Rattle.engines.specs.RecordedRuns.{InputWritesRecord, RecordedRunsAreReadAgain};
 ghost use Rattle.engines.specs.Recordings.{CopiesLine, CutsCopy, entries_longer, entries_text, entry_told, recorded, recording_text, step_line};
-ghost use Rattle.course.specs.Takings.{Took, TookPart, part_before, part_on, part_unheard, took_none, took_on};
-ghost use Rattle.course.specs.Replays.{ended};
-ghost use Rattle.course.specs.Writing.{IsWriteFault, failed_write};
+ghost use Rattle.course.specs.{IsWriteFault, Took, TookPart, ended, failed_write, part_before, part_on, part_unheard, took_none, took_on};
 
 use course::{Course, Entry, Listener, Move, Stepped, Taken, Told};
 use judge::{StepLine, print_entry, print_setup};

@@ -2,18 +2,12 @@
 ghost use Rattle.std.specs.Prelude.{◌≡◌, ◌+◌, ◌-◌, ◌^◌, ◌<◌, IfErr, IfOk, OnErr, OnOk, false, refl, ⊤};
 ghost use Rattle.std.proofs.Common.{◌∙◌};
 ghost use Rattle.scenario.specs.files.Engines.{Ran, streams};
-ghost use Rattle.scenario.specs.Reads.{script};
+ghost use Rattle.scenario.specs.{script};
 ghost use Rattle.engines.specs.Replayings.{IsRunSummary, TakesRoomOfLine};
 ghost use Rattle.engines.specs.Sinks.{Wrote, WroteFront};
-ghost use Rattle.scenario.specs.files.Streams.{ReadsFront};
-ghost use Rattle.course.specs.Courses.{Follows};
-ghost use Rattle.course.specs.Runs.{run_at_start};
-ghost use Rattle.course.specs.Replays.{CutsLine, InputKeepsHeadline, IsSummaryOf, MakesLine, RunKeepsHeadline, ended};
-ghost use Rattle.course.specs.Growing.{text_longer};
-ghost use Rattle.course.specs.Summaries.{CanCount, can_count_less};
-ghost use Rattle.course.specs.Texts.{replay_text, replayed, text_of};
+ghost use Rattle.scenario.specs.files.{ReadsFront};
+ghost use Rattle.course.specs.{CanCount, CutsLine, Follows, InputKeepsHeadline, IsSummaryOf, MakesLine, RunKeepsHeadline, Took, TookPart, can_count_less, ended, part_before, part_on, part_unheard, replay_text, replayed, run_at_start, text_longer, text_of, took_none, took_on};
 ghost use Rattle.course.specs.Writing.{Counts, IsWriteFault, failed_write};
-ghost use Rattle.course.specs.Takings.{Took, TookPart, part_before, part_on, part_unheard, took_none, took_on};
 
 use crate::writing::{tell, write_end};
 use course::{Course, Listener, Move, Stepped, Summary, Taken, Told};

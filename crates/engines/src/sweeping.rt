@@ -3,11 +3,10 @@ ghost use Rattle.std.specs.Prelude.{◌≡◌, ◌+◌, ◌++◌, ◌-◌, ◌^�
 ghost use Rattle.std.specs.String.{string_bytes};
 ghost use Rattle.scenario.specs.files.Engines.{Ran, streams};
 ghost use Rattle.engines.specs.Sinks.{Wrote, WroteFront};
-ghost use Rattle.scenario.specs.files.Streams.{ReadsFront};
-ghost use Rattle.scenario.specs.Reads.{script};
-ghost use Rattle.course.specs.Replays.{ended};
+ghost use Rattle.scenario.specs.files.{ReadsFront};
+ghost use Rattle.scenario.specs.{script};
+ghost use Rattle.course.specs.{IsWriteFault, ended, failed_write};
 ghost use Rattle.engines.specs.Sweepings.{InputTellsSweep, IsRunSwept, TellsSweep, call_of, calls_in as calls_among, run_swept, status_of_swept, sweep_text, swept, swept_lines as lines_of_swept};
-ghost use Rattle.course.specs.Writing.{IsWriteFault, failed_write};
 
 use crate::listing::events_of;
 use crate::writing::write_line;

@@ -3,11 +3,8 @@ ghost use Rattle.std.specs.Prelude.{◌≡◌, ◌+◌, ◌-◌, ◌^◌, ◌<�
 ghost use Rattle.std.specs.String.{string_bytes};
 ghost use Rattle.engines.specs.Replayings.{mark_lines, numbers, text_next};
 ghost use Rattle.engines.specs.Sinks.{Wrote, WroteFront, WroteLine, WroteLineFront};
-ghost use Rattle.scenario.specs.files.Texts.{GivesText};
-ghost use Rattle.course.specs.Summaries.{counted};
-ghost use Rattle.course.specs.Telling.{told_text};
-ghost use Rattle.course.specs.Texts.{mark_line as line_of_mark, turns_line as line_of_turns, end_line as line_at_end};
-ghost use Rattle.course.specs.Writing.{IsWriteFault, failed_write};
+ghost use Rattle.scenario.specs.files.{GivesText};
+ghost use Rattle.course.specs.{IsWriteFault, counted, end_line as line_at_end, failed_write, mark_line as line_of_mark, told_text, turns_line as line_of_turns};
 
 use course::{Mark, Summary, Told, newest_line, refusal_line};
 use scenario::{Fault, Sink, write_all};

@@ -1,10 +1,9 @@
 -- The fault that a word has in the place of an operand: that of the grammars.
 use Rattle.std.specs.Prelude.{ℕ, if◌then◌else◌, List, Option, Some, None, Result, Ok, Err}
 use Rattle.std.specs.Int.{is_in_range}
-use Rattle.files.specs.declared.faults.FaultKind.{FaultKind}
+use Rattle.files.specs.{FaultKind}
 use Rattle.files.specs.declared.faults.FaultKind.TheVariants.{BadSetup}
-use Rattle.scenario.specs.BitFiles.{bit_at}
-use Rattle.scenario.specs.Operands.{number_at, integer_at, name_at, value_at}
+use Rattle.scenario.specs.{bit_at, integer_at, name_at, number_at, value_at}
 use Rattle.fault_place.specs.declared.operands.Operand.{Operand}
 use Rattle.fault_place.specs.declared.operands.Operand.TheVariants.{Number, Heading, Integer, Bit, Name, Value}
 

@@ -1,6 +1,6 @@
 //! The forms of lines: the key words and operands that a line has, by the key words that it begins with.
 ghost use Rattle.std.specs.Prelude.{◌≡◌, [], IfSome, Some, slice_get, slice_index_or};
-ghost use Rattle.files.specs.Words.{texts};
+ghost use Rattle.files.specs.{texts};
 ghost use Rattle.fault_place.specs.Operands.{fault_at};
 
 use crate::operands::{COUNT, Operand, PROCESS};

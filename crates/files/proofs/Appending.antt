@@ -4,9 +4,7 @@ use Rattle.std.proofs.lemmas.List.{take_all, length-append}
 use Rattle.std.specs.Io.{ReadsAtMost}
 use Rattle.std.specs.Io.KnownBytes.{Appends, Consumes, Keeps}
 use Rattle.std.specs.Result.{is_err, is_ok}
-use Rattle.files.specs.Cuts.{input_limit}
-use Rattle.files.specs.Streams.{ReadsFront, WritesFront}
-use Rattle.files.specs.declared.streams.Failed.{Failed}
+use Rattle.files.specs.{Failed, ReadsFront, WritesFront, input_limit}
 
 -- one piece and then the next
 pub appends_more : (a b c : Option (List ℕ)) (bytes : List ℕ) (at n : ℕ) → Appends a b (take at bytes) → Appends b c (take n (drop at bytes)) → Appends a c (take (at + n) bytes)

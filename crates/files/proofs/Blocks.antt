@@ -8,9 +8,7 @@ use Rattle.std.proofs.lemmas.List.Sums.{fails_before_first}
 use Rattle.std.specs.Io.{ReadsAtMost}
 use Rattle.std.specs.Io.KnownBytes.{Consumes, IsAtEnd, ReadConsumes, prepend_known}
 use Rattle.std.specs.List.{list_all, position, position_or_len}
-use Rattle.files.specs.declared.streams.Failed.{Failed}
-use Rattle.files.specs.Lines.{MovesAll, MovesEnded, ends_line, is_inner, without_return}
-use Rattle.files.specs.SourceLines.{ComesToEnd, Stays, coming}
+use Rattle.files.specs.{ComesToEnd, Failed, MovesAll, MovesEnded, Stays, coming, ends_line, is_inner, without_return}
 
 -- Of the bytes that wait.
 

@@ -1,9 +1,7 @@
 -- How a function ends by the error of a call.
 use Rattle.std.proofs.Common.{◌≡◌, ℕ, ◌+◌, ◌<◌, List, length, take, Option, None, Result, Ok, Err, IfErr, IfOk, IsErr, IsErrAnd, OnErr, sym, subst}
 use Rattle.std.specs.Io.KnownBytes.{Consumes, ReadConsumes}
-use Rattle.files.specs.Streams.{GivesByte, IsReadFault, failed_reading}
-use Rattle.files.specs.declared.faults.Fault.{Fault}
-use Rattle.files.specs.declared.streams.Failed.{Failed}
+use Rattle.files.specs.{Failed, Fault, GivesByte, IsReadFault, failed_reading}
 
 -- an error is no value
 pub no_value : {A E : Type 0} (r : Result A E) (e : E) (P : A → Type 0) → IsErrAnd r (λ x. x ≡ e) → IfOk r P

@@ -4,14 +4,8 @@ use Rattle.std.proofs.Common.{◌⊎◌, inl, inr, ap, sym, subst, ◌∙◌, ap
 use Rattle.std.proofs.lemmas.Bool.Decides.{nat_tests}
 use Rattle.std.proofs.lemmas.List.{length-drop, length-append, take_at}
 use Rattle.std.specs.Io.KnownBytes.{IsAtEnd}
-use Rattle.files.specs.Checks.{◌>>=◌}
-use Rattle.files.specs.Cuts.{input_limit, HaveSameFault, TellsAtLimit}
-use Rattle.files.specs.Files.{Grammar, at_line, line_read, words_read, lines_read, begun, file_of}
-use Rattle.files.specs.Streams.{ReadsInput}
-use Rattle.files.specs.Words.{lines, onto, begins_with, words_of}
-use Rattle.files.specs.declared.faults.FaultKind.{FaultKind}
+use Rattle.files.specs.{FaultKind, Grammar, HaveSameFault, LineFault, ReadsInput, TellsAtLimit, at_line, begins_with, begun, file_of, input_limit, line_read, lines, lines_read, onto, words_of, words_read, ◌>>=◌}
 use Rattle.files.specs.declared.faults.FaultKind.TheVariants.{TooLong}
-use Rattle.files.specs.declared.faults.LineFault.{LineFault}
 
 -- the first line of some bytes ends within k bytes, before byte m, and is the first line of the first m bytes too
 record Ends (k m : ℕ) (bs : List ℕ) : Type 0 where

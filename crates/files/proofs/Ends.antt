@@ -3,7 +3,7 @@ use Rattle.std.proofs.Common.{◌≡◌, ℕ, zero, suc, ◌-◌, ◌≤◌, ◌
 use Rattle.std.proofs.lemmas.Bool.Decides.{nat_tests}
 use Rattle.std.proofs.lemmas.List.{length-drop}
 use Rattle.bstr.specs.Text.{lines_of, lines_from, line_len, without_terminator, no_cr}
-use Rattle.files.specs.Words.{lines, onto}
+use Rattle.files.specs.{lines, onto}
 
 -- the bytes up to index k, if they are ended by a 0x0D
 abbrev cut_return : Bool → ℕ → List ℕ → List ℕ

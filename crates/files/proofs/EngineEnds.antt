@@ -3,15 +3,9 @@ use Rattle.std.proofs.Common.{◌≡◌, ℕ, ◌<◌, ◌≤◌, Bool, true, fa
 use Rattle.std.proofs.lemmas.Bool.Decides.{nat_tests}
 use Rattle.std.specs.Io.KnownBytes.{Appends, IsAtEnd, Keeps}
 use Rattle.files.proofs.CutTexts.{input_tells}
-use Rattle.files.specs.Cuts.{input_limit, TellsAtLimit}
-use Rattle.files.specs.Checks.{◌>>=◌}
-use Rattle.files.specs.Reads.{UnlessMemory}
-use Rattle.files.specs.Streams.{ReadsInput, WritesFront, failed_writing}
-use Rattle.files.specs.declared.faults.Fault.{Fault}
+use Rattle.files.specs.{Fault, FaultKind, LineFault, ReadsInput, TellsAtLimit, UnlessMemory, WritesFront, failed_writing, input_limit, ◌>>=◌}
 use Rattle.files.specs.declared.faults.Fault.TheVariants.{Line, Write}
-use Rattle.files.specs.declared.faults.FaultKind.{FaultKind}
 use Rattle.files.specs.declared.faults.FaultKind.TheVariants.{NotFirst, Unknown, Words, Number, BadName, BadValue, BadSetup, TooLong, Memory}
-use Rattle.files.specs.declared.faults.LineFault.{LineFault}
 use Rattle.files.specs.Engines.{Streams, Ran, text_by}
 
 -- what follows from a fact that is known unless memory ran out

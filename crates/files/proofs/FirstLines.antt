@@ -5,13 +5,9 @@ use Rattle.std.proofs.lemmas.Bool.Decides.{nat_tests}
 use Rattle.std.proofs.lemmas.List.Folds.{list_all-append}
 use Rattle.std.specs.Io.KnownBytes.{Consumes, IsAtEnd, prepend_known}
 use Rattle.std.specs.List.{list_all}
-use Rattle.files.specs.Words.{lines, onto, begins_with}
-use Rattle.files.specs.Lines.{IsTooLong, MovesAll, MovesEnded, TakesLine, is_inner, without_return}
-use Rattle.files.specs.Streams.{IsReadFault}
-use Rattle.files.specs.declared.faults.Fault.{Fault}
+use Rattle.files.specs.{ComesToEnd, Fault, FindsLine, Given, GoesOn, Held, IsReadFault, IsTooLong, LineState, MovesAll, MovesEnded, Stays, TakesLine, Told, begins_with, coming, is_inner, lines, onto, shown_line, unless_ended, without_return}
 use Rattle.files.specs.declared.faults.Fault.TheVariants.{Line, Read, Write, Memory}
 use Rattle.files.specs.declared.faults.FaultKind.TheVariants.{TooLong}
-use Rattle.files.specs.SourceLines.{ComesToEnd, FindsLine, Given, GoesOn, Held, LineState, Stays, Told, coming, shown_line, unless_ended}
 use Rattle.files.proofs.Blocks.{stays}
 
 -- the lines of a byte and those behind it, where it is no 0x0A

@@ -7,7 +7,7 @@ use Rattle.std.proofs.lemmas.List.Sums.{fails_before_first, prefix_len-le-length
 use Rattle.std.specs.Borrow.{Bor}
 use Rattle.std.specs.List.{after_first, before_first, position, position_or_len, slice_split}
 use Rattle.std.specs.Option.{unwrap_or}
-use Rattle.files.specs.Words.{is_blank, texts, words_of}
+use Rattle.files.specs.{is_blank, texts, words_of}
 
 -- the place of the first blank; where there is none, how many bytes there are
 pub place_or_all : (line : List ℕ) (place : Option ℕ) → place ≡ position is_blank line → unwrap_or place (length line) ≡ position_or_len is_blank line

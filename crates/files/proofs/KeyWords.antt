@@ -2,7 +2,7 @@
 use Rattle.std.proofs.Common.{refl, true, false, ℕ, Some, List, [], ◌∷◌, ◌≡◌, find, option_map, cond}
 use Rattle.std.specs.Map.{lookup}
 use Rattle.std.specs.Str.{bytes_eq}
-use Rattle.files.specs.KeyWords.{KeyWord, rows_of}
+use Rattle.files.specs.{KeyWord, rows_of}
 
 -- what the first row says that has the word
 pub by_row : {M : Type 0} (word : List ℕ) (table : List (KeyWord M)) → option_map (λ (row : KeyWord M). row.1) (find (λ (row : KeyWord M). bytes_eq word row.0.now) table) ≡ lookup (bytes_eq word) (rows_of table)

@@ -9,7 +9,7 @@ use Rattle.std.specs.List.{position, position_or_len, prefix_len}
 use lib.Count.{count_trailing_zeros}
 use lib.Lanes.{mask_l, top, zip2}
 use Rattle.memchr.specs.Find.{IsFirstByte, is_byte}
-use Rattle.files.specs.Lines.{ends_line}
+use Rattle.files.specs.{ends_line}
 
 no_true : (b : Bool) → ¬ (b ≡ true) → b ≡ false
 no_true true not = absurd (not refl)

@@ -1,8 +1,7 @@
 -- Checks that passed.
 use Rattle.std.proofs.Common.{◌≡◌, ℕ, ◌==◌, not, Bool, true, false, List, length, Result, Ok, Err, refl, arith}
 use Rattle.std.proofs.lemmas.Bool.Decides.{nat_tests}
-use Rattle.files.specs.Checks.{◌>>=◌, fault_if, counted}
-use Rattle.files.specs.declared.faults.FaultKind.{FaultKind}
+use Rattle.files.specs.{FaultKind, counted, fault_if, ◌>>=◌}
 use Rattle.files.specs.declared.faults.FaultKind.TheVariants.{Words}
 
 -- two checks that passed, one after the other

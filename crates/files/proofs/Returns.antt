@@ -3,7 +3,7 @@ use Rattle.std.proofs.Common.{◌≡◌, ℕ, zero, suc, ◌-◌, ◌==◌, Bool
 use Rattle.std.proofs.lemmas.Bool.Decides.{nat_tests}
 use Rattle.std.proofs.lemmas.List.{take_all}
 use Rattle.std.specs.List.{slice_get}
-use Rattle.files.specs.Lines.{without_return}
+use Rattle.files.specs.{without_return}
 
 -- a last byte 0x0D is dropped
 dropped_at : (n : ℕ) (xs : List ℕ) → length xs ≡ suc n → slice_get xs n ≡ Some 13 → take n xs ≡ without_return xs

@@ -3,11 +3,7 @@ use Rattle.std.proofs.Common.{◌≡◌, ℕ, ◌+◌, ◌≤◌, ◌||◌, not,
 use Rattle.std.proofs.lemmas.Bool.{and_from, and_parts}
 use Rattle.std.proofs.lemmas.Bool.Decides.{nat_tests}
 use Rattle.std.specs.List.{list_all}
-use Rattle.files.specs.Checks.{◌>>=◌}
-use Rattle.files.specs.Files.{Grammar, at_line, line_read, words_read, statement_read, lines_read, begun, file_of}
-use Rattle.files.specs.Limits.{is_said, said_words, is_short, IsWithinLimits}
-use Rattle.files.specs.Words.{lines, words_of, begins_with}
-use Rattle.files.specs.declared.faults.FaultKind.{FaultKind}
+use Rattle.files.specs.{FaultKind, Grammar, IsWithinLimits, at_line, begins_with, begun, file_of, is_said, is_short, line_read, lines, lines_read, said_words, statement_read, words_of, words_read, ◌>>=◌}
 use Rattle.files.specs.declared.faults.FaultKind.TheVariants.{NotFirst, TooLong}
 use Rattle.files.proofs.Passing.{Passed, passed}
 

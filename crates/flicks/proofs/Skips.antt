@@ -2,8 +2,7 @@
 use Rattle.std.proofs.Common.{◌≡◌, ℕ, zero, suc, Bool, refl, sym, ◌∙◌, ap}
 use Rattle.rand_pcg.specs.Lcg.{next_state, state_after}
 use Rattle.rand_pcg.specs.Pcg.{multiplier_64}
-use Rattle.flicks.specs.Flicks.{FlickState, after_flick, flicks_after}
-use Rattle.flicks.specs.declared.Mode.{Mode}
+use Rattle.flicks.specs.{FlickState, Mode, after_flick, flicks_after}
 use Rattle.flicks.specs.declared.Mode.TheVariants.{Constant, Generator}
 
 abbrev pub state : Mode → ℕ → ℕ → FlickState

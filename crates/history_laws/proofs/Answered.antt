@@ -3,26 +3,11 @@ use Rattle.std.proofs.Common.{◌≡◌, ◌≢◌, ℕ, zero, suc, ◌+◌, ◌
 use Rattle.std.specs.List.{list_any}
 use Rattle.std.proofs.lemmas.Bool.{or_right}
 use Rattle.std.proofs.lemmas.Option.{slice_get_within}
-use Rattle.plain_store.specs.declared.Answer.{Answer}
+use Rattle.plain_store.specs.{Answer, Command, Reply, Setup, checked, reply_to}
 use Rattle.plain_store.specs.declared.Answer.TheVariants as answer
-use Rattle.plain_store.specs.declared.Command.{Command}
-use Rattle.plain_store.specs.declared.Reply.{Reply}
-use Rattle.plain_store.specs.declared.Setup.{Setup}
-use Rattle.plain_store.specs.Setups.{checked}
-use Rattle.plain_store.specs.Store.{reply_to}
-use Rattle.record.specs.declared.events.Event.{Event}
-use Rattle.record.specs.declared.history.Taken.{Taken}
-use Rattle.record.specs.declared.marks.Mark.{Mark}
+use Rattle.record.specs.{AreGiven, Call, Entry, Event, IsAnswerTo, Mark, Past, StandsInHistory, Taken, TakenInHistory, all_takings, call_of, called_in, caller, ends_span, entries_of_call, entry_of, has, history, is_called, last_call, last_command, own, past_of, reply_taken, since, store_after, takings, takings_of_call}
 use Rattle.record.specs.declared.marks.Mark.TheVariants as mark
 use Rattle.record.specs.declared.marks.Mark.TheVariants.{Answered}
-use Rattle.record.specs.Calls.{called_in, last_call, last_command}
-use Rattle.record.specs.Entries.{Entry, Past, own, has, since, is_called}
-use Rattle.record.specs.Given.{AreGiven}
-use Rattle.record.specs.Headline.{IsAnswerTo, StandsInHistory, TakenInHistory, call_of}
-use Rattle.record.specs.Histories.{history, reply_taken, store_after}
-use Rattle.record.specs.Records.{entry_of, past_of}
-use Rattle.record.specs.Scripts.{Call, caller}
-use Rattle.record.specs.Spans.{ends_span, entries_of_call, takings, all_takings, takings_of_call}
 use Rattle.record.proofs.Singles.{get-append, get-left}
 use Rattle.record.proofs.Width.{IsGood, is_good}
 use Rattle.laws.proofs.AtPlaces.{own-induction}

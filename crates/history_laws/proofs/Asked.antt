@@ -2,14 +2,9 @@
 use Rattle.std.proofs.Common.{◌≡◌, ℕ, zero, suc, ◌+◌, ◌<◌, ◌==◌, ◌||◌, false, List, [], ◌∷◌, Some, fold, length, take, drop, replicate, slice_get, refl, sym, ap, subst, ◌∙◌, arith, ne_eqb, IsTrue}
 use Rattle.std.proofs.Math.Bool.{or-false}
 use Rattle.std.proofs.lemmas.List.{take-append-drop}
-use Rattle.plain_store.specs.declared.Command.{Command}
+use Rattle.plain_store.specs.{Command, Contents, callers_of, number_of, opening_store, reply_to}
 use Rattle.plain_store.specs.declared.Reply.TheVariants.{Last}
-use Rattle.plain_store.specs.Setups.{callers_of, opening_store}
-use Rattle.plain_store.specs.Store.{Contents, number_of, reply_to}
-use Rattle.record.specs.declared.history.Taken.{Taken}
-use Rattle.record.specs.Headline.{AskAnswersTheLatestChange, AskTellsOfCutCalls, TakenInHistory, has_change, latest_change}
-use Rattle.record.specs.Histories.{history, store_after}
-use Rattle.record.specs.Records.{past_of}
+use Rattle.record.specs.{AskAnswersTheLatestChange, AskTellsOfCutCalls, Taken, TakenInHistory, has_change, history, latest_change, past_of, store_after}
 use Rattle.record.proofs.Width.{is_good}
 use Rattle.history_laws.proofs.CountedChanges.{then}
 use Rattle.history_laws.proofs.HistoryItems.{each_has_its_reply, each_is_kept, numbers_ascend}

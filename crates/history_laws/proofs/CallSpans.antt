@@ -2,11 +2,8 @@
 use Rattle.std.proofs.Common.{◌≡◌, ◌≢◌, ℕ, ◌==◌, ◌||◌, Bool, true, false, List, [], ◌∷◌, ◌++◌, Option, Some, None, refl, sym, ap, ◌∙◌, eqb-true}
 use Rattle.std.proofs.lemmas.Bool.{eqb-false}
 use Rattle.std.specs.List.{list_any}
-use Rattle.plain_store.specs.declared.Setup.{Setup}
-use Rattle.record.specs.declared.events.Event.{Event}
-use Rattle.record.specs.Entries.{Entry, Past, own, has, since, is_called}
-use Rattle.record.specs.Records.{entry_of, past_of}
-use Rattle.record.specs.Spans.{until, entries_of_call}
+use Rattle.plain_store.specs.{Setup}
+use Rattle.record.specs.{Entry, Event, Past, entries_of_call, entry_of, has, is_called, own, past_of, since, until}
 use Rattle.laws.proofs.Frame.{own-other, own-own}
 use Rattle.history_laws.proofs.Told.{since-called, since-uncalled}
 

@@ -2,23 +2,13 @@
 use Rattle.std.proofs.Common.{◌≡◌, ℕ, ◌<◌, ◌&&◌, Bool, true, false, cond, not, List, [], ◌∷◌, ◌++◌, Option, Some, None, length, map, refl, sym, ap, subst, ◌∙◌, arith, append-nil}
 use Rattle.std.specs.Prelude.{if◌then◌else◌}
 use Rattle.record.specs.reader_copies.Runs as copies
-use Rattle.record.specs.declared.access.Access.{Access}
-use Rattle.record.specs.declared.access.Field.{Field}
-use Rattle.record.specs.safe_number.Runs.{NumberWrite, new_write}
+use Rattle.record.specs.{Access, Call, Clears, Entry, Field, Mark, Next, Over, Part, Past, WritesCommit, WritesImage, WritesStamp, is_commit, last_write, placed, unfinished, write_moved, written_at}
+use Rattle.record.specs.safe_number.{NumberWrite, new_write}
 use Rattle.plain_store.specs.declared.Answer.TheVariants as answer
-use Rattle.plain_store.specs.declared.Command.{Command}
-use Rattle.plain_store.specs.declared.Reply.{Reply}
-use Rattle.plain_store.specs.declared.Setup.{Setup}
-use Rattle.record.specs.declared.marks.Mark.{Mark}
+use Rattle.plain_store.specs.{Command, Reply, Setup}
 use Rattle.record.specs.declared.marks.Mark.TheVariants.{Taken, Left, Answered, Failed, Settled, Down}
 use Rattle.record.specs.Closings.{Closing, Withdraws, Settles, Frees, Lowers, Quit, Ended, no_ticket, is_last_written, is_last_settled, is_unwritten, settled_marks, freeing, failing, settling_from, closing_next, closing_after}
-use Rattle.record.specs.Entries.{Entry, Past}
-use Rattle.record.specs.Parts.{Part, WritesImage, WritesStamp, WritesCommit, Clears, Over, written_at}
-use Rattle.record.specs.Places.{write_moved}
-use Rattle.record.specs.Records.{placed}
-use Rattle.record.specs.Scripts.{Call, Next}
-use Rattle.record.specs.Unit.{is_commit, last_write, unfinished}
-use Rattle.laws.specs.Doings.{Doing, Rests, Runs, Closes, call, closes}
+use Rattle.laws.specs.{Doing, Rests, Runs, Closes, call, closes}
 use Rattle.laws.proofs.Doings.{Step, calls, withdraws, fails, restarts, steps, closes_on, IsCut, at_rest, between, within, leaving, clearing}
 use Rattle.history_laws.proofs.Took.{TookAt, TookBefore, TookIn, TookBy, Tells, Silent, unmarked, silent-tells, kept, few, part-few, is_done, may_answer_in, has_settled, may_answer}
 

@@ -1,15 +1,8 @@
 -- The versions count the changes of the history.
 use Rattle.std.proofs.Common.{◌≡◌, ℕ, suc, ◌+◌, Bool, true, false, cond, List, [], ◌∷◌, ◌++◌, Option, None, Some, fold, refl, sym, ap, ◌∙◌, arith}
 use Rattle.std.proofs.lemmas.List.Sums.{fold-append}
-use Rattle.plain_store.specs.declared.Reply.{Reply}
-use Rattle.plain_store.specs.declared.Setup.{Setup}
-use Rattle.plain_store.specs.Setups.{opening_store}
-use Rattle.plain_store.specs.Store.{Contents, after, changes}
-use Rattle.record.specs.declared.history.Taken.{Taken}
-use Rattle.record.specs.Calls.{last_call}
-use Rattle.record.specs.Entries.{Entry, Past, own}
-use Rattle.record.specs.Headline.{count_changes}
-use Rattle.record.specs.Histories.{history, reply_taken, store_after}
+use Rattle.plain_store.specs.{Contents, Reply, Setup, after, changes, opening_store}
+use Rattle.record.specs.{Entry, Past, Taken, count_changes, history, last_call, own, reply_taken, store_after}
 use Rattle.history_laws.proofs.Sounding.{after_is_same}
 use Rattle.history_laws.proofs.Versions.{Versions, committed, is_change, store_of, versions}
 

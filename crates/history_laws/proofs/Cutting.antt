@@ -3,33 +3,17 @@ use Rattle.std.proofs.Common.{◌≡◌, ℕ, ◌<◌, ◌==◌, ◌&&◌, ◌||
 use Rattle.std.proofs.lemmas.Bool.{cases_eq, false≢true}
 use Rattle.std.specs.Prelude.{is_none, option_map, slice_index_or, unwrap_or}
 use Rattle.record.specs.reader_copies.Runs as copies
-use Rattle.record.specs.declared.access.Access.{Access}
-use Rattle.record.specs.declared.access.Field.{Field}
+use Rattle.record.specs.{Access, AsksCommit, AsksImage, AsksStamp, Call, Change, Closing, Entry, Event, Field, Part, Past, Place, Reading, Run, Settles, Version, Withdraws, WritesCommit, WritesImage, WritesStamp, Writing, call_number, change_of, cut, cut_at, entry_of, failing, image_field, inside, is_fresh, is_read, last_command, named, own, past_of, process_of, reply, reply_taken, stage, stamp_field, start_in, version_of}
 use Rattle.record.specs.declared.access.Field.TheVariants.{Ticket, Commit}
-use Rattle.record.specs.safe_number.Runs.{torn_bit, torn_run, torn_with}
-use Rattle.plain_store.specs.declared.Command.{Command}
-use Rattle.plain_store.specs.declared.Setup.{Setup}
-use Rattle.plain_store.specs.Store.{Contents}
-use Rattle.record.specs.declared.events.Event.{Event}
+use Rattle.record.specs.safe_number.{torn_bit, torn_run, torn_with}
+use Rattle.plain_store.specs.{Command, Contents, Setup}
 use Rattle.record.specs.declared.marks.Mark.TheVariants.{Failed}
-use Rattle.record.specs.Calls.{call_number, last_command}
-use Rattle.record.specs.Closings.{Closing, Withdraws, Settles, failing}
-use Rattle.record.specs.Cuts.{Change, named, change_of}
-use Rattle.record.specs.Entries.{Entry, Past, own}
-use Rattle.record.specs.Failures.{cut, cut_at}
-use Rattle.record.specs.Histories.{reply_taken}
-use Rattle.record.specs.Parts.{Part, AsksCommit, AsksStamp, AsksImage, WritesImage, WritesStamp, WritesCommit, is_read}
-use Rattle.record.specs.Places.{Place, Run, Writing, Reading, is_fresh}
-use Rattle.record.specs.Program.{Version, version_of, stamp_field, image_field, reply}
-use Rattle.record.specs.Records.{entry_of, past_of, process_of, start_in}
-use Rattle.record.specs.Scripts.{Call}
-use Rattle.record.specs.Stages.{stage, inside}
 use Rattle.record.proofs.CutRecords.{running-cut}
 use Rattle.record.proofs.OpenSteps.{place_at}
 use Rattle.record.proofs.Turns.{and_false}
 use Rattle.record.proofs.Width.{IsGood}
 use Rattle.laws.proofs.Always.{inv_of}
-use Rattle.laws.specs.Doings.{Doing, Runs, Closes, call, doing, does_after, is_inside, is_inside_at}
+use Rattle.laws.specs.{Doing, Runs, Closes, call, doing, does_after, is_inside, is_inside_at}
 use Rattle.laws.proofs.Doings.{Step}
 use Rattle.laws.proofs.Frame.{Does, at_rest, lying, running, leaving, settling, may_fail, doing-goes, doing-other}
 use Rattle.laws.proofs.FrameCuts.{left, LeftRun, LeftIn}

@@ -1,6 +1,5 @@
 -- The headline's statements on data.
-use Rattle.record.specs.Headline.{ImagesAreRead, NewestIsTheHistorys, StampsFullAfterAllChanges, TakenInHistory, VersionReadsAreUnoverlapped, VersionsAreWholeOutside}
-use Rattle.record.specs.Records.{past_of}
+use Rattle.record.specs.{ImagesAreRead, NewestIsTheHistorys, StampsFullAfterAllChanges, TakenInHistory, VersionReadsAreUnoverlapped, VersionsAreWholeOutside, past_of}
 use Rattle.record.proofs.Width.{is_good}
 use Rattle.history_laws.proofs.DataAlways.{data_of}
 use Rattle.history_laws.proofs.Given.{given_before}

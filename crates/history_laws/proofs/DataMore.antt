@@ -1,16 +1,11 @@
 -- What the invariant of the data tells beside the headline: whose image is read, and that stamps count the changes.
 use Rattle.std.proofs.Common.{ℕ, ◌<◌, ◌≤◌, ◌^◌, ◌-◌, sym, ap, subst, ◌∙◌, arith}
-use Rattle.plain_store.specs.Setups.{callers_of}
-use Rattle.plain_store.specs.Store.{Contents}
-use Rattle.record.specs.Entries.{Past}
-use Rattle.record.specs.Headline.{ImagesAreOfTheStore}
-use Rattle.record.specs.Program.{newest_stamp}
-use Rattle.record.specs.Records.{past_of}
-use Rattle.record.specs.Registers.{bytes_of_bits, image_bytes}
+use Rattle.plain_store.specs.{Contents, callers_of}
+use Rattle.record.specs.{ImagesAreOfTheStore, Past, bytes_of_bits, image_bytes, newest_stamp, past_of}
 use Rattle.record.proofs.Width.{is_good}
-use Rattle.laws.specs.Doings.{doing}
+use Rattle.laws.specs.{doing}
 use Rattle.laws.proofs.Invariant.{wires}
-use Rattle.history_laws.specs.DataLaws.{ChangesFitTheStamps, NewestStampCountsTheChanges}
+use Rattle.history_laws.specs.{ChangesFitTheStamps, NewestStampCountsTheChanges}
 use Rattle.history_laws.proofs.Codec.{image_read}
 use Rattle.history_laws.proofs.CountedChanges.{count_is}
 use Rattle.history_laws.proofs.DataAlways.{data_of}
@@ -21,7 +16,7 @@ use Rattle.history_laws.proofs.NewestHeld.{all_held, idle_outside}
 use Rattle.history_laws.proofs.NewestVersion.{newest_stamp_is}
 use Rattle.history_laws.proofs.VersionReads.{nobody}
 use Rattle.history_laws.proofs.Versions.{versions, store_of}
-use Rattle.record.specs.store_image.Reading.{IsImageOf}
+use Rattle.record.specs.store_image.{IsImageOf}
 
 pub images_of_the_store : ImagesAreOfTheStore
 images_of_the_store s ok events event e given is a access image ends last =

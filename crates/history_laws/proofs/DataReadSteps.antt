@@ -1,17 +1,9 @@
 -- One access of any read of the critical section, and where the last read of an image is looked back to.
 use Rattle.std.proofs.Common.{◌≡◌, ℕ, ◌<◌, ◌&&◌, Bool, true, false, List, ◌∷◌, length, None, Some, refl, ap, ◌∙◌, eq-eqb}
 use Rattle.std.proofs.lemmas.Bool.{false≢true}
-use Rattle.plain_store.specs.declared.Command.{Command}
-use Rattle.plain_store.specs.declared.Setup.{Setup}
-use Rattle.record.specs.Entries.{Entry, Past}
-use Rattle.record.specs.Headline.{before_image_read, ends_read, is_image}
-use Rattle.record.specs.Moves.{valued}
-use Rattle.record.specs.Parts.{Part, AsksCommit, AsksStamp, AsksImage, read_at}
-use Rattle.record.specs.Places.{Reading, access_at, place_after}
-use Rattle.record.specs.Program.{image_field, newest_process, version_of}
-use Rattle.record.specs.Registers.{width}
-use Rattle.record.specs.Scripts.{Call}
-use Rattle.laws.specs.Doings.{call}
+use Rattle.plain_store.specs.{Command, Setup}
+use Rattle.record.specs.{AsksCommit, AsksImage, AsksStamp, Call, Entry, Part, Past, Reading, access_at, before_image_read, ends_read, image_field, is_image, newest_process, place_after, read_at, valued, version_of, width}
+use Rattle.laws.specs.{call}
 use Rattle.laws.proofs.Invariant.{Touches, Wires}
 use Rattle.laws.proofs.Reading.{ReadAccess}
 use Rattle.history_laws.proofs.DataReads.{KnewAt, KnowsPlace, Quiet, commit_reads, image_reads, stamp_reads}

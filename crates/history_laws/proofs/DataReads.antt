@@ -4,27 +4,16 @@ use Rattle.std.proofs.lemmas.Bool.{eqb-false}
 use Rattle.std.proofs.lemmas.List.{length-append, length_push}
 use Rattle.std.proofs.lemmas.List.FromFn.{get_or-range_with_len, length-range_with_len}
 use Rattle.std.proofs.Math.Seq.{get_or-append_seam}
-use Rattle.record.specs.declared.access.Field.{Field}
+use Rattle.record.specs.{AsksCommit, AsksImage, AsksStamp, Call, Clears, Field, Part, Past, Place, Reading, Version, WritesImage, before_image_read, count_changes, enter, history, image_bytes, image_field, max_of, newest_process, newest_stamp, place_after, processes, read_at, reply, stamp_field, store_after, store_read, to_e, to_g, version_of, width}
 use Rattle.record.specs.declared.access.Field.TheVariants.{Commit, Image0}
-use Rattle.record.specs.safe_number.Bytes.{number_of_bits}
+use Rattle.record.specs.safe_number.{number_of_bits}
 use Rattle.record.proofs.safe_number.Numbers.{length_bits}
 use Rattle.record.proofs.safe_number.Bits.{length-bits_of_number}
 use Rattle.plain_store.specs.declared.Answer.TheVariants as answer
-use Rattle.plain_store.specs.declared.Command.{Command}
-use Rattle.plain_store.specs.declared.Setup.{Setup}
-use Rattle.record.specs.store_image.Image.{image_of}
-use Rattle.plain_store.specs.Setups.{opening_store}
-use Rattle.plain_store.specs.Store.{Contents, changes}
-use Rattle.record.specs.Entries.{Past}
-use Rattle.record.specs.Headline.{before_image_read, count_changes}
-use Rattle.record.specs.Histories.{history, store_after}
-use Rattle.record.specs.Parts.{Part, AsksCommit, AsksStamp, AsksImage, WritesImage, Clears, read_at, to_e, to_g}
-use Rattle.record.specs.Places.{Place, Reading, enter, place_after}
-use Rattle.record.specs.Program.{Version, image_field, max_of, newest_process, newest_stamp, reply, stamp_field, store_read, version_of}
-use Rattle.record.specs.Registers.{image_bytes, processes, width}
-use Rattle.record.specs.Scripts.{Call}
+use Rattle.plain_store.specs.{Command, Contents, Setup, changes, opening_store}
+use Rattle.record.specs.store_image.{image_of}
 use Rattle.laws.proofs.Bits.{AreBitsOf, number_read}
-use Rattle.laws.specs.Doings.{call}
+use Rattle.laws.specs.{call}
 use Rattle.laws.proofs.Invariant.{Touches, Wires, touches, wires}
 use Rattle.laws.proofs.ReadEnds.{by_test}
 use Rattle.laws.proofs.Reading.{ReadAccess}

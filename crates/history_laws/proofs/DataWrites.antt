@@ -2,19 +2,12 @@
 use Rattle.std.specs.Prelude.{◌^◌}
 use Rattle.std.proofs.Common.{◌≡◌, ◌≢◌, ℕ, ◌+◌, ◌<◌, ◌≤◌, ◌==◌, Bool, true, false, cond, List, [], ◌∷◌, not, refl, sym, ap, subst, ◌∙◌, arith, inl, inr, true≢false}
 use Rattle.std.proofs.lemmas.Bool.{cases_eq, eq-eqb, ne_eqb}
-use Rattle.record.specs.declared.access.Field.{Field}
+use Rattle.record.specs.{Call, Clears, Field, Past, Place, Version, WritesCommit, WritesImage, WritesStamp, Writing, caller, enter, image_field, is_last, new_image, newest_stamp, place_after, reply, stamp_field, version_of, write_moved}
 use Rattle.record.specs.declared.access.Field.TheVariants.{Commit}
-use Rattle.record.specs.safe_number.Runs.{NumberWrite}
+use Rattle.record.specs.safe_number.{NumberWrite}
 use Rattle.plain_store.specs.declared.Answer.TheVariants as answer
-use Rattle.plain_store.specs.declared.Command.{Command}
-use Rattle.plain_store.specs.declared.Setup.{Setup}
-use Rattle.plain_store.specs.Store.{Contents, after}
-use Rattle.record.specs.Entries.{Past}
-use Rattle.record.specs.Parts.{WritesImage, WritesStamp, WritesCommit, Clears}
-use Rattle.record.specs.Places.{Place, Writing, is_last, enter, place_after, write_moved}
-use Rattle.record.specs.Program.{Version, image_field, stamp_field, new_image, newest_stamp, version_of, reply}
-use Rattle.record.specs.Scripts.{Call, caller}
-use Rattle.laws.specs.Doings.{Doing, Runs, call, runs}
+use Rattle.plain_store.specs.{Command, Contents, Setup, after}
+use Rattle.laws.specs.{Doing, Runs, call, runs}
 use Rattle.laws.proofs.FrameInside.{moved-unfresh}
 use Rattle.laws.proofs.Invariant.{Wires, Touches, Closed}
 use Rattle.laws.proofs.Writing.{Advanced}

@@ -2,24 +2,13 @@
 use Rattle.std.proofs.Common.{◌≡◌, ℕ, ◌+◌, ◌<◌, ◌==◌, Bool, true, false, cond, List, [], ◌∷◌, ◌++◌, Some, None, refl, sym, ap, subst, ◌∙◌, true≢false, append-nil}
 use Rattle.record.specs.reader_copies.Runs as copies
 use Rattle.record.specs.declared.access.Field.TheVariants.{Commit}
-use Rattle.record.specs.safe_number.Bytes.{number_of_bits}
-use Rattle.record.specs.safe_number.Runs.{new_write}
-use Rattle.plain_store.specs.declared.Command.{Command}
-use Rattle.plain_store.specs.declared.Setup.{Setup}
-use Rattle.plain_store.specs.Store.{Contents}
-use Rattle.record.specs.declared.events.Event.{Event}
+use Rattle.record.specs.safe_number.{new_write, number_of_bits}
+use Rattle.plain_store.specs.{Command, Contents, Setup}
+use Rattle.record.specs.{Asks, AsksCommit, AsksImage, AsksStamp, Call, Clears, Entry, Event, Over, Part, Past, Place, Raises, Refuses, TakesTicket, Version, Wait, Waits, WritesCommit, WritesImage, WritesStamp, before_image_read, bits_with, enter, entry_of, first_full, greatest, image_field, is_last, is_over, lets_by, max_of, new_run, others, part_after, past_of, place_after, process_of, processes, run_after, to_b, to_d, to_e, value_of, waits_of, write_moved}
 use Rattle.record.specs.Closings.{Closing, Withdraws, Settles, Frees, Lowers, Quit, Ended, is_last_written, is_last_settled, no_ticket, freeing, closing_after}
-use Rattle.record.specs.Entries.{Entry, Past}
-use Rattle.record.specs.Headline.{before_image_read}
-use Rattle.record.specs.Parts.{Part, Raises, Asks, TakesTicket, Refuses, Waits, AsksCommit, AsksStamp, AsksImage, WritesImage, WritesStamp, WritesCommit, Clears, Over, is_over, part_after, to_b, to_d, to_e}
 use Rattle.record.specs.Parts as part
-use Rattle.record.specs.Places.{Place, enter, new_run, is_last, bits_with, run_after, place_after, value_of, write_moved}
-use Rattle.record.specs.Program.{Version, Wait, first_full, greatest, image_field, lets_by, max_of, waits_of}
-use Rattle.record.specs.Records.{entry_of, past_of, process_of}
-use Rattle.record.specs.Registers.{others, processes}
-use Rattle.record.specs.Scripts.{Call}
 use Rattle.record.proofs.Width.{IsGood}
-use Rattle.laws.specs.Doings.{Doing, Rests, Runs, call, runs, closes, doing, is_inside_at}
+use Rattle.laws.specs.{Doing, Rests, Runs, call, runs, closes, doing, is_inside_at}
 use Rattle.laws.proofs.Doings.{IsCut, at_rest, between, within, leaving, clearing, Step, calls, withdraws, fails, restarts, steps, closes_on}
 use Rattle.laws.proofs.Invariant.{Wires, wires, Touches, touches}
 use Rattle.laws.proofs.FrameSteps.{step_of}

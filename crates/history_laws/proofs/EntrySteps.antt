@@ -1,19 +1,9 @@
 -- An accepted entry with an access: which call it is of, whose commit bits are being written then, and what it keeps of the data, where it takes a change or takes nothing.
 use Rattle.std.proofs.Common.{◌≡◌, ℕ, ◌<◌, Bool, true, cond, List, ◌∷◌, None, Some, refl, sym, ap, subst, ◌∙◌}
-use Rattle.record.specs.declared.access.Access.{Access}
-use Rattle.plain_store.specs.declared.Command.{Command}
-use Rattle.plain_store.specs.declared.Reply.{Reply}
-use Rattle.plain_store.specs.declared.Setup.{Setup}
-use Rattle.plain_store.specs.Store.{Contents, after, changes}
-use Rattle.record.specs.declared.events.Event.{Event}
-use Rattle.record.specs.Calls.{last_call}
-use Rattle.record.specs.Entries.{Entry, Past, own}
-use Rattle.record.specs.Histories.{reply_taken, store_after}
-use Rattle.record.specs.Records.{past_of}
-use Rattle.record.specs.Scripts.{Call, caller}
-use Rattle.record.specs.Stages.{stage}
+use Rattle.record.specs.{Access, Call, Entry, Event, Past, caller, last_call, own, past_of, reply_taken, stage, store_after}
+use Rattle.plain_store.specs.{Command, Contents, Reply, Setup, after, changes}
 use Rattle.record.proofs.Width.{IsGood}
-use Rattle.laws.specs.Doings.{Doing, Runs, Closes, call, doing}
+use Rattle.laws.specs.{Doing, Runs, Closes, call, doing}
 use Rattle.laws.proofs.Frame.{Does, at_rest, lying, running, leaving, settling, doing-other}
 use Rattle.laws.proofs.FrameCells.{EntryBy}
 use Rattle.laws.proofs.FrameEvents.{does_all}

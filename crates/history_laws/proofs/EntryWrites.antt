@@ -1,8 +1,7 @@
 -- An entry with an access writes one field of its process at most.
 use Rattle.std.proofs.Common.{◌≡◌, ℕ, ◌∷◌, Some}
-use Rattle.record.specs.declared.access.Access.{Access}
-use Rattle.plain_store.specs.declared.Setup.{Setup}
-use Rattle.record.specs.Entries.{Entry, Past}
+use Rattle.record.specs.{Access, Entry, Past}
+use Rattle.plain_store.specs.{Setup}
 use Rattle.laws.proofs.FrameCells.{EntryBy}
 use Rattle.laws.proofs.FrameWires.{wires-fields, wires-others}
 use Rattle.laws.proofs.Invariant.{wires}

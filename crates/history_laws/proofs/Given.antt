@@ -4,28 +4,17 @@ use Rattle.std.proofs.lemmas.Bool.{and_parts, eqb-false}
 use Rattle.std.proofs.lemmas.Bool.Decides.{nat_tests}
 use Rattle.std.specs.Prelude.{nat_lt, nat_le}
 use Rattle.std.specs.List.{list_all, list_any}
-use Rattle.plain_store.specs.Commands.{is_command}
-use Rattle.plain_store.specs.declared.Setup.{Setup}
-use Rattle.record.specs.declared.events.Event.{Event}
+use Rattle.plain_store.specs.{Setup, is_command}
+use Rattle.record.specs.{AreGiven, Call, Entry, Event, Mark, Next, Past, Refusal, added, bits_with, call_number, calls_full, calls_in, entry_made, entry_of, has, history, is_event, is_fresh, is_last, last_command, marks_of, nth, own, past_of, process_of, program, refused_at, since, stage, starts, stepped, value_of}
 use Rattle.record.specs.declared.events.Event.TheVariants as event
-use Rattle.record.specs.declared.marks.Mark.{Mark}
 use Rattle.record.specs.declared.marks.Mark.TheVariants.{Called, Failed, Withdrew, Restarted}
-use Rattle.record.specs.declared.refusals.Refusal.{Refusal}
 use Rattle.record.specs.declared.refusals.Refusal.TheVariants.{NoProcess, CallsFull}
-use Rattle.record.specs.Calls.{calls_in, call_number, last_command}
-use Rattle.record.specs.Entries.{Entry, Past, own, has, since, starts}
-use Rattle.record.specs.Given.{AreGiven, is_event}
-use Rattle.record.specs.Histories.{history}
-use Rattle.record.specs.Places.{bits_with, is_fresh, is_last, marks_of, value_of}
-use Rattle.record.specs.Records.{added, calls_full, entry_made, entry_of, past_of, process_of, program, refused_at, stepped}
-use Rattle.record.specs.Scripts.{Call, Next, nth}
-use Rattle.record.specs.Stages.{stage}
 use Rattle.record.proofs.Local.{calls-plain, command-plain, option_map-some}
 use Rattle.record.proofs.OpenSteps.{closing-plain}
 use Rattle.record.proofs.Staging.{no_start-marks, no_start-placed}
 use Rattle.record.proofs.Width.{IsGood}
 use Rattle.record.proofs.World.{entry-accepted}
-use Rattle.laws.specs.Doings.{Doing, call, doing}
+use Rattle.laws.specs.{Doing, call, doing}
 use Rattle.laws.proofs.Frame.{Does, at_rest, lying, running, leaving, settling, Happens, a_call, a_withdrawal, a_failure, a_restart, a_step, a_closing, own-other, own-own}
 use Rattle.laws.proofs.FrameEvents.{accepted, does_all}
 use Rattle.history_laws.proofs.Sound.{IsGivenTo}

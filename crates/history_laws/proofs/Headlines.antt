@@ -1,12 +1,8 @@
 -- One history, and the headline, put together.
 use Rattle.std.proofs.Common.{◌≡◌, List, [], ◌∷◌, ◌++◌, Option, None, Some, Ok, refl, ap, subst}
-use Rattle.plain_store.specs.declared.Setup.{Setup}
-use Rattle.plain_store.specs.Setups.{checked}
-use Rattle.record.specs.declared.events.Event.{Event}
-use Rattle.record.specs.Entries.{Entry, Past}
-use Rattle.record.specs.Given.{AreGiven}
+use Rattle.plain_store.specs.{Setup, checked}
+use Rattle.record.specs.{AreGiven, Entry, Event, Past, entry_of, past_of}
 use Rattle.record.specs.Headline.{AnsweredCallsTakeNoMore, AnswersAreTaken, AnswersStandInHistory, AsksTheLatestChange, CallsTakeOnce, CallsTakeWhatTheyAnswer, CutCallsAreNotAnswered, Headline, IsAlone, KeepsHeadline, KeepsHeadlineThroughout, KeepsOrder, MutualExclusion, NoOvertaking, OneHistory, PlacesKeepOrder, TakenOnce, TellsOfCutCalls}
-use Rattle.record.specs.Records.{entry_of, past_of}
 use Rattle.record.proofs.Width.{is_good}
 use Rattle.laws.proofs.Always.{inv_of}
 use Rattle.laws.proofs.Theorems as lock

@@ -1,24 +1,12 @@
 -- What the history's commands are: each has the one-thread store's reply at its place, and the numbers of a process's commands ascend.
 use Rattle.std.proofs.Common.{◌≡◌, ◌≢◌, ◌⊎◌, ℕ, zero, suc, ◌<◌, ◌≤◌, ◌==◌, Bool, true, false, cond, List, [], ◌∷◌, ◌++◌, Option, Some, None, length, take, slice_get, refl, sym, ap, subst, ◌∙◌, arith, inl, inr, eqb-true, Ok, Contains}
 use Rattle.std.proofs.lemmas.List.{length-replicate}
-use Rattle.plain_store.specs.declared.Reply.{Reply}
-use Rattle.plain_store.specs.declared.Setup.{Setup}
-use Rattle.plain_store.specs.Setups.{callers_of, checked, opening_store}
-use Rattle.plain_store.specs.Store.{reply_to}
-use Rattle.record.specs.declared.events.Event.{Event}
-use Rattle.record.specs.declared.history.Taken.{Taken}
-use Rattle.record.specs.declared.marks.Mark.{Mark}
+use Rattle.plain_store.specs.{Reply, Setup, callers_of, checked, opening_store, reply_to}
+use Rattle.record.specs.{AreGiven, Entry, Event, Mark, Past, Taken, TakenInHistory, all_takings, call_number, calls_in, entry_of, has, history, is_called, own, past_of, reply_taken, since, store_after, takings}
 use Rattle.record.specs.declared.marks.Mark.TheVariants as mark
-use Rattle.record.specs.Calls.{calls_in, call_number}
-use Rattle.record.specs.Entries.{Entry, Past, own, has, since, is_called}
-use Rattle.record.specs.Given.{AreGiven}
-use Rattle.record.specs.Headline.{TakenInHistory}
-use Rattle.record.specs.Histories.{history, reply_taken, store_after}
-use Rattle.record.specs.Records.{entry_of, past_of}
-use Rattle.record.specs.Spans.{takings, all_takings}
 use Rattle.record.proofs.Width.{IsGood}
 use Rattle.laws.proofs.AtPlaces.{own-induction}
-use Rattle.laws.specs.Doings.{doing}
+use Rattle.laws.specs.{doing}
 use Rattle.laws.proofs.Frame.{own-other, own-own}
 use Rattle.laws.proofs.FrameEvents.{accepted}
 use Rattle.history_laws.proofs.CountedChanges.{history-none, history-takes, taken_at}

@@ -1,32 +1,16 @@
 -- Who has read the newest image has read that of the store after the history.
 use Rattle.std.proofs.Common.{◌≡◌, ℕ, ◌+◌, ◌<◌, ◌==◌, Bool, true, false, cond, List, [], ◌∷◌, ◌++◌, length, Some, refl, sym, ap, subst, ◌∙◌, eq-eqb}
 use Rattle.std.proofs.lemmas.Bool.{false≢true}
-use Rattle.record.specs.declared.access.Access.{Access}
-use Rattle.record.specs.declared.access.Field.{Field}
+use Rattle.record.specs.{Access, AsksCommit, AsksImage, AsksStamp, Call, Entry, Event, Field, Numbers, Part, Past, ReadSoFar, Reading, Version, Waits, access_at, bytes_of_bits, ends_read, entry_of, image_bytes, image_field, is_called, is_image, is_version, last_read, newest_process, own, past_of, read_at, read_so_far, since, stamp_field, value_of, valued, version_of, width, with_access}
 use Rattle.record.specs.declared.access.Field.TheVariants.{Image0, Image1}
-use Rattle.plain_store.specs.declared.Command.{Command}
-use Rattle.plain_store.specs.declared.Setup.{Setup}
-use Rattle.record.specs.store_image.Reading.{IsImageOf}
-use Rattle.plain_store.specs.Setups.{callers_of}
-use Rattle.plain_store.specs.Store.{Contents}
-use Rattle.record.specs.declared.events.Event.{Event}
-use Rattle.record.specs.Calls.{ReadSoFar, read_so_far, with_access}
-use Rattle.record.specs.Entries.{Entry, Past, is_called, own, since}
-use Rattle.record.specs.Headline.{ends_read, is_image, is_version}
-use Rattle.record.specs.Moves.{valued}
-use Rattle.record.specs.Parts.{Part, Waits, AsksCommit, AsksStamp, AsksImage, read_at}
-use Rattle.record.specs.Places.{Reading, access_at, value_of}
-use Rattle.record.specs.Program.{Version, image_field, newest_process, stamp_field, version_of}
-use Rattle.record.specs.Records.{entry_of, past_of}
-use Rattle.record.specs.Registers.{bytes_of_bits, image_bytes, width}
-use Rattle.record.specs.Scripts.{Call, Numbers}
-use Rattle.record.specs.Unit.{last_read}
+use Rattle.plain_store.specs.{Command, Contents, Setup, callers_of}
+use Rattle.record.specs.store_image.{IsImageOf}
 use Rattle.record.proofs.Local.{since_called-plain}
 use Rattle.record.proofs.Width.{IsGood}
 use Rattle.laws.proofs.Alone.{version-at}
 use Rattle.laws.proofs.Always.{inv_of}
 use Rattle.laws.proofs.AtPlaces.{AtPlace, Stepping, plain-stepping}
-use Rattle.laws.specs.Doings.{Runs, call, doing, is_inside, is_inside_at}
+use Rattle.laws.specs.{Runs, call, doing, is_inside, is_inside_at}
 use Rattle.laws.proofs.Frame.{own-own}
 use Rattle.laws.proofs.FrameEvents.{accepted}
 use Rattle.laws.proofs.FrameWires.{answer-untouched}

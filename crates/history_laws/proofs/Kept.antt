@@ -1,26 +1,13 @@
 -- The invariant of the data. Committed registers are whole at what the history says; what the one that is inside has read is what is there, and what it writes is not committed.
 use Rattle.std.specs.Prelude.{◌≡◌, ◌⊎◌, ℕ, ◌+◌, ◌^◌, ◌<◌, ◌≤◌, Bool, true, false, not, List, [], ◌∷◌, ◌++◌, length, Option, None, Some}
 use Rattle.record.specs.reader_copies.Runs as copies
-use Rattle.record.specs.declared.access.Field.{Field}
+use Rattle.record.specs.{AsksCommit, AsksImage, AsksStamp, Call, Clears, Closing, Field, Part, Past, Reading, Run, Settles, Version, WritesCommit, WritesImage, WritesStamp, Writing, before_image_read, count_changes, history, image_field, is_fresh, is_version, max_of, new_image, processes, reply, stamp_field, store_after, width}
 use Rattle.record.specs.declared.access.Field.TheVariants.{Commit, Image0}
-use Rattle.record.specs.safe_number.Bytes.{bits_in, bits_of_number}
-use Rattle.plain_store.specs.declared.Answer.{Answer}
+use Rattle.record.specs.safe_number.{bits_in, bits_of_number}
+use Rattle.plain_store.specs.{Answer, Contents, Reply, Setup, changes, opening_store}
 use Rattle.plain_store.specs.declared.Answer.TheVariants as answer
-use Rattle.plain_store.specs.declared.Reply.{Reply}
-use Rattle.plain_store.specs.declared.Setup.{Setup}
-use Rattle.record.specs.store_image.Image.{image_of}
-use Rattle.plain_store.specs.Setups.{opening_store}
-use Rattle.plain_store.specs.Store.{Contents, changes}
-use Rattle.record.specs.Closings.{Closing, Settles}
-use Rattle.record.specs.Entries.{Past}
-use Rattle.record.specs.Headline.{is_version, before_image_read, count_changes}
-use Rattle.record.specs.Histories.{history, store_after}
-use Rattle.record.specs.Parts.{Part, AsksCommit, AsksStamp, AsksImage, WritesImage, WritesStamp, WritesCommit, Clears}
-use Rattle.record.specs.Places.{Run, Writing, Reading, is_fresh}
-use Rattle.record.specs.Program.{Version, max_of, stamp_field, image_field, new_image, reply}
-use Rattle.record.specs.Registers.{processes, width}
-use Rattle.record.specs.Scripts.{Call}
-use Rattle.laws.specs.Doings.{Doing, Runs, Closes, call, doing}
+use Rattle.record.specs.store_image.{image_of}
+use Rattle.laws.specs.{Doing, Runs, Closes, call, doing}
 use Rattle.laws.proofs.Invariant.{Wire, Wires, Touches, Closed, wires, touches, bit}
 use Rattle.history_laws.proofs.Sound.{IsStoreOf, IsGivenTo}
 use Rattle.history_laws.proofs.Versions.{Versions, versions, versions_of, store_of}

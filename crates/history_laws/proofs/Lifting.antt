@@ -2,23 +2,11 @@
 use Rattle.std.proofs.Common.{◌≡◌, ◌≢◌, ◌⊎◌, ℕ, ◌+◌, ◌<◌, ◌==◌, ◌&&◌, Bool, true, false, not, [], ◌∷◌, Option, Some, None, refl, sym, ap, subst, ◌∙◌, true≢false, inl, inr}
 use Rattle.std.proofs.lemmas.Bool.{cases_eq, ne_eqb}
 use Rattle.record.specs.reader_copies.Runs as copies
-use Rattle.record.specs.declared.access.Field.{Field}
+use Rattle.record.specs.{AsksCommit, AsksImage, AsksStamp, Call, Clears, Closing, Entry, Field, Part, Past, Run, Settles, WritesCommit, WritesImage, WritesStamp, before_image_read, count_changes, ends_read, history, image_field, is_fresh, is_image, is_version, max_of, new_image, stamp_field, store_after}
 use Rattle.record.specs.declared.access.Field.TheVariants.{Choosing, Ticket, Commit, Stamp0, Stamp1, Image0, Image1}
-use Rattle.plain_store.specs.declared.Answer.{Answer}
+use Rattle.plain_store.specs.{Answer, Contents, Reply, Setup, changes, opening_store}
 use Rattle.plain_store.specs.declared.Answer.TheVariants as answer
-use Rattle.plain_store.specs.declared.Reply.{Reply}
-use Rattle.plain_store.specs.declared.Setup.{Setup}
-use Rattle.plain_store.specs.Setups.{opening_store}
-use Rattle.plain_store.specs.Store.{Contents, changes}
-use Rattle.record.specs.Closings.{Closing, Settles}
-use Rattle.record.specs.Entries.{Entry, Past}
-use Rattle.record.specs.Headline.{is_version, is_image, ends_read, before_image_read, count_changes}
-use Rattle.record.specs.Histories.{history, store_after}
-use Rattle.record.specs.Parts.{Part, AsksCommit, AsksStamp, AsksImage, WritesImage, WritesStamp, WritesCommit, Clears}
-use Rattle.record.specs.Places.{Run, is_fresh}
-use Rattle.record.specs.Program.{stamp_field, image_field, new_image, max_of}
-use Rattle.record.specs.Scripts.{Call}
-use Rattle.laws.specs.Doings.{Doing, Rests, Lies, Runs, Closes, call, doing, is_inside, is_inside_at}
+use Rattle.laws.specs.{Doing, Rests, Lies, Runs, Closes, call, doing, is_inside, is_inside_at}
 use Rattle.laws.proofs.Invariant.{Wire, Wires, wires, Touches, touches, Closed, Inv}
 use Rattle.laws.proofs.Frame.{doing-other}
 use Rattle.laws.proofs.Theorems.{together}

@@ -3,23 +3,15 @@ use Rattle.std.proofs.Common.{◌≡◌, ℕ, zero, suc, ◌+◌, ◌^◌, ◌<�
 use Rattle.std.specs.List.{range_with_len}
 use Rattle.std.proofs.lemmas.List.{ext_get_or}
 use Rattle.std.proofs.lemmas.List.FromFn.{get_or-map-range_with_len, length-map-range_with_len}
-use Rattle.record.specs.declared.access.Field.{Field}
+use Rattle.record.specs.{Event, Field, Past, Version, bits_held, bytes_of_bits, cell_after, copy, image_bytes, image_field, inside, is_somebody_inside, newest_bytes, newest_process, past_of, processes, stamp_field, version_held, version_of, versions_held, width}
 use Rattle.record.specs.declared.access.Field.TheVariants.{Commit}
-use Rattle.record.specs.safe_number.Bytes.{number_of_bits}
+use Rattle.record.specs.safe_number.{number_of_bits}
 use Rattle.record.proofs.safe_number.Bits.{number-bits, length-bits_of_number}
-use Rattle.plain_store.specs.declared.Setup.{Setup}
-use Rattle.record.specs.store_image.Image.{image_of}
-use Rattle.plain_store.specs.Store.{Contents}
-use Rattle.record.specs.declared.events.Event.{Event}
-use Rattle.record.specs.Entries.{Past}
-use Rattle.record.specs.Newest.{bits_held, cell_after, copy, is_somebody_inside, newest_bytes, version_held, versions_held}
-use Rattle.record.specs.Program.{Version, image_field, newest_process, stamp_field, version_of}
-use Rattle.record.specs.Records.{past_of}
-use Rattle.record.specs.Registers.{bytes_of_bits, image_bytes, processes, width}
-use Rattle.record.specs.Stages.{inside}
+use Rattle.plain_store.specs.{Contents, Setup}
+use Rattle.record.specs.store_image.{image_of}
 use Rattle.record.proofs.Width.{IsGood}
 use Rattle.laws.proofs.Alone.{closes_inside}
-use Rattle.laws.specs.Doings.{Doing, doing}
+use Rattle.laws.specs.{Doing, doing}
 use Rattle.laws.proofs.FrameInside.{inside-is}
 use Rattle.laws.proofs.Invariant.{wires}
 use Rattle.history_laws.proofs.CleanReads.{commit_whole}

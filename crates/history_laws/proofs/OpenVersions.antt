@@ -1,36 +1,21 @@
 -- Where a write of a version's bit is open, the bit's owner or its memory unit is making it, inside.
 use Rattle.std.proofs.Common.{◌≡◌, ℕ, ◌==◌, ◌&&◌, ◌%◌, Bool, true, false, List, [], ◌∷◌, Some, refl, sym, ap, subst, ◌∙◌, true≢false}
 use Rattle.std.proofs.lemmas.Bool.{and_parts, false≢true}
-use Rattle.record.specs.declared.access.Access.{Access}
-use Rattle.record.specs.declared.access.Field.{Field}
+use Rattle.record.specs.{Access, Call, Event, Field, Part, Past, Place, Reading, Run, Stage, Writing, access_of, bit_written, call_number, field_number, is_fresh, is_running, is_version, last_command, next_written, open_closing, open_copy, open_run, open_settled, open_written, own, past_of, same_bit, stage, written_at}
 use Rattle.record.specs.declared.access.Field.TheVariants.{Choosing, Ticket}
-use Rattle.record.specs.Accesses.{access_of}
-use Rattle.record.specs.safe_number.Runs.{NumberWrite}
+use Rattle.record.specs.safe_number.{NumberWrite}
 use Rattle.record.specs.reader_copies.Runs as copies
-use Rattle.plain_store.specs.declared.Command.{Command}
-use Rattle.plain_store.specs.declared.Setup.{Setup}
-use Rattle.record.specs.declared.events.Event.{Event}
+use Rattle.plain_store.specs.{Command, Setup}
 use Rattle.record.specs.declared.marks.Mark.TheVariants.{Called, Failed, Withdrew}
-use Rattle.record.specs.declared.stages.Stage.{Stage}
 use Rattle.record.specs.declared.stages.Stage.TheVariants as stages
-use Rattle.record.specs.Calls.{call_number, last_command}
 use Rattle.record.specs.Closings.{Closing, Withdraws, Settles, Frees, Lowers, Quit, Ended, no_ticket}
-use Rattle.record.specs.Entries.{Past, own}
-use Rattle.record.specs.Headline.{is_version}
-use Rattle.record.specs.Moves.{field_number, same_bit}
-use Rattle.record.specs.Parts.{Part, written_at}
-use Rattle.record.specs.Places.{Place, Run, Writing, Reading, bit_written, is_fresh, is_running, next_written}
-use Rattle.record.specs.Records.{past_of}
-use Rattle.record.specs.Scripts.{Call}
-use Rattle.record.specs.Stages.{stage}
-use Rattle.record.specs.Turns.{open_closing, open_copy, open_run, open_settled, open_written}
 use Rattle.record.proofs.Opens.{opened}
 use Rattle.record.proofs.OpenSteps.{Opens, closed, runs_at, leaves, settles, place_at, leaving_at, failing_at}
 use Rattle.record.proofs.TurnRecords.{opens_all}
 use Rattle.record.proofs.Width.{IsGood}
 use Rattle.record.proofs.Writer.{each_own, open-own}
 use Rattle.laws.proofs.Alone.{ClosesInside, SettlesInside, closes_inside, version-written}
-use Rattle.laws.specs.Doings.{Doing, Rests, Lies, Runs, Closes, call, doing, is_inside, is_inside_at}
+use Rattle.laws.specs.{Doing, Rests, Lies, Runs, Closes, call, doing, is_inside, is_inside_at}
 use Rattle.laws.proofs.Frame.{Does, at_rest, lying, running, leaving, settling}
 use Rattle.laws.proofs.FrameCells.{field-same, on-copy}
 use Rattle.laws.proofs.FrameEvents.{does_all}

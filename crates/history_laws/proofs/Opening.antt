@@ -5,17 +5,15 @@ use Rattle.std.proofs.lemmas.List.{length-replicate}
 use Rattle.std.proofs.lemmas.Nat.{pow_pos}
 use Rattle.std.specs.Int.{is_in_range}
 use Rattle.std.specs.List.{list_all}
-use Rattle.plain_store.specs.declared.Setup.{Setup}
-use Rattle.record.specs.store_image.Image.{is_number}
-use Rattle.plain_store.specs.Setups.{callers_of, checked, opening_store}
+use Rattle.plain_store.specs.{Setup, callers_of, checked, opening_store}
+use Rattle.record.specs.store_image.{is_number}
 use Rattle.plain_store.proofs.GoodSetups.{good-checked, few-opening}
 use Rattle.record.proofs.Width.{is_good}
-use Rattle.record.specs.declared.events.Event.{Event}
-use Rattle.record.specs.safe_number.Bytes.{bits_of_number}
+use Rattle.record.specs.{AreGiven, Event}
+use Rattle.record.specs.safe_number.{bits_of_number}
 use Rattle.record.specs.declared.access.Field.TheVariants.{Commit, Stamp0}
 use Rattle.laws.proofs.Invariant.{Closed, bit, wires}
 use Rattle.history_laws.proofs.Sound.{IsStoreOf}
-use Rattle.record.specs.Given.{AreGiven}
 use Rattle.history_laws.proofs.Kept.{stamp_bits_of, Data}
 
 -- the numbers of callers that have made no call

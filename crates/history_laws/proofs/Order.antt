@@ -3,20 +3,13 @@ use Rattle.std.proofs.Common.{◌≡◌, ℕ, zero, suc, ◌<◌, ◌≤◌, ◌
 use Rattle.std.specs.List.{list_any}
 use Rattle.std.proofs.lemmas.Bool.{or_right}
 use Rattle.std.proofs.lemmas.List.{length-map}
-use Rattle.plain_store.specs.declared.Answer.{Answer}
-use Rattle.plain_store.specs.declared.Reply.{Reply}
-use Rattle.plain_store.specs.declared.Setup.{Setup}
-use Rattle.record.specs.declared.events.Event.{Event}
+use Rattle.plain_store.specs.{Answer, Reply, Setup}
+use Rattle.record.specs.{Entry, Event, IsAnswerTo, Past, all_takings, ends_span, entries_of_call, entry_of, has, has_ended, history, is_called, is_failed, own, past_of, since, takings, takings_of_call}
 use Rattle.record.specs.declared.marks.Mark.TheVariants.{Answered}
-use Rattle.record.specs.Entries.{Entry, Past, own, has, since, is_called, is_failed}
-use Rattle.record.specs.Headline.{IsAnswerTo}
-use Rattle.record.specs.Histories.{history}
-use Rattle.record.specs.Records.{entry_of, past_of}
-use Rattle.record.specs.Spans.{ends_span, entries_of_call, has_ended, takings, all_takings, takings_of_call}
 use Rattle.record.proofs.Width.{IsGood}
-use Rattle.laws.specs.Doings.{Doing, doing}
+use Rattle.laws.specs.{Doing, doing}
 use Rattle.laws.proofs.Frame.{own-own}
-use Rattle.history_laws.specs.HistoryLaws.{taken_with}
+use Rattle.history_laws.specs.{taken_with}
 use Rattle.history_laws.proofs.CallSpans.{Older, older, before, whole, OneMore, outside, belongs, one_more, since-whole}
 use Rattle.history_laws.proofs.Places.{at_its_place, grows_by_the_taken}
 use Rattle.history_laws.proofs.Told.{ToldOf, SaysAfter, since-uncalled, told, says}

@@ -2,30 +2,16 @@
 use Rattle.std.proofs.Common.{◌≡◌, ◌≢◌, ℕ, ◌==◌, ◌&&◌, Bool, true, false, cond, List, [], ◌∷◌, ◌++◌, length, map, Option, Some, None, refl, sym, ap, subst, ◌∙◌, true≢false}
 use Rattle.std.proofs.lemmas.Bool.{false≢true}
 use Rattle.record.specs.reader_copies.Runs as copies
-use Rattle.record.specs.declared.access.Access.{Access}
-use Rattle.record.specs.declared.access.Field.{Field}
+use Rattle.record.specs.{Access, AsksCommit, AsksImage, AsksStamp, Call, Clears, Entry, Event, Field, Mark, Next, Part, Past, Reading, Run, Wait, Waits, WritesCommit, WritesImage, WritesStamp, Writing, access_at, before_image_read, bits_with, ends_read, entered_if_none, entry_of, first_marks, history, is_commit, is_fresh, is_image, is_last, is_version, last_marks, lets_by, marks_of, past_of, placed, reply_taken, store_after, value_of, valued, waits_of}
 use Rattle.record.specs.declared.access.Field.TheVariants.{Choosing, Ticket, Commit}
 use Rattle.plain_store.specs.declared.Answer.TheVariants as answer
-use Rattle.plain_store.specs.declared.Reply.{Reply}
-use Rattle.plain_store.specs.declared.Setup.{Setup}
-use Rattle.record.specs.declared.events.Event.{Event}
-use Rattle.record.specs.declared.marks.Mark.{Mark}
+use Rattle.plain_store.specs.{Reply, Setup}
 use Rattle.record.specs.declared.marks.Mark.TheVariants.{Taken, Left, Answered, Down}
 use Rattle.record.specs.Closings.{Closing, Withdraws, Settles, Frees, Lowers, Quit, Ended, is_last_written, is_last_settled, is_unwritten, no_ticket, closing_next, settled_marks}
-use Rattle.record.specs.Entries.{Entry, Past}
-use Rattle.record.specs.Headline.{is_version, is_image, ends_read, before_image_read}
-use Rattle.record.specs.Histories.{history, reply_taken, store_after}
-use Rattle.record.specs.Moves.{valued}
-use Rattle.record.specs.Parts.{Part, Waits, AsksCommit, AsksStamp, AsksImage, WritesImage, WritesStamp, WritesCommit, Clears, first_marks, last_marks}
 use Rattle.record.specs.Parts as part
-use Rattle.record.specs.Places.{Run, Writing, Reading, is_fresh, is_last, bits_with, access_at, marks_of, value_of}
-use Rattle.record.specs.Program.{Wait, entered_if_none, lets_by, waits_of}
-use Rattle.record.specs.Records.{entry_of, past_of, placed}
-use Rattle.record.specs.Scripts.{Call, Next}
-use Rattle.record.specs.Unit.{is_commit}
 use Rattle.record.proofs.Turns.{and_false}
 use Rattle.record.proofs.Width.{IsGood}
-use Rattle.laws.specs.Doings.{Doing, Rests, Lies, Runs, Closes, call, doing, is_inside, is_inside_at, is_inside_closing}
+use Rattle.laws.specs.{Doing, Rests, Lies, Runs, Closes, call, doing, is_inside, is_inside_at, is_inside_closing}
 use Rattle.laws.proofs.Doings.{Step, calls, withdraws, fails, restarts, steps, closes_on}
 use Rattle.laws.proofs.Invariant.{wires, touches}
 use Rattle.laws.proofs.Frame.{Happens, a_call, a_withdrawal, a_failure, a_restart, a_step, a_closing}

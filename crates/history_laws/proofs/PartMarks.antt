@@ -2,21 +2,11 @@
 use Rattle.std.proofs.Common.{◌≡◌, ℕ, ◌+◌, ◌==◌, ◌<◌, Bool, true, false, cond, List, [], ◌∷◌, ◌++◌, length, map, refl, sym, ap, subst, ◌∙◌, arith, append-nil}
 use Rattle.std.specs.List.{list_any}
 use Rattle.plain_store.specs.declared.Answer.TheVariants as answer
-use Rattle.plain_store.specs.declared.Command.{Command}
-use Rattle.plain_store.specs.declared.Reply.{Reply}
-use Rattle.plain_store.specs.Store.{changes}
-use Rattle.record.specs.declared.marks.Mark.{Mark}
+use Rattle.plain_store.specs.{Command, Reply, changes}
+use Rattle.record.specs.{Call, IsAnswerTo, Mark, Place, Version, Wait, bits_with, ends_span, enter, entered_if_none, first_full, greatest, is_called, is_failed, is_fresh, is_last, lets_by, marks_of, max_of, newest_stamp, others, place_after, placed, processes, reply, run_after, store_read, takings, waits_of}
 use Rattle.record.specs.declared.marks.Mark.TheVariants.{Waiting, Taken, Left, Answered}
-use Rattle.record.specs.Entries.{is_called, is_failed}
-use Rattle.record.specs.Headline.{IsAnswerTo}
 use Rattle.record.specs.Parts.{Part, Raises, Asks, TakesTicket, Lowers, Refuses, Waits, AsksCommit, AsksStamp, AsksImage, WritesImage, WritesStamp, WritesCommit, Clears, Over, is_over, first_marks, last_marks, part_after, to_b, to_c, to_d, to_e}
-use Rattle.record.specs.Places.{Place, enter, is_fresh, is_last, bits_with, run_after, place_after, marks_of}
-use Rattle.record.specs.Program.{Version, Wait, entered_if_none, first_full, greatest, lets_by, max_of, newest_stamp, reply, store_read, waits_of}
-use Rattle.record.specs.Records.{placed}
-use Rattle.record.specs.Registers.{others, processes}
-use Rattle.record.specs.Scripts.{Call}
-use Rattle.record.specs.Spans.{ends_span, takings}
-use Rattle.laws.specs.Doings.{Runs, Rests, runs}
+use Rattle.laws.specs.{Runs, Rests, runs}
 use Rattle.history_laws.proofs.Took.{TookAt, EachAnswer, Gives, Tells, Silent, unmarked, no_answer, kept, few, part-few}
 
 -- what the marks tell with which a call goes on to a part

@@ -1,21 +1,13 @@
 -- The places of the commands that are taken, and how the history grows.
 use Rattle.std.proofs.Common.{◌≡◌, ℕ, zero, suc, ◌<◌, List, [], ◌∷◌, ◌++◌, Some, None, length, map, refl, sym, ap, subst, arith, append-nil, Contains}
-use Rattle.plain_store.specs.declared.Reply.{Reply}
-use Rattle.plain_store.specs.declared.Setup.{Setup}
-use Rattle.record.specs.declared.events.Event.{Event}
-use Rattle.record.specs.declared.history.Taken.{Taken}
-use Rattle.record.specs.declared.marks.Mark.{Mark}
+use Rattle.plain_store.specs.{Reply, Setup}
+use Rattle.record.specs.{Entry, Event, Mark, Past, Taken, entry_of, history, marks_of, past_of, placed, reply_taken, takings, value_of}
 use Rattle.record.specs.declared.marks.Mark.TheVariants as mark
-use Rattle.record.specs.Entries.{Entry, Past}
-use Rattle.record.specs.Histories.{history, reply_taken}
-use Rattle.record.specs.Places.{marks_of, value_of}
-use Rattle.record.specs.Records.{entry_of, past_of, placed}
-use Rattle.record.specs.Spans.{takings}
 use Rattle.record.proofs.Width.{IsGood}
-use Rattle.laws.specs.Doings.{Doing, call, doing}
+use Rattle.laws.specs.{Doing, call, doing}
 use Rattle.laws.proofs.Frame.{Happens, a_call, a_withdrawal, a_failure, a_restart, a_step, a_closing}
 use Rattle.laws.proofs.FrameEvents.{accepted}
-use Rattle.history_laws.specs.HistoryLaws.{taken_with}
+use Rattle.history_laws.specs.{taken_with}
 use Rattle.history_laws.proofs.Took.{Says, begins, goes}
 use Rattle.history_laws.proofs.Told.{says}
 

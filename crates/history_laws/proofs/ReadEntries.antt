@@ -1,29 +1,14 @@
 -- Each entry of a read in the critical section keeps the data: it writes no register, and the command that the last one may take changes nothing.
 use Rattle.std.proofs.Common.{◌≡◌, ◌≢◌, ℕ, ◌+◌, ◌<◌, ◌==◌, Bool, true, false, cond, List, [], ◌∷◌, ◌++◌, length, map, Option, Some, None, refl, sym, ap, subst, ◌∙◌, inl, inr, eqb-true}
 use Rattle.std.proofs.lemmas.Bool.{and_parts, cases_eq, false≢true}
-use Rattle.record.specs.declared.access.Access.{Access}
-use Rattle.plain_store.specs.declared.Command.{Command}
-use Rattle.plain_store.specs.declared.Reply.{Reply}
-use Rattle.plain_store.specs.declared.Setup.{Setup}
-use Rattle.plain_store.specs.Store.{Contents, changes}
-use Rattle.record.specs.declared.events.Event.{Event}
+use Rattle.record.specs.{Access, AsksCommit, AsksImage, AsksStamp, Call, Entry, Event, Part, Past, Place, Reading, Run, Version, Writing, access_at, before_image_read, bits_with, entry_of, history, is_fresh, is_image, is_last, is_read, last_call, last_marks, marks_of, own, past_of, place_after, placed, read_at, reply, reply_taken, store_after, store_read, value_of, valued, width}
+use Rattle.plain_store.specs.{Command, Contents, Reply, Setup, changes}
 use Rattle.record.specs.declared.marks.Mark.TheVariants.{Taken}
-use Rattle.record.specs.Calls.{last_call}
-use Rattle.record.specs.Entries.{Entry, Past, own}
-use Rattle.record.specs.Headline.{before_image_read, is_image}
-use Rattle.record.specs.Histories.{history, reply_taken, store_after}
-use Rattle.record.specs.Moves.{valued}
-use Rattle.record.specs.Parts.{Part, AsksCommit, AsksStamp, AsksImage, is_read, read_at, last_marks}
-use Rattle.record.specs.Places.{Place, Run, Writing, Reading, access_at, bits_with, is_fresh, is_last, marks_of, place_after, value_of}
-use Rattle.record.specs.Program.{Version, reply, store_read}
-use Rattle.record.specs.Records.{entry_of, past_of, placed}
-use Rattle.record.specs.Registers.{width}
-use Rattle.record.specs.Scripts.{Call}
 use Rattle.record.proofs.Singles.{is_write}
 use Rattle.record.proofs.Width.{IsGood}
 use Rattle.laws.proofs.Always.{inv_of}
 use Rattle.laws.proofs.Alone.{closes_inside}
-use Rattle.laws.specs.Doings.{Runs, call, doing, runs, is_inside, is_inside_at}
+use Rattle.laws.specs.{Runs, call, doing, runs, is_inside, is_inside_at}
 use Rattle.laws.proofs.FrameSteps.{step_of}
 use Rattle.laws.proofs.FrameWires.{answer-untouched, wires-read}
 use Rattle.laws.proofs.Invariant.{Stands, StandsRun, Touches, Wires, touches, wires}

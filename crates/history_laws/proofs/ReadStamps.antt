@@ -1,25 +1,12 @@
 -- The greatest stamp that a process has read is the number of changes.
 use Rattle.std.proofs.Common.{◌≡◌, ℕ, ◌<◌, Bool, true, false, List, [], ◌∷◌, Some, None, Ok, refl, sym, ap, ◌∙◌}
 use Rattle.std.specs.Prelude.{IsTrue}
-use Rattle.plain_store.specs.declared.Setup.{Setup}
-use Rattle.plain_store.specs.Setups.{checked, opening_store}
-use Rattle.record.specs.declared.events.Event.{Event}
-use Rattle.record.specs.declared.marks.Mark.{Mark}
+use Rattle.plain_store.specs.{Setup, checked, opening_store}
+use Rattle.record.specs.{AreGiven, Entry, Event, Mark, Part, Past, Run, Version, count_changes, entry_of, has, history, inside, newest_stamp, past_of, processes, reply_taken}
 use Rattle.record.specs.declared.marks.Mark.TheVariants as mark
-use Rattle.record.specs.Entries.{Entry, Past, has}
-use Rattle.record.specs.Given.{AreGiven}
-use Rattle.record.specs.Headline.{count_changes}
-use Rattle.record.specs.Histories.{history, reply_taken}
-use Rattle.record.specs.Parts.{Part}
 use Rattle.record.specs.Parts as part
-use Rattle.record.specs.Places.{Run}
-use Rattle.record.specs.Program.{Version, newest_stamp}
-use Rattle.record.specs.Records.{entry_of, past_of}
-use Rattle.record.specs.Registers.{processes}
-use Rattle.record.specs.Stages.{inside}
 use Rattle.record.proofs.Width.{IsGood}
-use Rattle.laws.specs.Doings.{Doing, Runs, call, doing}
-use Rattle.laws.specs.LockLaws.{is_taken}
+use Rattle.laws.specs.{Doing, Runs, call, doing, is_taken}
 use Rattle.laws.proofs.Alone.{alone}
 use Rattle.laws.proofs.Always.{inv_of}
 use Rattle.laws.proofs.Invariant.{touches, wires}
@@ -29,7 +16,7 @@ use Rattle.history_laws.proofs.DataAlways.{data_of}
 use Rattle.history_laws.proofs.Kept.{Data, KnowsAt, KnowsData}
 use Rattle.history_laws.proofs.Versions.{store_of, versions, versions_of}
 use Rattle.history_laws.proofs.VersionsRead as read
-use Rattle.history_laws.specs.Stamps.{stamp_at, stamp_read}
+use Rattle.history_laws.specs.{stamp_at, stamp_read}
 
 one : (n m : ℕ) → Some n ≡ Some m → n ≡ m
 one n m h = cc

@@ -2,27 +2,12 @@
 use Rattle.std.proofs.Common.{◌≡◌, ℕ, Bool, true, false, cond, not, List, [], ◌∷◌, length, map, Option, None, Some, refl, sym, ap, subst, ◌∙◌}
 use Rattle.std.proofs.lemmas.Bool.{false≢true}
 use Rattle.record.specs.reader_copies.Runs as copies
-use Rattle.record.specs.safe_bit.SafeRule.{read_value}
-use Rattle.record.specs.declared.access.Access.{Access}
-use Rattle.record.specs.declared.access.Field.{Field}
+use Rattle.record.specs.safe_bit.{read_value}
+use Rattle.record.specs.{Access, Call, Closing, Entry, Event, Field, Next, Past, Settles, access_of, caller, closing_after, closing_next, ended_with, entry_of, freeing, history, is_last_settled, last_call, moves_of, opening_bit, own, past_of, placed, reply, reply_taken, settled_marks, valued}
 use Rattle.record.specs.declared.access.Field.TheVariants.{Choosing, Ticket, Commit, Stamp0, Stamp1, Image0, Image1}
-use Rattle.record.specs.Accesses.{access_of}
-use Rattle.plain_store.specs.declared.Command.{Command}
-use Rattle.plain_store.specs.declared.Reply.{Reply}
-use Rattle.plain_store.specs.declared.Setup.{Setup}
-use Rattle.plain_store.specs.Store.{Contents, after}
-use Rattle.record.specs.declared.events.Event.{Event}
-use Rattle.record.specs.Calls.{last_call}
-use Rattle.record.specs.Closings.{Closing, Settles, closing_after, closing_next, freeing, is_last_settled, settled_marks}
-use Rattle.record.specs.Entries.{Entry, Past, own}
-use Rattle.record.specs.Histories.{history, reply_taken}
-use Rattle.record.specs.Moves.{ended_with, moves_of, valued}
-use Rattle.record.specs.Program.{reply}
-use Rattle.record.specs.Records.{entry_of, past_of, placed}
-use Rattle.record.specs.Registers.{opening_bit}
-use Rattle.record.specs.Scripts.{Call, Next, caller}
+use Rattle.plain_store.specs.{Command, Contents, Reply, Setup, after}
 use Rattle.record.proofs.Width.{IsGood}
-use Rattle.laws.specs.Doings.{Doing, Closes, call, closes, doing}
+use Rattle.laws.specs.{Doing, Closes, call, closes, doing}
 use Rattle.laws.proofs.Frame.{Happens, a_call, a_withdrawal, a_failure, a_restart, a_step, a_closing, may_fail}
 use Rattle.laws.proofs.FrameEvents.{accepted}
 use Rattle.laws.proofs.FrameSteps.{entry-by}

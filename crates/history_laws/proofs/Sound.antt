@@ -1,11 +1,8 @@
 -- What is sound: a store that has an image, and what a process was given to call.
 use Rattle.std.specs.Prelude.{◌≡◌, ◌^◌, ◌<◌, true, length}
-use Rattle.plain_store.specs.Commands.{is_command}
-use Rattle.plain_store.specs.declared.Setup.{Setup}
-use Rattle.record.specs.store_image.Image.{IsStore}
-use Rattle.plain_store.specs.Setups.{callers_of}
-use Rattle.plain_store.specs.Store.{Contents}
-use Rattle.laws.specs.Doings.{Doing, Runs, Closes}
+use Rattle.plain_store.specs.{Contents, Setup, callers_of, is_command}
+use Rattle.record.specs.store_image.{IsStore}
+use Rattle.laws.specs.{Doing, Runs, Closes}
 
 -- a store of this setup that has an image
 pub record IsStoreOf (s : Setup) (st : Contents) : Type 0 where

@@ -2,21 +2,11 @@
 use Rattle.std.proofs.Common.{◌≡◌, ℕ, ℤ, ◌+ℤ◌, ◌^◌, ◌<◌, Bool, true, false, not, ◌&&◌, List, length, slice_set, if◌then◌else◌, Option, None, Some, IsSome, refl, sym, ap, ◌∙◌, subst, nat_lt}
 use Rattle.std.proofs.lemmas.Bool.{and_from, and_parts}
 use Rattle.std.proofs.lemmas.List.{length-set}
-use Rattle.plain_store.specs.declared.Caller.{Caller}
-use Rattle.plain_store.specs.declared.Command.{Command}
+use Rattle.plain_store.specs.{Caller, Command, Contents, Pair, Setup, Value, added, after, at_absent, at_present, changes, fits_i64, is_command, is_name, is_new, is_value, name_of, number_of, outcome, outcome_in, pairs_after, replies, same_value, value_at, value_for, with_written, writes}
 use Rattle.plain_store.specs.declared.Command.TheVariants.{Read, Write, Add, Cas, Ask}
 use Rattle.plain_store.specs.declared.commands.Reply.TheVariants as reply
-use Rattle.plain_store.specs.declared.Setup.{Setup}
-use Rattle.plain_store.specs.declared.commands.Value.{Value}
 use Rattle.plain_store.specs.declared.commands.Value.TheVariants.{Count, Text}
-use Rattle.plain_store.specs.Commands.{is_command, name_of}
-use Rattle.record.specs.store_image.Image.{IsStore}
-use Rattle.plain_store.specs.Names.{is_name}
-use Rattle.plain_store.specs.Outcomes.{added, at_absent, at_present, is_new, outcome, replies, writes}
-use Rattle.plain_store.specs.Pairs.{Pair}
-use Rattle.record.specs.store_image.Placing.{place_for}
-use Rattle.plain_store.specs.Store.{Contents, after, changes, number_of, outcome_in, pairs_after, value_at, value_for, with_written}
-use Rattle.plain_store.specs.Values.{same_value, fits_i64, is_value}
+use Rattle.record.specs.store_image.{IsStore, place_for}
 use Rattle.plain_store.proofs.Changes.{put-same, same_value-Decides}
 use Rattle.record.proofs.store_image.Puts.{IsStore-with_number, IsStore-with_pair, written_room}
 use Rattle.history_laws.proofs.Sound.{IsStoreOf}

@@ -3,9 +3,8 @@ use Rattle.std.proofs.Common.{◌≡◌, ◌≢◌, ◌⊎◌, ℕ, zero, suc, �
 use Rattle.std.proofs.lemmas.Bool.{eqb-false}
 use Rattle.std.proofs.lemmas.Bool.Decides.{nat_tests}
 use Rattle.std.proofs.lemmas.List.{get_or-set_same, get_or-set_other, length-set}
-use Rattle.plain_store.specs.Store.{Contents, changes, number_of}
-use Rattle.record.specs.declared.history.Taken.{Taken}
-use Rattle.record.specs.Headline.{latest_change, has_change}
+use Rattle.plain_store.specs.{Contents, changes, number_of}
+use Rattle.record.specs.{Taken, has_change, latest_change}
 use Rattle.history_laws.proofs.CountedChanges.{then}
 
 -- Numbers.

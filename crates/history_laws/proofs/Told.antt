@@ -1,19 +1,12 @@
 -- What each entry tells, and what is known of each process by the entries of its present call.
 use Rattle.std.proofs.Common.{◌≡◌, ◌≢◌, ℕ, true, false, List, [], ◌∷◌, Some, length, refl, sym, ap, subst, arith}
 use Rattle.std.specs.List.{list_any}
-use Rattle.plain_store.specs.declared.Reply.{Reply}
-use Rattle.plain_store.specs.declared.Setup.{Setup}
-use Rattle.record.specs.declared.events.Event.{Event}
-use Rattle.record.specs.declared.marks.Mark.{Mark}
+use Rattle.plain_store.specs.{Reply, Setup}
+use Rattle.record.specs.{Entry, Event, Mark, Past, all_takings, ends_span, entry_of, has, history, is_called, is_failed, own, past_of, since, value_of}
 use Rattle.record.specs.declared.marks.Mark.TheVariants.{Withdrew, Restarted}
-use Rattle.record.specs.Entries.{Entry, Past, own, has, since, is_called, is_failed}
-use Rattle.record.specs.Histories.{history}
-use Rattle.record.specs.Places.{value_of}
-use Rattle.record.specs.Records.{entry_of, past_of}
-use Rattle.record.specs.Spans.{ends_span, all_takings}
 use Rattle.record.proofs.Width.{IsGood}
 use Rattle.laws.proofs.AtPlaces.{own-induction, either}
-use Rattle.laws.specs.Doings.{Doing, Rests, Lies, call, doing}
+use Rattle.laws.specs.{Doing, Rests, Lies, call, doing}
 use Rattle.laws.proofs.Doings.{Step}
 use Rattle.laws.proofs.Frame.{Happens, a_call, a_withdrawal, a_failure, a_restart, a_step, a_closing, doing-other, own-other, own-own}
 use Rattle.laws.proofs.FrameEvents.{accepted}

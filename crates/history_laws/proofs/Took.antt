@@ -1,18 +1,11 @@
 -- What the present call of a process has taken so far, by what the process is doing, and what the marks of each of its entries tell.
 use Rattle.std.proofs.Common.{◌≡◌, ℕ, zero, suc, ◌<◌, Bool, true, false, List, [], ◌∷◌, ◌++◌, Option, Some, None, length, refl, sym, ap, subst, ◌∙◌, arith, append-nil, Contains}
 use Rattle.std.specs.List.{list_any}
-use Rattle.plain_store.specs.declared.Answer.{Answer}
+use Rattle.plain_store.specs.{Answer, Command, Reply}
 use Rattle.plain_store.specs.declared.Answer.TheVariants as answer
-use Rattle.plain_store.specs.declared.Command.{Command}
-use Rattle.plain_store.specs.declared.Reply.{Reply}
-use Rattle.record.specs.declared.marks.Mark.{Mark}
+use Rattle.record.specs.{Clears, Closing, IsAnswerTo, Mark, Over, Part, Past, Settles, Withdraws, all_takings, ends_span, has, is_called, is_failed, takings}
 use Rattle.record.specs.declared.marks.Mark.TheVariants.{Called, Answered, Down}
-use Rattle.record.specs.Closings.{Closing, Withdraws, Settles}
-use Rattle.record.specs.Entries.{Past, has, is_called, is_failed}
-use Rattle.record.specs.Headline.{IsAnswerTo}
-use Rattle.record.specs.Parts.{Part, Clears, Over}
-use Rattle.record.specs.Spans.{ends_span, takings, all_takings}
-use Rattle.laws.specs.Doings.{Doing, Rests, Lies, Runs, Closes}
+use Rattle.laws.specs.{Doing, Rests, Lies, Runs, Closes}
 
 -- what a call has taken at a part: nothing before its last read of an image, or the last end of its commit
 abbrev pub TookAt : Part → List (ℕ × Reply) → Type 0

@@ -3,34 +3,16 @@ use Rattle.std.proofs.Common.{◌≡◌, ℕ, ◌+◌, ◌<◌, ◌&&◌, Bool, 
 use Rattle.std.specs.List.{AllByRecursion}
 use Rattle.std.proofs.lemmas.Bool.{false≢true, true≢false}
 use Rattle.record.specs.reader_copies.Runs as copies
-use Rattle.record.specs.declared.access.Access.{Access}
-use Rattle.record.specs.declared.access.Field.{Field}
+use Rattle.record.specs.{Access, AsksImage, Call, Clears, Entry, Event, Field, Mark, Next, Part, Past, Place, Reading, Refuses, Run, Wait, Waits, WritesCommit, Writing, access_at, bits_with, call_of, caller, entered_if_none, entry_of, first_marks, history, is_fresh, is_last, last_call, last_marks, lets_by, marks_of, own, past_of, placed, read_at, reply, store_after, store_read, takings, value_of, valued, waits_of, width}
 use Rattle.record.specs.declared.access.Field.TheVariants.{Commit}
 use Rattle.plain_store.specs.declared.Answer.TheVariants as answer
-use Rattle.plain_store.specs.declared.Command.{Command}
-use Rattle.plain_store.specs.declared.Reply.{Reply}
-use Rattle.plain_store.specs.declared.Setup.{Setup}
-use Rattle.plain_store.specs.Store.{Contents, changes, reply_to}
-use Rattle.record.specs.declared.events.Event.{Event}
-use Rattle.record.specs.declared.marks.Mark.{Mark}
+use Rattle.plain_store.specs.{Command, Contents, Reply, Setup, changes, reply_to}
 use Rattle.record.specs.declared.marks.Mark.TheVariants as mark
-use Rattle.record.specs.Calls.{last_call}
 use Rattle.record.specs.Closings.{Closing, Withdraws, Settles, Frees, Lowers, Quit, Ended, closing_next, is_last_settled, is_last_written, is_unwritten, no_ticket, settled_marks}
-use Rattle.record.specs.Entries.{Entry, Past, own}
-use Rattle.record.specs.Headline.{call_of}
-use Rattle.record.specs.Histories.{history, store_after}
-use Rattle.record.specs.Parts.{Part, Refuses, Waits, AsksImage, WritesCommit, Clears, first_marks, last_marks, read_at}
 use Rattle.record.specs.Parts as part
-use Rattle.record.specs.Places.{Place, Run, Writing, Reading, access_at, bits_with, is_fresh, is_last, marks_of, value_of}
-use Rattle.record.specs.Program.{Wait, entered_if_none, lets_by, reply, store_read, waits_of}
-use Rattle.record.specs.Records.{entry_of, past_of, placed}
-use Rattle.record.specs.Registers.{width}
-use Rattle.record.specs.Scripts.{Call, Next, caller}
-use Rattle.record.specs.Spans.{takings}
-use Rattle.record.specs.Moves.{valued}
 use Rattle.record.proofs.Width.{IsGood}
 use Rattle.laws.proofs.Always.{inv_of}
-use Rattle.laws.specs.Doings.{Doing, Runs, call, doing}
+use Rattle.laws.specs.{Doing, Runs, call, doing}
 use Rattle.laws.proofs.Frame.{Happens, a_call, a_withdrawal, a_failure, a_restart, a_step, a_closing}
 use Rattle.laws.proofs.FrameEvents.{accepted}
 use Rattle.laws.proofs.Invariant.{Stands, Wires, wires, touches}

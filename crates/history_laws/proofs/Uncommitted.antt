@@ -1,14 +1,10 @@
 -- A write of a register that isn't committed leaves all that is kept of the data.
 use Rattle.std.proofs.Common.{◌≡◌, ◌≢◌, ◌⊎◌, ℕ, ◌<◌, Bool, true, false, List, not, refl, sym, ap, subst, ◌∙◌, arith, inl, inr, true≢false}
 use Rattle.std.proofs.lemmas.Bool.{cases_eq}
-use Rattle.record.specs.declared.access.Field.{Field}
+use Rattle.record.specs.{Field, field_number, image_field, is_version, stamp_field}
 use Rattle.record.specs.declared.access.Field.TheVariants.{Commit, Stamp0, Stamp1, Image0, Image1}
-use Rattle.plain_store.specs.declared.Setup.{Setup}
-use Rattle.plain_store.specs.Store.{Contents}
-use Rattle.record.specs.Headline.{is_version}
-use Rattle.record.specs.Moves.{field_number}
-use Rattle.record.specs.Program.{image_field, stamp_field}
-use Rattle.laws.specs.Doings.{Doing}
+use Rattle.plain_store.specs.{Contents, Setup}
+use Rattle.laws.specs.{Doing}
 use Rattle.laws.proofs.Invariant.{Wire, Wires, Closed}
 use Rattle.history_laws.proofs.Kept.{IsWhole, Kept, image_bits, stamp_bits_of, is_busy}
 use Rattle.history_laws.proofs.Versions.{Versions}

@@ -4,29 +4,12 @@ use Rattle.std.proofs.Common.{◌≡◌, ◌≢◌, ℕ, ◌+◌, ◌%◌, ◌<�
 use Rattle.std.proofs.lemmas.Bool.{cases_eq, false_from_ne_true, false≢true}
 use Rattle.std.proofs.lemmas.List.Folds.{list_any_at}
 use Rattle.std.proofs.lemmas.List.FromFn.{get_or-range_with_len, length-range_with_len}
-use Rattle.record.specs.safe_bit.SafeRule.{is_overlapped, read_value}
-use Rattle.record.specs.safe_bit.declared.Move.{Move}
+use Rattle.record.specs.safe_bit.{Move, is_overlapped, read_value}
 use Rattle.record.specs.safe_bit.declared.Move.TheVariants.{BeginWrite, EndRead, EndWrite}
 use Rattle.record.proofs.safe_bit.Showing.{shows_moves}
-use Rattle.record.specs.declared.access.Access.{Access}
-use Rattle.record.specs.declared.access.Field.{Field}
-use Rattle.record.specs.safe_number.Runs.{new_write}
-use Rattle.plain_store.specs.declared.Command.{Command}
-use Rattle.plain_store.specs.declared.Setup.{Setup}
-use Rattle.record.specs.declared.events.Event.{Event}
-use Rattle.record.specs.Closings.{Closing, Withdraws, closing_after}
-use Rattle.record.specs.Entries.{Entry, Past}
-use Rattle.record.specs.Histories.{history}
-use Rattle.record.specs.Headline.{ends_read, is_version}
-use Rattle.record.specs.Induction.{past-induction}
-use Rattle.record.specs.Moves.{ended, moves_of, valued}
-use Rattle.record.specs.Newest.{copy, cell_after, is_somebody_inside}
-use Rattle.record.specs.Parts.{Part, is_over, is_read, part_after, read_at, written_at}
-use Rattle.record.specs.Places.{Place, Run, Writing, Reading, access_at, bit_written, enter, is_last, marks_of, new_run, place_after, run_after, value_of}
-use Rattle.record.specs.Records.{entry_of, past_of, placed}
-use Rattle.record.specs.Registers.{processes, opening_bit, width}
-use Rattle.record.specs.Scripts.{Call}
-use Rattle.record.specs.Stages.{inside}
+use Rattle.record.specs.{Access, Call, Closing, Entry, Event, Field, Part, Past, Place, Reading, Run, Withdraws, Writing, access_at, bit_written, cell_after, closing_after, copy, ended, ends_read, enter, entry_of, history, inside, is_last, is_over, is_read, is_somebody_inside, is_version, marks_of, moves_of, new_run, opening_bit, part_after, past-induction, past_of, place_after, placed, processes, read_at, run_after, value_of, valued, width, written_at}
+use Rattle.record.specs.safe_number.{new_write}
+use Rattle.plain_store.specs.{Command, Setup}
 use Rattle.record.proofs.Opens.{opened}
 use Rattle.record.proofs.TurnRecords.{turns_all}
 use Rattle.record.proofs.Singles.{is_write}
@@ -34,7 +17,7 @@ use Rattle.record.proofs.Width.{IsGood}
 use Rattle.laws.proofs.Alone.{touched_inside, version-at}
 use Rattle.laws.proofs.Always.{inv_of}
 use Rattle.laws.proofs.AtPlaces.{Stepping}
-use Rattle.laws.specs.Doings.{Doing, Rests, Lies, Runs, Closes, call, closes, doing, runs, is_inside}
+use Rattle.laws.specs.{Doing, Rests, Lies, Runs, Closes, call, closes, doing, runs, is_inside}
 use Rattle.laws.proofs.Frame.{Happens, a_call, a_withdrawal, a_failure, a_restart, a_step, a_closing, doing-other}
 use Rattle.laws.proofs.FrameCells.{EntryBy, marks_only, makes}
 use Rattle.laws.proofs.FrameEvents.{accepted}

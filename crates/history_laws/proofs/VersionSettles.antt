@@ -3,22 +3,12 @@ use Rattle.std.proofs.Common.{◌≡◌, ◌≢◌, ℕ, ◌+◌, ◌<◌, ◌�
 use Rattle.std.specs.Prelude.{unwrap_or, if◌then◌else◌}
 use Rattle.std.proofs.lemmas.Bool.{cases_eq, eqb-true, eqb-false, false≢true}
 use Rattle.record.specs.reader_copies.Runs as copies
-use Rattle.record.specs.safe_bit.SafeRule.{read_value}
+use Rattle.record.specs.safe_bit.{read_value}
 use Rattle.record.specs.safe_bit.declared.Move.TheVariants.{BeginWrite, EndWrite, Settle}
-use Rattle.record.specs.declared.access.Access.{Access}
-use Rattle.record.specs.declared.access.Field.{Field}
+use Rattle.record.specs.{Access, Call, Entry, Field, Past, Settles, access_of, caller, closing_after, ended, freeing, is_last_settled, moves_of, opening_bit, valued}
 use Rattle.record.specs.declared.access.Field.TheVariants.{Commit}
-use Rattle.record.specs.Accesses.{access_of}
-use Rattle.plain_store.specs.declared.Command.{Command}
-use Rattle.plain_store.specs.declared.Reply.{Reply}
-use Rattle.plain_store.specs.declared.Setup.{Setup}
-use Rattle.plain_store.specs.Store.{Contents, after}
-use Rattle.record.specs.Closings.{Settles, freeing, closing_after, is_last_settled}
-use Rattle.record.specs.Entries.{Entry, Past}
-use Rattle.record.specs.Moves.{ended, valued, moves_of}
-use Rattle.record.specs.Registers.{opening_bit}
-use Rattle.record.specs.Scripts.{Call, caller}
-use Rattle.laws.specs.Doings.{Doing, Closes, call, closes}
+use Rattle.plain_store.specs.{Command, Contents, Reply, Setup, after}
+use Rattle.laws.specs.{Doing, Closes, call, closes}
 use Rattle.laws.proofs.FrameWires.{wire_after}
 use Rattle.laws.proofs.Invariant.{Wire, Wires, Closed, wires}
 use Rattle.laws.proofs.Writing.{Rewired, rewired}

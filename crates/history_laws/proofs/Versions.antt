@@ -1,11 +1,7 @@
 -- The versions that the processes have committed, by the history: each changing command commits its process's other version, with the next stamp.
 use Rattle.std.specs.Prelude.{ℕ, ◌+◌, ◌==◌, Bool, false, not, cond, List, [], ◌∷◌, map, None, Some}
-use Rattle.plain_store.specs.declared.Setup.{Setup}
-use Rattle.plain_store.specs.Store.{Contents, changes}
-use Rattle.record.specs.Calls.{last_call}
-use Rattle.record.specs.Entries.{Entry, Past, own}
-use Rattle.record.specs.Histories.{history, reply_taken, store_after}
-use Rattle.record.specs.Program.{Version}
+use Rattle.plain_store.specs.{Contents, Setup, changes}
+use Rattle.record.specs.{Entry, Past, Version, history, last_call, own, reply_taken, store_after}
 use Rattle.laws.proofs.Notes.{set}
 
 pub record Versions : Type 0 where

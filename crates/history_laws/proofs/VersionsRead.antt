@@ -3,10 +3,8 @@ use Rattle.std.proofs.Common.{◌≡◌, ◌⊎◌, ℕ, zero, suc, ◌+◌, ◌
 use Rattle.std.specs.Prelude.{max, fold, slice_index_or}
 use Rattle.std.specs.List.{range_with_len}
 use Rattle.std.proofs.lemmas.Bool.{cases_eq}
-use Rattle.plain_store.specs.declared.Setup.{Setup}
-use Rattle.plain_store.specs.Store.{Contents}
-use Rattle.record.specs.Program.{Version, newest_stamp, version_of}
-use Rattle.record.specs.Registers.{processes}
+use Rattle.plain_store.specs.{Contents, Setup}
+use Rattle.record.specs.{Version, newest_stamp, processes, version_of}
 use Rattle.laws.proofs.Invariant.{Wires}
 use Rattle.history_laws.proofs.Kept.{Kept}
 use Rattle.history_laws.proofs.Versions.{Versions, versions_of}

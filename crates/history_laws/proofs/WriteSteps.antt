@@ -1,27 +1,13 @@
 -- A step of a process that writes a change: an access of the new image, of its stamp, or of the commit bit, with whose last end the command is taken.
 use Rattle.std.proofs.Common.{◌≡◌, ℕ, Bool, true, false, cond, List, [], ◌∷◌, ◌++◌, length, map, Option, None, Some, refl, sym, ap, subst, ◌∙◌}
 use Rattle.std.proofs.lemmas.Bool.{false≢true}
-use Rattle.record.specs.declared.access.Access.{Access}
-use Rattle.record.specs.safe_number.Runs.{NumberWrite}
-use Rattle.plain_store.specs.declared.Command.{Command}
-use Rattle.plain_store.specs.declared.Reply.{Reply}
-use Rattle.plain_store.specs.declared.Setup.{Setup}
-use Rattle.plain_store.specs.Store.{Contents, after}
-use Rattle.record.specs.declared.events.Event.{Event}
-use Rattle.record.specs.declared.marks.Mark.{Mark}
+use Rattle.record.specs.{Access, Call, Entry, Event, Mark, Part, Past, Place, Reading, Run, Version, WritesCommit, WritesImage, WritesStamp, Writing, access_at, caller, entry_of, history, is_fresh, is_last, is_read, last_call, marks_of, own, past_of, place_after, placed, reply, reply_taken, value_of, valued, written_at}
+use Rattle.record.specs.safe_number.{NumberWrite}
+use Rattle.plain_store.specs.{Command, Contents, Reply, Setup, after}
 use Rattle.record.specs.declared.marks.Mark.TheVariants.{Taken}
-use Rattle.record.specs.Calls.{last_call}
-use Rattle.record.specs.Entries.{Entry, Past, own}
-use Rattle.record.specs.Histories.{history, reply_taken}
-use Rattle.record.specs.Moves.{valued}
-use Rattle.record.specs.Parts.{Part, WritesImage, WritesStamp, WritesCommit, is_read, written_at}
-use Rattle.record.specs.Places.{Place, Run, Writing, Reading, access_at, is_fresh, is_last, marks_of, place_after, value_of}
-use Rattle.record.specs.Program.{Version, reply}
-use Rattle.record.specs.Records.{entry_of, past_of, placed}
-use Rattle.record.specs.Scripts.{Call, caller}
 use Rattle.record.proofs.Width.{IsGood}
 use Rattle.laws.proofs.Always.{inv_of}
-use Rattle.laws.specs.Doings.{Doing, Runs, call, runs, doing}
+use Rattle.laws.specs.{Doing, Runs, call, runs, doing}
 use Rattle.laws.proofs.Frame.{Happens, a_call, a_withdrawal, a_failure, a_restart, a_step, a_closing}
 use Rattle.laws.proofs.FrameEvents.{Accepted, accepted}
 use Rattle.laws.proofs.FrameSteps.{entry-by}

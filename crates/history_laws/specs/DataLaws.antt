@@ -1,11 +1,7 @@
 -- Laws of the data beside those that record's headline states, of the record of every list of events.
 use Rattle.std.specs.Prelude.{◌≡◌, ℕ, ◌<◌, ◌≤◌, take, slice_get, Some, IsFalse}
-use Rattle.plain_store.specs.Store.{reply_to}
-use Rattle.record.specs.declared.history.Taken.{Taken}
-use Rattle.record.specs.Given.{EachPastGiven}
-use Rattle.record.specs.Histories.{history, store_after}
-use Rattle.record.specs.Newest.{is_somebody_inside, versions_held}
-use Rattle.record.specs.Program.{max_of, newest_stamp}
+use Rattle.plain_store.specs.{reply_to}
+use Rattle.record.specs.{EachPastGiven, Taken, history, is_somebody_inside, max_of, newest_stamp, store_after, versions_held}
 use Rattle.history_laws.specs.Stamps.{changes_taken}
 
 -- Each command of the history has the one-thread store's reply after those before it.

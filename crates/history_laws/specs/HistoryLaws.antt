@@ -1,13 +1,7 @@
 -- The laws of the history that need no register, of the record of every list of events, beside those that record's headline states.
 use Rattle.std.specs.Prelude.{◌≡◌, ℕ, ◌∷◌, ◌++◌, length, map, Contains}
-use Rattle.plain_store.specs.declared.Reply.{Reply}
-use Rattle.plain_store.specs.declared.Setup.{Setup}
-use Rattle.record.specs.declared.history.Taken.{Taken}
-use Rattle.record.specs.Entries.{Entry, Past}
-use Rattle.record.specs.Headline.{EachEntry, call_of}
-use Rattle.record.specs.Histories.{history}
-use Rattle.record.specs.Scripts.{Call}
-use Rattle.record.specs.Spans.{takings}
+use Rattle.plain_store.specs.{Reply, Setup}
+use Rattle.record.specs.{Call, EachEntry, Entry, Past, Taken, call_of, history, takings}
 
 -- The place of a command that is taken is the number of commands taken before.
 abbrev pub TakenAtItsPlace : Type 0

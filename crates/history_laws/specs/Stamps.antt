@@ -1,15 +1,8 @@
 -- The stamp that a process has read: how many changes were taken before what it takes.
 use Rattle.std.specs.Prelude.{◌≡◌, ℕ, ◌<◌, ◌∷◌, Option, None, Some, IsTrue}
-use Rattle.plain_store.specs.declared.Setup.{Setup}
-use Rattle.plain_store.specs.Setups.{opening_store}
-use Rattle.record.specs.Entries.{Past}
-use Rattle.record.specs.Given.{EachPastGiven}
-use Rattle.record.specs.Headline.{EachEntry, count_changes}
-use Rattle.record.specs.Histories.{history}
-use Rattle.record.specs.Parts.{Part, AsksImage, WritesImage, WritesStamp, WritesCommit}
-use Rattle.record.specs.Program.{newest_stamp}
-use Rattle.record.specs.Stages.{inside}
-use Rattle.laws.specs.Doings.{Doing, Runs, doing}
+use Rattle.plain_store.specs.{Setup, opening_store}
+use Rattle.record.specs.{AsksImage, EachEntry, EachPastGiven, Part, Past, WritesCommit, WritesImage, WritesStamp, count_changes, history, inside, newest_stamp}
+use Rattle.laws.specs.{Doing, Runs, doing}
 
 -- how many changes were taken
 abbrev pub changes_taken : Setup → Past → ℕ

@@ -1,6 +1,6 @@
 //! The laws of one history that hold whatever the registers give. Each is of every setup that the check
 //! passes, of every list of events, refused ones among them, and of every flick.
-ghost use Rattle.record.specs.Headline.{AnsweredCallsTakeNoMore, AnswersAreTaken, AnswersStandInHistory, CutCallsAreNotAnswered, KeepsOrder, TakenOnce};
+ghost use Rattle.record.specs.{AnsweredCallsTakeNoMore, AnswersAreTaken, AnswersStandInHistory, CutCallsAreNotAnswered, KeepsOrder, TakenOnce};
 ghost use Rattle.history_laws.specs.HistoryLaws.{HistoryGrowsByTheTaken, TakenAtItsPlace};
 
 /// The mark of a command that is taken tells its place in the history, which is the number of commands taken

@@ -4,25 +4,18 @@ use Rattle.std.specs.Prelude.{is_none}
 use Rattle.std.proofs.Math.Seq.{drop-append_seam}
 use Rattle.std.proofs.lemmas.Bool.Decides.{nat_tests}
 use Rattle.std.proofs.lemmas.List.{length-append}
-use Rattle.plain_store.specs.declared.setups.Setup.{Setup}
-use Rattle.plain_store.specs.Setups.{checked}
-use Rattle.record.specs.Entries.{Entry, Past}
-use Rattle.record.specs.Records.{entry_of, refused}
-use Rattle.record.specs.Registers.{processes}
-use Rattle.record.specs.Stages.{stage}
+use Rattle.plain_store.specs.{Setup, checked}
+use Rattle.record.specs.{Entry, Past, entry_of, processes, refused, stage}
 use Rattle.record.proofs.Accepted.{accepted_adds}
 use Rattle.record.proofs.Width.{is_good}
-use Rattle.scenario.specs.declared.lines.Line.{Line}
+use Rattle.scenario.specs.{Line, Target}
 use Rattle.scenario.specs.declared.lines.Line.TheVariants as line
-use Rattle.scenario.specs.declared.lines.Target.{Target}
-use Rattle.course.specs.world.flicks.Flicks.{after_pick, flick_of}
-use Rattle.course.specs.Happenings.{Happening, Tries, Lacks, Tires, Looks, past_after, tried}
-use Rattle.course.specs.Runs.{Run, after_pick_in, goes, is_there, may_step, movers, next_step, past_in, pick_among, picked, run_after, run_at_start, runs, stepped, steps, wanders, with_happening}
+use Rattle.course.specs.world.flicks.{after_pick, flick_of}
+use Rattle.course.specs.{Happening, Lacks, Looks, Run, Tires, Tries, after_pick_in, goes, is_there, may_step, movers, next_step, past_after, past_in, pick_among, picked, run_after, run_at_start, runs, stepped, steps, tried, wanders, with_happening}
 use Rattle.course.proofs.Grows.{Grows, line_grows, rest_grows}
 use Rattle.course.proofs.Knowing.{pick_steps}
 use Rattle.course.proofs.Refusals.{past_kept}
-use Rattle.inspect.specs.States.{ComesAlong, IsAt, MadePart, MakesPart, Part, clipped, first_of, long_go}
-use Rattle.inspect.specs.declared.part_of_run.PartOfRun.{PartOfRun}
+use Rattle.inspect.specs.{ComesAlong, IsAt, MadePart, MakesPart, Part, PartOfRun, clipped, first_of, long_go}
 
 -- An option by whether it is none.
 

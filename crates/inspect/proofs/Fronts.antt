@@ -1,10 +1,8 @@
 -- What is written of a line, for functions here to cite.
 use Rattle.std.proofs.Common.{◌≡◌, ℕ, List, Option, None, Some, Result, Ok, Err, IfSome, IsErrAnd, sym, subst}
 use Rattle.scenario.specs.files.Engines.{Ran, Streams, text_or_none}
-use Rattle.scenario.specs.files.Streams.{WritesFront}
-use Rattle.scenario.specs.files.declared.faults.Fault.{Fault}
+use Rattle.scenario.specs.files.{Fault, LineFault, WritesFront}
 use Rattle.scenario.specs.files.declared.faults.Fault.TheVariants.{Memory}
-use Rattle.scenario.specs.files.declared.faults.LineFault.{LineFault}
 use Rattle.course.proofs.Written.{front_none as none_is_front}
 
 -- nothing is a front of every text

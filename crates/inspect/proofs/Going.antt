@@ -1,18 +1,13 @@
 -- A `go` that is made Step by Step, up to an event.
 use Rattle.std.proofs.Common.{◌≡◌, inl, inr, ℕ, zero, suc, ◌+◌, ◌<◌, ◌≤◌, nat_lt, Bool, true, false, cond, [], length, Option, None, Some, refl, ap, sym, subst, ◌∙◌, arith}
-use Rattle.plain_store.specs.declared.setups.Setup.{Setup}
-use Rattle.record.specs.declared.stages.Stage.{Stage}
-use Rattle.record.specs.Stages.{stage}
+use Rattle.plain_store.specs.{Setup}
+use Rattle.record.specs.{Stage, stage}
 use Rattle.scenario.specs.declared.lines.Line.TheVariants as line
-use Rattle.scenario.specs.declared.lines.Target.{Target}
-use Rattle.course.specs.world.Events.{stage_in}
-use Rattle.course.specs.Courses.{Follows}
-use Rattle.course.specs.Happenings.{Lacks, Tires}
-use Rattle.course.specs.Runs.{Run, goes, is_there, may_step, past_in, run_after, stepped, with_happening}
-use Rattle.course.specs.Turns.{go_rest}
+use Rattle.scenario.specs.{Target}
+use Rattle.course.specs.world.{stage_in}
+use Rattle.course.specs.{Follows, Lacks, Run, Tires, go_rest, goes, is_there, may_step, past_in, run_after, stepped, with_happening}
 use Rattle.course.proofs.Grows.{Grows, rest_grows}
-use Rattle.inspect.specs.States.{IsAt, MadePart, MakesLine, Part}
-use Rattle.inspect.specs.declared.part_of_run.PartOfRun.{PartOfRun}
+use Rattle.inspect.specs.{IsAt, MadePart, MakesLine, Part, PartOfRun}
 use Rattle.inspect.proofs.Along.{good_at, events_are, step_added, step_refused}
 
 -- so many Steps of a `go` were made, and each is an event; the rest follows

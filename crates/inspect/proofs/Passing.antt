@@ -1,24 +1,16 @@
 -- A table of calls hears Steps without a mark, one by one or many at once.
 use Rattle.std.proofs.Common.{◌≡◌, ◌+◌, ◌<◌, ℕ, zero, suc, Bool, true, false, if◌then◌else◌, List, [], ◌∷◌, ◌++◌, length, Option, None, Some, refl, ap, sym, subst, ◌∙◌, append-nil, arith}
-use Rattle.plain_store.specs.declared.setups.Setup.{Setup}
-use Rattle.record.specs.declared.access.Access.{Access}
+use Rattle.plain_store.specs.{Setup}
+use Rattle.record.specs.{Access, Entry, Past, entry_of, width}
 use Rattle.record.specs.declared.events.Event.TheVariants.{Step}
-use Rattle.record.specs.Entries.{Entry, Past}
-use Rattle.record.specs.Records.{entry_of}
-use Rattle.record.specs.Registers.{width}
 use Rattle.record.proofs.Width.{is_good}
-use Rattle.snapshot.specs.calls.Columns.{ends_number, more_if}
-use Rattle.snapshot.specs.calls.Hearing.{ComesInTurn, HasHeard, TableState, TellsRead}
-use Rattle.snapshot.specs.calls.Lines.{ended_lines, line_of}
-use Rattle.snapshot.specs.calls.Passing.{HasNotFailed, Passes, follows, quiet_entry}
+use Rattle.snapshot.specs.calls.{ComesInTurn, HasHeard, HasNotFailed, Passes, TableState, TellsRead, ended_lines, ends_number, follows, line_of, more_if, quiet_entry}
 use Rattle.snapshot.proofs.world.WorldTurns.{takes-turns}
-use Rattle.course.specs.world.Walks.{ends_overlapped_read}
-use Rattle.course.specs.Happenings.{Happening, Tries, past_after, tried}
-use Rattle.course.specs.Listening.{PassBy, PassWithin, StepsOn, StepsWithin, overlapped_in}
-use Rattle.course.specs.declared.told.Stepped.{Stepped}
+use Rattle.course.specs.world.{ends_overlapped_read}
+use Rattle.course.specs.{Happening, PassBy, PassWithin, Stepped, StepsOn, StepsWithin, Tries, overlapped_in, past_after, tried}
 use Rattle.course.proofs.laws.FrameEvents.{accepted}
 use Rattle.course.proofs.laws.Steps.{step_is}
-use Rattle.inspect.specs.Tables.{HasTabled, known_step, lines_after}
+use Rattle.inspect.specs.{HasTabled, known_step, lines_after}
 use Rattle.inspect.proofs.Seeing.{inside_never, not_so, steps_below}
 use Rattle.inspect.proofs.Tabling.{event_added, unmarked_ends}
 use Rattle.inspect.proofs.Unfailed.{within_unfailed}

@@ -1,35 +1,22 @@
 -- What is told of a run is heard.
 use Rattle.std.proofs.Common.{◌≡◌, ◌+◌, ◌<◌, Bool, true, false, List, [], ◌∷◌, ℕ, zero, suc, Option, None, Some, Ok, refl, ap, eqb-true, sym, subst, ◌∙◌}
-use Rattle.plain_store.specs.declared.setups.Setup.{Setup}
-use Rattle.plain_store.specs.Setups.{checked}
-use Rattle.record.specs.safe_bit.declared.Move.{Move}
+use Rattle.plain_store.specs.{Setup, checked}
+use Rattle.record.specs.safe_bit.{Move}
 use Rattle.record.specs.safe_bit.declared.Move.TheVariants.{BeginWrite, EndWrite, BeginRead, EndRead, Settle}
-use Rattle.record.specs.declared.access.Access.{Access}
-use Rattle.record.specs.declared.events.Event.{Event}
+use Rattle.record.specs.{Access, Entry, Event, Past, Taken, entry_of, past_of, width}
 use Rattle.record.specs.declared.events.Event.TheVariants.{Step}
-use Rattle.record.specs.Records.{entry_of, past_of}
-use Rattle.record.specs.Registers.{width}
 use Rattle.record.proofs.Width.{is_good}
 use Rattle.course.proofs.InTurn.{process_there}
 use Rattle.course.proofs.laws.Steps.{step_is}
-use Rattle.course.specs.world.laws.Doings.{doing}
-use Rattle.course.specs.world.process.Looks.{number_read}
-use Rattle.course.specs.world.process.Places.{left_at, process_after}
-use Rattle.snapshot.specs.calls.Columns.{ends_number}
-use Rattle.snapshot.specs.Keeping.{Passes, TellsNumber}
+use Rattle.course.specs.world.laws.{doing}
+use Rattle.course.specs.world.process.{left_at, number_read, process_after}
+use Rattle.snapshot.specs.calls.{ends_number}
+use Rattle.snapshot.specs.{Passes, TellsNumber, newest_line}
 use Rattle.snapshot.proofs.FirstAccesses.{has-first}
 use Rattle.snapshot.proofs.world.WorldShows.{past-after}
 use Rattle.snapshot.proofs.world.WorldWithin.{inside-number}
-use Rattle.record.specs.declared.history.Taken.{Taken}
-use Rattle.record.specs.Entries.{Entry, Past}
-use Rattle.course.specs.Happenings.{Happening, Tries, past_after, tried}
-use Rattle.course.specs.Listening.{Happens, LearnsTold, PassWithin, StepsOn, StepsWithin}
-use Rattle.course.specs.Telling.{told_unmarked}
-use Rattle.course.specs.declared.told.Stepped.{Stepped}
-use Rattle.course.specs.declared.told.Told.{Told}
-use Rattle.snapshot.specs.Processes.{newest_line}
-use Rattle.inspect.specs.States.{HasSeen, HearsTold, Knows, KnowsNewest, KnowsTold, newest}
-use Rattle.inspect.specs.declared.heard.HeardRun.{HeardRun}
+use Rattle.course.specs.{Happening, Happens, LearnsTold, PassWithin, Stepped, StepsOn, StepsWithin, Told, Tries, past_after, told_unmarked, tried}
+use Rattle.inspect.specs.{HasSeen, HeardRun, HearsTold, Knows, KnowsNewest, KnowsTold, newest}
 use Rattle.inspect.proofs.Tabling.{in_turn, past_told}
 
 -- what a turn tells

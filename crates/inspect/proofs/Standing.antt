@@ -1,17 +1,12 @@
 -- What a part of a run stands at: its snapshot has heard what its course shows.
 use Rattle.std.proofs.Common.{◌≡◌, List, ap, sym, subst, ◌∙◌}
-use Rattle.plain_store.specs.declared.setups.Setup.{Setup}
-use Rattle.record.specs.declared.events.Event.{Event}
-use Rattle.record.specs.declared.history.Taken.{Taken}
-use Rattle.record.specs.Histories.{history}
-use Rattle.record.specs.Records.{past_of}
-use Rattle.course.specs.world.Cores.{CoreState, with_history}
+use Rattle.plain_store.specs.{Setup}
+use Rattle.record.specs.{Event, Taken, history, past_of}
+use Rattle.course.specs.world.{CoreState, with_history}
 use Rattle.course.specs.world.Shows.{Shows, WorldState}
-use Rattle.course.specs.Happenings.{tried}
-use Rattle.course.specs.Runs.{Run, past_in}
-use Rattle.snapshot.specs.States.{Stands}
-use Rattle.inspect.specs.States.{IsAt}
-use Rattle.inspect.specs.declared.part_of_run.PartOfRun.{PartOfRun}
+use Rattle.course.specs.{Run, past_in, tried}
+use Rattle.snapshot.specs.{Stands}
+use Rattle.inspect.specs.{IsAt, PartOfRun}
 
 pub stands_at : (s : Setup) (run : Run) (part : PartOfRun) (core : CoreState) (taken : List Taken) → IsAt s part run → with_history core part.course.world.history ≡ part.course.world → taken ≡ history part.course.world.setup (past_in part.course.world.setup run) →
     Stands part.heard.snapshot core taken (past_in s run)

@@ -1,30 +1,14 @@
 -- The lines of the calls that end, turn by turn and line by line.
 use Rattle.std.proofs.Common.{◌≡◌, ◌+◌, ◌&&◌, ℕ, Bool, true, false, not, cond, List, [], ◌∷◌, ◌++◌, Option, None, Some, Result, Ok, Err, IfErr, OnErr, refl, ap, sym, subst, ◌∙◌, append-nil, append_assoc, eq-eqb}
 use Rattle.std.specs.Io.KnownBytes.{Appends}
-use Rattle.scenario.specs.files.Streams.{WritesFront}
-use Rattle.plain_store.specs.declared.setups.Setup.{Setup}
-use Rattle.record.specs.Registers.{width}
-use Rattle.record.specs.declared.access.Access.{Access}
-use Rattle.record.specs.declared.events.Event.{Event}
-use Rattle.record.specs.declared.history.Taken.{Taken}
-use Rattle.record.specs.declared.marks.Mark.{Mark}
-use Rattle.record.specs.Entries.{Entry, Past}
-use Rattle.record.specs.Records.{entry_of, past_of, process_of}
-use Rattle.scenario.specs.declared.lines.Line.{Line}
-use Rattle.snapshot.specs.calls.Columns.{called, ends_number, is_calling, is_unmarked}
-use Rattle.snapshot.specs.calls.Hearing.{ComesInTurn, HasHeard, TableState, ended_call}
-use Rattle.snapshot.specs.calls.Lines.{ended_lines, header, open_lines, table_text}
-use Rattle.course.specs.Courses.{CourseState}
-use Rattle.course.specs.Happenings.{Happening, Tries, Lacks, Tires, Looks, past_after, tried}
-use Rattle.course.specs.Listening.{Happens}
-use Rattle.course.specs.Runs.{Run, run_after, run_at_start, runs}
-use Rattle.course.specs.world.Walks.{ends_overlapped_read}
-use Rattle.course.specs.Telling.{IsMarked, TellsOf, entry_made}
-use Rattle.course.specs.Writing.{IsWriteFault, Writes, WritesPart, failed_write}
-use Rattle.course.specs.declared.told.Accepted.{Accepted}
-use Rattle.course.specs.declared.told.Told.{Told}
+use Rattle.scenario.specs.files.{Fault, WritesFront}
+use Rattle.plain_store.specs.{Setup}
+use Rattle.record.specs.{Access, Entry, Event, Mark, Past, Taken, entry_of, past_of, process_of, width}
+use Rattle.scenario.specs.{Line}
+use Rattle.snapshot.specs.calls.{ComesInTurn, HasHeard, TableState, called, ended_call, ended_lines, ends_number, header, is_calling, is_unmarked, open_lines, table_text}
+use Rattle.course.specs.{Accepted, CourseState, Happening, Happens, IsMarked, IsWriteFault, Lacks, Looks, Run, TellsOf, Tires, Told, Tries, Writes, WritesPart, entry_made, failed_write, past_after, run_after, run_at_start, runs, tried}
+use Rattle.course.specs.world.{ends_overlapped_read}
 use Rattle.course.specs.declared.told.Told.TheVariants as told
-use Rattle.scenario.specs.files.declared.faults.Fault.{Fault}
 use Rattle.course.proofs.Endings.{err_both}
 use Rattle.course.proofs.Grows.{lines_grow}
 use Rattle.course.proofs.InTurn.{process_there}

@@ -1,17 +1,12 @@
 -- A process that is within a number access has not failed in its call.
 use Rattle.std.proofs.Common.{◌≡◌, ◌<◌, ◌==◌, ℕ, Bool, true, false, cond, List, [], ◌∷◌, length, Option, None, Some, refl, ap, sym, ◌∙◌, arith}
 use Rattle.std.specs.List.{list_any}
-use Rattle.plain_store.specs.declared.Command.{Command}
-use Rattle.plain_store.specs.declared.setups.Setup.{Setup}
-use Rattle.record.specs.declared.access.Access.{Access}
-use Rattle.record.specs.declared.marks.Mark.{Mark}
+use Rattle.plain_store.specs.{Command, Setup}
+use Rattle.record.specs.{Access, Entry, Mark, Past, first_of, has, is_called, is_failed, number_in_call, own, start_in, starts}
 use Rattle.record.specs.declared.marks.Mark.TheVariants.{Called, Waiting, Entered, Taken, Left, Answered, Failed, Settled, Down, Withdrew, Restarted}
 use Rattle.record.specs.Closings.{Closing, Withdraws, Settles, Frees, Lowers, Quit, Ended}
-use Rattle.record.specs.Doorways.{first_of, number_in_call}
-use Rattle.record.specs.Entries.{Entry, Past, has, is_called, is_failed, own, starts}
-use Rattle.record.specs.Records.{start_in}
-use Rattle.course.specs.world.laws.Doings.{Doing, Rests, Lies, Runs, Closes, closes, does_after, doing, goes_on}
-use Rattle.course.specs.world.process.Places.{ProcessState, left_at, process_after}
+use Rattle.course.specs.world.laws.{Doing, Rests, Lies, Runs, Closes, closes, does_after, doing, goes_on}
+use Rattle.course.specs.world.process.{ProcessState, left_at, process_after}
 
 -- The mark with which a program begins.
 

@@ -2,25 +2,13 @@
 use Rattle.std.specs.Prelude.{◌≡◌, ◌⊎◌, ◌+◌, ◌-◌, ◌≤◌, ◌^◌, ℕ, nat_lt, cond, if◌then◌else◌, List, [], ◌∷◌, ◌++◌, codes, drop, length, Option, None, Some, Result, Ok, Err, option_map}
 use Rattle.std.specs.Fmt.{decimal}
 use Rattle.std.specs.Str.{bytes_eq}
-use Rattle.plain_store.specs.declared.setups.Setup.{Setup}
-use Rattle.record.specs.Entries.{Entry, Past}
-use Rattle.scenario.specs.files.Engines.{text_by}
-use Rattle.scenario.specs.files.declared.faults.FaultKind.{FaultKind}
-use Rattle.scenario.specs.files.declared.faults.LineFault.{LineFault}
-use Rattle.scenario.specs.Operands.{number_at}
-use Rattle.scenario.specs.Reading.{Script, scenario_of}
-use Rattle.scenario.specs.declared.lines.Line.{Line}
+use Rattle.plain_store.specs.{Setup}
+use Rattle.record.specs.{Entry, Past}
+use Rattle.scenario.specs.files.{FaultKind, LineFault, text_by}
+use Rattle.scenario.specs.{Line, Script, Target, number_at, scenario_of}
 use Rattle.scenario.specs.declared.lines.Line.TheVariants as line
-use Rattle.scenario.specs.declared.lines.Target.{Target}
-use Rattle.course.specs.Courses.{Follows}
-use Rattle.course.specs.Happenings.{Happening, past_after}
-use Rattle.course.specs.Listening.{Needs}
-use Rattle.course.specs.Runs.{Run, happenings, past_in, run_after}
-use Rattle.course.specs.Telling.{IsMarked, entry_made}
-use Rattle.course.specs.declared.told.Accepted.{Accepted}
-use Rattle.course.specs.declared.told.Told.{Told}
-use Rattle.snapshot.specs.Processes.{newest_line}
-use Rattle.snapshot.specs.States.{HasHeard, state_lines}
+use Rattle.course.specs.{Accepted, Follows, Happening, IsMarked, Needs, Run, Told, entry_made, happenings, past_after, past_in, run_after}
+use Rattle.snapshot.specs.{HasHeard, newest_line, state_lines}
 use Rattle.inspect.specs.Tables.{IsInTurn, past_with}
 use Rattle.inspect.specs.declared.heard.HeardRun.{HeardRun}
 use Rattle.inspect.specs.declared.heard.Unmarked.{Unmarked}

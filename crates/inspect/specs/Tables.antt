@@ -2,26 +2,13 @@
 use Rattle.std.specs.Prelude.{◌≡◌, ◌+◌, ◌^◌, ◌<◌, ◌≤◌, ℕ, List, [], ◌∷◌, ◌++◌, Option, None, Some, Result, length, refl}
 use Rattle.std.proofs.Common.{ap, sym, ◌∙◌, arith, append-nil, append_assoc}
 use Rattle.std.specs.Io.KnownBytes.{Appends}
-use Rattle.plain_store.specs.declared.setups.Setup.{Setup}
-use Rattle.record.specs.Entries.{Entry, Past}
-use Rattle.record.specs.Records.{entry_of}
-use Rattle.scenario.specs.files.Engines.{text_by}
-use Rattle.scenario.specs.files.Streams.{WritesFront}
-use Rattle.scenario.specs.files.declared.faults.LineFault.{LineFault}
-use Rattle.scenario.specs.Reading.{Script, scenario_of}
-use Rattle.scenario.specs.declared.lines.Line.{Line}
-use Rattle.course.specs.Courses.{CourseState, Follows}
-use Rattle.course.specs.Happenings.{Happening, Tries, Lacks, Tires, Looks, past_after}
-use Rattle.course.specs.Runs.{Run, happenings, run_after}
-use Rattle.course.specs.Telling.{entry_made}
-use Rattle.course.specs.Writing.{Writes, WritesPart}
-use Rattle.course.specs.declared.told.Accepted.{Accepted}
-use Rattle.course.specs.declared.told.Stepped.{Stepped}
-use Rattle.course.specs.declared.told.Told.{Told}
+use Rattle.plain_store.specs.{Setup}
+use Rattle.record.specs.{Entry, Past, entry_of}
+use Rattle.scenario.specs.files.{LineFault, WritesFront, text_by}
+use Rattle.scenario.specs.{Line, Script, scenario_of}
+use Rattle.course.specs.{Accepted, CourseState, Follows, Happening, Lacks, Looks, Run, Stepped, Tires, Told, Tries, Writes, WritesPart, entry_made, happenings, past_after, run_after}
 use Rattle.course.specs.declared.told.Told.TheVariants as told
-use Rattle.snapshot.specs.calls.Hearing.{ComesInTurn, HasHeard, TableState, ended_call}
-use Rattle.snapshot.specs.calls.declared.called.EntryKnown.{EntryKnown}
-use Rattle.snapshot.specs.calls.Lines.{ended_lines, line_of, table_text}
+use Rattle.snapshot.specs.calls.{ComesInTurn, EntryKnown, HasHeard, TableState, ended_call, ended_lines, line_of, table_text}
 
 -- the table of the calls of a scenario's run
 abbrev pub tabled : Script → List ℕ

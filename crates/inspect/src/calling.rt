@@ -1,14 +1,12 @@
 //! The engine `calls`: a line for each call of a scenario's run, written as it ends; at the end the calls that go on.
 ghost use Rattle.std.specs.Prelude.{◌≡◌, ◌+◌, ◌-◌, ◌^◌, ◌<◌, ◌≤◌, flat_map, length, IfErr, IfOk, OnErr, OnOk};
 ghost use Rattle.std.specs.Io.KnownBytes.{Appends};
-ghost use Rattle.record.specs.Entries.{Past};
+ghost use Rattle.record.specs.{Past};
 ghost use Rattle.scenario.specs.files.Engines.{Ran, streams};
-ghost use Rattle.scenario.specs.files.Streams.{ReadsFront, WritesFront};
-ghost use Rattle.scenario.specs.Reads.{script};
-ghost use Rattle.course.specs.Replays.{ended};
-ghost use Rattle.course.specs.Writing.{IsWriteFault, failed_write};
-ghost use Rattle.snapshot.specs.calls.Hearing.{HasHeard, open_call};
-ghost use Rattle.snapshot.specs.calls.Lines.{header, line_of, open_lines};
+ghost use Rattle.scenario.specs.files.{ReadsFront, WritesFront};
+ghost use Rattle.scenario.specs.{script};
+ghost use Rattle.course.specs.{IsWriteFault, ended, failed_write};
+ghost use Rattle.snapshot.specs.calls.{HasHeard, header, line_of, open_call, open_lines};
 ghost use Rattle.inspect.specs.Tables.{CutsTable, TablesLine, calls_text, tabled};
 
 use crate::hearing::{Tabler, write_if};

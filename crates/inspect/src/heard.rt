@@ -1,10 +1,10 @@
 //! A listener that keeps the state of a run.
 ghost use Rattle.std.specs.Prelude.{◌≡◌, ◌+◌, ◌-◌, ◌^◌, ◌<◌, ◌≤◌, [], IfOk, Ok, OnOk, refl, false};
-ghost use Rattle.plain_store.specs.Setups.{checked};
+ghost use Rattle.plain_store.specs.{checked};
 ghost use Rattle.scenario.specs.files.declared.faults.Fault.TheVariants.{Memory};
-ghost use Rattle.course.specs.Listening.{HearsUnmarked, Learns};
+ghost use Rattle.course.specs.{HearsUnmarked, Learns};
 ghost use Rattle.course.specs.declared.told.Told.TheVariants.{Accepted as IsAccepted};
-ghost use Rattle.snapshot.specs.Processes.{newest_line};
+ghost use Rattle.snapshot.specs.{newest_line};
 ghost use Rattle.inspect.specs.States.{HasSeen, Hears, HearsTold, Knows, KnowsNewest, KnowsTold, WritesSeen, head_lines, newest_heard, unmarked_entry};
 ghost use Rattle.inspect.specs.Tables.{fewer};
 

@@ -2,12 +2,10 @@
 ghost use Rattle.std.specs.Prelude.{◌≡◌, ◌+◌, ◌-◌, ◌^◌, ◌<◌, ◌∷◌, [], IfErr, OnErr, OnOk, Some, length, refl, false, ⊤};
 ghost use Rattle.std.proofs.Common.{◌∙◌};
 ghost use Rattle.std.specs.Io.KnownBytes.{Appends};
-ghost use Rattle.record.specs.Entries.{Entry as Noted, Past};
-ghost use Rattle.scenario.specs.files.Streams.{WritesFront};
-ghost use Rattle.course.specs.Takings.{Took, TookPart, part_before, part_on, part_unheard, took_none, took_on};
-ghost use Rattle.course.specs.Writing.{IsWriteFault, failed_write};
-ghost use Rattle.snapshot.specs.calls.Hearing.{ComesInTurn, HasHeard, ended_call};
-ghost use Rattle.snapshot.specs.calls.Lines.{call_line, line_of};
+ghost use Rattle.record.specs.{Entry as Noted, Past};
+ghost use Rattle.scenario.specs.files.{WritesFront};
+ghost use Rattle.course.specs.{IsWriteFault, Took, TookPart, failed_write, part_before, part_on, part_unheard, took_none, took_on};
+ghost use Rattle.snapshot.specs.calls.{ComesInTurn, HasHeard, call_line, ended_call, line_of};
 ghost use Rattle.inspect.specs.Tables.{CutsTold, HasTabled, Tells, fewer, known_step, lines_after, lines_longer};
 
 use course::{Listener, Stepped, Taken, Told};

@@ -1,8 +1,8 @@
 //! The first events of a run: its lines are played up to an event.
 ghost use Rattle.std.specs.Prelude.{◌≡◌, ◌<◌, ◌^◌, IfOk, OnOk, Ok};
-ghost use Rattle.plain_store.specs.Setups.{checked};
+ghost use Rattle.plain_store.specs.{checked};
 ghost use Rattle.scenario.specs.declared.lines.Line.TheVariants.{Go as GoLine};
-ghost use Rattle.course.specs.Runs.{run_at_start};
+ghost use Rattle.course.specs.{run_at_start};
 ghost use Rattle.inspect.specs.States.{GoesAlong, GrowsBy, IsAt, MakesLine, MakesPart, WritesState, clipped, long_go};
 
 use crate::heard::HeardRun;

@@ -1,9 +1,8 @@
 //! The engine `state`: the state after the first events of a scenario's run.
 ghost use Rattle.std.specs.Prelude.{◌≡◌, ◌-◌, ◌^◌, ◌<◌, ◌++◌, ℕ, IfOk, List, OnOk};
 ghost use Rattle.scenario.specs.files.Engines.{Ran, streams};
-ghost use Rattle.scenario.specs.files.Streams.{ReadsFront};
-ghost use Rattle.scenario.specs.Reading.{Script};
-ghost use Rattle.scenario.specs.Reads.{script};
+ghost use Rattle.scenario.specs.files.{ReadsFront};
+ghost use Rattle.scenario.specs.{Script, script};
 ghost use Rattle.inspect.specs.States.{IsPartOf, events_said as said_by, state_text, stated};
 
 use crate::part_of_run::PartOfRun;

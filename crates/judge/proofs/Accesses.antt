@@ -5,34 +5,18 @@ use Rattle.std.proofs.lemmas.Bool.Decides.{nat_tests}
 use Rattle.std.specs.Option.{is_some}
 use Rattle.std.specs.Prelude.{option_map}
 use Rattle.record.specs.reader_copies.Runs as copies
-use Rattle.record.specs.safe_bit.SafeRule.{read_value}
-use Rattle.record.specs.safe_bit.declared.Move.{Move}
+use Rattle.record.specs.safe_bit.{Move, read_value}
 use Rattle.record.specs.safe_bit.declared.Move.TheVariants.{BeginWrite, EndWrite, BeginRead, EndRead, Settle}
-use Rattle.record.specs.safe_number.Runs.{NumberWrite}
-use Rattle.record.specs.declared.access.Access.{Access}
-use Rattle.record.specs.declared.access.Field.{Field}
-use Rattle.record.specs.declared.stages.Stage.{Stage}
+use Rattle.record.specs.safe_number.{NumberWrite}
+use Rattle.record.specs.{Access, Call, Clears, Entry, Event, Field, Next, Over, Part, Past, Place, Reading, Run, Stage, Writing, access_at, access_of, bit_written, ended, ended_with, entry_of, field_number, is_fresh, is_over, moves_of, opening_bit, past_of, stage, stage_of, width, written_at}
 use Rattle.record.specs.declared.stages.Stage.TheVariants as stages
-use Rattle.plain_store.specs.declared.Command.{Command}
-use Rattle.plain_store.specs.declared.Setup.{Setup}
-use Rattle.record.specs.declared.events.Event.{Event}
-use Rattle.record.specs.Accesses.{access_of}
+use Rattle.plain_store.specs.{Command, Setup}
 use Rattle.record.specs.Closings.{Closing, Withdraws, Settles, Frees, Lowers, Quit, Ended, closing_next, closing_stage, no_ticket}
-use Rattle.record.specs.Entries.{Entry, Past}
-use Rattle.record.specs.Moves.{ended, ended_with, field_number, moves_of}
-use Rattle.record.specs.Parts.{Part, Clears, Over, is_over, stage_of, written_at}
-use Rattle.record.specs.Places.{Place, Run, Writing, Reading, access_at, bit_written, is_fresh}
-use Rattle.record.specs.Records.{entry_of, past_of}
-use Rattle.record.specs.Registers.{opening_bit, width}
-use Rattle.record.specs.Scripts.{Call, Next}
-use Rattle.record.specs.Stages.{stage}
 use Rattle.record.proofs.PlaceTurns.{access_in}
 use Rattle.record.proofs.Singles.{is_write}
 use Rattle.record.proofs.Turns.{and_false}
 use Rattle.record.proofs.Width.{IsGood}
-use Rattle.any_lock.specs.read_law.laws.Doings.{Doing, Runs, Closes, call, doing}
-use Rattle.any_lock.specs.read_law.laws.Held.{IsThere}
-use Rattle.any_lock.specs.read_law.laws.Steps.{next_of}
+use Rattle.any_lock.specs.read_law.laws.{Closes, Doing, IsThere, Runs, call, doing, next_of}
 use Rattle.any_lock.proofs.read_law.laws.Doings as laws
 use Rattle.any_lock.proofs.read_law.laws.Frame.{Happens, a_call, a_withdrawal, a_failure, a_restart, a_step, a_closing}
 use Rattle.any_lock.proofs.read_law.laws.FrameCells.{ByProcess}
@@ -40,12 +24,8 @@ use Rattle.any_lock.proofs.read_law.laws.FrameEvents.{Accepted, accepted}
 use Rattle.any_lock.proofs.read_law.laws.FrameInside.{stage-is}
 use Rattle.any_lock.proofs.read_law.laws.FrameSteps.{closing-writes, entry-by}
 use Rattle.any_lock.proofs.read_law.laws.HeldThere.{access_there}
-use Rattle.any_lock.specs.declared.refusals.AccessRefusal.{AccessRefusal}
+use Rattle.any_lock.specs.{AccessRefusal, Begun, Standing, access_refusal, begins_write, ends, first_that, is_end_of, is_of_bit, is_running, is_settling, may_move, opened, reads, refusal_of_access, settles, standing, torn}
 use Rattle.any_lock.specs.declared.refusals.AccessRefusal.TheVariants as access
-use Rattle.any_lock.specs.declared.standings.Begun.{Begun}
-use Rattle.any_lock.specs.declared.standings.Standing.{Standing}
-use Rattle.any_lock.specs.Refusals.{access_refusal, begins_write, ends, first_that, is_end_of, is_of_bit, is_running, is_settling, may_move, reads, refusal_of_access}
-use Rattle.any_lock.specs.Standings.{opened, settles, standing, torn}
 use Rattle.judge.proofs.OpenDoings.{opens}
 use Rattle.judge.proofs.Opened.{Fits, FitsNext}
 use Rattle.judge.proofs.Torn.{TornAt, TornBy, TornIn, comes, settled}

@@ -1,22 +1,14 @@
 -- The reasons behind a verdict, as entries are heard.
 use Rattle.std.proofs.Common.{◌≡◌, ℕ, not, ◌&&◌, Bool, true, false, List, [], ◌∷◌, ◌++◌, length, reverse, Option, None, Some, refl, ap, sym, subst, ◌∙◌, true≢false, arith}
 use Rattle.std.proofs.lemmas.List.{length-append, length-reverse}
-use Rattle.plain_store.specs.declared.setups.Setup.{Setup}
-use Rattle.record.specs.Entries.{Entry, Past}
-use Rattle.any_lock.specs.Judging.{AreReasonsAt, AreReasonsOf, HasJudged, JudgeState}
-use Rattle.any_lock.specs.Laws.{first_broken}
-use Rattle.any_lock.specs.Reasons.{AreReasons}
-use Rattle.any_lock.specs.Verdicts.{verdict_of, verdict_with}
+use Rattle.plain_store.specs.{Setup}
+use Rattle.record.specs.{Entry, Past}
+use Rattle.any_lock.specs.{AnyLockLaw, AnyLockVerdict, AreReasons, AreReasonsAt, AreReasonsOf, HasJudged, JudgeState, first_broken, verdict_of, verdict_with}
 use Rattle.any_lock.specs.declared.reasons.Reasons.{Reasons}
-use Rattle.any_lock.specs.declared.verdicts.AnyLockLaw.{AnyLockLaw}
-use Rattle.any_lock.specs.declared.verdicts.AnyLockVerdict.{AnyLockVerdict}
 use Rattle.any_lock.specs.declared.verdicts.AnyLockVerdict.TheVariants.{Good, Bad}
 use Rattle.any_lock.proofs.Told.{newest_first, verdict_bad, verdict_good}
-use Rattle.judge.specs.ReasonLines.{AreLinesAt}
+use Rattle.judge.specs.{AnyAreLinesOf, AnyHasExplained, AnyTellsReasons, AnyTellsVerdict, AreLines, AreLinesAt, Explains, ExplainsIf, any_is_good, any_reason_lines, any_status_of_verdict, any_verdict_line}
 use Rattle.judge.proofs.LinesAt.{counted_on, lines_of_newest, lines_stay}
-use Rattle.judge.specs.AnyExplanations.{AreLines, AnyAreLinesOf, Explains, ExplainsIf, AnyHasExplained, AnyTellsReasons, any_is_good}
-use Rattle.judge.specs.AnyJudgements.{AnyTellsVerdict, any_status_of_verdict, any_verdict_line}
-use Rattle.judge.specs.AnyReasons.{any_reason_lines}
 
 -- the newest of some entries
 newest_is : (e y : Entry) (xs ys later : Past) → e ∷ xs ≡ later ++ y ∷ ys → length ys ≡ length xs → (e ≡ y) × (xs ≡ ys)

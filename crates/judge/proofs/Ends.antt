@@ -2,22 +2,13 @@
 use Rattle.std.proofs.Common.{◌≡◌, ℕ, ◌+◌, ◌≤◌, Bool, true, false, List, [], ◌∷◌, ◌++◌, length, Option, Some, None, Result, Ok, Err, IfErr, IfSome, IsErrAnd, refl, ap, sym, subst, ◌∙◌, append_assoc, append-nil, arith}
 use Rattle.std.proofs.lemmas.List.{length-append}
 use Rattle.std.specs.Io.KnownBytes.{IsAtEnd, prepend_known}
-use Rattle.plain_store.specs.declared.setups.Setup.{Setup}
-use Rattle.files.specs.Checks.{◌>>=◌}
-use Rattle.files.specs.Files.{at_line}
-use Rattle.files.specs.Lines.{IsTooLong, TakesLine}
-use Rattle.files.specs.Reads.{UnlessMemory}
-use Rattle.files.specs.SourceLines.{EndHolds, Given, GoesToNext, LineState, TakesNext, Told, coming, unless_ended}
-use Rattle.files.specs.Words.{lines}
-use Rattle.files.specs.declared.faults.Fault.{Fault}
+use Rattle.plain_store.specs.{Setup}
+use Rattle.files.specs.{EndHolds, Fault, FaultKind, Given, GoesToNext, IsTooLong, LineFault, LineState, TakesLine, TakesNext, Told, UnlessMemory, at_line, coming, lines, unless_ended, ◌>>=◌}
 use Rattle.files.specs.declared.faults.Fault.TheVariants as fault
-use Rattle.files.specs.declared.faults.FaultKind.{FaultKind}
 use Rattle.files.specs.declared.faults.FaultKind.TheVariants.{NotFirst, TooLong}
-use Rattle.files.specs.declared.faults.LineFault.{LineFault}
-use Rattle.record.specs.Entries.{Entry}
-use Rattle.record_file.specs.RecordFiles.{Progress, cleared, entry_in, line_read, lines_read, record_of, rest_read, said_by}
-use Rattle.judge.specs.Ends.{IsInputFault, IsOfRecord}
-use Rattle.judge.specs.Numbers.{number_in, numbers_from, numbers_of}
+use Rattle.record.specs.{Entry}
+use Rattle.record_file.specs.{Progress, cleared, entry_in, line_read, lines_read, record_of, rest_read, said_by}
+use Rattle.judge.specs.{IsInputFault, IsOfRecord, number_in, numbers_from, numbers_of}
 use Rattle.judge.specs.Trials.{GoesOn, HearsAt, IsHeard, Stands, count_in}
 use Rattle.judge.proofs.Lines.{few_in, long_read}
 use Rattle.judge.proofs.Trials.{unless_then}

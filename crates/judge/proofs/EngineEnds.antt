@@ -1,13 +1,12 @@
 -- How the engine ends.
 use Rattle.std.proofs.Common.{◌≡◌, ◌+◌, ℕ, List, Option, Some, None, Result, Ok, Err, IfSome, IsErrAnd, sym, subst, ◌∙◌, arith}
 use Rattle.std.specs.Io.KnownBytes.{Appends, IsAtEnd, Keeps}
-use Rattle.plain_store.specs.declared.setups.Setup.{Setup}
+use Rattle.plain_store.specs.{Setup}
 use Rattle.files.proofs.EngineEnds.{kept}
 use Rattle.files.specs.Engines.{Streams}
-use Rattle.files.specs.Streams.{WritesFront, failed_reading}
-use Rattle.files.specs.declared.faults.Fault.{Fault}
+use Rattle.files.specs.{Fault, WritesFront, failed_reading}
 use Rattle.files.specs.declared.faults.Fault.TheVariants as fault
-use Rattle.record.specs.Entries.{Entry}
+use Rattle.record.specs.{Entry}
 use Rattle.judge.specs.Ends.{IsInputFault, IsOfRecord, TellsAll, TellsFront, TrialEnds}
 
 -- what follows of the whole input, where it is told

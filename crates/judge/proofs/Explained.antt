@@ -1,16 +1,13 @@
 -- The reasons behind a verdict, as entries are heard.
 use Rattle.std.proofs.Common.{◌≡◌, ◌<◌, ◌^◌, ℕ, List, [], ◌∷◌, ◌++◌, length, reverse, refl, ap, sym, subst, ◌∙◌}
 use Rattle.std.proofs.lemmas.List.{length-reverse}
-use Rattle.plain_store.specs.declared.setups.Setup.{Setup}
-use Rattle.record.specs.Entries.{Entry, Past}
-use Rattle.auditor.specs.Verdicts.{AllKeep, IsBadAt, IsVerdict, KeepsAll}
-use Rattle.auditor.specs.declared.verdicts.Verdict.{Verdict}
+use Rattle.plain_store.specs.{Setup}
+use Rattle.record.specs.{Entry, Past}
+use Rattle.auditor.specs.{AllKeep, IsBadAt, IsVerdict, KeepsAll, Verdict}
 use Rattle.auditor.specs.declared.verdicts.Verdict.TheVariants.{Good, Bad}
 use Rattle.auditor.proofs.Unique.{one_verdict}
 use Rattle.judge.proofs.LinesAt.{counted_on, lines_of_newest, lines_stay}
-use Rattle.judge.specs.Explanations.{AreLinesOf, AreReasons, HasExplained, HasReasons, ReasonsGoOn, Writes, reason_lines}
-use Rattle.judge.specs.Following.{FollowerState, HasFollowed}
-use Rattle.judge.specs.Judging.{HasJudged, JudgeState}
+use Rattle.judge.specs.{AreLinesOf, AreReasons, FollowerState, HasExplained, HasFollowed, HasJudged, HasReasons, JudgeState, ReasonsGoOn, Writes, reason_lines}
 use Rattle.judge.proofs.JudgedRecords.{newest_first, stays_bad}
 
 -- where each entry keeps all laws, one of them does

@@ -1,21 +1,12 @@
 -- What goes along with a good record.
 use Rattle.std.proofs.Common.{◌≡◌, ◌≤◌, ◌<◌, ◌^◌, ℕ, suc, List, [], ◌∷◌, ◌++◌, length, Option, Some, None, refl, ap, sym, subst, arith}
 use Rattle.std.proofs.lemmas.List.{length_push}
-use Rattle.plain_store.specs.declared.Reply.{Reply}
-use Rattle.plain_store.specs.declared.setups.Setup.{Setup}
-use Rattle.record.specs.declared.events.Event.{Event}
-use Rattle.record.specs.declared.history.Taken.{Taken}
-use Rattle.record.specs.declared.refusals.Refusal.{Refusal}
-use Rattle.record.specs.Calls.{last_call}
-use Rattle.record.specs.Entries.{Entry, Past, own}
-use Rattle.record.specs.Histories.{history, reply_taken}
-use Rattle.record.specs.Records.{added, entry_of, past_of, refused}
-use Rattle.auditor.specs.world.Cores.{CoreState, with_history}
+use Rattle.plain_store.specs.{Reply, Setup}
+use Rattle.record.specs.{Entry, Event, Past, Refusal, Taken, added, entry_of, history, last_call, own, past_of, refused, reply_taken}
+use Rattle.auditor.specs.world.{CoreState, with_history}
 use Rattle.auditor.specs.world.Shows.{Shows}
-use Rattle.auditor.specs.Hearing.{AuditorState, BreaksNext, HasHeard, IsCount, IsHeard}
-use Rattle.auditor.specs.Verdicts.{KeepsAll}
-use Rattle.auditor.specs.declared.verdicts.Law.{Law}
-use Rattle.judge.specs.Following.{FollowerState, HasFollowed}
+use Rattle.auditor.specs.{AuditorState, BreaksNext, HasHeard, IsCount, IsHeard, KeepsAll, Law}
+use Rattle.judge.specs.{FollowerState, HasFollowed}
 
 -- the history is no longer than the past
 pub history_within : (s : Setup) (past : Past) → length (history s past) ≤ length past

@@ -4,20 +4,13 @@ use Rattle.std.proofs.lemmas.Bool.Decides.{nat_tests}
 use Rattle.std.specs.List.{list_all}
 use Rattle.std.specs.Option.{is_some}
 use Rattle.std.proofs.lemmas.Bool.{cases_eq}
-use Rattle.plain_store.specs.declared.Reply.{Reply}
-use Rattle.plain_store.specs.declared.Setup.{Setup}
-use Rattle.record.specs.Entries.{Entry, Past, has, is_entered}
-use Rattle.record.specs.Headline.{TakesItsPlace}
-use Rattle.record.specs.Histories.{history}
-use Rattle.record.specs.Spans.{takings}
-use Rattle.record.specs.Stages.{inside}
-use Rattle.judge.specs.auditor.Verdicts.{KeepsTogether}
+use Rattle.plain_store.specs.{Reply, Setup}
+use Rattle.record.specs.{Entry, Past, TakesItsPlace, has, history, inside, is_entered, takings}
+use Rattle.judge.specs.auditor.{KeepsTogether}
 use Rattle.judge.specs.auditor.declared.verdicts.Law.TheVariants as law
-use Rattle.any_lock.specs.Laws.{breaks_history, breaks_together, is_that, lowest_other, right_reply}
-use Rattle.any_lock.specs.Refusals.{same_reply}
-use Rattle.any_lock.specs.Standings.{standing}
+use Rattle.any_lock.specs.{breaks_history, breaks_together, is_that, lowest_other, right_reply, same_reply, standing}
 use Rattle.any_lock.proofs.Breaks.{broken_by}
-use Rattle.judge.specs.Good.{GoodKeepsOfAny}
+use Rattle.judge.specs.{GoodKeepsOfAny}
 use Rattle.judge.proofs.NoneBelow.{none_below}
 use Rattle.judge.proofs.SameReply.{same_as_itself}
 

@@ -1,35 +1,24 @@
 -- The verdict of any lock's judge on what is good for this project's lock.
 use Rattle.std.proofs.Common.{◌≡◌, true, false, List, [], ◌∷◌, Some, None, Ok, length, reverse, refl, sym, ap, subst, ◌∙◌, true≢false}
 use Rattle.std.specs.Prelude.{if◌then◌else◌}
-use Rattle.plain_store.specs.declared.Setup.{Setup}
-use Rattle.plain_store.specs.Setups.{checked}
-use Rattle.record.specs.declared.events.Event.{Event}
-use Rattle.record.specs.Closings.{Withdraws}
-use Rattle.record.specs.Doorways.{doorway_begin, number_in_call}
-use Rattle.record.specs.Entries.{Entry, Past}
-use Rattle.record.specs.Places.{is_running}
-use Rattle.record.specs.Records.{entry_of, past_of}
-use Rattle.record.specs.Stages.{stage}
+use Rattle.plain_store.specs.{Setup, checked}
+use Rattle.record.specs.{Entry, Event, Past, Withdraws, doorway_begin, entry_of, is_running, number_in_call, past_of, stage}
 use Rattle.record.proofs.Width.{IsGood, is_good}
-use Rattle.any_lock.specs.read_law.laws.Doings.{Doing, Runs, Closes, doing}
+use Rattle.any_lock.specs.read_law.laws.{Doing, Runs, Closes, doing}
 use Rattle.any_lock.proofs.read_law.laws.Doings as laws
 use Rattle.any_lock.proofs.read_law.laws.FrameInside.{stage-is}
-use Rattle.judge.specs.auditor.Verdicts.{IsOfEvent, KeepsAll}
+use Rattle.judge.specs.auditor.{IsOfEvent, KeepsAll}
 use Rattle.judge.specs.auditor.Verdicts as own
 use Rattle.judge.specs.auditor.declared.verdicts.Law.TheVariants as law
 use Rattle.judge.proofs.auditor.Recovers.{recovers}
 use Rattle.judge.proofs.auditor.Whole.{of_events}
 use Rattle.any_lock.specs.declared.verdicts.AnyLockLaw.TheVariants as any
-use Rattle.any_lock.specs.declared.verdicts.AnyLockVerdict.{AnyLockVerdict}
+use Rattle.any_lock.specs.{AnyLockVerdict, breaks_overtaken, breaks_safe, broken_later, first_broken, has_access, refusal_of_access, refusal_of_marks, verdict_after, verdict_with}
 use Rattle.any_lock.specs.declared.verdicts.AnyLockVerdict.TheVariants.{Good, Bad}
-use Rattle.any_lock.specs.Laws.{breaks_overtaken, breaks_safe, broken_later, first_broken}
-use Rattle.any_lock.specs.Refusals.{refusal_of_access, refusal_of_marks}
-use Rattle.any_lock.specs.Standings.{has_access}
-use Rattle.any_lock.specs.Verdicts.{verdict_after, verdict_with}
 use Rattle.any_lock.proofs.Alone.{AllKeep, Keeps}
 use Rattle.any_lock.proofs.Breaks.{at_inside, broken_by, inside_is}
 use Rattle.any_lock.proofs.Took.{CallTakes, all_take}
-use Rattle.judge.specs.Good.{DoorwaysAreOne, GoodIsGood}
+use Rattle.judge.specs.{DoorwaysAreOne, GoodIsGood}
 use Rattle.judge.proofs.Accesses.{keeps_access}
 use Rattle.judge.proofs.Good.{keeps_history, keeps_together}
 use Rattle.judge.proofs.MarksKept.{keeps_marks}

@@ -1,20 +1,15 @@
 -- The verdict with one more entry.
 use Rattle.std.proofs.Common.{◌≡◌, ℕ, ◌+◌, ◌++◌, Bool, true, false, List, [], ◌∷◌, length, reverse, Option, Some, None, refl, ap, sym, subst, ◌∙◌, arith}
 use Rattle.std.proofs.lemmas.List.{length-append, length-reverse, reverse-append}
-use Rattle.plain_store.specs.declared.setups.Setup.{Setup}
-use Rattle.record.specs.Entries.{Entry, Past}
-use Rattle.auditor.specs.read_law.Safe.{KeepsSafe, MatchBool}
-use Rattle.auditor.specs.read_law.Watching.{AllAreOfThere, WatchState}
-use Rattle.auditor.specs.read_law.Watching.{HasHeard as HasWatched}
-use Rattle.auditor.specs.Hearing.{AuditorState, HasHeard, IsHeard}
-use Rattle.auditor.specs.Verdicts.{AllKeep, BreaksFirst, IsBadAt, IsVerdict}
-use Rattle.auditor.specs.declared.verdicts.Law.{Law}
+use Rattle.plain_store.specs.{Setup}
+use Rattle.record.specs.{Entry, Past}
+use Rattle.auditor.specs.read_law.{AllAreOfThere, HasHeard as HasWatched, KeepsSafe, MatchBool, WatchState}
+use Rattle.auditor.specs.{AllKeep, AuditorState, BreaksFirst, HasHeard, IsBadAt, IsHeard, IsVerdict, Law, Verdict}
 use Rattle.auditor.specs.declared.verdicts.Law.TheVariants as law
-use Rattle.auditor.specs.declared.verdicts.Verdict.{Verdict}
 use Rattle.auditor.specs.declared.verdicts.Verdict.TheVariants.{Good, Bad}
 use Rattle.auditor.proofs.Firsts.{breaks_safe, breaks_then}
 use Rattle.auditor.proofs.Whole.{there_of}
-use Rattle.judge.specs.Judging.{BothHeard, HasJudged, JudgeState, found}
+use Rattle.judge.specs.{BothHeard, HasJudged, JudgeState, found}
 
 -- some entries and one more, the newest first
 pub newest_first : (entries : List Entry) (e : Entry) → reverse (entries ++ e ∷ []) ≡ e ∷ reverse entries

@@ -1,22 +1,17 @@
 -- The write that a process has open, as any lock's look-back finds it, is its last one, and its last one is open, if that is a begin.
 use Rattle.std.proofs.Common.{◌≡◌, ℕ, ◌<◌, ◌+◌, ◌==◌, ◌&&◌, not, Bool, true, false, cond, [], ◌∷◌, Option, Some, None, length, refl, sym, ap, subst, ◌∙◌, true≢false}
-use Rattle.record.specs.safe_bit.declared.Move.{Move}
+use Rattle.record.specs.safe_bit.{Move}
 use Rattle.record.specs.safe_bit.declared.Move.TheVariants.{BeginWrite, EndWrite, BeginRead, EndRead, Settle}
-use Rattle.record.specs.declared.access.Access.{Access}
-use Rattle.plain_store.specs.declared.Setup.{Setup}
-use Rattle.record.specs.declared.marks.Mark.{Mark}
+use Rattle.record.specs.{Access, Entry, Mark, Past, Withdraws, is_begin, last_write, own, unfinished}
+use Rattle.plain_store.specs.{Setup}
 use Rattle.record.specs.declared.marks.Mark.TheVariants as mark
-use Rattle.record.specs.Closings.{Withdraws}
-use Rattle.record.specs.Entries.{Entry, Past, own}
-use Rattle.record.specs.Unit.{is_begin, last_write, unfinished}
 use Rattle.record.proofs.Opens.{last-none}
 use Rattle.record.proofs.Singles.{is_write}
-use Rattle.any_lock.specs.read_law.laws.Doings.{Doing, Runs, Closes}
+use Rattle.any_lock.specs.read_law.laws.{Doing, Runs, Closes}
 use Rattle.any_lock.proofs.read_law.laws.Frame.{own-own}
 use Rattle.any_lock.proofs.read_law.laws.FrameCells.{ByProcess}
 use Rattle.any_lock.proofs.read_law.laws.FrameCuts.{last-made}
-use Rattle.any_lock.specs.declared.standings.Begun.{Begun}
-use Rattle.any_lock.specs.Standings.{begins, left_open, opened, write_of}
+use Rattle.any_lock.specs.{Begun, begins, left_open, opened, write_of}
 use Rattle.any_lock.proofs.Markings.{ArePlain}
 use Rattle.judge.proofs.OpenDoings.{opened_access, opened_marked}
 use Rattle.judge.proofs.Opened.{open_by}

@@ -4,23 +4,15 @@ use Rattle.std.proofs.lemmas.Bool.Decides.{nat_tests}
 use Rattle.std.proofs.lemmas.Slice.Eq.{bytes_eq-Decides}
 use Rattle.std.specs.Option.{option_to_list}
 use Rattle.std.specs.Str.{bytes_eq}
-use Rattle.files.specs.Checks.{◌>>=◌, known, fault_if, word}
-use Rattle.files.specs.Files.{words_read, statement_read}
-use Rattle.files.specs.Words.{begins_with, words_of}
-use Rattle.files.specs.declared.faults.FaultKind.{FaultKind}
+use Rattle.files.specs.{FaultKind, begins_with, fault_if, known, statement_read, word, words_of, words_read, ◌>>=◌}
 use Rattle.files.specs.declared.faults.FaultKind.TheVariants.{NotFirst, Unknown, TooLong}
 use Rattle.files.proofs.Passing.{passed, no_fault}
-use Rattle.record.specs.Entries.{Entry}
-use Rattle.record_file.specs.Reading.{entry_of}
-use Rattle.record_file.specs.scenario.Reading.{at_version, heading_read, open_read}
-use Rattle.record_file.specs.scenario.Reading.{Progress as Head}
-use Rattle.record_file.specs.scenario.Keywords.{opener_of}
-use Rattle.record_file.specs.scenario.declared.keywords.Opener.{Opener}
+use Rattle.record.specs.{Entry}
+use Rattle.record_file.specs.{LineKind, Progress, begins_with_digit, cleared, entry_in, entry_of, first_read, head_read, kind_in, kind_of, line_read, line_said, pair_read, record_grammar}
+use Rattle.record_file.specs.scenario.{Opener, Progress as Head, at_version, heading_read, open_read, opener_of}
 use Rattle.record_file.specs.scenario.declared.keywords.Opener.TheVariants as opener
-use Rattle.record_file.specs.RecordFiles.{Progress, begins_with_digit, cleared, entry_in, first_read, head_read, kind_in, kind_of, line_read, line_said, pair_read, record_grammar}
-use Rattle.record_file.specs.declared.line_kinds.LineKind.{LineKind}
 use Rattle.record_file.specs.declared.line_kinds.LineKind.TheVariants as kind
-use Rattle.judge.specs.Numbers.{number_in, say_entry}
+use Rattle.judge.specs.{number_in, say_entry}
 
 -- What a later line leaves: it says no entry, and what has ended stays; or it says one, and the head stays.
 abbrev pub Left : Bool → Progress → Progress → Type 0

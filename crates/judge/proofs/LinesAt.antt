@@ -1,9 +1,9 @@
 -- The lines of reasons, as entries are heard.
 use Rattle.std.proofs.Common.{◌≡◌, ℕ, zero, suc, List, [], ◌∷◌, ◌++◌, length, reverse, Result, Ok, Err, OnOk, Some, slice_get, refl, ap, subst, ◌∙◌, arith}
 use Rattle.std.proofs.lemmas.List.{length-append, length-reverse, reverse-append}
-use Rattle.plain_store.specs.declared.setups.Setup.{Setup}
-use Rattle.record.specs.Entries.{Entry, Past}
-use Rattle.judge.specs.ReasonLines.{AreLinesAt}
+use Rattle.plain_store.specs.{Setup}
+use Rattle.record.specs.{Entry, Past}
+use Rattle.judge.specs.{AreLinesAt}
 
 -- the number at the end
 last_number : (ns : List ℕ) (n k : ℕ) → length ns ≡ k → slice_get (ns ++ n ∷ []) k ≡ Some n

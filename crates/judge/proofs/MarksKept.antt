@@ -1,32 +1,16 @@
 -- The entry of an event keeps the law `Marks` of any lock.
 use Rattle.std.proofs.Common.{◌≡◌, ℕ, ◌==◌, ◌&&◌, ◌||◌, not, nat_le, nat_lt, Bool, true, false, cond, List, [], ◌∷◌, Option, Some, None, length, map, refl, sym, ap, subst, ◌∙◌, true≢false}
 use Rattle.std.specs.List.{list_any}
-use Rattle.record.specs.declared.access.Access.{Access}
-use Rattle.plain_store.specs.declared.Command.{Command}
-use Rattle.plain_store.specs.declared.Setup.{Setup}
-use Rattle.record.specs.declared.events.Event.{Event}
+use Rattle.record.specs.{Access, Call, Clears, Closing, Ended, Entry, Event, Mark, Part, Past, Place, Quit, Refusal, Settles, Withdraws, added, all_takings, bits_with, calls_full, calls_in, closing_after, enter, entry_of, history, inside, is_call, is_failed, is_fresh, is_last, is_over, is_waiting_stage, marks_of, own, part_after, past_of, place_after, placed, process_of, refused_at, run_after, stage, stage_of, starts, value_of}
+use Rattle.plain_store.specs.{Command, Setup}
 use Rattle.record.specs.declared.events.Event.TheVariants as event
-use Rattle.record.specs.declared.marks.Mark.{Mark}
 use Rattle.record.specs.declared.marks.Mark.TheVariants as mark
-use Rattle.record.specs.declared.refusals.Refusal.{Refusal}
 use Rattle.record.specs.declared.refusals.Refusal.TheVariants as refused_by
 use Rattle.record.specs.declared.stages.Stage.TheVariants as stages
-use Rattle.record.specs.Calls.{calls_in}
-use Rattle.record.specs.Closings.{Closing, Withdraws, Settles, Quit, Ended, closing_after}
-use Rattle.record.specs.Doorways.{is_waiting_stage}
-use Rattle.record.specs.Entries.{Entry, Past, is_failed, own, starts}
-use Rattle.record.specs.Histories.{history}
-use Rattle.record.specs.Parts.{Part, Clears, is_over, part_after, stage_of}
-use Rattle.record.specs.Places.{Place, bits_with, enter, is_fresh, is_last, marks_of, place_after, run_after, value_of}
-use Rattle.record.specs.Records.{added, calls_full, entry_of, is_call, past_of, placed, process_of, refused_at}
-use Rattle.record.specs.Scripts.{Call}
-use Rattle.record.specs.Spans.{all_takings}
-use Rattle.record.specs.Stages.{inside, stage}
 use Rattle.record.proofs.Turns.{and_false}
 use Rattle.record.proofs.Width.{IsGood}
 use Rattle.record.proofs.World.{entry-accepted}
-use Rattle.any_lock.specs.read_law.laws.Doings.{Doing, Rests, Lies, Runs, Closes, call, closes, doing, is_inside, runs}
-use Rattle.any_lock.specs.read_law.laws.Steps.{next_of}
+use Rattle.any_lock.specs.read_law.laws.{Closes, Doing, Lies, Rests, Runs, call, closes, doing, is_inside, next_of, runs}
 use Rattle.any_lock.proofs.read_law.laws.Alone.{ClosesInside, closes_inside}
 use Rattle.any_lock.proofs.read_law.laws.AtPlaces.{AtPlace}
 use Rattle.any_lock.proofs.read_law.laws.Doings as laws
@@ -36,13 +20,8 @@ use Rattle.any_lock.proofs.read_law.laws.FrameInside.{inside-is, stage-is}
 use Rattle.any_lock.proofs.read_law.laws.Steps.{step_is}
 use Rattle.judge.proofs.history_laws.Told.{told}
 use Rattle.judge.proofs.history_laws.Took.{TookBy}
-use Rattle.any_lock.specs.declared.refusals.MarkRefusal.{MarkRefusal}
+use Rattle.any_lock.specs.{Begun, MarkRefusal, Standing, accessed, first_that, has_one_mark, is_down, is_running, is_settling, its_call, mark_refusal, opened, refusal_of_marks, refusal_on, standing, stands_alone, torn, torn_after}
 use Rattle.any_lock.specs.declared.refusals.MarkRefusal.TheVariants as refusal
-use Rattle.any_lock.specs.declared.standings.Begun.{Begun}
-use Rattle.any_lock.specs.declared.standings.Standing.{Standing}
-use Rattle.any_lock.specs.Keeping.{accessed, refusal_on}
-use Rattle.any_lock.specs.Refusals.{first_that, has_one_mark, is_down, is_running, is_settling, mark_refusal, refusal_of_marks, stands_alone}
-use Rattle.any_lock.specs.Standings.{its_call, opened, standing, torn, torn_after}
 use Rattle.any_lock.proofs.Markings.{ArePlain, no_failure, none_of, with_marks}
 use Rattle.any_lock.proofs.Steps.{torn-mine}
 use Rattle.any_lock.proofs.Took.{CallTakes}

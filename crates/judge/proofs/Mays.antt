@@ -1,15 +1,13 @@
 -- Which entries may stand behind a good record.
 use Rattle.std.proofs.Common.{◌≡◌, Bool, Some, ap, subst}
-use Rattle.record.specs.declared.events.Event.{Event}
+use Rattle.record.specs.{Entry, Event, added, entry_made, entry_of}
 use Rattle.record.specs.declared.events.Event.TheVariants as event
-use Rattle.record.specs.Entries.{Entry}
-use Rattle.record.specs.Records.{added, entry_made, entry_of}
 use Rattle.record.proofs.Local.{option_map-some}
 use Rattle.record.proofs.World.{entry-accepted}
-use Rattle.auditor.specs.Verdicts.{IsOfEvent}
+use Rattle.auditor.specs.{IsOfEvent}
 use Rattle.auditor.proofs.Obeys.{obeys}
 use Rattle.auditor.proofs.Recovers.{recovers}
-use Rattle.judge.specs.Mays.{OnlyStepsKeepAllLaws, StepsKeepAllLaws}
+use Rattle.judge.specs.{OnlyStepsKeepAllLaws, StepsKeepAllLaws}
 
 pub steps_keep : StepsKeepAllLaws
 steps_keep s good events given p flick e is = obeys s good events (event.Step p flick) e (record { opening = given.opening; commands = given.commands }) is

@@ -3,45 +3,24 @@ use Rattle.std.proofs.Common.{◌≡◌, ◌≢◌, ℕ, ◌<◌, ◌+◌, ◌==
 use Rattle.std.proofs.lemmas.Bool.{and_parts}
 use Rattle.std.specs.Prelude.{fold}
 use Rattle.record.specs.reader_copies.Runs as copies
-use Rattle.record.specs.safe_bit.SafeRule.{read_value}
-use Rattle.record.specs.safe_bit.declared.Move.{Move}
+use Rattle.record.specs.safe_bit.{Move, read_value}
 use Rattle.record.specs.safe_bit.declared.Move.TheVariants.{BeginWrite, EndWrite, BeginRead, EndRead, Settle}
-use Rattle.record.specs.safe_number.Runs.{new_write}
-use Rattle.record.specs.declared.access.Access.{Access}
-use Rattle.record.specs.declared.access.Field.{Field}
+use Rattle.record.specs.safe_number.{new_write}
+use Rattle.record.specs.{Access, Call, Entry, Event, Field, Mark, Next, Part, Past, Raises, Reading, Run, Wait, Waits, Writing, access_at, access_of, bits_with, ended_with, enter, history, is_last, is_over, is_read, last_write, made_with, moves_of, new_run, next_written, opening_bit, own, part_after, past_of, place_after, read_at, run_after, same_bit, unfinished, value_of, width, write_moved, written_at}
 use Rattle.record.specs.declared.access.Field.TheVariants.{Choosing, Ticket}
-use Rattle.plain_store.specs.declared.Command.{Command}
-use Rattle.plain_store.specs.declared.Setup.{Setup}
-use Rattle.record.specs.declared.events.Event.{Event}
-use Rattle.record.specs.declared.marks.Mark.{Mark}
+use Rattle.plain_store.specs.{Command, Setup}
 use Rattle.record.specs.declared.marks.Mark.TheVariants as mark
-use Rattle.record.specs.Accesses.{access_of}
 use Rattle.record.specs.Closings.{Closing, Withdraws, Settles, Frees, Lowers, Quit, Ended, closing_after, closing_next, failing, freeing, is_last_written, no_ticket, settling_from}
-use Rattle.record.specs.Entries.{Entry, Past, own}
-use Rattle.record.specs.Histories.{history}
-use Rattle.record.specs.Moves.{ended_with, moves_of, same_bit}
-use Rattle.record.specs.Parts.{Part, Raises, Waits, is_over, is_read, part_after, read_at, written_at}
-use Rattle.record.specs.Places.{Run, Writing, Reading, access_at, bits_with, enter, is_last, new_run, next_written, place_after, run_after, value_of, write_moved}
-use Rattle.record.specs.Program.{Wait}
-use Rattle.record.specs.Records.{past_of}
-use Rattle.record.specs.Registers.{opening_bit, width}
-use Rattle.record.specs.Scripts.{Call, Next}
-use Rattle.record.specs.Unit.{last_write, made_with, unfinished}
 use Rattle.record.proofs.PlaceTurns.{access_in}
 use Rattle.record.proofs.Width.{IsGood}
-use Rattle.any_lock.specs.read_law.laws.Doings.{Doing, Rests, Runs, Closes, call, closes, doing, runs}
-use Rattle.any_lock.specs.read_law.laws.Held.{IsThere}
-use Rattle.any_lock.specs.read_law.laws.Steps.{next_of}
+use Rattle.any_lock.specs.read_law.laws.{Closes, Doing, IsThere, Rests, Runs, call, closes, doing, next_of, runs}
 use Rattle.any_lock.proofs.read_law.laws.AtPlaces.{own-induction}
 use Rattle.any_lock.proofs.read_law.laws.Frame.{Happens, a_call, a_withdrawal, a_failure, a_restart, a_step, a_closing, doing-other}
 use Rattle.any_lock.proofs.read_law.laws.FrameCuts.{LeftClosing, LeftIn, LeftRun, left}
 use Rattle.any_lock.proofs.read_law.laws.FrameEvents.{accepted}
 use Rattle.any_lock.proofs.read_law.laws.FrameSteps.{left-is}
 use Rattle.any_lock.proofs.read_law.laws.HeldThere.{access_there}
-use Rattle.any_lock.specs.declared.standings.Begun.{Begun}
-use Rattle.any_lock.specs.declared.standings.Standing.{Standing}
-use Rattle.any_lock.specs.Refusals.{reads}
-use Rattle.any_lock.specs.Standings.{begun_by, left_open, opened, write_of}
+use Rattle.any_lock.specs.{Begun, Standing, begun_by, left_open, opened, reads, write_of}
 use Rattle.any_lock.proofs.Markings.{ArePlain}
 use Rattle.any_lock.proofs.Steps.{opened-mine, standing-other}
 use Rattle.judge.proofs.Opened.{Fits, FitsNext, LeadsOn, open_by, same_copy, write_leads}

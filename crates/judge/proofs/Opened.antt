@@ -2,17 +2,11 @@
 use Rattle.std.proofs.Common.{◌≡◌, ◌≢◌, ℕ, ◌+◌, ◌*◌, ◌/◌, ◌%◌, ◌<◌, ◌==◌, ◌&&◌, Bool, true, false, cond, List, Option, Some, None, refl, sym, ap, arith, true≢false, eqb-true, eq-eqb, ne_eqb}
 use Rattle.std.proofs.lemmas.Bool.{eqb-false}
 use Rattle.record.specs.reader_copies.Runs as copies
-use Rattle.record.specs.safe_bit.declared.Move.{Move}
+use Rattle.record.specs.safe_bit.{Move}
 use Rattle.record.specs.safe_bit.declared.Move.TheVariants.{BeginWrite, EndWrite}
-use Rattle.record.specs.safe_number.Runs.{NumberWrite, write_on}
-use Rattle.record.specs.declared.access.Access.{Access}
-use Rattle.record.specs.declared.access.Field.{Field}
-use Rattle.record.specs.Accesses.{access_of}
-use Rattle.record.specs.Moves.{ended_with, field_number, same_bit}
-use Rattle.record.specs.Places.{bit_written, next_written, write_moved}
-use Rattle.any_lock.specs.declared.standings.Begun.{Begun}
-use Rattle.any_lock.specs.Refusals.{ends, is_end_of}
-use Rattle.any_lock.specs.Standings.{begun_by}
+use Rattle.record.specs.safe_number.{NumberWrite, write_on}
+use Rattle.record.specs.{Access, Field, access_of, bit_written, ended_with, field_number, next_written, same_bit, write_moved}
+use Rattle.any_lock.specs.{Begun, begun_by, ends, is_end_of}
 
 -- what is open fits an access that comes next
 abbrev pub Fits : Option Begun → Access → Type 0

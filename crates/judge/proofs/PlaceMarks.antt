@@ -2,31 +2,17 @@
 use Rattle.std.proofs.Common.{◌≡◌, ℕ, ◌&&◌, ◌||◌, not, Bool, true, false, cond, List, [], ◌∷◌, ◌++◌, Option, Some, None, refl, sym, ap, subst, ◌∙◌, true≢false}
 use Rattle.std.specs.Prelude.{if◌then◌else◌}
 use Rattle.record.specs.reader_copies.Runs as copies
-use Rattle.record.specs.declared.access.Field.{Field}
+use Rattle.record.specs.{Asks, AsksCommit, AsksImage, AsksStamp, Call, Clears, Field, IsAnswerTo, Mark, Next, Over, Part, Raises, Refuses, TakesTicket, Waits, WritesCommit, WritesImage, WritesStamp, entered_if_none, first_marks, is_commit, is_over, is_version, last_marks, lets_by, part_after, reply, stage_after, stage_of, store_read, waits_of, write_moved}
 use Rattle.record.specs.declared.access.Field.TheVariants.{Commit}
-use Rattle.plain_store.specs.declared.Answer.{Answer}
+use Rattle.plain_store.specs.{Answer, Command, Reply, Setup, changes}
 use Rattle.plain_store.specs.declared.Answer.TheVariants as answer
-use Rattle.plain_store.specs.declared.Command.{Command}
-use Rattle.plain_store.specs.declared.Reply.{Reply}
-use Rattle.plain_store.specs.declared.Setup.{Setup}
-use Rattle.plain_store.specs.Store.{changes}
-use Rattle.record.specs.declared.marks.Mark.{Mark}
 use Rattle.record.specs.declared.marks.Mark.TheVariants.{Waiting, Taken, Left, Answered, Settled, Down}
 use Rattle.record.specs.Closings.{Closing, Withdraws, Settles, Frees, Lowers, Quit, Ended, closing_after, closing_next, closing_stage, freeing, is_last_settled, is_last_written, is_unwritten, no_ticket, settled_marks}
-use Rattle.record.specs.Headline.{IsAnswerTo, is_version}
-use Rattle.record.specs.Parts.{Part, Raises, Asks, TakesTicket, Refuses, Waits, AsksCommit, AsksStamp, AsksImage, WritesImage, WritesStamp, WritesCommit, Clears, Over, first_marks, is_over, last_marks, part_after, stage_of}
 use Rattle.record.specs.Parts as part
-use Rattle.record.specs.Places.{write_moved}
-use Rattle.record.specs.Program.{entered_if_none, lets_by, reply, store_read, waits_of}
-use Rattle.record.specs.Scripts.{Call, Next}
-use Rattle.record.specs.Stages.{stage_after}
-use Rattle.record.specs.Unit.{is_commit}
-use Rattle.any_lock.specs.read_law.laws.Doings.{Closes, call, is_inside_at, is_inside_closing}
+use Rattle.any_lock.specs.read_law.laws.{Closes, call, is_inside_at, is_inside_closing}
 use Rattle.any_lock.proofs.read_law.laws.Alone.{SettlesInside}
 use Rattle.judge.proofs.history_laws.Took.{TookAt, TookIn}
-use Rattle.any_lock.specs.declared.standings.Standing.{Standing}
-use Rattle.any_lock.specs.Keeping.{marked}
-use Rattle.any_lock.specs.Refusals.{is_in_doorway, is_leaving, is_withdrawn}
+use Rattle.any_lock.specs.{Standing, is_in_doorway, is_leaving, is_withdrawn, marked}
 use Rattle.any_lock.proofs.Took.{Takes}
 use Rattle.judge.proofs.PlainMarks.{Fine, MayAnswer, answers, fine_entered, fine_more, fine_one, fits_answer, leaves, lies_down, no_reply, settles, takes, waits}
 use Rattle.judge.proofs.Withdrawals.{WithdrawnIn, answers_withdrawn}

@@ -1,22 +1,13 @@
 -- Marks that any lock's tables do not refuse where a process stands so.
 use Rattle.std.proofs.Common.{◌≡◌, ℕ, ◌&&◌, ◌||◌, not, Bool, true, false, List, [], ◌∷◌, Option, Some, None, map, refl, sym, ap, ◌∙◌}
 use Rattle.std.specs.Option.{is_none, is_some}
-use Rattle.plain_store.specs.declared.Answer.{Answer}
+use Rattle.plain_store.specs.{Answer, Reply, Setup}
 use Rattle.plain_store.specs.declared.Answer.TheVariants as answer
-use Rattle.plain_store.specs.declared.Reply.{Reply}
-use Rattle.plain_store.specs.declared.Setup.{Setup}
-use Rattle.record.specs.declared.marks.Mark.{Mark}
+use Rattle.record.specs.{IsAnswerTo, Mark, Wait, entered_if_none, is_waiting_stage, placed}
 use Rattle.record.specs.declared.marks.Mark.TheVariants.{Waiting, Entered, Taken, Left, Answered, Settled, Down}
 use Rattle.record.specs.declared.stages.Stage.TheVariants as stages
-use Rattle.record.specs.Doorways.{is_waiting_stage}
-use Rattle.record.specs.Headline.{IsAnswerTo}
-use Rattle.record.specs.Program.{Wait, entered_if_none}
-use Rattle.record.specs.Records.{placed}
-use Rattle.any_lock.specs.declared.refusals.MarkRefusal.{MarkRefusal}
+use Rattle.any_lock.specs.{MarkRefusal, Standing, first_that, has_other_reply, is_in_doorway, is_leaving, is_reply, is_settling, is_withdrawn, mark_refusal, marked, refusal_on}
 use Rattle.any_lock.specs.declared.refusals.MarkRefusal.TheVariants as refusal
-use Rattle.any_lock.specs.declared.standings.Standing.{Standing}
-use Rattle.any_lock.specs.Keeping.{marked, refusal_on}
-use Rattle.any_lock.specs.Refusals.{first_that, has_other_reply, is_in_doorway, is_leaving, is_reply, is_settling, is_withdrawn, mark_refusal}
 use Rattle.any_lock.proofs.Took.{Takes}
 use Rattle.judge.proofs.SameReply.{same_as_itself}
 

@@ -1,10 +1,10 @@
 -- A reply is the same as itself.
 use Rattle.std.proofs.Common.{◌≡◌, true, refl, arith}
 use Rattle.std.proofs.lemmas.Bool.Decides.{nat_tests}
-use Rattle.plain_store.specs.declared.Reply.{Reply}
+use Rattle.plain_store.specs.{Reply}
 use Rattle.plain_store.specs.declared.Reply.TheVariants as reply
 use Rattle.plain_store.proofs.Changes.{same_value-Decides}
-use Rattle.any_lock.specs.Refusals.{same_reply}
+use Rattle.any_lock.specs.{same_reply}
 
 pub same_as_itself : (r : Reply) → same_reply r r ≡ true
 same_as_itself (reply.Value x) = (same_value-Decides x x).1 refl

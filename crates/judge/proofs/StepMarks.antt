@@ -2,18 +2,12 @@
 use Rattle.std.specs.Prelude.{◌&&◌}
 use Rattle.std.proofs.Common.{◌≡◌, ℕ, Bool, true, false, cond, List, [], ◌∷◌, Some, map, refl, ap, ◌∙◌}
 use Rattle.std.specs.List.{list_any}
-use Rattle.plain_store.specs.declared.Reply.{Reply}
-use Rattle.plain_store.specs.Store.{changes}
-use Rattle.record.specs.declared.marks.Mark.{Mark}
+use Rattle.plain_store.specs.{Reply, changes}
+use Rattle.record.specs.{Call, Closing, Mark, Next, Place, Wait, bits_with, closing_next, entered_if_none, is_last, lets_by, marks_of, placed, reply, store_read, waits_of}
 use Rattle.record.specs.declared.marks.Mark.TheVariants.{Taken}
-use Rattle.record.specs.Closings.{Closing, closing_next}
 use Rattle.record.specs.Parts.{Part, Lowers, Waits, AsksImage, last_marks}
-use Rattle.record.specs.Places.{Place, bits_with, is_last, marks_of}
-use Rattle.record.specs.Program.{Wait, entered_if_none, lets_by, reply, store_read, waits_of}
-use Rattle.record.specs.Records.{placed}
-use Rattle.record.specs.Scripts.{Call, Next}
 use Rattle.record.proofs.Turns.{and_false}
-use Rattle.any_lock.specs.Refusals.{stands_alone}
+use Rattle.any_lock.specs.{stands_alone}
 use Rattle.any_lock.proofs.read_law.laws.AtPlaces.{IsOfLock, any-closing, any-marks, any-placed}
 use Rattle.any_lock.proofs.Markings.{ArePlain}
 

@@ -1,14 +1,10 @@
 -- What is told of a record.
 use Rattle.std.proofs.Common.{◌≡◌, ℕ, List, ◌++◌, length, ap, subst, ◌∙◌}
-use Rattle.plain_store.specs.declared.setups.Setup.{Setup}
-use Rattle.record.specs.Entries.{Entry}
-use Rattle.auditor.specs.Verdicts.{IsVerdict}
-use Rattle.auditor.specs.declared.verdicts.Verdict.{Verdict}
+use Rattle.plain_store.specs.{Setup}
+use Rattle.record.specs.{Entry}
+use Rattle.auditor.specs.{IsVerdict, Verdict}
 use Rattle.auditor.proofs.Unique.{one_verdict}
-use Rattle.judge.specs.Explanations.{AreLinesOf, HasExplained}
-use Rattle.judge.specs.Following.{FollowerState}
-use Rattle.judge.specs.Judging.{JudgeState}
-use Rattle.judge.specs.Judgements.{TellsReasons, TellsVerdict, status_of_verdict, verdict_line}
+use Rattle.judge.specs.{AreLinesOf, FollowerState, HasExplained, JudgeState, TellsReasons, TellsVerdict, status_of_verdict, verdict_line}
 
 pub tells_verdict : (s : Setup) (entries : List Entry) (numbers told : List ℕ) (status n : ℕ) (v : Verdict) → IsVerdict s entries v → n ≡ length entries → status ≡ status_of_verdict v → told ≡ verdict_line n v → TellsVerdict s entries numbers told status
 tells_verdict s entries numbers told status n v is count answer line = record { verdict = v; is = is; answer = answer; line = line ∙ ap (λ k. verdict_line k v) count }

@@ -3,21 +3,13 @@ use Rattle.std.proofs.Common.{◌≡◌, ◌≢◌, ℕ, ◌<◌, ◌≤◌, ◌
 use Rattle.std.proofs.lemmas.Bool.{eqb-false}
 use Rattle.record.specs.reader_copies.Runs as copies
 use Rattle.record.specs.safe_bit.declared.Move.TheVariants.{BeginWrite, EndWrite, Settle}
-use Rattle.record.specs.safe_number.Runs.{new_write}
-use Rattle.record.specs.declared.access.Access.{Access}
-use Rattle.record.specs.declared.access.Field.{Field}
-use Rattle.plain_store.specs.declared.Command.{Command}
-use Rattle.plain_store.specs.declared.Reply.{Reply}
-use Rattle.plain_store.specs.declared.Setup.{Setup}
-use Rattle.record.specs.Accesses.{access_of}
+use Rattle.record.specs.safe_number.{new_write}
+use Rattle.record.specs.{Access, Call, Field, Next, Place, access_of, is_over, write_moved}
+use Rattle.plain_store.specs.{Command, Reply, Setup}
 use Rattle.record.specs.Closings.{Closing, Withdraws, Settles, Frees, Lowers, Quit, Ended, closing_after, closing_next, freeing, is_last_written, no_ticket}
-use Rattle.record.specs.Parts.{is_over}
-use Rattle.record.specs.Places.{Place, write_moved}
-use Rattle.record.specs.Scripts.{Call, Next}
 use Rattle.record.proofs.PlaceTurns.{access_in}
-use Rattle.any_lock.specs.read_law.laws.Doings.{Doing, Rests, Runs, Closes, call, closes, runs}
-use Rattle.any_lock.specs.declared.standings.Begun.{Begun}
-use Rattle.any_lock.specs.Standings.{settles, torn, torn_after}
+use Rattle.any_lock.specs.read_law.laws.{Doing, Rests, Runs, Closes, call, closes, runs}
+use Rattle.any_lock.specs.{Begun, settles, torn, torn_after}
 
 -- What is torn.
 

@@ -1,29 +1,15 @@
 -- What of each process is torn, and its last write, in the record of every list of events.
 use Rattle.std.proofs.Common.{◌≡◌, ◌≢◌, ℕ, ◌+◌, ◌*◌, ◌==◌, ◌&&◌, not, Bool, true, false, cond, List, ◌∷◌, Option, Some, None, length, refl, sym, ap, subst, ◌∙◌, arith, true≢false, ne_eqb}
 use Rattle.std.specs.List.{list_any}
-use Rattle.record.specs.declared.access.Access.{Access}
-use Rattle.plain_store.specs.declared.Command.{Command}
-use Rattle.plain_store.specs.declared.Setup.{Setup}
-use Rattle.record.specs.declared.events.Event.{Event}
+use Rattle.record.specs.{Access, Call, Closing, Entry, Event, Part, Past, Place, Reading, Run, Wait, Waits, Withdraws, Writing, access_at, closing_after, failing, has, history, is_begin, is_failed, is_finished, is_over, last_write, made_with, moves_of, opening_bit, own, past_of, place_after, settling_from, unfinished, value_of, written_at}
+use Rattle.plain_store.specs.{Command, Setup}
 use Rattle.record.specs.declared.marks.Mark.TheVariants as mark
-use Rattle.record.specs.safe_bit.SafeRule.{read_value}
-use Rattle.record.specs.Closings.{Closing, Withdraws, closing_after, failing, settling_from}
-use Rattle.record.specs.Entries.{Entry, Past, has, is_failed, own}
-use Rattle.record.specs.Histories.{history}
-use Rattle.record.specs.Moves.{moves_of}
-use Rattle.record.specs.Parts.{Part, Waits, is_over, written_at}
-use Rattle.record.specs.Places.{Place, Run, Writing, Reading, access_at, place_after, value_of}
-use Rattle.record.specs.Program.{Wait}
-use Rattle.record.specs.Records.{past_of}
+use Rattle.record.specs.safe_bit.{read_value}
 use Rattle.record.specs.safe_bit.declared.Move.TheVariants.{BeginRead, EndRead}
-use Rattle.record.specs.Registers.{opening_bit}
-use Rattle.record.specs.Scripts.{Call}
-use Rattle.record.specs.Unit.{is_begin, is_finished, last_write, made_with, unfinished}
 use Rattle.record.proofs.Opens.{last-none}
 use Rattle.record.proofs.Singles.{is_write}
 use Rattle.record.proofs.Width.{IsGood}
-use Rattle.any_lock.specs.read_law.laws.Doings.{Doing, Rests, Runs, Closes, call, closes, doing, runs}
-use Rattle.any_lock.specs.read_law.laws.Held.{IsThere}
+use Rattle.any_lock.specs.read_law.laws.{Closes, Doing, IsThere, Rests, Runs, call, closes, doing, runs}
 use Rattle.any_lock.proofs.read_law.laws.AtPlaces.{own-induction}
 use Rattle.any_lock.proofs.read_law.laws.Frame.{Happens, a_call, a_withdrawal, a_failure, a_restart, a_step, a_closing, doing-other, may_fail, own-other, own-own}
 use Rattle.any_lock.proofs.read_law.laws.FrameCells.{ByProcess, EntryBy, makes, marks_only}
@@ -31,9 +17,7 @@ use Rattle.any_lock.proofs.read_law.laws.FrameCuts.{LeftIn, LeftRun, last-made, 
 use Rattle.any_lock.proofs.read_law.laws.FrameEvents.{accepted}
 use Rattle.any_lock.proofs.read_law.laws.FrameSteps.{closing-writes, entry-by, is_write-ended, left-is}
 use Rattle.any_lock.proofs.read_law.laws.HeldThere.{access_there}
-use Rattle.any_lock.specs.declared.standings.Begun.{Begun}
-use Rattle.any_lock.specs.declared.standings.Standing.{Standing}
-use Rattle.any_lock.specs.Standings.{opened, standing, torn, torn_after, write_of}
+use Rattle.any_lock.specs.{Begun, Standing, opened, standing, torn, torn_after, write_of}
 use Rattle.any_lock.proofs.Markings.{ArePlain, no_failure, none_of}
 use Rattle.any_lock.proofs.Steps.{standing-other, torn-mine}
 use Rattle.judge.proofs.LastWrites.{IsLast, LastIsOpen, LastIsOpenIn, OpenIsLast, access_last, begun_open, finished, marked_last}

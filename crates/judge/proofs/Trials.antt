@@ -1,21 +1,14 @@
 -- What a line of a record file leaves of what was heard before it.
 use Rattle.std.proofs.Common.{◌≡◌, ℕ, ◌≤◌, Bool, true, false, List, [], ◌∷◌, ◌++◌, length, IsErrAnd, IsSome, Option, Some, None, Result, Ok, Err, refl, ap, sym, subst, ◌∙◌, append-nil, arith}
 use Rattle.std.specs.Option.{is_some, option_to_list}
-use Rattle.plain_store.specs.declared.setups.Setup.{Setup}
-use Rattle.files.specs.Files.{words_read}
-use Rattle.files.specs.Reads.{UnlessMemory}
-use Rattle.files.specs.Words.{words_of}
-use Rattle.files.specs.declared.faults.FaultKind.{FaultKind}
+use Rattle.plain_store.specs.{Setup}
+use Rattle.files.specs.{FaultKind, UnlessMemory, words_of, words_read}
 use Rattle.files.specs.declared.faults.FaultKind.TheVariants.{Memory}
-use Rattle.record.specs.Entries.{Entry}
-use Rattle.record_file.specs.Given.{is_entry}
-use Rattle.record_file.specs.Printing.{entry_words, step_entry}
-use Rattle.record.specs.declared.access.Access.{Access}
-use Rattle.record_file.specs.scenario.Printing.{spaced}
-use Rattle.record_file.specs.scenario.Reading.{Progress as Head}
+use Rattle.record.specs.{Access, Entry}
+use Rattle.record_file.specs.{Progress, cleared, entry_in, entry_words, is_entry, line_read, record_grammar, step_entry}
+use Rattle.record_file.specs.scenario.{Progress as Head, spaced}
 use Rattle.record_file.proofs.EntryLines.{entry_of_line}
-use Rattle.record_file.specs.RecordFiles.{Progress, cleared, entry_in, line_read, record_grammar}
-use Rattle.judge.specs.Numbers.{number_in, say_entry}
+use Rattle.judge.specs.{number_in, say_entry}
 use Rattle.judge.specs.Trials.{GoesOn, Hears, HearsAt, LineEnds, Stands}
 use Rattle.judge.proofs.Lines.{Left, clear_twice, empty, first_left, later_left, number_of_none, number_of_some, short_read}
 

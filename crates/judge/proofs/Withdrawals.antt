@@ -1,32 +1,19 @@
 -- Who withdrew, and who answers that.
 use Rattle.std.proofs.Common.{◌≡◌, ℕ, ◌+◌, ◌==◌, ◌||◌, Bool, true, false, cond, List, [], ◌∷◌, length, Option, Some, None, refl, sym, ap, subst, ◌∙◌, ne_eqb}
 use Rattle.std.specs.List.{list_any}
-use Rattle.record.specs.declared.access.Access.{Access}
+use Rattle.record.specs.{Access, Asks, AsksCommit, AsksImage, AsksStamp, Call, Clears, Entry, Event, Over, Part, Past, Place, Raises, Refuses, TakesTicket, Version, Wait, Waits, WritesCommit, WritesImage, WritesStamp, bits_with, enter, first_full, greatest, has, history, is_called, is_last, is_over, last_write, lets_by, max_of, newest_stamp, others, own, part_after, past_of, place_after, processes, reply, run_after, since, store_read, to_b, to_c, to_d, to_e, unfinished, value_of, waits_of, write_moved}
 use Rattle.plain_store.specs.declared.Answer.TheVariants as answer
-use Rattle.plain_store.specs.declared.Command.{Command}
-use Rattle.plain_store.specs.declared.Setup.{Setup}
-use Rattle.plain_store.specs.Store.{changes}
-use Rattle.record.specs.declared.events.Event.{Event}
+use Rattle.plain_store.specs.{Command, Setup, changes}
 use Rattle.record.specs.reader_copies.Runs as copies
-use Rattle.record.specs.safe_number.Runs.{new_write}
+use Rattle.record.specs.safe_number.{new_write}
 use Rattle.record.specs.Closings.{Closing, Withdraws, Settles, Frees, Lowers, Quit, Ended, closing_after, freeing, is_last_settled, is_last_written, no_ticket, settling_from}
-use Rattle.record.specs.Entries.{Entry, Past, has, is_called, own, since}
-use Rattle.record.specs.Histories.{history}
-use Rattle.record.specs.Parts.{Part, Raises, Asks, TakesTicket, Refuses, Waits, AsksCommit, AsksStamp, AsksImage, WritesImage, WritesStamp, WritesCommit, Clears, Over, is_over, part_after, to_b, to_c, to_d, to_e}
 use Rattle.record.specs.Parts as part
-use Rattle.record.specs.Places.{Place, bits_with, enter, is_last, place_after, run_after, value_of, write_moved}
-use Rattle.record.specs.Program.{Version, Wait, first_full, greatest, lets_by, max_of, newest_stamp, reply, store_read, waits_of}
-use Rattle.record.specs.Records.{past_of}
-use Rattle.record.specs.Registers.{others, processes}
-use Rattle.record.specs.Scripts.{Call}
-use Rattle.record.specs.Unit.{last_write, unfinished}
 use Rattle.record.proofs.Width.{IsGood}
-use Rattle.any_lock.specs.read_law.laws.Doings.{Doing, Rests, Runs, Closes, call, closes, doing, runs}
+use Rattle.any_lock.specs.read_law.laws.{Doing, Rests, Runs, Closes, call, closes, doing, runs}
 use Rattle.any_lock.proofs.read_law.laws.AtPlaces.{AtPlace, own-induction, place-induction}
 use Rattle.any_lock.proofs.read_law.laws.Frame.{Happens, a_call, a_withdrawal, a_failure, a_restart, a_step, a_closing, doing-other}
 use Rattle.any_lock.proofs.read_law.laws.FrameEvents.{accepted}
-use Rattle.any_lock.specs.declared.standings.Standing.{Standing}
-use Rattle.any_lock.specs.Standings.{is_withdrawal, its_call}
+use Rattle.any_lock.specs.{Standing, is_withdrawal, its_call}
 use Rattle.any_lock.proofs.Markings.{withdrawn-plain}
 use Rattle.any_lock.proofs.Steps.{own-mine, standing-other}
 use Rattle.judge.proofs.StepMarks.{plain_closing, plain_step}

@@ -1,18 +1,14 @@
 -- The reasons that stand behind a bad verdict on a record of any lock.
 use Rattle.std.specs.Prelude.{◌≡◌, ℕ, Bool, true, false, List, [], ◌++◌, length, Some, Result}
-use Rattle.plain_store.specs.declared.setups.Setup.{Setup}
-use Rattle.record.specs.Entries.{Entry, Past}
-use Rattle.any_lock.specs.Judging.{AreReasonsAt, HasJudged, JudgeState}
-use Rattle.any_lock.specs.Reasons.{AreReasons}
-use Rattle.any_lock.specs.Verdicts.{verdict_of}
+use Rattle.plain_store.specs.{Setup}
+use Rattle.record.specs.{Entry, Past}
+use Rattle.any_lock.specs.{AnyLockLaw, AnyLockVerdict, AreReasons, AreReasonsAt, HasJudged, JudgeState, verdict_of}
 use Rattle.any_lock.specs.declared.reasons.Reasons.{Reasons}
-use Rattle.any_lock.specs.declared.verdicts.AnyLockLaw.{AnyLockLaw}
-use Rattle.any_lock.specs.declared.verdicts.AnyLockVerdict.{AnyLockVerdict}
 use Rattle.any_lock.specs.declared.verdicts.AnyLockVerdict.TheVariants.{Good, Bad}
 use Rattle.judge.specs.Ends.{TrialEnds}
 use Rattle.files.specs.Engines.{Streams}
 use Rattle.judge.specs.ReasonLines.{AreLinesAt}
-use Rattle.files.specs.declared.faults.Fault.{Fault}
+use Rattle.files.specs.{Fault}
 use Rattle.judge.specs.AnyJudgements.{AnyTellsVerdict, any_status_of_verdict, any_verdict_line}
 use Rattle.judge.specs.AnyReasons.{any_reason_lines}
 

@@ -1,10 +1,8 @@
 -- What the engine `judge` answers and writes, for any lock.
 use Rattle.std.specs.Prelude.{◌≡◌, ℕ, List, ◌++◌, codes, length}
-use Rattle.plain_store.specs.declared.setups.Setup.{Setup}
-use Rattle.record.specs.Entries.{Entry}
-use Rattle.any_lock.specs.Shown.{verdict_text}
-use Rattle.any_lock.specs.Verdicts.{verdict_of}
-use Rattle.any_lock.specs.declared.verdicts.AnyLockVerdict.{AnyLockVerdict}
+use Rattle.plain_store.specs.{Setup}
+use Rattle.record.specs.{Entry}
+use Rattle.any_lock.specs.{AnyLockVerdict, verdict_of, verdict_text}
 use Rattle.any_lock.specs.declared.verdicts.AnyLockVerdict.TheVariants.{Good, Bad}
 
 -- the line of a verdict on so many entries

@@ -1,10 +1,9 @@
 -- What a judge of any lock finds of the entries that he has heard: whether each keeps all laws.
 use Rattle.std.specs.Prelude.{◌≡◌, true, false, List}
 use Rattle.std.proofs.Common.{ap, sym, true≢false, ◌∙◌}
-use Rattle.plain_store.specs.declared.setups.Setup.{Setup}
-use Rattle.record.specs.Entries.{Entry}
-use Rattle.any_lock.specs.Verdicts.{verdict_of}
-use Rattle.any_lock.specs.declared.verdicts.AnyLockVerdict.{AnyLockVerdict}
+use Rattle.plain_store.specs.{Setup}
+use Rattle.record.specs.{Entry}
+use Rattle.any_lock.specs.{AnyLockVerdict, verdict_of}
 use Rattle.any_lock.specs.declared.verdicts.AnyLockVerdict.TheVariants.{Good, Bad}
 use Rattle.judge.specs.AnyExplanations.{any_is_good}
 

@@ -1,13 +1,10 @@
 -- The lines of the reasons, on a record of any lock.
 use Rattle.std.specs.Prelude.{ℕ, ◌+◌, List, [], ◌∷◌, ◌++◌, codes, Option, Some, None}
 use Rattle.std.specs.Fmt.{decimal}
-use Rattle.record.specs.Entries.{Entry}
+use Rattle.record.specs.{Entry}
 use Rattle.judge.specs.ReasonLines.{bad_lines, named_entry, number_line, stage_line, word_line}
-use Rattle.any_lock.specs.Changes.{changed}
-use Rattle.any_lock.specs.Shown.{access_refusal_text, mark_refusal_text}
-use Rattle.any_lock.specs.declared.reasons.Remedy.{Remedy}
+use Rattle.any_lock.specs.{Refused, Remedy, access_refusal_text, changed, mark_refusal_text}
 use Rattle.any_lock.specs.declared.reasons.Reasons.{Reasons}
-use Rattle.any_lock.specs.declared.reasons.Refused.{Refused}
 use Rattle.any_lock.specs.declared.reasons.Refused.TheVariants as by
 
 -- the entry as it would keep all laws

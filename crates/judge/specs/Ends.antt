@@ -1,14 +1,12 @@
 -- How an engine ends that hears a record file and tells of its record.
 use Rattle.std.specs.Prelude.{◌≡◌, ◌<◌, ℕ, List, Option, IfSome, Result, Ok, Err}
 use Rattle.std.specs.Io.KnownBytes.{Appends, IsAtEnd, Keeps}
-use Rattle.plain_store.specs.declared.setups.Setup.{Setup}
+use Rattle.plain_store.specs.{Setup}
 use Rattle.files.specs.Engines.{Streams}
-use Rattle.files.specs.Reads.{UnlessMemory}
-use Rattle.files.specs.Streams.{WritesFront}
-use Rattle.files.specs.declared.faults.Fault.{Fault}
+use Rattle.files.specs.{Fault, UnlessMemory, WritesFront}
 use Rattle.files.specs.declared.faults.Fault.TheVariants as fault
-use Rattle.record.specs.Entries.{Entry}
-use Rattle.record_file.specs.RecordFiles.{Said, record_of}
+use Rattle.record.specs.{Entry}
+use Rattle.record_file.specs.{Said, record_of}
 use Rattle.judge.specs.Numbers.{numbers_of}
 
 -- a text says a record, and this is said of exactly that record and of the numbers of the lines of its entries

@@ -2,18 +2,11 @@
 use Rattle.std.specs.Prelude.{◌≡◌, ◌<◌, ◌^◌, ℕ, Bool, false, true, ◌&&◌, List, [], ◌∷◌, ◌++◌, codes, cond, length, reverse, Option, Some, None, is_none}
 use Rattle.std.specs.Option.{is_some}
 use Rattle.std.specs.Str.{bytes_eq}
-use Rattle.plain_store.specs.declared.setups.Setup.{Setup}
-use Rattle.record.specs.declared.events.Event.{Event}
+use Rattle.plain_store.specs.{Setup}
+use Rattle.record.specs.{Entry, Event, Past, Refusal, Stage, entry_of, has, refusal_text, refused}
 use Rattle.record.specs.declared.events.Event.TheVariants.{Step}
-use Rattle.record.specs.declared.refusals.Refusal.{Refusal}
-use Rattle.record.specs.declared.stages.Stage.{Stage}
-use Rattle.record.specs.Entries.{Entry, Past, has}
-use Rattle.record.specs.Records.{entry_of, refused}
-use Rattle.record.specs.Shown.{refusal_text}
-use Rattle.auditor.specs.world.Events.{stage_in}
-use Rattle.auditor.specs.Hearing.{event_in}
-use Rattle.auditor.specs.Verdicts.{IsVerdict, tells_event}
-use Rattle.auditor.specs.declared.verdicts.Verdict.{Verdict}
+use Rattle.auditor.specs.world.{stage_in}
+use Rattle.auditor.specs.{IsVerdict, Verdict, event_in, tells_event}
 use Rattle.auditor.specs.declared.verdicts.Verdict.TheVariants.{Good, Bad}
 use Rattle.judge.specs.ReasonLines.{AreLinesAt, bad_lines, named_entry, stage_line, word_line}
 use Rattle.judge.specs.Following.{FollowerState, HasFollowed}

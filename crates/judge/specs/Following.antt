@@ -1,11 +1,9 @@
 -- What goes along with a good record.
 use Rattle.std.specs.Prelude.{◌≡◌, ℕ, ◌<◌, ◌^◌, Bool, false, ◌∷◌, length, Option}
-use Rattle.plain_store.specs.declared.setups.Setup.{Setup}
+use Rattle.plain_store.specs.{Setup}
 use Rattle.record.specs.declared.events.Event.TheVariants.{Step}
-use Rattle.record.specs.Entries.{Entry, Past}
-use Rattle.record.specs.Records.{entry_of}
-use Rattle.auditor.specs.Hearing.{AuditorState, HasHeard}
-use Rattle.auditor.specs.Verdicts.{KeepsAll}
+use Rattle.record.specs.{Entry, Past, entry_of}
+use Rattle.auditor.specs.{AuditorState, HasHeard, KeepsAll}
 
 -- an auditor, and whether it has lost the record
 pub record FollowerState : Type 0 where

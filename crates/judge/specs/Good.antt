@@ -1,17 +1,11 @@
 -- What is good for this project's lock is good for any lock.
 use Rattle.std.specs.Prelude.{◌≡◌, ℕ, List, ◌∷◌, false, true, Ok}
-use Rattle.plain_store.specs.declared.setups.Setup.{Setup}
-use Rattle.plain_store.specs.Setups.{checked}
-use Rattle.record.specs.Doorways.{doorway_begin, number_in_call}
-use Rattle.record.specs.Entries.{Entry, Past}
-use Rattle.record.specs.Places.{is_running}
-use Rattle.record.specs.Stages.{stage}
-use Rattle.auditor.specs.Verdicts.{AllKeep, IsVerdict}
+use Rattle.plain_store.specs.{Setup, checked}
+use Rattle.record.specs.{Entry, Past, doorway_begin, is_running, number_in_call, stage}
+use Rattle.auditor.specs.{AllKeep, IsVerdict}
 use Rattle.auditor.specs.declared.verdicts.Verdict.TheVariants as own
 use Rattle.any_lock.specs.declared.verdicts.AnyLockVerdict.TheVariants as any
-use Rattle.any_lock.specs.Laws.{breaks_history, breaks_safe, breaks_together}
-use Rattle.any_lock.specs.Standings.{has_access}
-use Rattle.any_lock.specs.Verdicts.{verdict_of}
+use Rattle.any_lock.specs.{breaks_history, breaks_safe, breaks_together, has_access, verdict_of}
 
 -- the laws `Safe`, `Together` and `History` of any lock are kept
 pub record KeepsOfAny (s : Setup) (past : Past) (e : Entry) : Type 0 where

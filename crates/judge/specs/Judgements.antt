@@ -1,14 +1,12 @@
 -- What the engine `judge` answers and writes.
 use Rattle.std.specs.Prelude.{◌≡◌, ℕ, Bool, true, false, List, ◌++◌, codes, length, Result}
-use Rattle.plain_store.specs.declared.setups.Setup.{Setup}
-use Rattle.auditor.specs.Shown.{verdict_text}
-use Rattle.auditor.specs.Verdicts.{IsVerdict}
-use Rattle.auditor.specs.declared.verdicts.Verdict.{Verdict}
+use Rattle.plain_store.specs.{Setup}
+use Rattle.auditor.specs.{IsVerdict, Verdict, verdict_text}
 use Rattle.auditor.specs.declared.verdicts.Verdict.TheVariants.{Good, Bad}
-use Rattle.record.specs.Entries.{Entry}
+use Rattle.record.specs.{Entry}
 use Rattle.judge.specs.Ends.{TrialEnds}
 use Rattle.files.specs.Engines.{Streams}
-use Rattle.files.specs.declared.faults.Fault.{Fault}
+use Rattle.files.specs.{Fault}
 use Rattle.judge.specs.Explanations.{AreLinesOf}
 
 -- the line of a verdict on so many entries

@@ -1,14 +1,9 @@
 -- What a judge keeps of the entries that it has heard.
 use Rattle.std.specs.Prelude.{◌≡◌, ℕ, Bool, true, false, List, [], ◌∷◌, ◌++◌, length, reverse, Option, Some, None, Ok}
-use Rattle.plain_store.specs.declared.setups.Setup.{Setup}
-use Rattle.plain_store.specs.Setups.{checked}
-use Rattle.record.specs.Entries.{Entry, Past}
-use Rattle.auditor.specs.read_law.Watching.{WatchState}
-use Rattle.auditor.specs.read_law.Watching.{HasHeard as HasWatched}
-use Rattle.auditor.specs.Hearing.{AuditorState, HasHeard}
-use Rattle.auditor.specs.Verdicts.{IsVerdict}
-use Rattle.auditor.specs.declared.verdicts.Verdict.{Verdict}
-use Rattle.auditor.specs.declared.verdicts.Law.{Law}
+use Rattle.plain_store.specs.{Setup, checked}
+use Rattle.record.specs.{Entry, Past}
+use Rattle.auditor.specs.read_law.{HasHeard as HasWatched, WatchState}
+use Rattle.auditor.specs.{AuditorState, HasHeard, IsVerdict, Law, Verdict}
 use Rattle.auditor.specs.declared.verdicts.Law.TheVariants.{Safe}
 use Rattle.auditor.specs.declared.verdicts.Verdict.TheVariants.{Good, Bad}
 

@@ -1,10 +1,9 @@
 -- What a judge finds of the entries that he has heard: whether each keeps all laws.
 use Rattle.std.specs.Prelude.{◌≡◌, true, false, List, [], ◌∷◌, ◌++◌, reverse}
 use Rattle.std.proofs.Common.{subst, sym, true≢false}
-use Rattle.plain_store.specs.declared.setups.Setup.{Setup}
-use Rattle.record.specs.Entries.{Entry, Past}
-use Rattle.auditor.specs.Verdicts.{AllKeep, IsVerdict, KeepsAll}
-use Rattle.auditor.specs.declared.verdicts.Verdict.{Verdict}
+use Rattle.plain_store.specs.{Setup}
+use Rattle.record.specs.{Entry, Past}
+use Rattle.auditor.specs.{AllKeep, IsVerdict, KeepsAll, Verdict}
 use Rattle.auditor.specs.declared.verdicts.Verdict.TheVariants.{Good, Bad}
 use Rattle.judge.specs.Judging.{HasJudged, JudgeState, is_good}
 

@@ -21,3 +21,17 @@ pub mod AnyReasons
 pub mod AnyExplanations
 pub mod AnyKeepingLaws
 pub mod Good
+pub use AnyExplanations.{AnyAreLinesOf, AnyHasExplained, AnyTellsReasons, AreLines, Explains, ExplainsIf, any_is_good}
+pub use AnyJudgements.{AnyTellsVerdict, any_status_of_verdict, any_verdict_line}
+pub use AnyReasons.{any_reason_lines, wait_line, waits_from}
+pub use Ends.{IsInputFault, IsOfRecord}
+pub use Explanations.{AreLinesOf, AreReasons, HasExplained, HasReasons, ReasonsGoOn, Writes, reason_lines}
+pub use Following.{FollowerState, HasFollowed}
+pub use Good.{DoorwaysAreOne, GoodIsGood, GoodKeepsOfAny}
+pub use Judgements.{TellsReasons, TellsVerdict, status_of_verdict, verdict_line}
+pub use Judging.{BothHeard, HasJudged, JudgeState, found}
+pub use Mays.{OnlyStepsKeepAllLaws, StepsKeepAllLaws}
+pub use Numbers.{number_in, numbers_from, numbers_of, say_entry}
+pub use ReasonLines.{AreLinesAt}
+pub use Trials.{good_in}
+pub use declared.hearers.Telling.{Telling}

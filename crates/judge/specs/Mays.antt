@@ -1,14 +1,9 @@
 -- Which entries may stand behind a good record.
 use Rattle.std.specs.Prelude.{◌≡◌, ℕ, Bool, List, Some, Ok}
-use Rattle.plain_store.specs.declared.setups.Setup.{Setup}
-use Rattle.plain_store.specs.Setups.{checked}
-use Rattle.record.specs.declared.access.Access.{Access}
-use Rattle.record.specs.declared.events.Event.{Event}
+use Rattle.plain_store.specs.{Setup, checked}
+use Rattle.record.specs.{Access, AreGiven, Entry, Event, Past, entry_of, past_of}
 use Rattle.record.specs.declared.events.Event.TheVariants.{Step}
-use Rattle.record.specs.Entries.{Entry, Past}
-use Rattle.record.specs.Given.{AreGiven}
-use Rattle.record.specs.Records.{entry_of, past_of}
-use Rattle.auditor.specs.Verdicts.{KeepsAll}
+use Rattle.auditor.specs.{KeepsAll}
 
 -- The entry that a Step adds keeps all laws.
 abbrev pub StepsKeepAllLaws : Type 0

@@ -1,7 +1,7 @@
 -- The numbers of the lines that say the entries of a record.
 use Rattle.std.specs.Prelude.{ℕ, ◌+◌, Bool, false, List, [], ◌∷◌, ◌++◌, cond}
-use Rattle.files.specs.Words.{lines, words_of}
-use Rattle.record_file.specs.RecordFiles.{begins_with_digit}
+use Rattle.files.specs.{lines, words_of}
+use Rattle.record_file.specs.{begins_with_digit}
 
 -- the words of an entry begin with a number
 abbrev pub say_entry : List (List ℕ) → Bool

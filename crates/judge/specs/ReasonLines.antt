@@ -1,11 +1,10 @@
 -- The lines of reasons that all judges have, and whose reasons they are.
 use Rattle.std.specs.Prelude.{◌≡◌, ℕ, List, [], ◌∷◌, ◌++◌, codes, length, reverse, slice_get, Option, Some, None}
 use Rattle.std.specs.Fmt.{decimal}
-use Rattle.plain_store.specs.declared.setups.Setup.{Setup}
-use Rattle.record.specs.Entries.{Entry, Past}
-use Rattle.record.specs.declared.stages.Stage.{Stage}
+use Rattle.plain_store.specs.{Setup}
+use Rattle.record.specs.{Entry, Past, Stage}
 use Rattle.record.specs.declared.stages.Stage.TheVariants.{Idle, Doorway, Waiting, Inside, Leaving, Settling, Down}
-use Rattle.record_file.specs.Printing.{entry_line}
+use Rattle.record_file.specs.{entry_line}
 
 -- a word and a number
 abbrev pub number_line : List ℕ → ℕ → List ℕ

@@ -1,10 +1,9 @@
 -- What is kept while a record file is heard, line by line.
 use Rattle.std.specs.Prelude.{◌≡◌, ℕ, Bool, true, List, [], ◌++◌, Option, Some, None, Result, Ok, Err}
-use Rattle.plain_store.specs.declared.setups.Setup.{Setup}
-use Rattle.files.specs.Reads.{UnlessMemory}
-use Rattle.files.specs.declared.faults.FaultKind.{FaultKind}
-use Rattle.record.specs.Entries.{Entry}
-use Rattle.record_file.specs.RecordFiles.{Progress, cleared, entry_in, line_read}
+use Rattle.plain_store.specs.{Setup}
+use Rattle.files.specs.{FaultKind, UnlessMemory}
+use Rattle.record.specs.{Entry}
+use Rattle.record_file.specs.{Progress, cleared, entry_in, line_read}
 use Rattle.judge.specs.Numbers.{number_in}
 
 -- how many entries were heard

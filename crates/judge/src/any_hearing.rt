@@ -1,5 +1,5 @@
 //! A judge of records of any lock who tells his verdict alone.
-ghost use Rattle.any_lock.specs.Judging.{HasJudged};
+ghost use Rattle.any_lock.specs.{HasJudged};
 ghost use Rattle.judge.specs.AnyJudgements.{AnyTellsVerdict};
 
 use crate::any_verdicts::{any_status_of, any_verdict_line};

@@ -1,7 +1,7 @@
 //! The engine `judge --any-lock`: the verdict on the record of any lock that a file says, which is read line by line.
 ghost use Rattle.std.specs.Prelude.{◌-◌, ◌^◌, ◌<◌};
 ghost use Rattle.judge.specs.AnyExplanations.{AnyJudgeEnds};
-ghost use Rattle.files.specs.Engines.{streams};
+ghost use Rattle.files.specs.{streams};
 
 use crate::any_explaining::ExplainingAnyLock;
 use crate::any_hearing::PlainHearer;

@@ -1,7 +1,7 @@
 //! The lines of the reasons of a bad verdict on a record of any lock.
 ghost use Rattle.std.specs.Prelude.{◌≡◌, ◌++◌, IfOk, OnOk, codes};
 ghost use Rattle.std.specs.String.{string_bytes};
-ghost use Rattle.any_lock.specs.Shown.{access_refusal_text, mark_refusal_text};
+ghost use Rattle.any_lock.specs.{access_refusal_text, mark_refusal_text};
 ghost use Rattle.judge.specs.ReasonLines.{word_line};
 ghost use Rattle.judge.specs.AnyReasons.{entry_if, inside_line, any_may_line, others_lines, pair_line, any_reason_lines as lines_of, any_refused_line, standing_lines, wait_line, waits_from};
 

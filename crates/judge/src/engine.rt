@@ -1,8 +1,7 @@
 //! The engine: it reads a record file line by line, and writes what is told of its record.
 ghost use Rattle.std.specs.Prelude.{◌≡◌, ◌+◌, ◌-◌, ◌^◌, ◌<◌, IfErr, IfOk, IfSome};
 ghost use Rattle.std.specs.Io.KnownBytes.{IsAtEnd};
-ghost use Rattle.files.specs.Engines.{streams};
-ghost use Rattle.files.specs.Streams.{failed_reading};
+ghost use Rattle.files.specs.{failed_reading, streams};
 ghost use Rattle.judge.specs.Ends.{IsInputFault, IsOfRecord, TrialEnds};
 
 use crate::hearers::Hearer;

@@ -1,10 +1,9 @@
 //! A judge who tells the reasons of a bad verdict too.
 ghost use Rattle.std.specs.Prelude.{◌≡◌, ◌↔◌, ◌++◌, [], IfOk, IsTrue, OnOk, codes};
 ghost use Rattle.record.specs.declared.events.Event.TheVariants.{Step};
-ghost use Rattle.record.specs.Records.{entry_of};
-ghost use Rattle.record.specs.Shown.{refusal_text as text_of_refusal};
+ghost use Rattle.record.specs.{entry_of, refusal_text as text_of_refusal};
 ghost use Rattle.auditor.specs.declared.verdicts.Verdict.TheVariants.{Good};
-ghost use Rattle.files.specs.Texts.{GivesText};
+ghost use Rattle.files.specs.{GivesText};
 ghost use Rattle.judge.specs.ReasonLines.{word_line};
 ghost use Rattle.judge.specs.Explanations.{HasExplained, ReasonsGoOn, Writes, event_or_step, is_crowded, may_line as line_of_may, may_lines, reason_lines, refusal_line, refused_line, without_twin};
 ghost use Rattle.judge.specs.Judgements.{TellsReasons};

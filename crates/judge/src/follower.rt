@@ -1,8 +1,8 @@
 //! What goes along with a good record, one entry behind the judge: it tells what a process would do next.
 ghost use Rattle.std.specs.Prelude.{◌≡◌, ◌<◌, [], IfOk, Ok};
-ghost use Rattle.plain_store.specs.Setups.{checked};
-ghost use Rattle.record.specs.Records.{refused};
-ghost use Rattle.auditor.specs.world.Events.{stage_in};
+ghost use Rattle.plain_store.specs.{checked};
+ghost use Rattle.record.specs.{refused};
+ghost use Rattle.auditor.specs.world.{stage_in};
 ghost use Rattle.judge.specs.Following.{FollowsOneMore, HasFollowed, IsAddedByStep, OfFollowed};
 
 use auditor::{Auditor, Core, StepTold};

@@ -1,7 +1,7 @@
 //! Who hears the entries of a record file.
 ghost use Rattle.std.specs.Prelude.{◌≡◌, ◌-◌, ◌^◌, ◌<◌, ◌∷◌, ◌++◌, [], IfOk, List, Ok, OnOk, length, ℕ};
-ghost use Rattle.plain_store.specs.Setups.{checked};
-ghost use Rattle.record_file.specs.Printing.{step_entry as entry_of_step};
+ghost use Rattle.plain_store.specs.{checked};
+ghost use Rattle.record_file.specs.{step_entry as entry_of_step};
 
 use plain_store::{NestedTypes, Setup};
 use record::{Access, Act, Entry};
@@ -18,7 +18,7 @@ pub struct Telling {
 /// Who hears the entries of a record, each with the number of its line, and then tells of them.
 pub trait Hearer: Sized + Drop {
     ghost use Rattle.plain_store.specs.declared.setups.Setup.{Setup as Given};
-    ghost use Rattle.record.specs.Entries.{Entry as Noted};
+    ghost use Rattle.record.specs.{Entry as Noted};
 
     /// It has heard these entries of a record with this setup, and these are the numbers of their lines.
     ghost HasHeard: { Self → Given → List Noted → List ℕ → Type 0 };
@@ -62,7 +62,7 @@ pub trait Hearer: Sized + Drop {
 pub trait Judging: Hearer {
     ghost use Rattle.std.specs.Prelude.{Bool, true, false};
     ghost use Rattle.plain_store.specs.declared.setups.Setup.{Setup as Given};
-    ghost use Rattle.record.specs.Entries.{Entry as Noted};
+    ghost use Rattle.record.specs.{Entry as Noted};
 
     /// Each entry of such a record keeps all laws.
     ghost Keeps: { Given → List Noted → Type 0 };

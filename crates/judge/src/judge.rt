@@ -1,8 +1,8 @@
 ghost use Rattle.std.specs.Prelude.{◌≡◌, ◌+◌, ◌^◌, ◌-◌, ◌<◌, [], IfOk, Ok, length};
-ghost use Rattle.plain_store.specs.Setups.{checked};
-ghost use Rattle.auditor.specs.Verdicts.{IsVerdict};
+ghost use Rattle.plain_store.specs.{checked};
+ghost use Rattle.auditor.specs.{IsVerdict};
 ghost use Rattle.auditor.specs.declared.verdicts.Verdict.TheVariants.{Good};
-ghost use Rattle.record_file.specs.Printing.{step_entry};
+ghost use Rattle.record_file.specs.{step_entry};
 ghost use Rattle.judge.specs.Judging.{BothHearOneMore, HasJudged, IsNextVerdict, JudgesOneMore, OfJudged, found as verdict_found, is_good};
 
 use auditor::{Audited, Auditor, Law, Verdict, Watch};

@@ -1,7 +1,7 @@
 //! The engine `judge`: the verdict on the record that a file says, which is read line by line.
 ghost use Rattle.std.specs.Prelude.{◌-◌, ◌^◌, ◌<◌};
 ghost use Rattle.judge.specs.Judgements.{JudgeEnds};
-ghost use Rattle.files.specs.Engines.{streams};
+ghost use Rattle.files.specs.{streams};
 
 use crate::engine::run_trial;
 use crate::explaining::Explaining;

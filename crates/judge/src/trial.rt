@@ -1,7 +1,7 @@
 ghost use Rattle.std.specs.Prelude.{◌≡◌, ◌-◌, ◌^◌, ◌<◌, ◌≤◌, ◌∷◌, ◌++◌, [], ℕ, None, Some, true, false, IfOk, IsSome, List, Ok, OnOk, Option, length};
-ghost use Rattle.plain_store.specs.Setups.{checked};
-ghost use Rattle.record.specs.Entries.{Entry as Noted};
-ghost use Rattle.record_file.specs.RecordFiles.{Progress};
+ghost use Rattle.plain_store.specs.{checked};
+ghost use Rattle.record.specs.{Entry as Noted};
+ghost use Rattle.record_file.specs.{Progress};
 ghost use Rattle.judge.specs.Trials.{GoesOn, Hears, IsHeard, LineEnds, Stands, count_in, good_in};
 
 use crate::hearers::{Hearer, Judging};

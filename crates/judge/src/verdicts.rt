@@ -1,6 +1,6 @@
 //! What engines write and answer for verdicts.
 ghost use Rattle.std.specs.Prelude.{◌≡◌};
-ghost use Rattle.files.specs.Texts.{GivesText};
+ghost use Rattle.files.specs.{GivesText};
 ghost use Rattle.judge.specs.Judgements.{status_of_verdict, verdict_line as line_of_verdict};
 
 use auditor::{Audited, Verdict};

@@ -4,17 +4,11 @@ use Rattle.std.specs.List.{range_with_len}
 use Rattle.std.proofs.lemmas.List.Elements.{All-contains, All-filter, All-contains_itself, filter_passes}
 use Rattle.std.proofs.lemmas.List.FromFn.{length-range_with_len, get_or-range_with_len}
 use Rattle.std.proofs.lemmas.List.Kept.{AllPairs-filter}
-use Rattle.plain_store.specs.declared.Setup.{Setup}
-use Rattle.record.specs.declared.events.Event.{Event}
-use Rattle.record.specs.declared.stages.Stage.{Stage}
+use Rattle.plain_store.specs.{Setup}
+use Rattle.record.specs.{Entry, Event, Past, Stage, ahead, doorway_begin, doorway_end, entry_of, has, is_ahead, is_before, is_entered, is_queued, is_waiting_stage, past_of, processes, stage}
 use Rattle.record.specs.declared.stages.Stage.TheVariants as stages
-use Rattle.record.specs.Doorways.{doorway_begin, doorway_end, is_before, is_queued, is_waiting_stage, is_ahead, ahead}
-use Rattle.record.specs.Entries.{Entry, Past, has, is_entered}
-use Rattle.record.specs.Records.{entry_of, past_of}
-use Rattle.record.specs.Registers.{processes}
-use Rattle.record.specs.Stages.{stage}
 use Rattle.record.proofs.Width.{IsGood}
-use Rattle.laws.specs.LockLaws.{WaitsBefore}
+use Rattle.laws.specs.{WaitsBefore}
 use Rattle.laws.proofs.Doings.{stage_of}
 use Rattle.laws.proofs.DoorwayParts.{both}
 use Rattle.laws.proofs.FrameInside.{stage-is}

@@ -1,18 +1,10 @@
 -- The invariant holds of every past of a record: before the first entry, and with each entry that an event adds.
 use Rattle.std.proofs.Common.{◌≡◌, ℕ, ◌<◌, Bool, true, false, List, [], ◌∷◌, Some, refl, sym, ap, ◌∙◌, arith}
 use Rattle.std.proofs.lemmas.Bool.{false≢true}
-use Rattle.record.specs.declared.access.Access.{Access}
-use Rattle.plain_store.specs.declared.Command.{Command}
-use Rattle.plain_store.specs.declared.Setup.{Setup}
-use Rattle.record.specs.declared.events.Event.{Event}
-use Rattle.record.specs.Entries.{Entry, Past}
-use Rattle.record.specs.Induction.{past-induction}
-use Rattle.record.specs.Moves.{valued}
-use Rattle.record.specs.Parts.{is_read, is_over}
-use Rattle.record.specs.Places.{Place, access_at, place_after, value_of}
-use Rattle.record.specs.Records.{entry_of, past_of}
+use Rattle.record.specs.{Access, Entry, Event, Past, Place, access_at, entry_of, is_over, is_read, past-induction, past_of, place_after, value_of, valued}
+use Rattle.plain_store.specs.{Command, Setup}
 use Rattle.record.proofs.Width.{IsGood}
-use Rattle.laws.specs.Doings.{Doing, Runs, call, runs, doing}
+use Rattle.laws.specs.{Doing, Runs, call, runs, doing}
 use Rattle.laws.proofs.Doings.{Step, calls, withdraws, fails, restarts, steps, closes_on}
 use Rattle.laws.proofs.Invariant.{Inv}
 use Rattle.laws.proofs.Frame.{doing-other, notes-other}

@@ -4,15 +4,12 @@ use Rattle.std.specs.List.{AllByRecursion}
 use Rattle.std.proofs.Common.{refl, sym, ◌∙◌, subst, arith, append_assoc}
 use Rattle.std.proofs.lemmas.List.{length_push}
 use Rattle.record.specs.declared.access.Field.TheVariants.{Ticket}
-use Rattle.record.specs.safe_number.Bytes.{number_of_bits}
-use Rattle.plain_store.specs.declared.Command.{Command}
-use Rattle.plain_store.specs.declared.Setup.{Setup}
-use Rattle.record.specs.Entries.{Past}
-use Rattle.record.specs.Parts.{Asks, to_b}
-use Rattle.record.specs.Places.{enter}
+use Rattle.record.specs.safe_number.{number_of_bits}
+use Rattle.plain_store.specs.{Command, Setup}
+use Rattle.record.specs.{Asks, Past, enter, to_b}
 use Rattle.record.proofs.Width.{IsGood}
 use Rattle.laws.proofs.Bits.{number_small}
-use Rattle.laws.specs.Doings.{call, runs}
+use Rattle.laws.specs.{call, runs}
 use Rattle.laws.proofs.Invariant.{Asked, InAsking, Moves, Touches, next_time, wires}
 use Rattle.laws.proofs.Next.{to_b_moves}
 use Rattle.laws.proofs.Notes.{Notes, noted, notes, set}

@@ -4,28 +4,15 @@ use Rattle.std.proofs.Common.{◌≡◌, ◌≢◌, ℕ, ◌==◌, ◌&&◌, ◌
 use Rattle.std.proofs.lemmas.Bool.{eqb-false}
 use Rattle.std.specs.List.{list_any}
 use Rattle.std.proofs.lemmas.List.Folds.{list_any-append}
-use Rattle.record.specs.declared.access.Access.{Access}
-use Rattle.record.specs.safe_number.Runs.{new_write}
+use Rattle.record.specs.{Access, Call, Clears, Entry, Event, Mark, Next, Part, Past, Place, Raises, Reading, Run, Writing, access_at, bits_with, enter, entry_of, first_marks, has, history, is_fresh, is_last, is_over, is_read, last_marks, marks_of, new_run, part_after, past-induction, past_of, place_after, placed, run_after, starts, value_of, valued, width, written_at}
+use Rattle.record.specs.safe_number.{new_write}
 use Rattle.plain_store.specs.declared.Answer.TheVariants as answer
-use Rattle.plain_store.specs.declared.Command.{Command}
-use Rattle.plain_store.specs.declared.Reply.{Reply}
-use Rattle.plain_store.specs.declared.Setup.{Setup}
-use Rattle.record.specs.declared.events.Event.{Event}
-use Rattle.record.specs.declared.marks.Mark.{Mark}
+use Rattle.plain_store.specs.{Command, Reply, Setup}
 use Rattle.record.specs.declared.marks.Mark.TheVariants.{Called, Taken, Left, Answered, Settled, Down}
 use Rattle.record.specs.Closings.{Closing, Withdraws, Settles, Frees, Lowers, Quit, Ended, closing_next, closing_after, settled_marks}
-use Rattle.record.specs.Entries.{Entry, Past, has, starts}
-use Rattle.record.specs.Histories.{history}
-use Rattle.record.specs.Induction.{past-induction}
-use Rattle.record.specs.Moves.{valued}
-use Rattle.record.specs.Parts.{Part, Raises, Clears, is_over, is_read, written_at, first_marks, last_marks, part_after}
-use Rattle.record.specs.Places.{Place, Run, Writing, Reading, is_fresh, is_last, bits_with, enter, new_run, run_after, access_at, place_after, marks_of, value_of}
-use Rattle.record.specs.Records.{entry_of, past_of, placed}
-use Rattle.record.specs.Registers.{width}
-use Rattle.record.specs.Scripts.{Call, Next}
 use Rattle.record.proofs.Width.{IsGood}
 use Rattle.record.proofs.Staging.{no_start-marks, no_start-placed}
-use Rattle.laws.specs.Doings.{Doing, Rests, Lies, Runs, Closes, call, runs, closes, doing}
+use Rattle.laws.specs.{Doing, Rests, Lies, Runs, Closes, call, runs, closes, doing}
 use Rattle.laws.proofs.Frame.{Happens, a_call, a_withdrawal, a_failure, a_restart, a_step, a_closing, doing-other}
 use Rattle.laws.proofs.FrameEvents.{accepted}
 

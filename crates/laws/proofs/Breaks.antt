@@ -1,11 +1,8 @@
 -- An access of a write shows nothing new: it breaks what its field showed, or leaves it.
 use Rattle.std.proofs.Common.{◌≡◌, ◌≢◌, ℕ, suc, ◌<◌, Bool, true, false, refl, sym, ap, subst, arith}
-use Rattle.record.specs.declared.access.Field.{Field}
+use Rattle.record.specs.{Field, Past, field_number, image_field, stamp_field}
 use Rattle.record.specs.declared.access.Field.TheVariants.{Choosing, Ticket, Commit, Stamp0, Stamp1, Image0, Image1}
-use Rattle.plain_store.specs.declared.Setup.{Setup}
-use Rattle.record.specs.Entries.{Past}
-use Rattle.record.specs.Moves.{field_number}
-use Rattle.record.specs.Program.{image_field, stamp_field}
+use Rattle.plain_store.specs.{Setup}
 use Rattle.laws.proofs.Notes.{Notes}
 use Rattle.laws.proofs.Invariant.{Wires, Wire, Touches, Closed, bit, ticket_of, next_time}
 use Rattle.laws.proofs.Owner.{ShowsNoMore, owner_shows_no_more}

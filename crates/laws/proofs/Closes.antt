@@ -2,19 +2,13 @@
 use Rattle.std.proofs.Common.{◌≡◌, ℕ, ◌&&◌, Bool, true, false, cond, [], ◌∷◌, Option, None, Some, refl, sym, ap, subst, ◌∙◌}
 use Rattle.std.proofs.lemmas.Bool.{false≢true}
 use Rattle.record.specs.reader_copies.Runs as copies
-use Rattle.record.specs.declared.access.Field.{Field}
+use Rattle.record.specs.{Call, Closing, Ended, Field, Frees, Next, Past, Quit, Settles, Withdraws, closing_after, closing_next, freeing, is_last_settled, is_last_written, is_unwritten, no_ticket, write_moved}
 use Rattle.record.specs.declared.access.Field.TheVariants.{Choosing, Ticket, Commit, Stamp0, Stamp1, Image0, Image1}
-use Rattle.record.specs.safe_number.Runs.{NumberWrite, new_write}
-use Rattle.plain_store.specs.declared.Command.{Command}
-use Rattle.plain_store.specs.declared.Reply.{Reply}
-use Rattle.plain_store.specs.declared.Setup.{Setup}
-use Rattle.record.specs.Closings.{Closing, Withdraws, Settles, Frees, Quit, Ended, is_unwritten, is_last_written, is_last_settled, no_ticket, freeing, closing_next, closing_after}
+use Rattle.record.specs.safe_number.{NumberWrite, new_write}
+use Rattle.plain_store.specs.{Command, Reply, Setup}
 use Rattle.record.specs.Closings as closing
-use Rattle.record.specs.Entries.{Past}
-use Rattle.record.specs.Places.{write_moved}
-use Rattle.record.specs.Scripts.{Call, Next}
 use Rattle.laws.proofs.FrameInside.{moved-unfresh}
-use Rattle.laws.specs.Doings.{Lies, call, closes, is_inside_closing}
+use Rattle.laws.specs.{Lies, call, closes, is_inside_closing}
 use Rattle.laws.proofs.Notes.{Notes, broken, field_of, breaks_announced, breaks_ticket}
 use Rattle.laws.proofs.Invariant.{Wires, Touches, StandsSettling, StandsClosing, Moves}
 use Rattle.laws.proofs.Owner.{not_so}

@@ -1,21 +1,13 @@
 -- The memory unit of a process that fails is that of what it was doing.
 use Rattle.std.proofs.Common.{◌≡◌, ℕ, List, None, sym, ap, ◌∙◌}
-use Rattle.plain_store.specs.declared.Setup.{Setup}
-use Rattle.record.specs.declared.events.Event.{Event}
+use Rattle.plain_store.specs.{Setup}
+use Rattle.record.specs.{Call, Event, Past, call_number, cut_at, cut_closing, failing, freeing, inside, last_call, last_command, own, past_of, refused_at, stage}
 use Rattle.record.specs.declared.events.Event.TheVariants as event
 use Rattle.record.specs.declared.stages.Stage.TheVariants as stages
-use Rattle.record.specs.Calls.{last_call, last_command, call_number}
-use Rattle.record.specs.Closings.{failing, freeing}
-use Rattle.record.specs.Entries.{Past, own}
-use Rattle.record.specs.Failures.{cut_at, cut_closing}
-use Rattle.record.specs.Records.{past_of, refused_at}
-use Rattle.record.specs.Scripts.{Call}
-use Rattle.record.specs.Stages.{stage, inside}
 use Rattle.record.proofs.CutRecords.{running-cut, withdrawn-cut, rest-cut}
 use Rattle.record.proofs.OpenSteps.{place_at, leaving_at}
 use Rattle.record.proofs.Width.{IsGood}
-use Rattle.laws.specs.Doings.{Doing, Rests, Runs, Closes, doing, is_inside}
-use Rattle.laws.specs.Steps.{cut_of}
+use Rattle.laws.specs.{Closes, Doing, Rests, Runs, cut_of, doing, is_inside}
 use Rattle.laws.proofs.Frame.{Does, at_rest, lying, running, leaving, settling}
 use Rattle.laws.proofs.FrameEvents.{does_all}
 use Rattle.laws.proofs.FrameInside.{inside-is}

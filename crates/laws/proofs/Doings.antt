@@ -1,23 +1,12 @@
 -- Of what a process is doing: whether it is inside, its stage, and what one accepted event makes of it.
 use Rattle.std.specs.Prelude.{◌≡◌, ℕ, Bool, false, cond, List, None, Some}
 use Rattle.record.specs.reader_copies.Runs as copies
-use Rattle.record.specs.declared.access.Access.{Access}
+use Rattle.record.specs.{Access, Call, Closing, Entry, Next, Past, Place, Raises, Run, Settles, Stage, Wait, Waits, Withdraws, access_at, closing_after, closing_next, closing_stage, enter, freeing, is_commit, is_fresh, is_over, is_read, is_unwritten, place_after, stage_at, value_of, valued, withdrawing, written_at}
 use Rattle.record.specs.declared.access.Field.TheVariants.{Ticket}
-use Rattle.record.specs.safe_number.Runs.{NumberWrite}
-use Rattle.plain_store.specs.declared.Command.{Command}
-use Rattle.plain_store.specs.declared.Reply.{Reply}
-use Rattle.plain_store.specs.declared.Setup.{Setup}
-use Rattle.record.specs.declared.stages.Stage.{Stage}
+use Rattle.record.specs.safe_number.{NumberWrite}
+use Rattle.plain_store.specs.{Command, Reply, Setup}
 use Rattle.record.specs.declared.stages.Stage.TheVariants as stage
-use Rattle.record.specs.Closings.{Closing, Withdraws, Settles, is_unwritten, freeing, withdrawing, closing_next, closing_after, closing_stage}
-use Rattle.record.specs.Entries.{Entry, Past}
-use Rattle.record.specs.Moves.{valued}
-use Rattle.record.specs.Parts.{Raises, Waits, is_read, is_over, written_at}
-use Rattle.record.specs.Places.{Place, Run, is_fresh, enter, access_at, place_after, stage_at, value_of}
-use Rattle.record.specs.Program.{Wait}
-use Rattle.record.specs.Scripts.{Call, Next}
-use Rattle.record.specs.Unit.{is_commit}
-use Rattle.laws.specs.Doings.{Doing, Rests, Lies, Runs, Closes, call, runs, closes, is_inside_at}
+use Rattle.laws.specs.{Doing, Rests, Lies, Runs, Closes, call, runs, closes, is_inside_at}
 
 -- the stage of p
 abbrev pub stage_of : Doing → Stage

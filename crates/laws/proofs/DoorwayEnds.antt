@@ -1,25 +1,13 @@
 -- How a doorway ends that is not cut: with a ticket or with `TicketsFull`, and which of the two by the tickets that were read.
 use Rattle.std.proofs.Common.{◌≡◌, ◌↔◌, ℕ, zero, suc, ◌==◌, ◌||◌, Bool, true, false, cond, List, [], ◌∷◌, ◌++◌, Some, None, length, map, refl, sym, ap, subst, ◌∙◌, true≢false, arith, eqb-true, eq-eqb, Contains}
 use Rattle.std.specs.List.{list_any}
-use Rattle.plain_store.specs.declared.Answer.{Answer}
+use Rattle.plain_store.specs.{Answer, Setup, changes}
 use Rattle.plain_store.specs.declared.Answer.TheVariants as answer
-use Rattle.plain_store.specs.declared.Setup.{Setup}
-use Rattle.plain_store.specs.Store.{changes}
-use Rattle.record.specs.declared.events.Event.{Event}
-use Rattle.record.specs.declared.marks.Mark.{Mark}
+use Rattle.record.specs.{Call, Entry, Event, Mark, Numbers, Past, Wait, bits_with, entered_if_none, entry_of, has, history, is_fresh, is_last, is_waiting, lets_by, others, past_of, placed, reply, store_read, tickets_read, value_of, waits_of}
 use Rattle.record.specs.declared.marks.Mark.TheVariants.{Waiting, Taken, Answered}
-use Rattle.record.specs.Entries.{Entry, Past, has, is_waiting}
-use Rattle.record.specs.Headline.{tickets_read}
-use Rattle.record.specs.Histories.{history}
 use Rattle.record.specs.Parts.{Part, Lowers, Refuses, Waits, AsksImage, Clears, first_marks, last_marks}
-use Rattle.record.specs.Places.{is_fresh, is_last, bits_with, value_of}
-use Rattle.record.specs.Program.{Wait, entered_if_none, lets_by, reply, store_read, waits_of}
-use Rattle.record.specs.Records.{entry_of, past_of, placed}
-use Rattle.record.specs.Registers.{others}
-use Rattle.record.specs.Scripts.{Call, Numbers}
 use Rattle.record.proofs.Width.{IsGood}
-use Rattle.laws.specs.LockLaws.{ends_doorway}
-use Rattle.laws.specs.Doings.{call, doing}
+use Rattle.laws.specs.{call, doing, ends_doorway}
 use Rattle.laws.proofs.Frame.{Happens, a_call, a_withdrawal, a_failure, a_restart, a_step, a_closing}
 use Rattle.laws.proofs.FrameEvents.{accepted}
 use Rattle.laws.proofs.AtPlaces.{AtPlace, Stepping, IsOfLock, any-placed, any-stepping, any-closing}

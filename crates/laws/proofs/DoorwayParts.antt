@@ -5,19 +5,12 @@ use Rattle.std.specs.Prelude.{unwrap_or}
 use Rattle.std.specs.List.{list_any}
 use Rattle.record.specs.reader_copies.Runs as copies
 use Rattle.record.specs.safe_bit.declared.Move.TheVariants.{BeginWrite, EndWrite}
-use Rattle.record.specs.declared.access.Access.{Access}
+use Rattle.record.specs.{Access, Call, Entry, Place, Reading, Run, Version, Wait, Writing, access_at, begins_doorway, bits_with, ended, ended_with, enter, entered_if_none, first_full, greatest, is_fresh, is_last, is_waiting, lets_by, max_of, newest_stamp, others, place_after, processes, raises, reply, run_after, store_read, waits_of}
 use Rattle.record.specs.declared.access.Field.TheVariants.{Choosing}
 use Rattle.record.specs.declared.marks.Mark.TheVariants.{Taken}
-use Rattle.record.specs.Doorways.{raises, begins_doorway}
-use Rattle.record.specs.Entries.{Entry, is_waiting}
-use Rattle.record.specs.Moves.{ended, ended_with}
 use Rattle.record.specs.Parts.{Part, Raises, Asks, TakesTicket, Lowers, Refuses, Waits, AsksCommit, AsksStamp, AsksImage, WritesImage, Clears, is_over, last_marks, to_b, to_d, to_e, to_g, part_after}
-use Rattle.record.specs.Places.{Place, Run, Writing, Reading, is_fresh, is_last, bits_with, enter, run_after, access_at, place_after}
-use Rattle.record.specs.Program.{Version, Wait, entered_if_none, greatest, max_of, first_full, lets_by, newest_stamp, reply, store_read, waits_of}
-use Rattle.record.specs.Registers.{others, processes}
-use Rattle.record.specs.Scripts.{Call}
 use Rattle.plain_store.specs.declared.Answer.TheVariants as answer
-use Rattle.plain_store.specs.Store.{Contents, changes}
+use Rattle.plain_store.specs.{Contents, changes}
 use Rattle.laws.proofs.Notes.{began_by, ended_by}
 use Rattle.laws.proofs.FrameInside.{run-unfresh}
 use Rattle.laws.proofs.AtPlaces.{IsOfLock, IsRunOf}

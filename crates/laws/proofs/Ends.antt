@@ -5,30 +5,14 @@ use Rattle.std.specs.Prelude.{option_map, unwrap_or}
 use Rattle.record.specs.safe_bit.declared.Move.TheVariants.{BeginWrite, EndWrite, BeginRead, EndRead, Settle}
 use Rattle.record.specs.safe_bit.Cell.{Cell}
 use Rattle.record.specs.reader_copies.Runs as copies
-use Rattle.record.specs.declared.access.Access.{Access}
-use Rattle.record.specs.declared.access.Field.{Field}
+use Rattle.record.specs.{Access, Call, Entry, Event, Field, Next, Part, Past, Place, Raises, Reading, Run, Writing, access_at, access_of, bit_written, bits_with, enter, entry_of, inside, is_last, is_over, is_read, last_write, made_with, next_written, own, part_after, past-induction, past_of, place_after, run_after, unfinished, value_of, valued, width, write_moved, written_at}
 use Rattle.record.specs.declared.access.Field.TheVariants.{Choosing, Ticket}
-use Rattle.record.specs.Accesses.{access_of}
-use Rattle.record.specs.safe_number.Runs.{NumberWrite, new_write}
-use Rattle.plain_store.specs.declared.Command.{Command}
-use Rattle.plain_store.specs.declared.Setup.{Setup}
-use Rattle.record.specs.declared.events.Event.{Event}
+use Rattle.record.specs.safe_number.{NumberWrite, new_write}
+use Rattle.plain_store.specs.{Command, Setup}
 use Rattle.record.specs.Closings.{Closing, Withdraws, Settles, Frees, Lowers, Quit, Ended, closing_next, closing_after, failing, freeing, settling_from, is_last_settled, is_last_written, no_ticket}
-use Rattle.record.specs.Entries.{Entry, Past, own}
-use Rattle.record.specs.Induction.{past-induction}
-use Rattle.record.specs.Moves.{valued}
-use Rattle.record.specs.Parts.{Part, Raises, is_over, is_read, part_after, written_at}
-use Rattle.record.specs.Places.{Place, Run, Writing, Reading, access_at, bit_written, bits_with, enter, is_last, next_written, place_after, run_after, value_of, write_moved}
-use Rattle.record.specs.Records.{entry_of, past_of}
-use Rattle.record.specs.Registers.{width}
-use Rattle.record.specs.Scripts.{Call, Next}
-use Rattle.record.specs.Stages.{inside}
-use Rattle.record.specs.Unit.{last_write, made_with, unfinished}
 use Rattle.record.proofs.Singles.{is_write}
 use Rattle.record.proofs.Width.{IsGood}
-use Rattle.laws.specs.Doings.{Doing, Rests, Lies, Runs, Closes, call, closes, doing, runs}
-use Rattle.laws.specs.Held.{cell_held}
-use Rattle.laws.specs.Steps.{being_written, next_of}
+use Rattle.laws.specs.{Closes, Doing, Lies, Rests, Runs, being_written, call, cell_held, closes, doing, next_of, runs}
 use Rattle.laws.proofs.Frame.{Happens, a_call, a_withdrawal, a_failure, a_restart, a_step, a_closing, doing-other}
 use Rattle.laws.proofs.FrameEvents.{accepted}
 use Rattle.laws.proofs.FrameSteps.{entry-by, valued-write}

@@ -2,17 +2,11 @@
 use Rattle.std.proofs.Common.{◌≡◌, ◌≢◌, ◌⊎◌, ℕ, ◌<◌, ◌==◌, ◌&&◌, ◌||◌, nat_lt, Bool, true, false, List, ◌∷◌, Some, refl, sym, ap, subst, ◌∙◌, true≢false, inl, inr, cond, eq-eqb, ne_eqb, IsTrue}
 use Rattle.std.specs.Prelude.{fold}
 use Rattle.std.proofs.lemmas.Bool.{lt-ltb}
-use Rattle.plain_store.specs.declared.Setup.{Setup}
-use Rattle.record.specs.declared.events.Event.{Event}
+use Rattle.plain_store.specs.{Setup}
+use Rattle.record.specs.{Entry, Event, Past, entry_of, has, inside, is_below, is_entered, is_fresh, is_waiting_stage, past_of, stage, stage_after}
 use Rattle.record.specs.declared.stages.Stage.TheVariants.{Waiting}
-use Rattle.record.specs.Doorways.{is_waiting_stage}
-use Rattle.record.specs.Entries.{Entry, Past, has, is_entered}
-use Rattle.record.specs.Places.{is_fresh}
-use Rattle.record.specs.Program.{is_below}
-use Rattle.record.specs.Records.{entry_of, past_of}
-use Rattle.record.specs.Stages.{inside, stage, stage_after}
 use Rattle.record.proofs.Width.{IsGood}
-use Rattle.laws.specs.Doings.{doing, is_inside, is_inside_at}
+use Rattle.laws.specs.{StandsBefore, doing, is_inside, is_inside_at, ticket_told}
 use Rattle.laws.proofs.Always.{inv_of}
 use Rattle.laws.proofs.AtPlaces.{AtPlace}
 use Rattle.laws.proofs.Doings.{stage_of}
@@ -21,7 +15,6 @@ use Rattle.laws.proofs.FrameInside.{inside-is, stage-is}
 use Rattle.laws.proofs.Invariant.{Inv}
 use Rattle.laws.proofs.Notes.{notes}
 use Rattle.laws.proofs.Theorems.{Enters, WaitsAt, below, enters, insider, is_process, waiter, waiter-holds}
-use Rattle.laws.specs.Lines.{StandsBefore, ticket_told}
 use Rattle.laws.proofs.HeldTickets.{TicketIs, after_event, insiders, tickets}
 use Rattle.laws.proofs.PartTickets.{TicketAt}
 

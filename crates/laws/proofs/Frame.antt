@@ -1,27 +1,12 @@
 -- What each process is doing is what the look-backs of its entries say, and what one accepted event is for its process.
 use Rattle.std.proofs.Common.{◌≡◌, ◌≢◌, ℕ, suc, ◌==◌, Bool, true, false, cond, List, [], ◌∷◌, Some, None, length, map, refl, sym, ap, ◌∙◌, eq-eqb, ne_eqb}
 use Rattle.std.specs.Prelude.{fold}
-use Rattle.record.specs.safe_bit.SafeRule.{read_value}
-use Rattle.record.specs.declared.access.Access.{Access}
-use Rattle.plain_store.specs.declared.Command.{Command}
-use Rattle.plain_store.specs.declared.Setup.{Setup}
-use Rattle.record.specs.declared.events.Event.{Event}
+use Rattle.record.specs.safe_bit.{read_value}
+use Rattle.record.specs.{Access, Call, Closing, Entry, Event, Next, Part, Past, Place, Raises, Run, Stage, Wait, Waits, Withdraws, access_at, accesses_of, call_number, closing_after, closing_next, ended_with, enter, entry_at, failing, has, history, is_over, is_running, last_call, last_command, last_start, marks_of, moves_of, opening_bit, own, past_of, place_after, place_of, placed, since, stage, stage_after, stage_of, start_in, starts, stepped, value_of, valued, withdrawing}
+use Rattle.plain_store.specs.{Command, Setup}
 use Rattle.record.specs.declared.marks.Mark.TheVariants.{Called, Failed, Withdrew, Restarted}
-use Rattle.record.specs.declared.stages.Stage.{Stage}
 use Rattle.record.specs.declared.stages.Stage.TheVariants as stages
-use Rattle.record.specs.Calls.{last_call, last_command, call_number}
-use Rattle.record.specs.Closings.{Closing, Withdraws, withdrawing, failing, closing_next, closing_after}
-use Rattle.record.specs.Entries.{Entry, Past, own, has, since, starts}
-use Rattle.record.specs.Histories.{history}
-use Rattle.record.specs.Moves.{ended_with, moves_of, valued}
-use Rattle.record.specs.Parts.{Part, Raises, Waits, is_over, stage_of}
 use Rattle.record.specs.Parts as part
-use Rattle.record.specs.Places.{Place, Run, accesses_of, place_of, place_after, access_at, value_of, entry_at, marks_of, is_running, enter}
-use Rattle.record.specs.Program.{Wait}
-use Rattle.record.specs.Records.{last_start, past_of, placed, start_in, stepped}
-use Rattle.record.specs.Registers.{opening_bit}
-use Rattle.record.specs.Scripts.{Call, Next}
-use Rattle.record.specs.Stages.{stage, stage_after}
 use Rattle.record.proofs.Follow.{Spot, moved_on}
 use Rattle.record.proofs.Local.{Running, start-plain, since-plain, call-plain, command-plain, calls-plain, running_steps, over-idle, stage-moved}
 use Rattle.record.proofs.Marking.{spot_marks}
@@ -30,7 +15,7 @@ use Rattle.record.proofs.Staging.{stage-placed, no_start}
 use Rattle.record.proofs.Standing.{at_place, running_next}
 use Rattle.record.proofs.Ties.{Tied, tied-on, tied-marks, end-with}
 use Rattle.record.proofs.Width.{IsGood}
-use Rattle.laws.specs.Doings.{Doing, Rests, Lies, Runs, Closes, call, runs, closes, goes_on, does_after, doing}
+use Rattle.laws.specs.{Doing, Rests, Lies, Runs, Closes, call, runs, closes, goes_on, does_after, doing}
 use Rattle.laws.proofs.Notes.{notes, notes_after}
 
 -- an entry of another process changes nothing of what q does, has noted, or has entered

@@ -2,20 +2,12 @@
 use Rattle.std.proofs.Common.{◌≡◌, ◌≢◌, ℕ, ◌==◌, ◌&&◌, Bool, true, false, cond, List, [], ◌∷◌, ◌++◌, Some, None, refl, sym, ap, subst, ◌∙◌, eqb-true, eq-eqb}
 use Rattle.record.specs.safe_bit.Cell.{Cell, cell_of, read_answer}
 use Rattle.record.specs.safe_bit.Cell as bit
-use Rattle.record.specs.safe_bit.declared.Move.{Move}
+use Rattle.record.specs.safe_bit.{Move}
 use Rattle.record.specs.safe_bit.declared.Move.TheVariants.{BeginWrite, EndWrite, BeginRead, EndRead, Settle}
 use Rattle.record.proofs.safe_bit.Showing.{answer-shows, shows_moves}
-use Rattle.record.specs.declared.access.Access.{Access}
-use Rattle.record.specs.declared.access.Field.{Field}
+use Rattle.record.specs.{Access, Entry, Event, Field, Past, cell_after, copy, ended, ended_with, field_number, moves_of, opening_bit, past_of, same_bit, value_of, valued}
 use Rattle.record.specs.declared.access.Field.TheVariants.{Choosing, Ticket, Commit, Stamp0, Stamp1, Image0, Image1}
-use Rattle.plain_store.specs.declared.Setup.{Setup}
-use Rattle.record.specs.declared.events.Event.{Event}
-use Rattle.record.specs.Entries.{Entry, Past}
-use Rattle.record.specs.Moves.{field_number, same_bit, moves_of, ended, ended_with, valued}
-use Rattle.record.specs.Newest.{copy, cell_after}
-use Rattle.record.specs.Places.{value_of}
-use Rattle.record.specs.Records.{past_of}
-use Rattle.record.specs.Registers.{opening_bit}
+use Rattle.plain_store.specs.{Setup}
 use Rattle.record.proofs.Singles.{is_write}
 use Rattle.record.proofs.TurnRecords.{turns_all}
 use Rattle.record.proofs.Width.{IsGood}

@@ -1,24 +1,14 @@
 -- What the writes of a process have left unfinished, by what it is doing: so what its memory unit begins with where it fails.
 use Rattle.std.proofs.Common.{◌≡◌, ℕ, ◌+◌, ◌*◌, ◌%◌, ◌<◌, ◌==◌, Bool, true, false, cond, List, [], ◌∷◌, Option, Some, None, length, refl, sym, ap, subst, ◌∙◌, arith, true≢false, eqb-true}
 use Rattle.std.specs.Prelude.{is_none}
-use Rattle.record.specs.safe_bit.declared.Move.{Move}
+use Rattle.record.specs.safe_bit.{Move}
 use Rattle.record.specs.safe_bit.declared.Move.TheVariants.{BeginWrite, EndWrite, BeginRead, EndRead, Settle}
 use Rattle.record.specs.reader_copies.Runs as copies
-use Rattle.record.specs.declared.access.Access.{Access}
-use Rattle.record.specs.declared.access.Field.{Field}
+use Rattle.record.specs.{Access, Call, Entry, Field, Next, Part, Past, Place, Reading, Run, Writing, access_at, access_of, bit_written, bits_with, enter, inside, is_last, is_over, is_read, last_write, new_run, next_written, part_after, place_after, run_after, unfinished, width, write_moved, written_at}
 use Rattle.record.specs.declared.access.Field.TheVariants.{Choosing, Ticket}
-use Rattle.record.specs.Accesses.{access_of}
-use Rattle.record.specs.safe_number.Runs.{NumberWrite, new_write, write_on}
-use Rattle.plain_store.specs.declared.Command.{Command}
-use Rattle.plain_store.specs.declared.Setup.{Setup}
+use Rattle.record.specs.safe_number.{NumberWrite, new_write, write_on}
+use Rattle.plain_store.specs.{Command, Setup}
 use Rattle.record.specs.Closings.{Closing, Withdraws, Settles, Frees, Lowers, Quit, Ended, no_ticket, is_last_written, is_last_settled, freeing, settling_from, closing_next, closing_after}
-use Rattle.record.specs.Entries.{Entry, Past}
-use Rattle.record.specs.Parts.{Part, is_read, is_over, written_at, part_after}
-use Rattle.record.specs.Places.{Place, Run, Writing, Reading, bit_written, next_written, write_moved, enter, new_run, is_last, bits_with, run_after, place_after, access_at}
-use Rattle.record.specs.Registers.{width}
-use Rattle.record.specs.Scripts.{Call, Next}
-use Rattle.record.specs.Stages.{inside}
-use Rattle.record.specs.Unit.{last_write, unfinished}
 use Rattle.record.proofs.Closing.{ticket_width, further}
 use Rattle.record.proofs.Cursors.{Goes}
 use Rattle.record.proofs.PlaceTurns.{access_in}
@@ -27,7 +17,7 @@ use Rattle.record.proofs.Ties.{written-width}
 use Rattle.record.proofs.Width.{IsGood, width-pos}
 use Rattle.record.proofs.ClosingScripts.{new-goes}
 use Rattle.record.proofs.Left.{ends-bit}
-use Rattle.laws.specs.Doings.{Doing, Rests, Lies, Runs, Closes, call, runs, closes}
+use Rattle.laws.specs.{Doing, Rests, Lies, Runs, Closes, call, runs, closes}
 
 -- The last write, after an entry.
 

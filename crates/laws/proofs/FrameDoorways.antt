@@ -2,36 +2,21 @@
 use Rattle.std.proofs.Common.{◌≡◌, ◌≢◌, ℕ, ◌/◌, ◌%◌, ◌<◌, ◌==◌, ◌&&◌, Bool, true, false, cond, List, [], ◌∷◌, Option, Some, None, refl, sym, ap, subst, ◌∙◌, arith, eqb-true, ne_eqb}
 use Rattle.std.specs.Prelude.{is_none, not, slice_index_or, unwrap_or}
 use Rattle.record.specs.reader_copies.Runs as copies
-use Rattle.record.specs.safe_bit.SafeRule.{read_value}
-use Rattle.record.specs.safe_bit.declared.Move.{Move}
+use Rattle.record.specs.safe_bit.{Move, read_value}
 use Rattle.record.specs.safe_bit.declared.Move.TheVariants.{BeginWrite, EndWrite, BeginRead, EndRead}
-use Rattle.record.specs.declared.access.Access.{Access}
-use Rattle.record.specs.declared.access.Field.{Field}
+use Rattle.record.specs.{Access, Call, Clears, Entry, Event, Field, Next, Part, Past, Raises, Reading, Refuses, Run, Stage, TakesTicket, WritesCommit, WritesImage, WritesStamp, Writing, access_at, begins_doorway, bit_written, call_number, ended, ended_with, entry_of, image_field, is_fresh, is_over, is_read, is_running, last_command, last_start, moves_of, opening_bit, own, past_of, raises, read_at, stamp_field, version_of, written_at}
 use Rattle.record.specs.declared.access.Field.TheVariants.{Choosing}
-use Rattle.record.specs.safe_number.Runs.{NumberWrite}
-use Rattle.plain_store.specs.declared.Command.{Command}
-use Rattle.plain_store.specs.declared.Setup.{Setup}
-use Rattle.record.specs.declared.events.Event.{Event}
+use Rattle.record.specs.safe_number.{NumberWrite}
+use Rattle.plain_store.specs.{Command, Setup}
 use Rattle.record.specs.declared.marks.Mark.TheVariants.{Called, Failed, Withdrew}
-use Rattle.record.specs.declared.stages.Stage.{Stage}
 use Rattle.record.specs.declared.stages.Stage.TheVariants as stages
-use Rattle.record.specs.Calls.{last_command, call_number}
 use Rattle.record.specs.Closings.{Closing, Withdraws, Settles, Frees, Lowers, Quit, Ended, closing_next}
-use Rattle.record.specs.Doorways.{begins_doorway, raises}
-use Rattle.record.specs.Entries.{Entry, Past, own}
-use Rattle.record.specs.Moves.{ended, ended_with, moves_of}
-use Rattle.record.specs.Parts.{Part, Raises, TakesTicket, Refuses, WritesImage, WritesStamp, WritesCommit, Clears, is_read, is_over, read_at, written_at}
 use Rattle.record.specs.Parts as part
-use Rattle.record.specs.Places.{Run, Writing, Reading, bit_written, is_fresh, is_running, access_at}
-use Rattle.record.specs.Program.{version_of, image_field, stamp_field}
-use Rattle.record.specs.Records.{entry_of, last_start, past_of}
-use Rattle.record.specs.Registers.{opening_bit}
-use Rattle.record.specs.Scripts.{Call, Next}
 use Rattle.record.proofs.OpenSteps.{place_at, leaving_at, failing_at}
 use Rattle.record.proofs.PlaceTurns.{access_in}
 use Rattle.record.proofs.Turns.{and_false, and_true}
 use Rattle.record.proofs.Width.{IsGood}
-use Rattle.laws.specs.Doings.{Doing, Rests, Lies, Runs, Closes, call, doing}
+use Rattle.laws.specs.{Doing, Rests, Lies, Runs, Closes, call, doing}
 use Rattle.laws.proofs.Frame.{Happens, a_call, a_withdrawal, a_failure, a_restart, a_step, a_closing}
 use Rattle.laws.proofs.FrameCuts.{left, WriteOn, LeftRun, LeftClosing, LeftIn}
 use Rattle.laws.proofs.FrameEvents.{accepted}

@@ -2,28 +2,19 @@
 use Rattle.std.proofs.Common.{◌≡◌, ℕ, ◌<◌, ◌==◌, Bool, true, false, cond, List, [], ◌∷◌, Option, Some, None, refl, sym, ap, subst, ◌∙◌, arith, eqb-true}
 use Rattle.std.proofs.lemmas.Bool.Decides.{nat_tests}
 use Rattle.std.specs.Prelude.{fold, nat_lt}
-use Rattle.plain_store.specs.declared.Command.{Command}
-use Rattle.plain_store.specs.declared.Setup.{Setup}
-use Rattle.record.specs.declared.events.Event.{Event}
+use Rattle.plain_store.specs.{Command, Setup}
+use Rattle.record.specs.{Entry, Event, Part, Past, Place, Stage, Wait, Waits, added, call_number, entry_of, is_running, last_command, own, past_of, process_of, refused_at, stage, stage_after}
 use Rattle.record.specs.declared.events.Event.TheVariants as event
 use Rattle.record.specs.declared.marks.Mark.TheVariants.{Called, Failed, Withdrew, Restarted}
-use Rattle.record.specs.declared.stages.Stage.{Stage}
 use Rattle.record.specs.declared.stages.Stage.TheVariants as stages
-use Rattle.record.specs.Calls.{last_command, call_number}
 use Rattle.record.specs.Closings.{Closing, Withdraws, Lowers, closing_stage}
-use Rattle.record.specs.Entries.{Entry, Past, own}
-use Rattle.record.specs.Parts.{Part, Waits}
 use Rattle.record.specs.Parts as part
-use Rattle.record.specs.Places.{Place, is_running}
-use Rattle.record.specs.Program.{Wait}
-use Rattle.record.specs.Records.{added, entry_of, past_of, process_of, refused_at}
-use Rattle.record.specs.Stages.{stage, stage_after}
 use Rattle.record.proofs.ClosingStanding.{withdrawn_stands}
 use Rattle.record.proofs.OpenSteps.{place_at, leaving_at}
 use Rattle.record.proofs.Standing.{running_stands}
 use Rattle.record.proofs.Width.{IsGood}
 use Rattle.record.proofs.World.{entry-accepted, entry_view, view, refused-idle}
-use Rattle.laws.specs.Doings.{Doing, Rests, Lies, Runs, Closes, doing}
+use Rattle.laws.specs.{Doing, Rests, Lies, Runs, Closes, doing}
 use Rattle.laws.proofs.Frame.{Does, at_rest, lying, running, leaving, settling, may_fail, Happens, a_call, a_withdrawal, a_failure, a_restart, Goes, then_doing, running-goes, doing-goes}
 use Rattle.laws.proofs.FrameClosings.{leaving-goes, settling-goes}
 

@@ -3,35 +3,19 @@ use Rattle.std.proofs.Common.{◌≡◌, ℕ, ◌+◌, ◌*◌, ◌==◌, ◌&&�
 use Rattle.std.proofs.lemmas.List.{length_push}
 use Rattle.std.specs.Prelude.{fold, not}
 use Rattle.record.specs.reader_copies.Runs as copies
-use Rattle.record.specs.declared.access.Access.{Access}
-use Rattle.record.specs.safe_number.Runs.{NumberWrite, new_write, write_on}
+use Rattle.record.specs.{Access, Asks, AsksCommit, AsksImage, AsksStamp, Call, Clears, Entry, Event, Mark, Next, Over, Part, Past, Place, Raises, Reading, Refuses, Run, TakesTicket, Version, Wait, Waits, WritesCommit, WritesImage, WritesStamp, Writing, bit_written, bits_with, enter, entered_if_none, entry_of, first_full, first_marks, greatest, history, inside, inside_after, is_fresh, is_last, is_over, is_read, last_marks, last_write, lets_by, marks_of, max_of, new_run, newest_stamp, others, own, part_after, past-induction, past_of, place_after, placed, processes, reply, run_after, stage, store_read, to_b, to_d, to_e, to_g, unfinished, value_of, waits_of, width, write_moved, written_at}
+use Rattle.record.specs.safe_number.{NumberWrite, new_write, write_on}
 use Rattle.plain_store.specs.declared.Answer.TheVariants as answer
-use Rattle.plain_store.specs.declared.Command.{Command}
-use Rattle.plain_store.specs.declared.Reply.{Reply}
-use Rattle.plain_store.specs.declared.Setup.{Setup}
-use Rattle.plain_store.specs.Store.{Contents, changes}
-use Rattle.record.specs.declared.events.Event.{Event}
-use Rattle.record.specs.declared.marks.Mark.{Mark}
+use Rattle.plain_store.specs.{Command, Contents, Reply, Setup, changes}
 use Rattle.record.specs.declared.marks.Mark.TheVariants.{Taken, Left, Answered, Settled, Down}
 use Rattle.record.specs.Closings.{Closing, Withdraws, Settles, Frees, Lowers, Quit, Ended, no_ticket, is_unwritten, is_last_written, is_last_settled, freeing, settling_from, failing, closing_next, closing_after, settled_marks}
-use Rattle.record.specs.Entries.{Entry, Past, own}
-use Rattle.record.specs.Histories.{history}
-use Rattle.record.specs.Induction.{past-induction}
-use Rattle.record.specs.Parts.{Part, Raises, Asks, TakesTicket, Refuses, Waits, AsksCommit, AsksStamp, AsksImage, WritesImage, WritesStamp, WritesCommit, Clears, Over, is_read, is_over, written_at, first_marks, last_marks, to_e, to_d, to_b, to_g, part_after}
 use Rattle.record.specs.Parts as part
-use Rattle.record.specs.Places.{Place, Run, Writing, Reading, bit_written, write_moved, new_run, enter, is_fresh, is_last, bits_with, run_after, place_after, marks_of, value_of}
-use Rattle.record.specs.Program.{Version, Wait, entered_if_none, first_full, greatest, lets_by, max_of, newest_stamp, reply, store_read, waits_of}
-use Rattle.record.specs.Records.{entry_of, past_of, placed}
-use Rattle.record.specs.Registers.{others, processes, width}
-use Rattle.record.specs.Scripts.{Call, Next}
-use Rattle.record.specs.Stages.{stage, inside, inside_after}
-use Rattle.record.specs.Unit.{last_write, unfinished}
 use Rattle.record.proofs.ClosingStanding.{withdrawn_stands, unit_stands}
 use Rattle.record.proofs.Standing.{running_stands}
 use Rattle.record.proofs.Turns.{and_false, and_true}
 use Rattle.record.proofs.Width.{IsGood}
 use Rattle.record.proofs.CutRecords.{inside-own}
-use Rattle.laws.specs.Doings.{Doing, Rests, Runs, call, runs, closes, doing, is_inside, is_inside_at, is_inside_closing}
+use Rattle.laws.specs.{Doing, Rests, Runs, call, runs, closes, doing, is_inside, is_inside_at, is_inside_closing}
 use Rattle.laws.proofs.Doings.{stage_of}
 use Rattle.laws.proofs.Frame.{Does, at_rest, lying, running, leaving, settling, Happens, a_call, a_withdrawal, a_failure, a_restart, a_step, a_closing, doing-other}
 use Rattle.laws.proofs.FrameEvents.{does_all, Accepted, accepted}

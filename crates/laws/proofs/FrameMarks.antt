@@ -3,30 +3,17 @@ use Rattle.std.proofs.Common.{◌≡◌, ℕ, ◌&&◌, ◌||◌, Bool, true, fa
 use Rattle.std.specs.List.{list_any}
 use Rattle.std.proofs.lemmas.List.Folds.{list_any-append}
 use Rattle.record.specs.reader_copies.Runs as copies
-use Rattle.record.specs.declared.access.Access.{Access}
+use Rattle.record.specs.{Access, AsksImage, Call, Clears, Entry, Event, Mark, Next, Part, Past, Place, Raises, Refuses, Wait, Waits, WritesCommit, bits_with, enter, entered_if_none, entry_of, first_marks, has, history, is_called, is_entered, is_fresh, is_last, is_waiting, last_marks, lets_by, marks_of, part_after, past_of, place_after, placed, processes, reply, run_after, store_read, to_d, to_e, value_of, waits_of}
 use Rattle.plain_store.specs.declared.Answer.TheVariants as answer
-use Rattle.plain_store.specs.declared.Command.{Command}
-use Rattle.plain_store.specs.declared.Reply.{Reply}
-use Rattle.plain_store.specs.declared.Setup.{Setup}
-use Rattle.plain_store.specs.Store.{changes}
-use Rattle.record.specs.declared.events.Event.{Event}
-use Rattle.record.specs.declared.marks.Mark.{Mark}
+use Rattle.plain_store.specs.{Command, Reply, Setup, changes}
 use Rattle.record.specs.declared.marks.Mark.TheVariants.{Called, Waiting, Entered, Taken, Left, Answered, Failed, Settled, Down, Withdrew, Restarted}
 use Rattle.record.specs.Closings.{Closing, Withdraws, Settles, Frees, Lowers, Quit, Ended, no_ticket, is_unwritten, is_last_written, is_last_settled, closing_next, settled_marks}
-use Rattle.record.specs.Entries.{Entry, Past, has, is_called, is_waiting, is_entered}
-use Rattle.record.specs.Histories.{history}
-use Rattle.record.specs.Parts.{Part, Raises, Refuses, Waits, AsksImage, WritesCommit, Clears, first_marks, last_marks, part_after, to_d, to_e}
 use Rattle.record.specs.Parts as part
-use Rattle.record.specs.Places.{Place, enter, is_fresh, is_last, bits_with, run_after, place_after, marks_of, value_of}
-use Rattle.record.specs.Program.{Wait, entered_if_none, lets_by, reply, store_read, waits_of}
-use Rattle.record.specs.Records.{entry_of, past_of, placed}
-use Rattle.record.specs.Registers.{processes}
-use Rattle.record.specs.Scripts.{Call, Next}
 use Rattle.record.proofs.OpenSteps.{closing-plain}
 use Rattle.record.proofs.Staging.{no_called, no_start-marks}
 use Rattle.record.proofs.Turns.{and_false}
 use Rattle.record.proofs.Width.{IsGood}
-use Rattle.laws.specs.Doings.{Doing, Rests, Runs, call, runs, doing, is_inside, is_inside_at}
+use Rattle.laws.specs.{Doing, Rests, Runs, call, runs, doing, is_inside, is_inside_at}
 use Rattle.laws.proofs.Frame.{Happens, a_call, a_withdrawal, a_failure, a_restart, a_step, a_closing}
 use Rattle.laws.proofs.FrameEvents.{accepted}
 use Rattle.laws.proofs.FrameInside.{enter-fresh, inside-runs}

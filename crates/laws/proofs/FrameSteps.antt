@@ -1,37 +1,21 @@
 -- Every accepted event of every record is a step.
 use Rattle.std.proofs.Common.{◌≡◌, ◌≢◌, ℕ, ◌<◌, ◌≤◌, ◌==◌, ◌%◌, ◌&&◌, Bool, true, false, cond, List, [], ◌∷◌, Option, Some, None, refl, sym, ap, subst, ◌∙◌, arith, true≢false, eqb-true, eq-eqb}
 use Rattle.std.specs.Prelude.{is_none}
-use Rattle.record.specs.safe_bit.SafeRule.{read_value}
-use Rattle.record.specs.safe_bit.declared.Move.{Move}
+use Rattle.record.specs.safe_bit.{Move, read_value}
 use Rattle.record.specs.safe_bit.declared.Move.TheVariants.{BeginWrite, EndWrite, BeginRead, EndRead, Settle}
 use Rattle.record.specs.reader_copies.Runs as copies
-use Rattle.record.specs.declared.access.Access.{Access}
-use Rattle.record.specs.declared.access.Field.{Field}
+use Rattle.record.specs.{Access, Call, Entry, Event, Field, Next, Part, Past, Raises, Reading, Run, Wait, Waits, Writing, access_at, bit_written, ended, ended_with, entry_of, inside, is_called, is_fresh, last_read, last_write, made_with, moves_of, opening_bit, own, past-induction, past_of, process_of, read_so_far, since, unfinished, value_begun, value_of, valued, written_at}
 use Rattle.record.specs.declared.access.Field.TheVariants.{Ticket}
-use Rattle.record.specs.safe_number.Runs.{NumberWrite}
-use Rattle.plain_store.specs.declared.Command.{Command}
-use Rattle.plain_store.specs.declared.Setup.{Setup}
-use Rattle.record.specs.declared.events.Event.{Event}
+use Rattle.record.specs.safe_number.{NumberWrite}
+use Rattle.plain_store.specs.{Command, Setup}
 use Rattle.record.specs.Closings.{Closing, Withdraws, Settles, Frees, Lowers, Quit, Ended, no_ticket, is_unwritten, freeing, settling_from, failing, closing_next, reply_with}
-use Rattle.record.specs.Calls.{read_so_far}
-use Rattle.record.specs.Entries.{Entry, Past, own, since, is_called}
-use Rattle.record.specs.Induction.{past-induction}
-use Rattle.record.specs.Moves.{ended, ended_with, moves_of, valued}
-use Rattle.record.specs.Parts.{Part, Raises, Waits, written_at}
-use Rattle.record.specs.Places.{Run, Writing, Reading, bit_written, is_fresh, access_at, value_of}
-use Rattle.record.specs.Program.{Wait}
-use Rattle.record.specs.Records.{entry_of, past_of, process_of}
-use Rattle.record.specs.Registers.{opening_bit}
-use Rattle.record.specs.Scripts.{Call, Next}
-use Rattle.record.specs.Stages.{inside}
-use Rattle.record.specs.Unit.{last_read, last_write, made_with, unfinished, value_begun}
 use Rattle.record.proofs.PlaceTurns.{access_in}
 use Rattle.record.proofs.Singles.{is_write}
 use Rattle.record.proofs.Turns.{and_false}
 use Rattle.record.proofs.Width.{IsGood}
 use Rattle.record.proofs.Opens.{last-none}
 use Rattle.record.proofs.CutRecords.{inside-own}
-use Rattle.laws.specs.Doings.{Doing, Rests, Lies, Runs, Closes, call, doing, is_inside, is_inside_at}
+use Rattle.laws.specs.{Doing, Rests, Lies, Runs, Closes, call, doing, is_inside, is_inside_at}
 use Rattle.laws.proofs.Doings.{IsCut, Step, calls, withdraws, fails, restarts, steps, closes_on}
 use Rattle.laws.proofs.Doings as doings
 use Rattle.laws.proofs.Frame.{may_fail, Happens, a_call, a_withdrawal, a_failure, a_restart, a_step, a_closing, doing-other, own-own, own-other}

@@ -2,17 +2,10 @@
 use Rattle.std.proofs.Common.{◌≡◌, ◌≢◌, ℕ, Bool, true, false, cond, List, ◌∷◌, Some, None, refl, ap, ◌∙◌}
 use Rattle.record.specs.safe_bit.Cell.{Cell}
 use Rattle.record.specs.safe_bit.Cell as bit
-use Rattle.record.specs.safe_bit.declared.Move.{Move}
+use Rattle.record.specs.safe_bit.{Move}
 use Rattle.record.specs.safe_bit.declared.Move.TheVariants.{BeginWrite, EndWrite, BeginRead, EndRead, Settle}
-use Rattle.record.specs.declared.access.Access.{Access}
-use Rattle.record.specs.declared.access.Field.{Field}
-use Rattle.plain_store.specs.declared.Setup.{Setup}
-use Rattle.record.specs.declared.events.Event.{Event}
-use Rattle.record.specs.Entries.{Entry, Past}
-use Rattle.record.specs.Moves.{same_bit, valued}
-use Rattle.record.specs.Newest.{copy}
-use Rattle.record.specs.Places.{value_of}
-use Rattle.record.specs.Records.{past_of}
+use Rattle.record.specs.{Access, Entry, Event, Field, Past, copy, past_of, same_bit, value_of, valued}
+use Rattle.plain_store.specs.{Setup}
 use Rattle.record.proofs.Singles.{is_write}
 use Rattle.record.proofs.Width.{IsGood}
 use Rattle.laws.proofs.FrameCells.{cells, cells-entry, cells-kept, cells-others, cells-apart, KeptBits, EntryBy, off-field, off-reader, itself, answer-read}

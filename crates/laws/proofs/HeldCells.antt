@@ -3,24 +3,16 @@ use Rattle.std.proofs.Common.{◌≡◌, ◌==◌, ◌&&◌, ◌||◌, Bool, tru
 use Rattle.std.specs.Prelude.{flat_map}
 use Rattle.std.specs.List.{list_any}
 use Rattle.record.specs.safe_bit.Cell.{Cell, BitCall, Makes, Drops, AreWritesInTurn, MayMove, MayWrite, cell_after, cell_of_calls, without_read, read_answer}
-use Rattle.record.specs.safe_bit.SafeRule.{Shows, read_value}
-use Rattle.record.specs.safe_bit.declared.Move.{Move}
+use Rattle.record.specs.safe_bit.{Move, Shows, read_value}
 use Rattle.record.specs.safe_bit.declared.Move.TheVariants.{BeginWrite, EndWrite, BeginRead, EndRead, Settle}
 use Rattle.record.proofs.safe_bit.Showing.{answer-shows, shows_dropped, shows_moves}
-use Rattle.record.specs.declared.access.Access.{Access}
-use Rattle.plain_store.specs.declared.Setup.{Setup}
-use Rattle.record.specs.declared.events.Event.{Event}
-use Rattle.record.specs.declared.marks.Mark.{Mark}
-use Rattle.record.specs.Entries.{Entry, Past, is_failed}
-use Rattle.record.specs.Headline.{ends_read}
-use Rattle.record.specs.Moves.{moves_of, same_bit}
+use Rattle.record.specs.{Access, Entry, Event, Mark, Past, ends_read, entry_of, is_failed, moves_of, opening_bit, past_of, same_bit}
+use Rattle.plain_store.specs.{Setup}
 use Rattle.record.specs.Newest as record_cells
-use Rattle.record.specs.Records.{entry_of, past_of}
-use Rattle.record.specs.Registers.{opening_bit}
 use Rattle.record.proofs.Singles.{is_write}
 use Rattle.record.proofs.TurnRecords.{turns_all}
 use Rattle.record.proofs.Width.{IsGood}
-use Rattle.laws.specs.Held.{calls_on, cell_held, drops, is_withdrawn}
+use Rattle.laws.specs.{calls_on, cell_held, drops, is_withdrawn}
 use Rattle.laws.proofs.FrameCells.{cells-entry, cells-kept, itself}
 use Rattle.laws.proofs.SafeRecords.{ends_as_it_may}
 

@@ -2,28 +2,15 @@
 use Rattle.std.proofs.Common.{◌≡◌, ◌≢◌, ℕ, ◌==◌, ◌&&◌, Bool, true, false, cond, List, [], ◌∷◌, Some, None, refl, sym, ap, subst, ◌∙◌, true≢false, eqb-true, eq-eqb, ne_eqb}
 use Rattle.std.proofs.lemmas.Bool.{eqb-false}
 use Rattle.record.specs.safe_bit.Cell.{Cell, cell_after}
-use Rattle.record.specs.safe_bit.SafeRule.{read_value}
-use Rattle.record.specs.declared.access.Access.{Access}
-use Rattle.record.specs.safe_number.Runs.{NumberWrite, new_write}
-use Rattle.plain_store.specs.declared.Command.{Command}
-use Rattle.plain_store.specs.declared.Setup.{Setup}
-use Rattle.record.specs.declared.events.Event.{Event}
+use Rattle.record.specs.safe_bit.{read_value}
+use Rattle.record.specs.{Access, Call, Closing, Entry, Event, Part, Past, Place, Reading, Run, Withdraws, Writing, access_at, bits_with, closing_after, ended_with, ends_read, enter, entry_of, is_last, is_over, is_read, moves_of, new_run, opening_bit, part_after, past-induction, past_of, place_after, run_after, same_bit, value_of, valued, width, written_at}
+use Rattle.record.specs.safe_number.{NumberWrite, new_write}
+use Rattle.plain_store.specs.{Command, Setup}
 use Rattle.record.specs.declared.marks.Mark.TheVariants.{Called, Failed, Withdrew, Restarted}
-use Rattle.record.specs.Closings.{Closing, Withdraws, closing_after}
-use Rattle.record.specs.Entries.{Entry, Past}
-use Rattle.record.specs.Headline.{ends_read}
-use Rattle.record.specs.Induction.{past-induction}
-use Rattle.record.specs.Moves.{ended_with, moves_of, same_bit, valued}
-use Rattle.record.specs.Parts.{Part, is_over, is_read, part_after, written_at}
-use Rattle.record.specs.Places.{Place, Run, Writing, Reading, access_at, bits_with, enter, is_last, new_run, place_after, run_after, value_of}
-use Rattle.record.specs.Records.{entry_of, past_of}
-use Rattle.record.specs.Registers.{opening_bit, width}
-use Rattle.record.specs.Scripts.{Call}
 use Rattle.record.proofs.Singles.{is_write}
 use Rattle.record.proofs.Turns.{and_false}
 use Rattle.record.proofs.Width.{IsGood}
-use Rattle.laws.specs.Held.{cell_held, drops}
-use Rattle.laws.specs.Doings.{Doing, Rests, Lies, Runs, Closes, call, closes, doing, runs}
+use Rattle.laws.specs.{Closes, Doing, Lies, Rests, Runs, call, cell_held, closes, doing, drops, runs}
 use Rattle.laws.proofs.Frame.{Happens, a_call, a_withdrawal, a_failure, a_restart, a_step, a_closing, doing-other}
 use Rattle.laws.proofs.FrameCells.{EntryBy, marks_only, makes, itself, on-copy}
 use Rattle.laws.proofs.FrameCuts.{written-writes}

@@ -2,29 +2,19 @@
 use Rattle.std.proofs.Common.{◌≡◌, ◌≢◌, ℕ, ◌+◌, ◌/◌, ◌*◌, ◌<◌, ◌==◌, ◌||◌, Bool, true, false, cond, List, [], ◌∷◌, Option, Some, None, length, refl, sym, ap, subst, ◌∙◌, arith}
 use Rattle.std.proofs.lemmas.Bool.{eqb-false}
 use Rattle.record.specs.reader_copies.Runs as copies
-use Rattle.record.specs.declared.access.Access.{Access}
-use Rattle.record.specs.safe_number.Runs.{new_write}
-use Rattle.plain_store.specs.declared.Command.{Command}
-use Rattle.plain_store.specs.declared.Setup.{Setup}
-use Rattle.record.specs.declared.events.Event.{Event}
+use Rattle.record.specs.{Access, Call, Entry, Event, Next, Part, Past, Place, Reading, Run, Writing, access_at, bit_written, entry_of, is_finished, is_over, last_write, own, past_of, place_after, unfinished, value_of, width, write_moved, written_at}
+use Rattle.record.specs.safe_number.{new_write}
+use Rattle.plain_store.specs.{Command, Setup}
 use Rattle.record.specs.Closings.{Closing, Withdraws, Settles, Frees, Lowers, Quit, Ended, closing_after, closing_next, freeing, is_last_settled, is_last_written, no_ticket, settling_from}
-use Rattle.record.specs.Entries.{Entry, Past, own}
-use Rattle.record.specs.Parts.{Part, is_over, written_at}
-use Rattle.record.specs.Places.{Place, Run, Writing, Reading, access_at, bit_written, place_after, value_of, write_moved}
-use Rattle.record.specs.Records.{entry_of, past_of}
-use Rattle.record.specs.Registers.{width}
-use Rattle.record.specs.Scripts.{Call, Next}
-use Rattle.record.specs.Unit.{is_finished, last_write, unfinished}
 use Rattle.record.proofs.Closing.{ticket_width}
 use Rattle.record.proofs.PlaceTurns.{access_in}
 use Rattle.record.proofs.Singles.{is_write}
 use Rattle.record.proofs.Ties.{written-width}
 use Rattle.record.proofs.Width.{IsGood}
 use Rattle.record.proofs.Opens.{last-none}
-use Rattle.laws.specs.Held.{IsThere}
+use Rattle.laws.specs.{Closes, Doing, IsThere, Lies, Rests, Runs, call, closes, doing, runs}
 use Rattle.laws.proofs.Always.{inv_of}
 use Rattle.laws.proofs.AtPlaces.{AtPlace, own-induction}
-use Rattle.laws.specs.Doings.{Doing, Rests, Lies, Runs, Closes, call, closes, doing, runs}
 use Rattle.laws.proofs.Frame.{Happens, a_call, a_withdrawal, a_failure, a_restart, a_step, a_closing, doing-other, own-other, own-own}
 use Rattle.laws.proofs.FrameCuts.{LeftClosing, LeftIn, last-made, left}
 use Rattle.laws.proofs.FrameEvents.{Accepted, accepted}

@@ -2,21 +2,11 @@
 use Rattle.std.proofs.Common.{◌≡◌, ◌≢◌, ℕ, suc, Bool, true, false, cond, List, [], ◌∷◌, Some, None, length, refl, sym, ap, subst, ◌∙◌, true≢false, eq-eqb, ne_eqb}
 use Rattle.std.specs.Prelude.{fold}
 use Rattle.std.specs.List.{list_any}
-use Rattle.record.specs.declared.access.Access.{Access}
-use Rattle.plain_store.specs.declared.Command.{Command}
-use Rattle.plain_store.specs.declared.Setup.{Setup}
-use Rattle.record.specs.declared.events.Event.{Event}
-use Rattle.record.specs.declared.marks.Mark.{Mark}
+use Rattle.record.specs.{Access, Call, Closing, Entry, Event, Mark, Past, Place, entry_of, history, inside, inside_after, is_entered, is_fresh, is_last, is_waiting, marks_of, past_of, place_after, value_of}
+use Rattle.plain_store.specs.{Command, Setup}
 use Rattle.record.specs.declared.marks.Mark.TheVariants.{Waiting, Entered, Left}
-use Rattle.record.specs.Closings.{Closing}
-use Rattle.record.specs.Entries.{Entry, Past, is_entered, is_waiting}
-use Rattle.record.specs.Histories.{history}
-use Rattle.record.specs.Places.{Place, is_fresh, is_last, marks_of, place_after, value_of}
-use Rattle.record.specs.Records.{entry_of, past_of}
-use Rattle.record.specs.Scripts.{Call}
-use Rattle.record.specs.Stages.{inside, inside_after}
 use Rattle.record.proofs.Width.{IsGood}
-use Rattle.laws.specs.Doings.{Closes, call, doing, is_inside, runs}
+use Rattle.laws.specs.{Closes, call, doing, is_inside, runs, ticket_after, ticket_told}
 use Rattle.laws.proofs.AtPlaces.{AtPlace, IsOfLock, Stepping, any-closing, any-placed, own-induction, place-induction}
 use Rattle.laws.proofs.DoorwayParts.{of_waiting}
 use Rattle.laws.proofs.Frame.{Happens, a_call, a_withdrawal, a_failure, a_restart, a_step, a_closing, notes-goes, notes-other}
@@ -24,7 +14,6 @@ use Rattle.laws.proofs.FrameEvents.{accepted}
 use Rattle.laws.proofs.FrameInside.{inside-is, inside-runs}
 use Rattle.laws.proofs.Notes.{Notes, notes, notes_after, ticket_by}
 use Rattle.laws.proofs.Theorems.{of_entered}
-use Rattle.laws.specs.Lines.{ticket_after, ticket_told}
 use Rattle.laws.proofs.PartTickets.{TicketAt, inside-told, place-on, placed-tells}
 
 -- Looking back.

@@ -1,23 +1,13 @@
 -- Every access comes in its turn on what the registers hold, and each read that is open there is of the register that its process reads at its place.
 use Rattle.std.proofs.Common.{◌≡◌, ℕ, true, false, List, ◌∷◌, Option, Some, None, refl, sym, ap, subst, ◌∙◌, true≢false}
-use Rattle.record.specs.safe_bit.Cell.{MayMove}
-use Rattle.record.specs.declared.access.Access.{Access}
-use Rattle.plain_store.specs.declared.Command.{Command}
-use Rattle.plain_store.specs.declared.Setup.{Setup}
-use Rattle.record.specs.declared.events.Event.{Event}
+use Rattle.record.specs.safe_bit.{MayMove}
+use Rattle.record.specs.{Access, Call, Entry, Event, Part, Past, Place, Reading, Run, Writing, access_at, entry_of, is_read, is_running, last_call, last_start, own, past_of, read_at, stage}
+use Rattle.plain_store.specs.{Command, Setup}
 use Rattle.record.specs.declared.marks.Mark.TheVariants.{Called}
-use Rattle.record.specs.Calls.{last_call}
-use Rattle.record.specs.Entries.{Entry, Past, own}
-use Rattle.record.specs.Parts.{Part, is_read, read_at}
-use Rattle.record.specs.Places.{Place, Run, Writing, Reading, access_at, is_running}
-use Rattle.record.specs.Records.{entry_of, last_start, past_of}
-use Rattle.record.specs.Scripts.{Call}
-use Rattle.record.specs.Stages.{stage}
 use Rattle.record.proofs.OpenSteps.{place_at}
 use Rattle.record.proofs.Singles.{is_write}
 use Rattle.record.proofs.Width.{IsGood}
-use Rattle.laws.specs.Held.{cell_held}
-use Rattle.laws.specs.Doings.{doing}
+use Rattle.laws.specs.{cell_held, doing}
 use Rattle.laws.proofs.Frame.{Does, at_rest, lying, running, leaving, settling}
 use Rattle.laws.proofs.FrameCells.{EntryBy, marks_only, makes, on-copy}
 use Rattle.laws.proofs.FrameCuts.{LeftIn, LeftRun, left}

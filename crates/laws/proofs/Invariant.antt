@@ -1,21 +1,13 @@
 -- The invariant of the lock. Own part: what each process knows of itself and its registers. Pair part: what a reader has seen of an owner, whatever the reader is doing.
 use Rattle.std.specs.Prelude.{◌≡◌, ◌≢◌, ◌⊎◌, ℕ, suc, ◌+◌, ◌*◌, ◌/◌, ◌%◌, ◌^◌, ◌<◌, ◌≤◌, Bool, true, false, List, [], ◌∷◌, ◌++◌, length, slice_index_or, flat_map}
 use Rattle.record.specs.safe_bit.Cell.{Cell}
-use Rattle.record.specs.declared.access.Field.{Field}
+use Rattle.record.specs.{Call, Closing, Ended, Field, Frees, Past, Quit, Reading, Run, Settles, Wait, Withdraws, Writing, bit_written, cell_after, copy, greatest, is_fresh, is_unwritten, others, width}
 use Rattle.record.specs.declared.access.Field.TheVariants.{Choosing, Ticket}
-use Rattle.record.specs.safe_number.Bytes.{bits_of_number}
-use Rattle.record.specs.safe_number.Runs.{NumberWrite}
-use Rattle.plain_store.specs.declared.Setup.{Setup}
-use Rattle.record.specs.Closings.{Closing, Withdraws, Settles, Frees, Quit, Ended, is_unwritten}
+use Rattle.record.specs.safe_number.{NumberWrite, bits_of_number}
+use Rattle.plain_store.specs.{Setup}
 use Rattle.record.specs.Closings as closing
-use Rattle.record.specs.Entries.{Past}
-use Rattle.record.specs.Newest.{copy, cell_after}
 use Rattle.record.specs.Parts.{Part, Raises, Asks, TakesTicket, Lowers, Refuses, Waits, AsksCommit, AsksStamp, AsksImage, WritesImage, WritesStamp, WritesCommit, Clears, Over, is_read, read_at, written_at}
-use Rattle.record.specs.Places.{Run, Writing, Reading, is_fresh, bit_written}
-use Rattle.record.specs.Program.{Wait, greatest}
-use Rattle.record.specs.Registers.{others, width}
-use Rattle.record.specs.Scripts.{Call}
-use Rattle.laws.specs.Doings.{Doing, Rests, Lies, Runs, Closes, call, doing, is_inside}
+use Rattle.laws.specs.{Doing, Rests, Lies, Runs, Closes, call, doing, is_inside}
 use Rattle.laws.proofs.Notes.{Notes, notes}
 
 -- Registers, as a past has made them.

@@ -1,9 +1,9 @@
 -- One process moves. What its move keeps of itself, and of itself with each other process, is kept for all.
 use Rattle.std.proofs.Common.{◌≡◌, ◌≢◌, ℕ, suc, ◌<◌, ◌∷◌, sym, ap, subst, ◌∙◌, arith, inl, inr}
 use Rattle.std.proofs.lemmas.Bool.{cases_eq}
-use Rattle.plain_store.specs.declared.Setup.{Setup}
-use Rattle.record.specs.Entries.{Entry, Past}
-use Rattle.laws.specs.Doings.{Doing, doing}
+use Rattle.plain_store.specs.{Setup}
+use Rattle.record.specs.{Entry, Past}
+use Rattle.laws.specs.{Doing, doing}
 use Rattle.laws.proofs.Notes.{Notes, notes}
 use Rattle.laws.proofs.Invariant.{Wires, wires, Touches, touches, IsPast, Own, Pair, Inv, Moves, next_time}
 

@@ -5,19 +5,11 @@ use Rattle.std.proofs.lemmas.Nat.{pow_pos}
 use Rattle.std.specs.Prelude.{fold}
 use Rattle.std.specs.List.{AllByRecursion}
 use Rattle.record.specs.declared.access.Field.TheVariants.{Choosing, Ticket}
-use Rattle.plain_store.specs.declared.Answer.{Answer}
+use Rattle.plain_store.specs.{Answer, Command, Contents, Setup, changes}
 use Rattle.plain_store.specs.declared.Answer.TheVariants as answer
-use Rattle.plain_store.specs.declared.Command.{Command}
-use Rattle.plain_store.specs.declared.Setup.{Setup}
-use Rattle.plain_store.specs.Store.{Contents, changes}
-use Rattle.record.specs.Entries.{Past}
-use Rattle.record.specs.Parts.{Asks, TakesTicket, Refuses, Waits, AsksCommit, AsksImage, WritesImage, Clears, to_b, to_c, to_d, to_e, to_g}
-use Rattle.record.specs.Places.{enter}
-use Rattle.record.specs.Program.{Version, first_full, greatest, max_of, newest_stamp, reply}
-use Rattle.record.specs.Registers.{others, processes}
-use Rattle.record.specs.Scripts.{Call}
+use Rattle.record.specs.{Asks, AsksCommit, AsksImage, Call, Clears, Past, Refuses, TakesTicket, Version, Waits, WritesImage, enter, first_full, greatest, max_of, newest_stamp, others, processes, reply, to_b, to_c, to_d, to_e, to_g}
 use Rattle.record.proofs.Width.{IsGood}
-use Rattle.laws.specs.Doings.{call, runs}
+use Rattle.laws.specs.{call, runs}
 use Rattle.laws.proofs.Notes.{Notes}
 use Rattle.laws.proofs.Invariant.{Wires, Touches, Passed, IsInDoorway, Asked, waits, AllPassed, Moves}
 use Rattle.laws.proofs.Others.{each_other}

@@ -1,18 +1,12 @@
 -- The history variables of a process: what it has shown to the others and what it has seen of them, and when. No step of a program reads them. A time is the number of an entry plus one.
 use Rattle.std.specs.Prelude.{ℕ, suc, ◌==◌, Bool, false, cond, ◌&&◌, List, [], ◌∷◌, length, Option, None, Some}
-use Rattle.record.specs.declared.access.Access.{Access}
-use Rattle.record.specs.declared.access.Field.{Field}
+use Rattle.record.specs.{Access, Call, Closing, Ended, Field, Frees, Past, Quit, Settles, Withdraws, bits_with, is_fresh, is_last, lets_by, value_of}
 use Rattle.record.specs.declared.access.Field.TheVariants.{Choosing, Ticket}
-use Rattle.record.specs.safe_number.Bytes.{number_of_bits}
-use Rattle.plain_store.specs.declared.Setup.{Setup}
-use Rattle.record.specs.Closings.{Closing, Withdraws, Settles, Frees, Quit, Ended}
+use Rattle.record.specs.safe_number.{number_of_bits}
+use Rattle.plain_store.specs.{Setup}
 use Rattle.record.specs.Closings as closing
-use Rattle.record.specs.Entries.{Past}
 use Rattle.record.specs.Parts.{Part, Raises, Asks, TakesTicket, Lowers, Refuses, Waits, Clears}
-use Rattle.record.specs.Places.{is_fresh, is_last, bits_with, value_of}
-use Rattle.record.specs.Program.{lets_by}
-use Rattle.record.specs.Scripts.{Call}
-use Rattle.laws.specs.Doings.{Doing, Rests, Lies, Runs, Closes, call, doing}
+use Rattle.laws.specs.{Doing, Rests, Lies, Runs, Closes, call, doing}
 
 pub record Notes : Type 0 where
   pub announced : Bool  -- its choosing is whole at 1 on all copies, since announced_at

@@ -1,22 +1,13 @@
 -- Where the doorway of a call began and where it was finished: what `doorway_begin` and `doorway_end` look up is what the notes tell, from the first access of the doorway on, and while the process waits.
 use Rattle.std.proofs.Common.{◌≡◌, ◌≢◌, ℕ, suc, ◌<◌, ◌≤◌, ◌&&◌, ◌||◌, Bool, true, false, List, [], ◌∷◌, Option, Some, None, length, refl, sym, ap, subst, ◌∙◌, true≢false, arith, eq-eqb, ne_eqb}
 use Rattle.std.specs.List.{list_any}
-use Rattle.record.specs.safe_bit.SafeRule.{read_value}
-use Rattle.plain_store.specs.declared.Command.{Command}
-use Rattle.plain_store.specs.declared.Setup.{Setup}
-use Rattle.record.specs.declared.events.Event.{Event}
+use Rattle.record.specs.safe_bit.{read_value}
+use Rattle.plain_store.specs.{Command, Setup}
+use Rattle.record.specs.{Call, Entry, Event, Past, Place, Raises, access_at, begins_doorway, bits_with, doorway_begin, doorway_end, ended, enter, first_of, has, is_called, is_fresh, is_last, is_over, is_waiting, moves_of, number_in_call, opening_bit, past_of, place_after, value_of}
 use Rattle.record.specs.declared.marks.Mark.TheVariants.{Called}
-use Rattle.record.specs.Doorways.{begins_doorway, first_of, number_in_call, doorway_begin, doorway_end}
-use Rattle.record.specs.Entries.{Entry, Past, has, is_called, is_waiting}
-use Rattle.record.specs.Moves.{ended, moves_of}
-use Rattle.record.specs.Parts.{Raises, is_over}
-use Rattle.record.specs.Places.{Place, is_fresh, is_last, bits_with, enter, access_at, place_after, value_of}
-use Rattle.record.specs.Records.{past_of}
-use Rattle.record.specs.Registers.{opening_bit}
-use Rattle.record.specs.Scripts.{Call}
 use Rattle.record.proofs.Staging.{no_called}
 use Rattle.record.proofs.Width.{IsGood}
-use Rattle.laws.specs.Doings.{call, doing}
+use Rattle.laws.specs.{call, doing}
 use Rattle.laws.proofs.Notes.{Notes, notes, notes_after, noted, began_by, ended_by}
 use Rattle.laws.proofs.Frame.{notes-other, notes-goes}
 use Rattle.laws.proofs.DoorwayParts.{has_begun, has_finished, is_lowering, begun-next, finished-next, began-kept, ended-kept, to-begin, to-end, finished-begun, of_waiting, waiting-last, opens-doorway}

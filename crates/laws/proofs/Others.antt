@@ -3,8 +3,8 @@ use Rattle.std.proofs.Common.{◌≡◌, ◌≢◌, ℕ, zero, suc, ◌+◌, ◌
 use Rattle.std.proofs.lemmas.Bool.{false≢true, cases_eq, eqb-false, ne_eqb, not-true}
 use Rattle.std.specs.Prelude.{not, filter}
 use Rattle.std.specs.List.{range_with_len, AllByRecursion}
-use Rattle.plain_store.specs.declared.Setup.{Setup}
-use Rattle.record.specs.Registers.{others}
+use Rattle.plain_store.specs.{Setup}
+use Rattle.record.specs.{others}
 
 -- what holds of the numbers of a range that pass a test, holds of each such number
 each_kept : (P : ℕ → Type 0) (test : ℕ → Bool) (from n : ℕ) → AllByRecursion P (filter test (range_with_len from n)) → (j : ℕ) → from ≤ j → j < from + n → test j ≡ true → P j

@@ -3,18 +3,12 @@ use Rattle.std.proofs.Common.{◌≡◌, ℕ, ◌+◌, ◌==◌, Bool, true, fal
 use Rattle.std.specs.Prelude.{fold}
 use Rattle.std.proofs.lemmas.Grind.{fold-append}
 use Rattle.plain_store.specs.declared.Answer.TheVariants as answer
-use Rattle.plain_store.specs.Store.{Contents, changes}
-use Rattle.record.specs.declared.marks.Mark.{Mark}
+use Rattle.plain_store.specs.{Contents, changes}
+use Rattle.record.specs.{Call, Mark, Place, Version, Wait, bits_with, enter, entered_if_none, first_full, greatest, is_fresh, is_last, lets_by, marks_of, max_of, newest_stamp, others, place_after, placed, processes, reply, run_after, store_read, waits_of}
 use Rattle.record.specs.declared.marks.Mark.TheVariants.{Taken}
 use Rattle.record.specs.Parts.{Part, Raises, Asks, TakesTicket, Lowers, Refuses, Waits, AsksCommit, AsksStamp, AsksImage, WritesImage, WritesStamp, WritesCommit, Clears, Over, first_marks, last_marks, part_after, to_b, to_d, to_e, to_g}
-use Rattle.record.specs.Places.{Place, bits_with, enter, is_fresh, is_last, marks_of, place_after, run_after}
-use Rattle.record.specs.Program.{Version, Wait, entered_if_none, first_full, greatest, lets_by, max_of, newest_stamp, reply, store_read, waits_of}
-use Rattle.record.specs.Records.{placed}
-use Rattle.record.specs.Registers.{others, processes}
-use Rattle.record.specs.Scripts.{Call}
-use Rattle.laws.specs.Doings.{is_inside_at}
+use Rattle.laws.specs.{is_inside_at, ticket_after}
 use Rattle.laws.proofs.Notes.{ticket_by}
-use Rattle.laws.specs.Lines.{ticket_after}
 
 -- what is known of the ticket at a part, where this one is noted and that one was told last
 abbrev pub TicketAt : Part → (noted told : ℕ) → Type 0

@@ -2,11 +2,8 @@
 use Rattle.std.specs.Prelude.{◌≡◌, ℕ, ◌<◌, Bool, true, false, List, length}
 use Rattle.std.proofs.Common.{refl, ◌∙◌, subst}
 use Rattle.record.specs.declared.access.Field.TheVariants.{Choosing, Ticket}
-use Rattle.plain_store.specs.declared.Command.{Command}
-use Rattle.plain_store.specs.declared.Setup.{Setup}
-use Rattle.record.specs.Entries.{Past}
-use Rattle.record.specs.Parts.{Asks, Waits}
-use Rattle.record.specs.Program.{Wait}
+use Rattle.plain_store.specs.{Command, Setup}
+use Rattle.record.specs.{Asks, Past, Wait, Waits}
 use Rattle.laws.proofs.Invariant.{CleanChoosing, CleanTicket, Inv, Moves, Touches, touches, wires}
 use Rattle.laws.proofs.Notes.{notes}
 use Rattle.laws.proofs.Reading.{AtRead, ReadAccess, only_copy, own_there, pair_there, reads, reads_on}

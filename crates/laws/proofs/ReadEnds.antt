@@ -4,14 +4,9 @@ use Rattle.std.proofs.Common.{refl, subst, arith}
 use Rattle.std.proofs.lemmas.Bool.{eqb-false, eqb-true, false≢true}
 use Rattle.std.proofs.lemmas.List.{length_push}
 use Rattle.record.specs.declared.access.Field.TheVariants.{Ticket}
-use Rattle.plain_store.specs.declared.Command.{Command}
-use Rattle.plain_store.specs.declared.Setup.{Setup}
-use Rattle.record.specs.Entries.{Past}
-use Rattle.record.specs.Parts.{Part, Asks, Waits, part_after, read_at}
-use Rattle.record.specs.Places.{Reading, enter}
-use Rattle.record.specs.Program.{Wait}
-use Rattle.record.specs.Registers.{width}
-use Rattle.laws.specs.Doings.{call, runs}
+use Rattle.plain_store.specs.{Command, Setup}
+use Rattle.record.specs.{Asks, Part, Past, Reading, Wait, Waits, enter, part_after, read_at, width}
+use Rattle.laws.specs.{call, runs}
 use Rattle.laws.proofs.Invariant.{CleanTicket, Inv, Moves, Touches, next_time, touches, wires}
 use Rattle.laws.proofs.Notes.{noted, notes}
 use Rattle.laws.proofs.Reading.{AtRead, ReadAccess, own_there, pair_there, reads, reads_on, ticket_bit}

@@ -3,19 +3,13 @@ use Rattle.std.specs.Prelude.{◌≡◌, ◌≢◌, ℕ, suc, ◌+◌, ◌<◌, 
 use Rattle.std.proofs.Common.{refl, sym, ◌∙◌, subst, arith}
 use Rattle.std.proofs.lemmas.Bool.{false≢true, true≢false}
 use Rattle.record.specs.safe_bit.declared.Move.TheVariants.{EndRead}
-use Rattle.record.specs.declared.access.Access.{Access}
+use Rattle.record.specs.{Access, Asks, AsksCommit, AsksImage, AsksStamp, Entry, Part, Past, Reading, Run, Version, Wait, Waits, Writing, access_at, bits_with, enter, is_below, is_fresh, is_last, is_one, is_read, place_after, read_at, store_read, to_d, value_of, valued}
 use Rattle.record.specs.declared.access.Field.TheVariants.{Choosing, Ticket}
-use Rattle.record.specs.safe_number.Bytes.{number_of_bits}
-use Rattle.plain_store.specs.declared.Command.{Command}
-use Rattle.plain_store.specs.declared.Setup.{Setup}
-use Rattle.record.specs.Entries.{Entry, Past}
-use Rattle.record.specs.Moves.{valued}
-use Rattle.record.specs.Parts.{Part, Asks, Waits, AsksCommit, AsksStamp, AsksImage, is_read, read_at, to_d}
-use Rattle.record.specs.Places.{Run, Writing, Reading, access_at, bits_with, enter, is_fresh, is_last, place_after, value_of}
-use Rattle.record.specs.Program.{Version, Wait, is_below, is_one, store_read}
+use Rattle.record.specs.safe_number.{number_of_bits}
+use Rattle.plain_store.specs.{Command, Setup}
 use Rattle.record.proofs.Width.{IsGood}
 use Rattle.laws.proofs.Asking.{asks_last}
-use Rattle.laws.specs.Doings.{Runs, call, doing, runs}
+use Rattle.laws.specs.{Runs, call, doing, runs}
 use Rattle.laws.proofs.Frame.{notes-goes}
 use Rattle.laws.proofs.FrameWires.{touches-begun, touches-readers, wires-read}
 use Rattle.laws.proofs.Invariant.{InWaiting, Inv, Moves, Stands, Touches, next_time, touches, wires}

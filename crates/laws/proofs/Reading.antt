@@ -2,17 +2,12 @@
 use Rattle.std.specs.Prelude.{◌≡◌, ◌≢◌, ℕ, ◌+◌, ◌<◌, ◌≤◌, Bool, true, false, List, [], ◌∷◌, ◌++◌, length}
 use Rattle.std.proofs.Common.{refl, sym, ◌∙◌, subst, arith}
 use Rattle.std.proofs.lemmas.List.{length_push}
-use Rattle.record.specs.declared.access.Field.{Field}
+use Rattle.record.specs.{Field, Part, Past, Reading, is_fresh, read_at, width}
 use Rattle.record.specs.declared.access.Field.TheVariants.{Choosing, Ticket}
-use Rattle.record.specs.safe_number.Bytes.{number_of_bits}
-use Rattle.plain_store.specs.declared.Command.{Command}
-use Rattle.plain_store.specs.declared.Setup.{Setup}
-use Rattle.record.specs.Entries.{Past}
-use Rattle.record.specs.Parts.{Part, read_at}
-use Rattle.record.specs.Places.{Reading, is_fresh}
-use Rattle.record.specs.Registers.{width}
+use Rattle.record.specs.safe_number.{number_of_bits}
+use Rattle.plain_store.specs.{Command, Setup}
 use Rattle.laws.proofs.Bits.{AreBitsOf, number_read, one_more_bit}
-use Rattle.laws.specs.Doings.{Doing, Runs, call, doing, is_inside_at}
+use Rattle.laws.specs.{Doing, Runs, call, doing, is_inside_at}
 use Rattle.laws.proofs.Invariant.{CleanChoosing, CleanRun, CleanTicket, Closed, Inv, Moves, Own, Pair, StandsAt, Touches, next_time, ticket_of, touches, wires}
 use Rattle.laws.proofs.Moving.{past_later}
 use Rattle.laws.proofs.Notes.{notes}

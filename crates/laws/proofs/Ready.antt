@@ -1,20 +1,13 @@
 -- A process between two accesses: all that it keeps but its place in the program.
 use Rattle.std.proofs.Common.{◌≡◌, ◌≢◌, ℕ, suc, ◌/◌, ◌<◌, Bool, true, false, cond, List, [], length, refl, sym, subst, arith, inl, inr}
 use Rattle.std.proofs.lemmas.Bool.{false≢true}
-use Rattle.record.specs.declared.access.Field.{Field}
+use Rattle.record.specs.{Asks, Call, Field, Part, Past, Place, Reading, Wait, Waits, Writing, enter, is_over, is_read, new_run, read_at, width, written_at}
 use Rattle.record.specs.declared.access.Field.TheVariants.{Choosing, Ticket}
-use Rattle.record.specs.safe_number.Runs.{new_write}
-use Rattle.plain_store.specs.declared.Command.{Command}
-use Rattle.plain_store.specs.declared.Setup.{Setup}
-use Rattle.record.specs.Entries.{Past}
-use Rattle.record.specs.Parts.{Part, Asks, Waits, is_read, is_over, read_at, written_at}
-use Rattle.record.specs.Places.{Place, Writing, Reading, new_run, enter}
-use Rattle.record.specs.Program.{Wait}
-use Rattle.record.specs.Registers.{width}
-use Rattle.record.specs.Scripts.{Call}
+use Rattle.record.specs.safe_number.{new_write}
+use Rattle.plain_store.specs.{Command, Setup}
 use Rattle.record.proofs.Ties.{written-width}
 use Rattle.record.proofs.Width.{IsGood, width-pos}
-use Rattle.laws.specs.Doings.{Doing, Rests, Runs, call, runs, doing, is_inside, is_inside_at}
+use Rattle.laws.specs.{Doing, Rests, Runs, call, runs, doing, is_inside, is_inside_at}
 use Rattle.laws.proofs.FrameInside.{enter-fresh}
 use Rattle.laws.proofs.Notes.{Notes, notes, turned}
 use Rattle.laws.proofs.Invariant.{Wires, wires, Touches, touches, IsPast, Whole, Senior, Before, Written, StandsRun, StandsAt, Stands, DoesKnow, CleanWait, CleanRun, Clean, Pair, Inv, Moves, next_time}

@@ -1,17 +1,10 @@
 -- Each read of a record ends with the value of the safe rule, and else with the flick of its event.
 use Rattle.std.proofs.Common.{◌≡◌, Bool, if◌then◌else◌, List, Some, None, refl, sym, ap, subst, ◌∙◌, length, ℕ}
-use Rattle.record.specs.safe_bit.declared.Move.{Move}
+use Rattle.record.specs.safe_bit.{MayEndWith, Move, before_read, last_written, read_value}
 use Rattle.record.specs.safe_bit.declared.Move.TheVariants.{EndRead}
-use Rattle.record.specs.safe_bit.SafeRule.{MayEndWith, read_value, last_written, before_read}
-use Rattle.record.specs.declared.access.Access.{Access}
-use Rattle.plain_store.specs.declared.Setup.{Setup}
-use Rattle.record.specs.declared.events.Event.{Event}
+use Rattle.record.specs.{Access, Entry, Event, Next, Past, ended, entry_made, entry_of, moves_of, nth, opening_bit, own, program, since, starts, stepped, valued}
+use Rattle.plain_store.specs.{Setup}
 use Rattle.record.specs.declared.events.Event.TheVariants.{Call, Step, Fail, Withdraw, Restart}
-use Rattle.record.specs.Entries.{Entry, Past, own, since, starts}
-use Rattle.record.specs.Moves.{ended, moves_of, valued}
-use Rattle.record.specs.Records.{entry_made, entry_of, program, stepped}
-use Rattle.record.specs.Registers.{opening_bit}
-use Rattle.record.specs.Scripts.{Next, nth}
 use Rattle.record.proofs.Local.{option_map-some}
 use Rattle.record.proofs.World.{entry-accepted}
 

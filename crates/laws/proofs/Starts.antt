@@ -2,17 +2,12 @@
 use Rattle.std.proofs.Common.{◌≡◌, ℕ, Bool, true, false, refl, sym, ap, subst, ◌∙◌}
 use Rattle.std.proofs.lemmas.Bool.{false_from_ne_true}
 use Rattle.std.specs.Prelude.{not}
-use Rattle.plain_store.specs.declared.Command.{Command}
-use Rattle.plain_store.specs.declared.Setup.{Setup}
-use Rattle.record.specs.Closings.{Closing, withdrawing}
-use Rattle.record.specs.Entries.{Past}
+use Rattle.plain_store.specs.{Command, Setup}
+use Rattle.record.specs.{Call, Closing, Past, enter, image_field, is_fresh, stamp_field, version_of, withdrawing}
 use Rattle.record.specs.Parts.{Part, Raises, TakesTicket, Lowers, Refuses, WritesImage, WritesStamp, WritesCommit, Clears, Over, is_read, written_at}
-use Rattle.record.specs.Places.{enter, is_fresh}
-use Rattle.record.specs.Program.{image_field, stamp_field, version_of}
-use Rattle.record.specs.Scripts.{Call}
 use Rattle.record.proofs.Width.{IsGood}
 use Rattle.record.proofs.Turns.{and_true}
-use Rattle.laws.specs.Doings.{Doing, Rests, Runs, Closes, call, is_inside, is_inside_at, is_inside_closing}
+use Rattle.laws.specs.{Doing, Rests, Runs, Closes, call, is_inside, is_inside_at, is_inside_closing}
 use Rattle.laws.proofs.Doings.{IsCut, at_rest, between, within, leaving, clearing}
 use Rattle.laws.proofs.Notes.{Notes, turned}
 use Rattle.laws.proofs.Invariant.{Wires, Touches, StandsAt, StandsSettling, StandsClosing, Stands, Moves, next_time}

@@ -1,17 +1,9 @@
 -- Each step that is no read keeps the invariant.
 use Rattle.std.proofs.Common.{◌≡◌, ℕ, ◌<◌, Bool, false, List, ◌∷◌, Option, None, Some, refl, subst, ◌∙◌}
-use Rattle.record.specs.declared.access.Access.{Access}
-use Rattle.plain_store.specs.declared.Command.{Command}
-use Rattle.plain_store.specs.declared.Setup.{Setup}
-use Rattle.record.specs.Closings.{Closing, withdrawing, closing_next, closing_after}
-use Rattle.record.specs.Entries.{Entry, Past}
-use Rattle.record.specs.Moves.{valued}
-use Rattle.record.specs.Parts.{Part, Raises, Waits, is_read, is_over, written_at}
-use Rattle.record.specs.Places.{Run, Writing, Reading, enter, access_at, place_after, value_of}
-use Rattle.record.specs.Program.{Wait}
-use Rattle.record.specs.Scripts.{Call, Next}
+use Rattle.record.specs.{Access, Call, Closing, Entry, Next, Part, Past, Raises, Reading, Run, Wait, Waits, Writing, access_at, closing_after, closing_next, enter, is_over, is_read, place_after, value_of, valued, withdrawing, written_at}
+use Rattle.plain_store.specs.{Command, Setup}
 use Rattle.record.proofs.Width.{IsGood}
-use Rattle.laws.specs.Doings.{Doing, Rests, Lies, Runs, Closes, call, runs, closes, doing, is_inside}
+use Rattle.laws.specs.{Doing, Rests, Lies, Runs, Closes, call, runs, closes, doing, is_inside}
 use Rattle.laws.proofs.Doings.{IsCut}
 use Rattle.laws.proofs.Notes.{notes, notes_after}
 use Rattle.laws.proofs.Invariant.{wires, touches, Stands, Inv, Moves, next_time}

@@ -1,26 +1,13 @@
 -- What a step of a process is, by what the process does.
 use Rattle.std.proofs.Common.{◌≡◌, ℕ, Bool, true, false, cond, List, [], ◌∷◌, Option, Some, None, length, map, option_map, unwrap_or, refl, sym, ap, ◌∙◌}
 use Rattle.std.specs.List.{list_any}
-use Rattle.record.specs.safe_bit.declared.Move.{Move}
+use Rattle.record.specs.safe_bit.{Move}
 use Rattle.record.specs.safe_bit.declared.Move.TheVariants.{BeginWrite, EndWrite, Settle}
-use Rattle.record.specs.declared.access.Access.{Access}
-use Rattle.record.specs.declared.access.Field.{Field}
-use Rattle.plain_store.specs.declared.Reply.{Reply}
-use Rattle.plain_store.specs.declared.Setup.{Setup}
-use Rattle.record.specs.declared.events.Event.{Event}
+use Rattle.record.specs.{Access, Call, Closing, Entry, Event, Field, Next, Past, Place, Settles, Withdraws, access_at, before, call_number, closing_after, closing_entry, closing_next, closing_of, entry_at, entry_of, failing, freeing, has, history, is_failed, is_last_settled, is_running, last_call, last_command, last_start, last_write, made_with, own, past_of, placed, refused_at, settling_from, since, stage, starts, stepped, unfinished, value_of, value_written, valued, withdrawing}
+use Rattle.plain_store.specs.{Reply, Setup}
 use Rattle.record.specs.declared.events.Event.TheVariants as event
 use Rattle.record.specs.declared.marks.Mark.TheVariants.{Called}
 use Rattle.record.specs.declared.stages.Stage.TheVariants as stages
-use Rattle.record.specs.Calls.{last_call, last_command, call_number}
-use Rattle.record.specs.Closings.{Closing, Withdraws, Settles, withdrawing, failing, settling_from, freeing, is_last_settled, closing_next, closing_after, closing_of, closing_entry}
-use Rattle.record.specs.Entries.{Entry, Past, own, has, since, before, starts, is_failed}
-use Rattle.record.specs.Histories.{history}
-use Rattle.record.specs.Moves.{valued}
-use Rattle.record.specs.Places.{Place, access_at, entry_at, value_of, is_running}
-use Rattle.record.specs.Records.{entry_of, last_start, past_of, placed, refused_at, stepped}
-use Rattle.record.specs.Scripts.{Call, Next}
-use Rattle.record.specs.Stages.{stage}
-use Rattle.record.specs.Unit.{unfinished, last_write, value_written, made_with}
 use Rattle.record.specs.reader_copies.Runs as copies
 use Rattle.record.proofs.ClosingStanding.{IsChosen, chosen-after, told-again, withdrawn_stands, unit_stands}
 use Rattle.record.proofs.Local.{running_steps, option_map-some}
@@ -29,10 +16,9 @@ use Rattle.record.proofs.Staging.{no_start, no_start-placed}
 use Rattle.record.proofs.Standing.{at_place, running_stands}
 use Rattle.record.proofs.Width.{IsGood}
 use Rattle.record.proofs.World.{entry-accepted}
-use Rattle.laws.specs.Doings.{Doing, Runs, Closes, closes, goes_on, does_after, doing}
+use Rattle.laws.specs.{Closes, Doing, Runs, closes, does_after, does_then, doing, goes_on, marks_with, next_of}
 use Rattle.laws.proofs.Frame.{Does, at_rest, lying, running, leaving, settling, doing-goes}
 use Rattle.laws.proofs.FrameEvents.{does_all}
-use Rattle.laws.specs.Steps.{next_of, marks_with, does_then}
 
 -- a step of p with this flick, by what p does: its access, its marks, and what p does then
 pub record StepIs (s : Setup) (past : Past) (p : ℕ) (flick : Bool) (e : Entry) : Type 0 where

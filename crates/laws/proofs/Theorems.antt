@@ -3,25 +3,14 @@ use Rattle.std.proofs.Common.{◌≡◌, ◌≢◌, ◌⊎◌, ℕ, suc, ◌<◌
 use Rattle.std.proofs.lemmas.Bool.{eqb-false}
 use Rattle.std.proofs.lemmas.Bool.Decides.{nat_tests}
 use Rattle.std.specs.List.{list_any}
-use Rattle.plain_store.specs.declared.Command.{Command}
-use Rattle.plain_store.specs.declared.Setup.{Setup}
-use Rattle.plain_store.specs.Store.{changes}
-use Rattle.record.specs.declared.events.Event.{Event}
+use Rattle.plain_store.specs.{Command, Setup, changes}
+use Rattle.record.specs.{Call, Closing, Entry, Event, Past, Place, Version, Wait, Withdraws, bits_with, doorway_begin, doorway_end, enter, entered_if_none, entry_of, has, inside, is_ahead, is_before, is_entered, is_fresh, is_last, is_waiting_stage, lets_by, past_of, place_after, processes, reply, run_after, stage, store_read, value_of, waits_of}
 use Rattle.record.specs.declared.marks.Mark.TheVariants.{Taken}
-use Rattle.record.specs.Closings.{Closing, Withdraws}
 use Rattle.record.specs.Closings as closing
-use Rattle.record.specs.Doorways.{doorway_begin, doorway_end, is_before, is_waiting_stage, is_ahead}
-use Rattle.record.specs.Entries.{Entry, Past, has, is_entered}
 use Rattle.record.specs.Parts.{Part, Lowers, Waits, AsksImage, Clears, last_marks, part_after, to_d, to_e}
 use Rattle.record.specs.Parts as part
-use Rattle.record.specs.Places.{Place, is_fresh, is_last, bits_with, enter, place_after, value_of, run_after}
-use Rattle.record.specs.Program.{Version, Wait, entered_if_none, lets_by, reply, store_read, waits_of}
-use Rattle.record.specs.Records.{entry_of, past_of}
-use Rattle.record.specs.Registers.{processes}
-use Rattle.record.specs.Scripts.{Call}
-use Rattle.record.specs.Stages.{inside, stage}
 use Rattle.record.proofs.Width.{IsGood}
-use Rattle.laws.specs.Doings.{Doing, Rests, Lies, Runs, Closes, call, doing, is_inside, is_inside_at}
+use Rattle.laws.specs.{Doing, Rests, Lies, Runs, Closes, call, doing, is_inside, is_inside_at}
 use Rattle.laws.proofs.Doings.{stage_of}
 use Rattle.laws.proofs.Notes.{Notes, notes, notes_after}
 use Rattle.laws.proofs.Invariant.{Inv, Passed, Stands, StandsAt, InWaiting, wires}

@@ -4,31 +4,17 @@ use Rattle.std.proofs.lemmas.Bool.Decides.{nat_tests}
 use Rattle.std.proofs.lemmas.List.{length-map}
 use Rattle.std.specs.Int.{is_in_range}
 use Rattle.std.specs.Prelude.{fold}
-use Rattle.record.specs.reader_copies.declared.Made.{Made}
-use Rattle.record.specs.reader_copies.Runs.{bit_writes, is_open_at, settles_from}
+use Rattle.record.specs.reader_copies.{Made, bit_writes, is_open_at, settles_from}
 use Rattle.record.specs.safe_bit.declared.Move.TheVariants.{BeginWrite, EndWrite, Settle}
-use Rattle.record.specs.safe_number.Accesses.{at_bit, writes_from}
-use Rattle.record.specs.safe_number.Bytes.{bits_of_number}
-use Rattle.record.specs.declared.access.Access.{Access}
-use Rattle.record.specs.declared.access.Field.{Field}
+use Rattle.record.specs.safe_number.{at_bit, bits_of_number, writes_from}
+use Rattle.record.specs.{Access, Call, Entry, Event, Field, Past, Portion, Script, access_of, added, before, entry_of, inside, is_failed, is_running, last_call, last_start, last_write, made_with, own, past_of, refused, refused_at, settle, settle_of, settling, since, single, singles, stage, stage_after, starts, unfinished, unit_program, value_written, write_of, writing}
 use Rattle.record.specs.declared.access.Field.TheVariants.{Choosing, Ticket}
-use Rattle.plain_store.specs.declared.Setup.{Setup}
-use Rattle.plain_store.specs.Setups.{checked}
+use Rattle.plain_store.specs.{Setup, checked}
 use Rattle.plain_store.proofs.GoodSetups.{few-processes, good-checked}
-use Rattle.record.specs.declared.events.Event.{Event}
 use Rattle.record.specs.declared.events.Event.TheVariants.{Step}
 use Rattle.record.specs.declared.marks.Mark.TheVariants as mark
 use Rattle.record.specs.declared.stages.Stage.TheVariants as stages
-use Rattle.record.specs.Accesses.{access_of}
-use Rattle.record.specs.Calls.{last_call}
 use Rattle.record.specs.Closings.{Closing, Withdraws, Settles, Frees, Lowers, Quit, Ended, closing_after, closing_stage, failing}
-use Rattle.record.specs.Entries.{Entry, Past, before, is_failed, own, since, starts}
-use Rattle.record.specs.Places.{is_running}
-use Rattle.record.specs.Records.{added, entry_of, last_start, past_of, refused, refused_at}
-use Rattle.record.specs.Registers.{write_of}
-use Rattle.record.specs.Scripts.{Call, Portion, Script, single, singles, writing}
-use Rattle.record.specs.Stages.{inside, stage, stage_after}
-use Rattle.record.specs.Unit.{last_write, made_with, settle, settle_of, settling, unfinished, unit_program, value_written}
 use Rattle.record.proofs.reader_copies.Orders.{length-writes}
 use Rattle.record.proofs.safe_number.Bits.{length-bits_of_number}
 use Rattle.record.proofs.Accepted.{accepted_adds, rooms}
@@ -39,8 +25,7 @@ use Rattle.record.proofs.OpenSteps.{failing_at}
 use Rattle.record.proofs.Singles.{length-single}
 use Rattle.record.proofs.Width.{IsGood, is_good}
 use Rattle.record.proofs.World.{entry-accepted, entry_view, view}
-use Rattle.laws.specs.Doings.{doing}
-use Rattle.laws.specs.LockLaws.{UnitsAreShort}
+use Rattle.laws.specs.{UnitsAreShort, doing}
 use Rattle.laws.proofs.Frame as frame
 use Rattle.laws.proofs.Frame.{Does, own-own}
 use Rattle.laws.proofs.FrameEvents.{does_all}

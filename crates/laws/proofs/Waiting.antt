@@ -4,16 +4,11 @@ use Rattle.std.specs.List.{AllByRecursion}
 use Rattle.std.proofs.Common.{refl, sym, ◌∙◌, subst, arith, append_assoc, inl, inr}
 use Rattle.std.proofs.lemmas.Bool.{false≢true, and_parts, cases_lt, eqb-true, ltb-true, or_cases}
 use Rattle.record.specs.declared.access.Field.TheVariants.{Choosing, Ticket}
-use Rattle.record.specs.safe_number.Bytes.{number_of_bits}
-use Rattle.plain_store.specs.declared.Command.{Command}
-use Rattle.plain_store.specs.declared.Setup.{Setup}
-use Rattle.record.specs.Entries.{Past}
-use Rattle.record.specs.Parts.{Waits, to_d}
-use Rattle.record.specs.Places.{enter}
-use Rattle.record.specs.Program.{Wait, is_below}
-use Rattle.record.specs.Registers.{others}
+use Rattle.record.specs.safe_number.{number_of_bits}
+use Rattle.plain_store.specs.{Command, Setup}
+use Rattle.record.specs.{Past, Wait, Waits, enter, is_below, others, to_d}
 use Rattle.record.proofs.Width.{IsGood}
-use Rattle.laws.specs.Doings.{call, runs}
+use Rattle.laws.specs.{call, runs}
 use Rattle.laws.proofs.Invariant.{AllPassed, Beyond, InWaiting, Moves, Passed, Touches, next_time, waits, wires}
 use Rattle.laws.proofs.Next.{to_d_moves}
 use Rattle.laws.proofs.Notes.{Notes, notes, set, turned}

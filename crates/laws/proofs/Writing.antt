@@ -1,17 +1,11 @@
 -- What an access of a write makes of its register, and how far the write has come then.
 use Rattle.std.proofs.Common.{◌≡◌, ◌≢◌, ℕ, ◌+◌, ◌*◌, ◌/◌, ◌%◌, ◌<◌, ◌==◌, Bool, true, false, cond, List, ◌∷◌, length, Some, None, refl, sym, ap, subst, ◌∙◌, arith, inl, inr}
 use Rattle.std.proofs.lemmas.Bool.{cases_eq, eqb-true, eqb-false, ne_eqb}
-use Rattle.record.specs.safe_bit.SafeRule.{read_value}
+use Rattle.record.specs.safe_bit.{read_value}
 use Rattle.record.specs.safe_bit.declared.Move.TheVariants.{BeginWrite, EndWrite}
-use Rattle.record.specs.declared.access.Access.{Access}
-use Rattle.record.specs.declared.access.Field.{Field}
-use Rattle.record.specs.Accesses.{access_of}
-use Rattle.record.specs.safe_number.Runs.{NumberWrite}
-use Rattle.plain_store.specs.declared.Setup.{Setup}
-use Rattle.record.specs.Entries.{Entry, Past}
-use Rattle.record.specs.Moves.{ended, valued, moves_of}
-use Rattle.record.specs.Places.{bit_written, next_written, write_moved}
-use Rattle.record.specs.Registers.{opening_bit}
+use Rattle.record.specs.{Access, Entry, Field, Past, access_of, bit_written, ended, moves_of, next_written, opening_bit, valued, write_moved}
+use Rattle.record.specs.safe_number.{NumberWrite}
+use Rattle.plain_store.specs.{Setup}
 use Rattle.laws.proofs.FrameCells.{off-bit, off-reader}
 use Rattle.laws.proofs.FrameWires.{wire_after, wires-here, wires-there, wires-fields, touches-fields}
 use Rattle.laws.proofs.Invariant.{Wire, Wires, wires, Touches, touches, Closed, bit, Before, Written}

@@ -1,19 +1,10 @@
 -- What each process is doing, as its entries tell: it rests, it lies down, it is at a place of its call, or at a place of a closing.
 use Rattle.std.specs.Prelude.{ℕ, Bool, true, false, ◌==◌, ◌&&◌, cond, [], ◌∷◌, Option, None, Some}
-use Rattle.record.specs.declared.access.Access.{Access}
-use Rattle.plain_store.specs.declared.Command.{Command}
-use Rattle.plain_store.specs.declared.Setup.{Setup}
-use Rattle.record.specs.declared.marks.Mark.{Mark}
+use Rattle.record.specs.{Access, Asks, AsksCommit, AsksImage, AsksStamp, Call, Clears, Entry, Mark, Over, Part, Past, Place, Raises, Refuses, TakesTicket, Waits, WritesCommit, WritesImage, WritesStamp, call_number, enter, is_fresh, is_over, last_call, last_command, own, place_after, start_in, value_of, value_written}
+use Rattle.plain_store.specs.{Command, Setup}
 use Rattle.record.specs.declared.marks.Mark.TheVariants.{Called, Failed, Withdrew}
-use Rattle.record.specs.Calls.{last_call, last_command, call_number}
 use Rattle.record.specs.Closings.{Closing, Withdraws, Settles, Frees, Lowers, Quit, Ended, withdrawing, failing, closing_after, is_unwritten}
-use Rattle.record.specs.Entries.{Entry, Past, own}
-use Rattle.record.specs.Parts.{Part, Raises, Asks, TakesTicket, Refuses, Waits, AsksCommit, AsksStamp, AsksImage, WritesImage, WritesStamp, WritesCommit, Clears, Over, is_over}
 use Rattle.record.specs.Parts as part
-use Rattle.record.specs.Places.{Place, enter, is_fresh, place_after, value_of}
-use Rattle.record.specs.Records.{start_in}
-use Rattle.record.specs.Scripts.{Call}
-use Rattle.record.specs.Unit.{value_written}
 
 -- a call of p
 abbrev pub call : Setup → ℕ → Command → ℕ → Call

@@ -2,22 +2,10 @@
 use Rattle.std.specs.Prelude.{◌≡◌, ℕ, ◌<◌, ◌==◌, Bool, true, false, ◌&&◌, ◌||◌, List, [], ◌∷◌, flat_map, cond, None, Some}
 use Rattle.record.specs.safe_bit.declared.Move.TheVariants.{EndWrite}
 use Rattle.record.specs.safe_bit.Cell.{Cell, BitCall, Makes, Drops, cell_of_calls, read_answer, MayMove}
-use Rattle.record.specs.safe_bit.SafeRule.{read_value}
-use Rattle.record.specs.declared.access.Access.{Access}
-use Rattle.plain_store.specs.declared.Command.{Command}
-use Rattle.plain_store.specs.declared.Setup.{Setup}
-use Rattle.record.specs.declared.marks.Mark.{Mark}
+use Rattle.record.specs.safe_bit.{read_value}
+use Rattle.record.specs.{Access, Call, EachEntry, EachPast, Entry, Mark, Past, Place, accesses_of, has, is_failed, is_read, is_running, last_call, last_start, moves_of, opening_bit, own, place_of, read_at, same_bit, since, stage, starts, width}
+use Rattle.plain_store.specs.{Command, Setup}
 use Rattle.record.specs.declared.marks.Mark.TheVariants.{Called, Withdrew}
-use Rattle.record.specs.Calls.{last_call}
-use Rattle.record.specs.Entries.{Entry, Past, own, has, is_failed, since, starts}
-use Rattle.record.specs.Headline.{EachPast, EachEntry}
-use Rattle.record.specs.Moves.{moves_of, same_bit}
-use Rattle.record.specs.Parts.{is_read, read_at}
-use Rattle.record.specs.Places.{Place, place_of, accesses_of, is_running}
-use Rattle.record.specs.Records.{last_start}
-use Rattle.record.specs.Registers.{opening_bit, width}
-use Rattle.record.specs.Scripts.{Call}
-use Rattle.record.specs.Stages.{stage}
 use Rattle.laws.specs.Doings.{doing}
 use Rattle.laws.specs.Steps.{being_written, next_of}
 

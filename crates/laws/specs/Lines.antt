@@ -1,12 +1,8 @@
 -- The line of tickets, and who is first in it (Lamport 1974).
 use Rattle.std.specs.Prelude.{◌≡◌, ◌≢◌, ℕ, ◌==◌, [], ◌∷◌, cond, fold, IsTrue}
-use Rattle.record.specs.declared.marks.Mark.{Mark}
+use Rattle.record.specs.{EachEntry, EachPast, Mark, Past, has, inside, is_below, is_entered, stage}
 use Rattle.record.specs.declared.marks.Mark.TheVariants as mark
 use Rattle.record.specs.declared.stages.Stage.TheVariants.{Waiting}
-use Rattle.record.specs.Entries.{Past, has, is_entered}
-use Rattle.record.specs.Headline.{EachPast, EachEntry}
-use Rattle.record.specs.Program.{is_below}
-use Rattle.record.specs.Stages.{inside, stage}
 
 -- the ticket that was told last, after a mark
 abbrev pub ticket_after : ℕ → Mark → ℕ

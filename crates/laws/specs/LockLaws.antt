@@ -1,25 +1,14 @@
 -- The laws of the lock, of the record of every list of events, beside those that record's headline states.
 use Rattle.std.specs.Prelude.{◌≡◌, ◌↔◌, ℕ, ◌<◌, Bool, true, false, List, [], length, None, Some, Ok, IsTrue, IsFalse, Contains, AllPairs}
 use Rattle.record.specs.safe_bit.declared.Move.TheVariants.{EndRead}
-use Rattle.record.specs.safe_bit.SafeRule.{MayEndWith, read_value}
-use Rattle.record.specs.reader_copies.Written.{IsWrite}
-use Rattle.record.specs.declared.access.Access.{Access}
+use Rattle.record.specs.safe_bit.{MayEndWith, read_value}
+use Rattle.record.specs.reader_copies.{IsWrite}
+use Rattle.record.specs.{Access, EachEntry, EachPast, Entry, Event, Mark, Past, ahead, doorway_begin, doorway_end, entry_of, has, inside, is_before, is_entered, is_failed, is_queued, is_version, lowest_full, max_of, moves_of, opening_bit, others, own, past_of, since, stage, tickets_read}
 use Rattle.plain_store.specs.declared.Answer.TheVariants as answer
-use Rattle.plain_store.specs.declared.Setup.{Setup}
-use Rattle.plain_store.specs.Setups.{checked}
-use Rattle.record.specs.declared.events.Event.{Event}
+use Rattle.plain_store.specs.{Setup, checked}
 use Rattle.record.specs.declared.events.Event.TheVariants.{Step}
-use Rattle.record.specs.declared.marks.Mark.{Mark}
 use Rattle.record.specs.declared.marks.Mark.TheVariants.{Waiting, Taken, Answered}
 use Rattle.record.specs.declared.stages.Stage.TheVariants as stages
-use Rattle.record.specs.Doorways.{doorway_begin, doorway_end, is_before, is_queued, ahead}
-use Rattle.record.specs.Entries.{Entry, Past, has, is_entered, is_failed, own, since}
-use Rattle.record.specs.Headline.{EachPast, EachEntry, is_version, lowest_full, tickets_read}
-use Rattle.record.specs.Moves.{moves_of}
-use Rattle.record.specs.Program.{max_of}
-use Rattle.record.specs.Records.{entry_of, past_of}
-use Rattle.record.specs.Registers.{others, opening_bit}
-use Rattle.record.specs.Stages.{inside, stage}
 
 -- Full answers.
 

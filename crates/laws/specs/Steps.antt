@@ -1,16 +1,9 @@
 -- What a process does next: its next access, what that leads to, and what a failure leaves to its memory unit.
 use Rattle.std.specs.Prelude.{◌≡◌, ℕ, Bool, false, cond, List, [], ◌∷◌, Option, None, Some, option_map, unwrap_or}
-use Rattle.record.specs.declared.access.Access.{Access}
-use Rattle.record.specs.declared.access.Field.{Field}
-use Rattle.plain_store.specs.declared.Command.{Command}
+use Rattle.record.specs.{Access, Field, Mark, Next, Reading, Writing, access_at, bit_written, cut_at, cut_closing, is_over, is_read, marks_of, place_after, place_of, read_at, written_at}
+use Rattle.plain_store.specs.{Command, Setup}
 use Rattle.plain_store.specs.declared.Command.TheVariants.{Ask}
-use Rattle.plain_store.specs.declared.Setup.{Setup}
-use Rattle.record.specs.declared.Mark.{Mark}
 use Rattle.record.specs.Closings.{Closing, Withdraws, Settles, Frees, Lowers, Quit, Ended, freeing, closing_next, closing_after, no_ticket}
-use Rattle.record.specs.Failures.{cut_at, cut_closing}
-use Rattle.record.specs.Parts.{is_over, is_read, read_at, written_at}
-use Rattle.record.specs.Places.{Writing, Reading, access_at, bit_written, marks_of, place_after, place_of}
-use Rattle.record.specs.Scripts.{Next}
 use Rattle.laws.specs.Doings.{Doing, Rests, Lies, Runs, Closes, call, runs, closes, is_inside}
 
 -- the next access of what a process does, a read's end with its value left open; none if it rests, or is down

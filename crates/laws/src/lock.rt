@@ -1,7 +1,6 @@
 //! The laws of the lock. Each is of every setup that the check passes, of every list of events, refused
 //! ones among them, and of every flick.
-ghost use Rattle.record.specs.Headline.{MutualExclusion, NoOvertaking, TicketsFullNamesTheLowest, WaitersReadNoGreatestTicket};
-ghost use Rattle.record.specs.Laws.{AcceptedAdds, OthersStay, OwnEntry, RefusedAddsNothing};
+ghost use Rattle.record.specs.{AcceptedAdds, MutualExclusion, NoOvertaking, OthersStay, OwnEntry, RefusedAddsNothing, TicketsFullNamesTheLowest, WaitersReadNoGreatestTicket};
 ghost use Rattle.laws.specs.LockLaws.{AheadAreThoseBefore, AheadAscends, AheadIsOfTheQueued, AloneInside, EachTicketIsRead, NobodyIsAheadOfItself, NobodyIsAheadOfWhoEnters, ReadsEndAsTheyMay, ReadsEndByTheirFlick, TakenInside, TicketsFullExactly, UnitsAreShort, VersionsAreTouchedInside, VersionsAreWrittenByTheirOwner, WaitersAreAheadOfACall};
 
 /// No two processes are inside the critical section together. A process that failed inside is inside until

@@ -3,7 +3,7 @@ use Rattle.std.proofs.Common.{◌≡◌, ℕ, ◌==◌, ◌&&◌, Bool, true, fa
 use Rattle.std.proofs.lemmas.Bool.{eqb-true}
 use Rattle.std.proofs.lemmas.List.Folds.{list_all-append}
 use Rattle.std.specs.List.{list_all}
-use Rattle.markup.specs.Escaping.{escaped, escaped_by, is_plain, names, unescaped}
+use Rattle.markup.specs.{escaped, escaped_by, is_plain, names, unescaped}
 
 -- a byte is read back
 byte_back : (b : ℕ) (rest : List ℕ) → unescaped (escaped_by names b ++ rest) ≡ b ∷ unescaped rest

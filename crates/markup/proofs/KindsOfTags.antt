@@ -1,12 +1,7 @@
 -- What the tags are that are written, and what they leave open.
 use Rattle.std.proofs.Common.{◌≡◌, ℕ, ◌==◌, ◌||◌, Bool, true, false, cond, List, [], ◌∷◌, ◌++◌, codes, flat_map, Some, refl, ap, sym, ◌∙◌, append_assoc, append-nil}
 use Rattle.std.specs.Fmt.{decimal}
-use Rattle.markup.specs.Elements.{Begins, Ends, Stands, Stack, after_kind, after_tags, begun, is_among, kind_by, kind_of, last_byte, opens_in, text_names}
-use Rattle.markup.specs.Escaping.{escaped}
-use Rattle.markup.specs.Markup.{attribute_text, entering, input_field, key_name, lowering, marking, meant, noting, standing, tag_name, telling}
-use Rattle.markup.specs.Readings.{group}
-use Rattle.markup.specs.declared.attributes.Attribute.{Attribute}
-use Rattle.markup.specs.declared.names.Tag.{Tag}
+use Rattle.markup.specs.{Attribute, Begins, Ends, Stack, Stands, Tag, after_kind, after_tags, attribute_text, begun, entering, escaped, group, input_field, is_among, key_name, kind_by, kind_of, last_byte, lowering, marking, meant, noting, opens_in, standing, tag_name, telling, text_names}
 use Rattle.markup.specs.declared.names.Tag.TheVariants as tag
 use Rattle.markup.proofs.Stacks.{round}
 use Rattle.markup.proofs.Tags.{body_of, calm-append, calm_attributes, ends_of, field_tags, front_of, inner_entering, inner_field, inner_found, inner_lower, inner_standing, lowered_tags, mark_body, marked_tags, none_body, noted_tags, tag_alone, told_tags}

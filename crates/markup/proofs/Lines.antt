@@ -1,9 +1,8 @@
 -- Markup at rest goes on, and its lines stay as they are.
 use Rattle.std.proofs.Common.{◌≡◌, ℕ, ◌==◌, not, ◌&&◌, Bool, true, false, cond, is_some, List, [], ◌∷◌, ◌++◌, codes, Option, None, Some, refl, ap, sym, ◌∙◌, append_assoc, append-nil}
-use Rattle.markup.specs.Escaping.{behind}
+use Rattle.markup.specs.{behind, cut, cut_at, first_title, inner, is_at_rest, is_mark, is_no_mark, is_settled, lines_in, read_title, tags_of, titles}
 use Rattle.std.proofs.lemmas.Bool.{and_parts}
 use Rattle.std.specs.Option.{option_map}
-use Rattle.markup.specs.Titles.{cut, cut_at, first_title, inner, is_at_rest, is_mark, is_no_mark, is_settled, lines_in, read_title, tags_of, titles}
 
 -- tags, of which the last goes on
 abbrev pub onto_last : List (List ℕ) → List ℕ → List (List ℕ)

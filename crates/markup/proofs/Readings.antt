@@ -1,11 +1,6 @@
 -- What is read of markup that goes on.
 use Rattle.std.proofs.Common.{◌≡◌, ℕ, true, List, [], ◌∷◌, ◌++◌, Result, Ok, Err, OnOk, ap, ◌∙◌, append-nil}
-use Rattle.markup.specs.Elements.{Stack, begun, is_even, opens_in}
-use Rattle.markup.specs.Markup.{entering, input_field, lowering, marking, noting, standing, tag_name, telling}
-use Rattle.markup.specs.Readings.{Reading, group, joined, reading, with_mark, with_tags}
-use Rattle.markup.specs.Titles.{is_at_rest, is_no_mark, lines_in, tags_of}
-use Rattle.markup.specs.declared.attributes.Attribute.{Attribute}
-use Rattle.markup.specs.declared.names.Tag.{Tag}
+use Rattle.markup.specs.{Attribute, Reading, Stack, Tag, begun, entering, group, input_field, is_at_rest, is_even, is_no_mark, joined, lines_in, lowering, marking, noting, opens_in, reading, standing, tag_name, tags_of, telling, with_mark, with_tags}
 use Rattle.markup.proofs.KindsOfTags.{entering_opens, field_opens, lowering_opens, marking_opens, noting_opens, standing_opens, telling_opens}
 use Rattle.markup.proofs.Lines.{lines_on}
 use Rattle.markup.proofs.Stacks.{even_same, opens_on}

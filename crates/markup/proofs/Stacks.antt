@@ -4,8 +4,7 @@ use Rattle.std.proofs.lemmas.Bool.{and_parts, true≢false}
 use Rattle.std.proofs.lemmas.Slice.Eq.{bytes_eq-Decides}
 use Rattle.std.specs.List.{list_all}
 use Rattle.std.specs.Str.{bytes_eq}
-use Rattle.markup.specs.Elements.{Kind, Begins, Ends, Stands, Broken, Stack, after_kind, after_tags, begun, ended, is_among, is_closed, is_even, is_no_text, kind_by, kind_of, opens_in, text_names}
-use Rattle.markup.specs.Titles.{cut, is_at_rest, tags_of}
+use Rattle.markup.specs.{Begins, Broken, Ends, Kind, Stack, Stands, after_kind, after_tags, begun, cut, ended, is_among, is_at_rest, is_closed, is_even, is_no_text, kind_by, kind_of, opens_in, tags_of, text_names}
 use Rattle.markup.proofs.Lines.{inner_on, onto_last, tags_on, whole}
 
 -- tags, and then others

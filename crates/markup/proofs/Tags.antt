@@ -5,13 +5,8 @@ use Rattle.std.proofs.lemmas.List.Folds.{list_all-append}
 use Rattle.std.specs.Fmt.{decimal}
 use Rattle.std.specs.List.{list_all}
 use Rattle.std.specs.Option.{option_map}
-use Rattle.markup.specs.Escaping.{escaped, is_plain, unescaped}
-use Rattle.markup.specs.Markup.{attribute_text, entering, input_field, key_name, lowering, mark_front, marking, meant, noting, standing, tag_end, tag_name, telling}
-use Rattle.markup.specs.Titles.{cut, inner, is_at_rest, is_mark, is_no_mark, is_settled, lines_in, tags_of, titles}
-use Rattle.markup.specs.declared.attributes.Attribute.{Attribute}
-use Rattle.markup.specs.declared.names.Key.{Key}
+use Rattle.markup.specs.{Attribute, Key, Tag, attribute_text, cut, entering, escaped, inner, input_field, is_at_rest, is_mark, is_no_mark, is_plain, is_settled, key_name, lines_in, lowering, mark_front, marking, meant, noting, standing, tag_end, tag_name, tags_of, telling, titles, unescaped}
 use Rattle.markup.specs.declared.names.Key.TheVariants as key
-use Rattle.markup.specs.declared.names.Tag.{Tag}
 use Rattle.markup.specs.declared.names.Tag.TheVariants as tag
 use Rattle.markup.proofs.Escapes.{text_back, text_plain}
 use Rattle.markup.proofs.Lines.{front_on, front_with, no_mark_on, nothing, onto_last, tags_on}

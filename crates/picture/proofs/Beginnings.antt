@@ -1,10 +1,8 @@
 -- How a mark begins: its attributes, and its title.
 use Rattle.std.proofs.Common.{◌≡◌, ℕ, Bool, Option, Result, Ok, Err, OnOk, List, [], ◌∷◌, ◌++◌, flat_map, ap, ◌∙◌}
-use Rattle.markup.specs.Figures.{Mark, drawings, drawn}
-use Rattle.markup.specs.Markup.{Said, attribute_text, marking, marking_by, said_text}
-use Rattle.markup.specs.declared.attributes.Attribute.{Attribute}
-use Rattle.columns.specs.declared.told.TakenChange.{TakenChange}
-use Rattle.picture.specs.Drawings.{queue_said, store_said}
+use Rattle.markup.specs.{Attribute, Mark, Said, attribute_text, drawings, drawn, marking, marking_by, said_text}
+use Rattle.columns.specs.{TakenChange}
+use Rattle.picture.specs.{queue_said, store_said}
 use Rattle.picture.proofs.Drawn.{one_drawn}
 
 -- the attributes of a mark: behind its place and its source, what else it says

@@ -1,7 +1,7 @@
 -- What is drawn, one part after the other.
 use Rattle.std.proofs.Common.{◌≡◌, ℕ, suc, ◌+◌, ◌<◌, Result, Ok, Err, OnOk, List, [], ◌∷◌, ◌++◌, drop, length, get_or, ap, sym, ◌∙◌, append-nil, append_assoc, add-one, drop-cons}
 use Rattle.std.proofs.lemmas.Grind.{flat_map-append}
-use Rattle.markup.specs.Figures.{Shape, drawings, drawn}
+use Rattle.markup.specs.{Shape, drawings, drawn}
 
 -- one shape
 pub one_drawn : (shape : Shape) → drawn shape ≡ drawings (shape ∷ [])

@@ -1,8 +1,7 @@
 -- What stands before and behind the bands begins elements, and ends them.
 use Rattle.std.proofs.Common.{◌≡◌, ℕ, Result, Ok, Err, IfOk, OnOk, List, [], ◌∷◌, codes, Some, refl, ap, ◌∙◌}
-use Rattle.markup.specs.Elements.{begun, opens_in}
-use Rattle.markup.specs.Readings.{Reading, group, reading, with_begun, with_tags}
-use Rattle.picture.specs.Pages.{page_names, picture_names}
+use Rattle.markup.specs.{Reading, begun, group, opens_in, reading, with_begun, with_tags}
+use Rattle.picture.specs.{page_names, picture_names}
 
 -- the lines and the open elements of a part
 abbrev Leaves : Reading → List (List ℕ) → List (List ℕ) → Type 0

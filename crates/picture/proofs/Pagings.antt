@@ -3,23 +3,10 @@ use Rattle.std.proofs.Common.{◌≡◌, ℕ, ◌+◌, ◌-◌, Bool, true, fals
 use Rattle.std.proofs.lemmas.Grind.{fold-append}
 use Rattle.std.proofs.Math.Seq.{take-append_seam}
 use Rattle.std.proofs.lemmas.List.{length-map}
-use Rattle.markup.specs.Figures.{drawings}
-use Rattle.record.specs.declared.marks.Mark.{Mark}
-use Rattle.picture.specs.Bandings.{Bands, Item, Plan, Reads, Tells, bands_of, begun_by, behind_columns, columns_of, filled, framed, full_bytes, heights, layout_in, line_by, newest, newest_at, older, placing_before, placing_in, room_by, state_after, with_line, with_placed, with_put, with_room}
-use Rattle.columns.specs.Columns.{Seen, alone, column_of_read, joined, joins, seen}
-use Rattle.picture.specs.Drawings.{band_shapes}
-use Rattle.picture.specs.Pages.{BeginsColumn, DrawsBand, GivesRest, GoesOn, MakesRoom, Places, Puts, SeenPage, band_text, page_by, page_holding}
-use Rattle.columns.specs.Layouts.{layout_of}
-use Rattle.columns.specs.Placings.{drawn_apart, end_of_words, has_room_at, last_of, moved_to, place_of, placing_at_first, put_at, stretched_all, widened}
-use Rattle.picture.specs.Sheets.{held_in_64}
-use Rattle.columns.specs.States.{freed_by, state_marked, state_told}
-use Rattle.columns.specs.declared.columns.Column.{Column}
-use Rattle.columns.specs.declared.layout.Layout.{Layout}
-use Rattle.columns.specs.declared.placing.Placing.{Placing}
-use Rattle.columns.specs.declared.reads.OverlappedRead.{OverlappedRead}
-use Rattle.columns.specs.declared.state.State.{State}
-use Rattle.columns.specs.declared.told.RunLine.{RunLine}
-use Rattle.columns.specs.declared.told.Saying.{Saying}
+use Rattle.markup.specs.{drawings}
+use Rattle.record.specs.{Mark}
+use Rattle.picture.specs.{Bands, BeginsColumn, DrawsBand, GivesRest, GoesOn, Item, MakesRoom, Places, Plan, Puts, Reads, SeenPage, Tells, band_shapes, band_text, bands_of, begun_by, behind_columns, columns_of, filled, framed, full_bytes, heights, held_in_64, layout_in, line_by, newest, newest_at, older, page_by, page_holding, placing_before, placing_in, room_by, state_after, with_line, with_placed, with_put, with_room}
+use Rattle.columns.specs.{Column, Layout, OverlappedRead, Placing, RunLine, Saying, Seen, State, alone, column_of_read, drawn_apart, end_of_words, freed_by, has_room_at, joined, joins, last_of, layout_of, moved_to, place_of, placing_at_first, put_at, seen, state_marked, state_told, stretched_all, widened}
 use Rattle.columns.specs.declared.told.Saying.TheVariants.{Ended, Judged, Marked, Refused, Shown, Tired}
 
 -- a column is put behind the others

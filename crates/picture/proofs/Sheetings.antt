@@ -1,9 +1,8 @@
 -- What stands around the bands, put together piece by piece.
 use Rattle.std.proofs.Common.{◌≡◌, ℕ, Result, Ok, Err, OnOk, List, [], ◌∷◌, ◌++◌, codes, flat_map, ap, ◌∙◌, append_assoc}
-use Rattle.markup.specs.Markup.{Said, attribute_text, said_text}
-use Rattle.markup.specs.declared.attributes.Attribute.{Attribute}
+use Rattle.markup.specs.{Attribute, Said, attribute_text, said_text}
 use Rattle.std.specs.Fmt.{decimal}
-use Rattle.picture.specs.Sheets.{plural_of, says}
+use Rattle.picture.specs.{plural_of, says}
 
 -- one piece more
 pub adds : (old now new more : List ℕ) → new ≡ now ++ more → now ≡ old → new ≡ old ++ more

@@ -2,16 +2,9 @@
 use Rattle.std.proofs.Common.{◌≡◌, ◌-◌, ℕ, Bool, true, false, cond, nat_lt, List, [], ◌∷◌, refl, ap, sym, ◌∙◌}
 use Rattle.std.proofs.lemmas.Grind.{fold-append}
 use Rattle.std.specs.List.{AllByRecursion}
-use Rattle.record.specs.declared.marks.Mark.{Mark}
-use Rattle.record.specs.declared.stages.Stage.{Stage}
-use Rattle.picture.specs.Bandings.{Item, Reads, Tells, columns_of, line_by, newest_at, state_after, with_line}
-use Rattle.columns.specs.Columns.{Seen, alone, column_of_read, joined, joins}
-use Rattle.columns.specs.Stages.{nothing_told, stage_among, stages_after, stages_marked, stages_told}
-use Rattle.picture.specs.Standings.{BarsAreStages, ShowsStages, sayings}
-use Rattle.columns.specs.States.{freed_by, state_marked, state_told}
-use Rattle.columns.specs.declared.state.State.{State}
-use Rattle.columns.specs.declared.told.RunLine.{RunLine}
-use Rattle.columns.specs.declared.told.Saying.{Saying}
+use Rattle.record.specs.{Mark, Stage}
+use Rattle.picture.specs.{BarsAreStages, Item, Reads, ShowsStages, Tells, columns_of, line_by, newest_at, sayings, state_after, with_line}
+use Rattle.columns.specs.{RunLine, Saying, Seen, State, alone, column_of_read, freed_by, joined, joins, nothing_told, stage_among, stages_after, stages_marked, stages_told, state_marked, state_told}
 use Rattle.columns.specs.declared.told.Saying.TheVariants.{Ended, Judged, Marked, Refused, Shown, Tired}
 use Rattle.picture.proofs.Pagings.{processes_after}
 use Rattle.columns.proofs.Stages.{stages_are}

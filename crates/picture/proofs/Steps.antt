@@ -1,16 +1,9 @@
 -- What is drawn of a column, and then of those behind it.
 use Rattle.std.proofs.Common.{◌≡◌, ℕ, ◌+◌, add-one, ◌<◌, Bool, true, false, cond, is_some, Option, List, ◌++◌, drop, length, map, flat_map, get_or, ap, sym, ◌∙◌}
-use Rattle.markup.specs.Figures.{Shape, drawings}
-use Rattle.markup.specs.declared.figures.Point.{Point}
-use Rattle.record.specs.declared.stages.Stage.{Stage}
-use Rattle.columns.specs.Columns.{Seen, seen}
-use Rattle.columns.specs.Stages.{stage_among}
-use Rattle.columns.specs.declared.layout.Lane.{Lane}
-use Rattle.picture.specs.Bars.{bar, bars, ends_at, free_left, is_stage, next_stretch, stretch_word, words_from}
-use Rattle.picture.specs.declared.words.Stretch.{Stretch}
-use Rattle.picture.specs.Drawings.{SeenBand, axis, axis_up_to, for_each, inside_since, line_shapes, lines_shapes, shade_up_to, shades}
-use Rattle.columns.specs.declared.columns.Column.{Column}
-use Rattle.columns.specs.declared.told.RunLine.{RunLine}
+use Rattle.markup.specs.{Point, Shape, drawings}
+use Rattle.record.specs.{Stage}
+use Rattle.columns.specs.{Column, Lane, RunLine, Seen, seen, stage_among}
+use Rattle.picture.specs.{SeenBand, Stretch, axis, axis_up_to, bar, bars, ends_at, for_each, free_left, inside_since, is_stage, line_shapes, lines_shapes, next_stretch, shade_up_to, shades, stretch_word, words_from}
 use Rattle.picture.proofs.Drawn.{drop_next, then_drawn}
 
 module _ (columns : List Column) (k : ℕ) (column : Column) (within : k < length columns) (here : column ≡ get_or columns k column) where

@@ -2,13 +2,9 @@
 use Rattle.std.proofs.Common.{◌≡◌, ℕ, ◌+◌, ◌<◌, false, Result, Ok, Err, OnOk, List, [], ◌∷◌, ◌++◌, flat_map, length, take, get_or, refl, ap, sym, ◌∙◌, append-nil, append_assoc}
 use Rattle.std.proofs.lemmas.Grind.{flat_map-append}
 use Rattle.std.proofs.lemmas.List.{map-append, take_more}
-use Rattle.markup.specs.Elements.{Stack, is_among, text_names}
-use Rattle.markup.specs.Readings.{Reading, group, reading, with_begun, with_ended, with_lines, with_mark}
-use Rattle.markup.specs.Titles.{lines_in}
+use Rattle.markup.specs.{Reading, Stack, group, is_among, lines_in, reading, text_names, with_begun, with_ended, with_lines, with_mark}
 use Rattle.markup.proofs.Stacks.{round}
-use Rattle.columns.specs.Told.{text_of, texts, told_in}
-use Rattle.columns.specs.declared.columns.Column.{Column}
-use Rattle.columns.specs.declared.told.RunLine.{RunLine}
+use Rattle.columns.specs.{Column, RunLine, text_of, texts, told_in}
 
 -- no line yet
 pub none_more : (new : Reading) (old : List ℕ) → new ≡ reading old → new ≡ with_lines [] (reading old)

@@ -3,8 +3,8 @@ use Rattle.std.proofs.Common.{◌≡◌, ℕ, zero, suc, ◌+◌, ◌<◌, ◌�
 use Rattle.std.proofs.lemmas.Grind.{flat_map-append}
 use Rattle.std.proofs.lemmas.List.{take_more}
 use Rattle.std.specs.Fmt.{decimal}
-use Rattle.columns.specs.declared.told.RunLine.{RunLine}
-use Rattle.picture.specs.Words.{lines_reach, listed_with}
+use Rattle.columns.specs.{RunLine}
+use Rattle.picture.specs.{lines_reach, listed_with}
 
 -- one number more of a list of them
 join_push : (sep : List ℕ) (xs : List ℕ) (y : ℕ) → flat_map (λ x. sep ++ decimal x) (xs ++ y ∷ []) ≡ flat_map (λ x. sep ++ decimal x) xs ++ (sep ++ decimal y)

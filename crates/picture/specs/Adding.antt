@@ -1,9 +1,7 @@
 -- What a call that goes well adds to markup.
 use Rattle.std.specs.Prelude.{◌≡◌, ◌++◌, ℕ, List, Option, Result, IfOk, OnOk, flat_map}
-use Rattle.columns.specs.declared.columns.Column.{Column}
-use Rattle.columns.specs.Told.{told_in}
-use Rattle.markup.specs.Figures.{Shape, drawings}
-use Rattle.markup.specs.Readings.{reading, with_begun, with_lines}
+use Rattle.columns.specs.{Column, told_in}
+use Rattle.markup.specs.{Shape, drawings, reading, with_begun, with_lines}
 use Rattle.picture.specs.Bandings.{framed}
 use Rattle.picture.specs.Drawings.{band_shapes, seen_band}
 use Rattle.picture.specs.Pages.{lines_of_band}

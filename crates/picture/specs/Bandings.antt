@@ -1,23 +1,14 @@
 -- The bands of a picture, by what it is told. Of items, of columns and of full bands the newest stands first.
 use Rattle.std.specs.Prelude.{ℕ, ◌+◌, ◌-◌, min, Bool, true, false, List, [], ◌∷◌, ◌++◌, codes, fold, length, slice_get, Option, None, Some}
 use Rattle.std.specs.Fmt.{decimal}
-use Rattle.markup.specs.Figures.{End, drawings, drawn}
-use Rattle.markup.specs.Markup.{entering_by, lowering}
+use Rattle.markup.specs.{End, drawings, drawn, entering_by, lowering}
 use Rattle.markup.specs.declared.names.Key.TheVariants as key
 use Rattle.markup.specs.declared.names.Tag.TheVariants as tag
-use Rattle.columns.specs.Columns.{Seen, alone, column_of_read, joined, joins, shortened}
+use Rattle.columns.specs.{Layout, OverlappedRead, Placing, RunLine, Seen, State, alone, at_first, column_of_read, freed_by, has_room_at, joined, joins, layout_of, moved_to, place_of, placing_at_first, put_at, shortened, state_told, stretched_all}
 use Rattle.picture.specs.Drawings.{band_shapes}
-use Rattle.columns.specs.Layouts.{layout_of}
-use Rattle.columns.specs.Placings.{has_room_at, moved_to, place_of, placing_at_first, put_at, stretched_all}
 use Rattle.picture.specs.Sheets.{held_in_64, says, view_of}
-use Rattle.columns.specs.States.{at_first, freed_by, state_told}
-use Rattle.columns.specs.declared.layout.Layout.{Layout}
 use Rattle.picture.specs.declared.page.Form.{Form}
 use Rattle.picture.specs.declared.page.Form.TheVariants as form
-use Rattle.columns.specs.declared.placing.Placing.{Placing}
-use Rattle.columns.specs.declared.reads.OverlappedRead.{OverlappedRead}
-use Rattle.columns.specs.declared.state.State.{State}
-use Rattle.columns.specs.declared.told.RunLine.{RunLine}
 
 -- what a picture is told
 pub data Item : Type 0 where

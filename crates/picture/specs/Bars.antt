@@ -2,18 +2,11 @@
 use Rattle.std.specs.Prelude.{ℕ, zero, suc, ◌+◌, ◌-◌, ◌*◌, ◌/◌, Bool, true, false, ◌==◌, not, ◌&&◌, ◌||◌, cond, nat_le, nat_lt, List, [], ◌∷◌, ◌++◌, codes, length, Option, None, Some}
 use Rattle.std.specs.Fmt.{decimal}
 use Rattle.std.specs.Str.{bytes_eq}
-use Rattle.record.specs.declared.stages.Stage.{Stage}
+use Rattle.record.specs.{Stage}
 use Rattle.record.specs.declared.stages.Stage.TheVariants as stage
-use Rattle.markup.specs.Figures.{Shape, Block, Label, line_from}
-use Rattle.markup.specs.declared.figures.Point.{Point}
-use Rattle.columns.specs.Columns.{Seen, capped}
-use Rattle.columns.specs.Layouts.{bar_of, stands_in}
-use Rattle.columns.specs.Stages.{stage_among}
-use Rattle.columns.specs.States.{word_of}
+use Rattle.markup.specs.{Block, Label, Point, Shape, line_from}
+use Rattle.columns.specs.{Group, Lane, Seen, Word, bar_of, capped, stage_among, stands_in, word_of}
 use Rattle.picture.specs.Words.{left_reach_of, right_reach_of, stage_text, word_text}
-use Rattle.columns.specs.declared.layout.Lane.{Lane}
-use Rattle.columns.specs.declared.state.Group.{Group}
-use Rattle.columns.specs.declared.state.Word.{Word}
 use Rattle.columns.specs.declared.state.Word.TheVariants as word
 use Rattle.picture.specs.declared.words.Stretch.{Stretch}
 

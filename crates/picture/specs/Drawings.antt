@@ -1,28 +1,14 @@
 -- What a band draws, as a list of shapes.
 use Rattle.std.specs.Prelude.{ℕ, zero, suc, ◌+◌, ◌-◌, ◌*◌, ◌/◌, ◌^◌, min, Bool, true, false, ◌==◌, ◌&&◌, ◌||◌, cond, is_some, nat_le, nat_lt, List, [], ◌∷◌, ◌++◌, codes, flat_map, length, map, string_bytes, Option, None, Some}
 use Rattle.std.specs.Fmt.{decimal}
-use Rattle.markup.specs.Figures.{Shape, Block, End, Label, Mark, Note, line_from, path_from}
-use Rattle.markup.specs.Markup.{Said}
-use Rattle.markup.specs.declared.figures.Point.{Point}
+use Rattle.markup.specs.{Block, End, Label, Mark, Note, Point, Said, Shape, line_from, path_from}
 use Rattle.markup.specs.declared.names.Key.TheVariants as key
 use Rattle.picture.specs.Bars.{bars, lane_name, point, words_from}
-use Rattle.columns.specs.Columns.{Seen, Wording, capped, seen, settles_and_takes_in, taken_in}
-use Rattle.columns.specs.Layouts.{bar_of, chain_ends_of, knot_of, lane_in}
-use Rattle.columns.specs.Overlaps.{bit_text, saw_text, title_text}
-use Rattle.columns.specs.Placings.{event_stands}
+use Rattle.columns.specs.{Lane, Layout, OverlappedRead, RunLine, Seen, State, TakenChange, Wording, bar_of, bit_text, capped, chain_ends_of, change_told, event_stands, knot_of, lane_in, place_told, saw_text, seen, settles_and_takes_in, stage_among, taken_in, tells_refusal, text_of, title_text, word_of}
 use Rattle.picture.specs.Signs.{down_by, moved_by, sign}
-use Rattle.columns.specs.Stages.{stage_among}
-use Rattle.columns.specs.States.{word_of}
-use Rattle.columns.specs.Told.{change_told, place_told, tells_refusal, text_of}
 use Rattle.picture.specs.Words.{queue_text, row_class}
 use Rattle.picture.specs.declared.bands.Band.{Band}
-use Rattle.columns.specs.declared.layout.Lane.{Lane}
-use Rattle.columns.specs.declared.layout.Layout.{Layout}
-use Rattle.columns.specs.declared.reads.OverlappedRead.{OverlappedRead}
-use Rattle.columns.specs.declared.state.State.{State}
 use Rattle.picture.specs.declared.words.Stretch.{Stretch}
-use Rattle.columns.specs.declared.told.TakenChange.{TakenChange}
-use Rattle.columns.specs.declared.told.RunLine.{RunLine}
 
 -- a band, with lists for what its fields hold: its columns, what stood before them, and where its lanes lie
 pub record SeenBand : Type 0 where

@@ -1,17 +1,12 @@
 -- What a page holds back: the lines that were told and are not drawn yet; and what it keeps of all lines.
 use Rattle.std.specs.Prelude.{◌≡◌, ℕ, ◌-◌, Bool, List, [], ◌∷◌, ◌++◌, codes, flat_map, map, Option, None, Some, option_map}
 use Rattle.std.specs.Option.{option_to_list}
-use Rattle.record.specs.declared.stages.Stage.{Stage}
-use Rattle.markup.specs.Titles.{lines_in}
+use Rattle.record.specs.{Stage}
+use Rattle.markup.specs.{lines_in}
 use Rattle.picture.specs.Bandings.{Bands, Item, Plan, band_bytes, bands_of, bands_told, before_band, columns_of, filled, full_bytes, full_told, heights, heights_told, newest, newest_at, number_of, older, opens_before, placing_in, state_after, with_put, with_room}
-use Rattle.columns.specs.Columns.{Seen, alone, seen}
-use Rattle.columns.specs.Told.{told_in}
-use Rattle.columns.specs.declared.columns.Column.{Column}
+use Rattle.columns.specs.{Column, Placing, RunLine, Seen, State, alone, seen, told_in}
 use Rattle.picture.specs.declared.page.Form.{Form}
 use Rattle.picture.specs.declared.page.Page.{Page}
-use Rattle.columns.specs.declared.placing.Placing.{Placing}
-use Rattle.columns.specs.declared.state.State.{State}
-use Rattle.columns.specs.declared.told.RunLine.{RunLine}
 
 -- the lines of these columns, and of one that is not placed yet
 abbrev pub lines_of : List Column → Option Column → List (List ℕ)

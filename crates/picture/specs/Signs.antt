@@ -1,12 +1,10 @@
 -- The signs at the foot of a column.
 use Rattle.std.specs.Prelude.{ℕ, ◌+◌, ◌-◌, ◌*◌, ◌/◌, ◌^◌, min, Bool, true, false, cond, is_some, List, [], ◌∷◌, codes, length}
 use Rattle.std.specs.Fmt.{decimal}
-use Rattle.record.specs.declared.marks.Mark.{Mark}
+use Rattle.record.specs.{Mark}
 use Rattle.record.specs.declared.marks.Mark.TheVariants as mark
-use Rattle.markup.specs.Figures.{Shape, Block, Label, Pill, Ring, path_from}
-use Rattle.markup.specs.declared.figures.Point.{Point}
-use Rattle.columns.specs.Columns.{capped}
-use Rattle.columns.specs.declared.told.Saying.{Saying}
+use Rattle.markup.specs.{Block, Label, Pill, Point, Ring, Shape, path_from}
+use Rattle.columns.specs.{Saying, capped}
 use Rattle.columns.specs.declared.told.Saying.TheVariants.{Marked, Refused, Tired, Shown, Judged, Ended}
 
 -- a place so far to the left of another and above it

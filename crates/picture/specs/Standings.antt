@@ -1,12 +1,9 @@
 -- The bars of a picture and the stages of a record.
 use Rattle.std.specs.Prelude.{◌≡◌, ◌<◌, ℕ, List, [], ◌∷◌, ◌++◌, flat_map}
 use Rattle.std.specs.List.{AllByRecursion}
-use Rattle.record.specs.Entries.{Past}
-use Rattle.record.specs.Stages.{stage}
+use Rattle.record.specs.{Past, stage}
 use Rattle.picture.specs.Bandings.{Item, Reads, Tells, columns_of, state_after}
-use Rattle.columns.specs.Columns.{Seen}
-use Rattle.columns.specs.Stages.{marks_in, marks_said, stage_among}
-use Rattle.columns.specs.declared.told.Saying.{Saying}
+use Rattle.columns.specs.{Saying, Seen, marks_in, marks_said, stage_among}
 
 -- what the lines among items say, in their order
 abbrev pub sayings : List Item → List Saying

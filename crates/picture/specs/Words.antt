@@ -2,18 +2,11 @@
 use Rattle.std.specs.Prelude.{ℕ, ◌+◌, ◌*◌, max, Bool, cond, nat_lt, List, [], ◌∷◌, ◌++◌, codes, length, take, Option, None, Some}
 use Rattle.std.specs.Fmt.{decimal}
 use Rattle.std.specs.List.{join_by}
-use Rattle.record.specs.declared.marks.Mark.{Mark}
+use Rattle.record.specs.{Mark, Stage}
 use Rattle.record.specs.declared.marks.Mark.TheVariants as mark
-use Rattle.record.specs.declared.stages.Stage.{Stage}
 use Rattle.record.specs.declared.stages.Stage.TheVariants as stage
-use Rattle.columns.specs.Columns.{Seen, capped, settles_and_takes_in}
-use Rattle.columns.specs.States.{queue_of}
-use Rattle.columns.specs.Told.{mark_told}
-use Rattle.columns.specs.declared.state.Group.{Group}
-use Rattle.columns.specs.declared.state.State.{State}
-use Rattle.columns.specs.declared.state.Word.{Word}
+use Rattle.columns.specs.{Group, RunLine, Seen, State, Word, capped, mark_told, queue_of, settles_and_takes_in}
 use Rattle.columns.specs.declared.state.Word.TheVariants as word
-use Rattle.columns.specs.declared.told.RunLine.{RunLine}
 
 -- how a stage is called
 abbrev pub stage_text : Stage → List ℕ

@@ -1,8 +1,8 @@
 //! A band: its columns, and what stood before them.
 ghost use Rattle.std.specs.Prelude.{◌≡◌, flat_map, map, OnOk};
 ghost use Rattle.picture.specs.Adding.{Draws, TellsLines, all_told};
-ghost use Rattle.markup.specs.Readings.{reading};
-ghost use Rattle.columns.specs.Columns.{seen};
+ghost use Rattle.markup.specs.{reading};
+ghost use Rattle.columns.specs.{seen};
 ghost use Rattle.picture.specs.Drawings.{band_shapes, column_shapes, for_each, lane_shapes, lane_words, links, seen_band};
 
 use columns::{Column, Layout, State};

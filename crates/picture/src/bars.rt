@@ -1,7 +1,7 @@
 //! The bars of a lane: the stages of its process.
 ghost use Rattle.std.specs.Prelude.{◌≡◌, OnOk};
 ghost use Rattle.picture.specs.Adding.{Draws};
-ghost use Rattle.markup.specs.Readings.{reading};
+ghost use Rattle.markup.specs.{reading};
 ghost use Rattle.picture.specs.Bars.{bar, height_of, is_stage, lane_name, lane_rule};
 ghost use Rattle.picture.specs.Drawings.{lane_shapes, seen_band};
 ghost use Rattle.picture.specs.Words.{stage_text};

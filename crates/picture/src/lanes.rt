@@ -1,9 +1,8 @@
 //! What a band has behind its marks: shades, the axis, and the history.
 ghost use Rattle.std.specs.Prelude.{◌≡◌, [], ◌∷◌, map, OnOk};
 ghost use Rattle.picture.specs.Adding.{Draws};
-ghost use Rattle.markup.specs.Readings.{reading};
-ghost use Rattle.columns.specs.Columns.{seen};
-ghost use Rattle.columns.specs.Layouts.{knot_of};
+ghost use Rattle.markup.specs.{reading};
+ghost use Rattle.columns.specs.{knot_of, seen};
 ghost use Rattle.picture.specs.Drawings.{axis, axis_line, axis_up_to, chain_shapes, first_inside, gap_words, inside_since, opening_words, seen_band, shade_of, shade_up_to, shades, tick};
 
 use crate::bands::Band;

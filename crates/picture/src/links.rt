@@ -1,8 +1,8 @@
 //! What leads from one lane to another.
 ghost use Rattle.std.specs.Prelude.{◌≡◌, ◌≤◌, OnOk};
 ghost use Rattle.picture.specs.Adding.{Draws};
-ghost use Rattle.markup.specs.Readings.{reading};
-ghost use Rattle.columns.specs.Columns.{seen};
+ghost use Rattle.markup.specs.{reading};
+ghost use Rattle.columns.specs.{seen};
 ghost use Rattle.picture.specs.Drawings.{arrow_by, distance_of_tip, drop_line, freed_arrow, links, seen_band};
 
 use crate::bands::Band;

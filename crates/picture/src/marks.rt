@@ -1,11 +1,9 @@
 //! The marks of a band: for each line of the run a group that has the line as its title.
 ghost use Rattle.std.specs.Prelude.{◌≡◌, [], ◌∷◌, flat_map, IfOk, OnOk, string_bytes};
 ghost use Rattle.picture.specs.Adding.{Draws, TellsLines};
-ghost use Rattle.markup.specs.Figures.{Mark};
-ghost use Rattle.markup.specs.Readings.{reading, with_mark};
-ghost use Rattle.columns.specs.Columns.{seen};
+ghost use Rattle.markup.specs.{Mark, reading, with_mark};
+ghost use Rattle.columns.specs.{change_told, seen, text_of, texts};
 ghost use Rattle.picture.specs.Drawings.{column_shapes, foot_shapes, head_shapes, line_shapes, lines_shapes, mark_said, mark_shape, note_shapes, number_words, pair_words, place_of_row, right_by, rows_of_line, rows_place, seen_band};
-ghost use Rattle.columns.specs.Told.{change_told, text_of, texts};
 ghost use Rattle.picture.specs.Words.{queue_text, row_class};
 
 use crate::bands::Band;

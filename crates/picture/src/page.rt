@@ -1,14 +1,11 @@
 //! The bands of a page, from the lines of a run.
 ghost use Rattle.std.specs.Prelude.{◌≡◌, ◌++◌, [], ◌∷◌, codes, map, IfOk, IfSome, None, OnOk};
 ghost use Rattle.picture.specs.Adding.{Begins, FramesBand, GivesLines, all_told};
-ghost use Rattle.markup.specs.Elements.{EndsAll};
-ghost use Rattle.markup.specs.Titles.{lines_in};
+ghost use Rattle.markup.specs.{EndsAll, lines_in};
 ghost use Rattle.picture.specs.Bandings.{Reads, Tells, band_tag, behind_columns, opening_length, opens_with};
-ghost use Rattle.columns.specs.Columns.{seen};
+ghost use Rattle.columns.specs.{nothing_told, seen, stages_told, text_of, told_in};
 ghost use Rattle.picture.specs.Pages.{BeginsColumn, DrawsBand, GivesRest, GoesOn, MakesRoom, Places, Puts, held, lines_of_band, page_of, seen_page, stages_kept};
 ghost use Rattle.picture.specs.declared.page.Form.TheVariants as form_variants;
-ghost use Rattle.columns.specs.Stages.{nothing_told, stages_told};
-ghost use Rattle.columns.specs.Told.{text_of, told_in};
 
 use crate::bands::Band;
 use crate::sheets::view;

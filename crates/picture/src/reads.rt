@@ -1,7 +1,7 @@
 //! Reads that writes overlapped: what a picture shows of them beside the lines of the run.
 ghost use Rattle.std.specs.Prelude.{◌≡◌, OnOk};
 ghost use Rattle.picture.specs.Adding.{Draws};
-ghost use Rattle.markup.specs.Readings.{reading};
+ghost use Rattle.markup.specs.{reading};
 ghost use Rattle.picture.specs.Drawings.{open_shapes, read_shapes, seen_band};
 
 use crate::bands::Band;

@@ -2,9 +2,7 @@
 ghost use Rattle.std.specs.Prelude.{◌≡◌, [], ◌++◌, codes, IfOk, OnOk, Some};
 ghost use Rattle.picture.specs.Adding.{Begins};
 ghost use Rattle.std.specs.String.{string_bytes};
-ghost use Rattle.markup.specs.Elements.{opens_in};
-ghost use Rattle.markup.specs.Readings.{reading};
-ghost use Rattle.markup.specs.Titles.{lines_in};
+ghost use Rattle.markup.specs.{lines_in, opens_in, reading};
 ghost use Rattle.picture.specs.Pages.{page_names, picture_names};
 ghost use Rattle.picture.specs.declared.constants.TheConstants.{PATTERNS, STYLE};
 ghost use Rattle.picture.specs.Sheets.{body_front, ground_of, heading_of, height_of_legend, item_of, legend_front, legend_of, legend_tag, list_of, page_back, page_begun, page_front, paper_of, picture_back, picture_front, plural_of, slider_of, styles_of, svg_front, svg_tag, titles_of, view_of};

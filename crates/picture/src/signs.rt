@@ -1,7 +1,7 @@
 //! The signs at the foot of a column.
 ghost use Rattle.std.specs.Prelude.{◌≤◌, ◌≡◌, OnOk};
 ghost use Rattle.picture.specs.Adding.{Draws};
-ghost use Rattle.markup.specs.Readings.{reading};
+ghost use Rattle.markup.specs.{reading};
 ghost use Rattle.picture.specs.Signs.{down_by, mark_sign, moved_by, settled_sign, sign, taken_sign};
 
 use columns::{DIGIT, RunLine, Saying, room};

@@ -2,11 +2,9 @@
 ghost use Rattle.std.specs.Prelude.{◌≡◌, ◌+◌, ◌*◌, ◌++◌, ◌&&◌, ◌||◌, not, [], codes, cond, IfOk, length, OnOk, option_map, string_bytes};
 ghost use Rattle.picture.specs.Adding.{Draws};
 ghost use Rattle.std.specs.Fmt.{decimal};
-ghost use Rattle.markup.specs.Figures.{drawings};
-ghost use Rattle.markup.specs.Readings.{reading};
+ghost use Rattle.markup.specs.{drawings, reading};
 ghost use Rattle.picture.specs.Bars.{free_left, is_word, says_word, stretch_at, stretch_word, style_of_word};
-ghost use Rattle.columns.specs.Layouts.{stands_in};
-ghost use Rattle.columns.specs.Columns.{capped, seen};
+ghost use Rattle.columns.specs.{capped, seen, stands_in};
 ghost use Rattle.picture.specs.Words.{group_text, left_reach_of, listed_with, mark_reach, right_reach_of, word_text};
 ghost use Rattle.picture.specs.Drawings.{seen_band, words_of_lane};
 

@@ -5,7 +5,7 @@ use Rattle.std.specs.Str.{IsAscii, IsUtf8}
 use Rattle.std.proofs.lemmas.Bool.Decides.{nat_tests}
 use Rattle.std.proofs.lemmas.Str.{IsUtf8-from_ascii}
 use Rattle.std.proofs.lemmas.Str.Ascii.{IsAscii-nil, IsAscii-cons}
-use Rattle.plain_store.specs.Names.{is_name, is_name_byte, is_text, is_text_byte}
+use Rattle.plain_store.specs.{is_name, is_name_byte, is_text, is_text_byte}
 
 name_bytes : (bytes : List ℕ) → list_all is_name_byte bytes ≡ true → IsAscii bytes
 name_bytes [] all = IsAscii-nil

@@ -5,14 +5,8 @@ use Rattle.std.proofs.lemmas.Bool.Decides.{Decides-int_eq}
 use Rattle.std.proofs.lemmas.Slice.Eq.{bytes_eq-Decides}
 use Rattle.std.specs.Str.{bytes_eq}
 use Rattle.std.specs.Bool.{Decides}
-use Rattle.plain_store.specs.Commands.{name_of}
-use Rattle.plain_store.specs.Outcomes.{is_new}
-use Rattle.plain_store.specs.Pairs.{Pair}
-use Rattle.plain_store.specs.Store.{Contents, value_at, value_for, put, with_written, changes, pairs_after, outcome_in}
-use Rattle.plain_store.specs.Values.{same_value}
-use Rattle.plain_store.specs.declared.commands.Command.{Command}
+use Rattle.plain_store.specs.{Command, Contents, Pair, Value, changes, is_new, name_of, outcome_in, pairs_after, put, same_value, value_at, value_for, with_written}
 use Rattle.plain_store.specs.declared.commands.Command.TheVariants.{Read, Write, Add, Cas, Ask}
-use Rattle.plain_store.specs.declared.commands.Value.{Value}
 use Rattle.plain_store.specs.declared.commands.Value.TheVariants.{Count, Text}
 
 -- the value that was written is found

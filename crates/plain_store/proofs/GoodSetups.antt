@@ -3,9 +3,7 @@ use Rattle.std.proofs.Common.{◌≡◌, ◌≤◌, Bool, true, false, List, [],
 use Rattle.std.proofs.lemmas.Bool.Decides.{nat_tests}
 use Rattle.std.specs.Int.{is_in_range}
 use Rattle.std.specs.List.{list_all}
-use Rattle.plain_store.specs.Setups.{checks, checked, first_fault, most_processes, most_bits, is_good_opening}
-use Rattle.plain_store.specs.declared.setups.BadSetup.{BadSetup}
-use Rattle.plain_store.specs.declared.setups.Setup.{Setup}
+use Rattle.plain_store.specs.{BadSetup, Setup, checked, checks, first_fault, is_good_opening, most_bits, most_processes}
 
 -- where there is no fault, all tests pass
 pub all_pass : (cs : List (Bool × BadSetup)) → first_fault cs ≡ Ok tt → list_all (λ c. c.0) cs ≡ true

@@ -8,11 +8,8 @@ use Rattle.std.proofs.lemmas.List.Folds.{list_all_more}
 use Rattle.std.proofs.lemmas.Option.{slice_get_within, get_or_from_slice_get}
 use Rattle.std.specs.List.{list_all}
 use Rattle.std.specs.Str.{bytes_eq}
-use Rattle.plain_store.specs.Outcomes.{outcome, is_new}
-use Rattle.plain_store.specs.Pairs.{Pair}
-use Rattle.plain_store.specs.Store.{Contents, value_at, put, names_differ, with_written, after, number_of}
+use Rattle.plain_store.specs.{Contents, Pair, Value, after, is_new, names_differ, number_of, outcome, put, value_at, with_written}
 use Rattle.plain_store.specs.declared.commands.Command.TheVariants.{Write}
-use Rattle.plain_store.specs.declared.commands.Value.{Value}
 
 -- something is found at each place within
 pub some_within : {X : Type 0} (xs : List X) (k : ℕ) → k < length xs → IsSome (slice_get xs k)

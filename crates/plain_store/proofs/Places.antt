@@ -2,7 +2,7 @@
 use Rattle.std.proofs.Common.{◌≡◌, ℕ, zero, suc, ◌-◌, ◌<◌, List, [], ◌∷◌, ◌++◌, Option, Some, None, length, set, map, replicate, refl, ap, sym, ◌∙◌, append_assoc, arith, length-append}
 use Rattle.std.proofs.Math.Seq.{set-append_seam}
 use Rattle.std.proofs.lemmas.List.{map-append, length-map}
-use Rattle.plain_store.specs.Pairs.{Pair, placed, pairs_in}
+use Rattle.plain_store.specs.{Pair, placed, pairs_in}
 
 -- places with nothing hold no pairs
 nothing : (n : ℕ) → pairs_in (replicate n None) ≡ []

@@ -1,11 +1,8 @@
 -- A store in words, pair by pair.
 use Rattle.std.proofs.Common.{◌≡◌, ℕ, ◌+◌, ◌≤◌, length, List, [], ◌∷◌, ◌++◌, None, Some, drop, ap, sym, refl, ◌∙◌, slice_get, append_assoc, flat_map, codes}
 use Rattle.std.proofs.lemmas.List.{append-nil, drop_all}
-use Rattle.plain_store.specs.Shown.{value_text}
-use Rattle.plain_store.specs.declared.commands.Value.{Value}
-use Rattle.plain_store.specs.Pairs.{Pair}
+use Rattle.plain_store.specs.{Pair, Value, next_pair, pair_text, store_words, value_text}
 use Rattle.plain_store.proofs.OpeningPairs.{drop-next}
-use Rattle.plain_store.specs.StoreLine.{next_pair, pair_text, store_words}
 
 -- no pairs
 pub no_pairs : (pairs : List Pair) → slice_get pairs 0 ≡ None → codes "empty" ≡ store_words pairs

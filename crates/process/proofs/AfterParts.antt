@@ -5,14 +5,9 @@ use Rattle.std.proofs.lemmas.Bool.{eq-eqb, ne_eqb}
 use Rattle.std.specs.List.{range_with_len}
 use Rattle.record.specs.declared.access.Field.TheVariants.{Choosing, Ticket}
 use Rattle.plain_store.specs.declared.Answer.TheVariants as answer
-use Rattle.plain_store.specs.Store.{Contents, changes}
-use Rattle.record.specs.Parts.{Part, Asks, TakesTicket, Refuses, WritesImage, Clears, part_after, to_b, to_c, to_d, to_e, to_g}
-use Rattle.record.specs.Program.{Version, Wait, first_full, greatest, max_of, newest_stamp, index_of, reply}
-use Rattle.record.specs.Registers.{processes}
-use Rattle.record.specs.Scripts.{Call}
-use Rattle.process.specs.Others.{first_other, other_numbered}
-use Rattle.process.specs.Seen.{Holds, IsCall, KeepsPart, all_from, others_of, part_at, tickets_seen, versions_seen, waits_from}
-use Rattle.process.specs.declared.part.ProcessPart.{ProcessPart}
+use Rattle.plain_store.specs.{Contents, changes}
+use Rattle.record.specs.{Asks, Call, Clears, Part, Refuses, TakesTicket, Version, Wait, WritesImage, first_full, greatest, index_of, max_of, newest_stamp, part_after, processes, reply, to_b, to_c, to_d, to_e, to_g}
+use Rattle.process.specs.{Holds, IsCall, KeepsPart, ProcessPart, all_from, first_other, other_numbered, others_of, part_at, tickets_seen, versions_seen, waits_from}
 use Rattle.process.specs.declared.part.ProcessPart.TheVariants as at
 use Rattle.process.specs.declared.seen.Seen.{Seen}
 use Rattle.process.proofs.Greatest.{greatest-there}

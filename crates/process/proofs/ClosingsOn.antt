@@ -1,27 +1,16 @@
 -- A withdrawal, and the memory unit's writes, go on by their cursor.
 use Rattle.std.proofs.Common.{◌≡◌, ◌==◌, ◌&&◌, Bool, false, cond, List, [], ◌∷◌, refl, sym, ap, ◌∙◌, subst, arith}
 use Rattle.plain_store.specs.declared.Answer.TheVariants.{Withdrawn}
-use Rattle.record.specs.declared.access.Field.{Field}
+use Rattle.record.specs.{Closing, Field, Mark, no_ticket, width, write_moved}
 use Rattle.record.specs.declared.access.Field.TheVariants.{Choosing, Ticket}
-use Rattle.record.specs.declared.marks.Mark.{Mark}
 use Rattle.record.specs.declared.marks.Mark.TheVariants as mark
 use Rattle.record.specs.Closings as closing
-use Rattle.record.specs.Closings.{Closing, no_ticket}
-use Rattle.record.specs.Places.{write_moved}
-use Rattle.record.specs.Registers.{width}
-use Rattle.record.specs.safe_number.Bytes.{bits_of_number}
-use Rattle.record.specs.safe_number.Runs.{NumberWrite, new_write}
-use Rattle.laws.specs.Doings.{closes}
-use Rattle.registers.specs.AtParts.{WritesAt, moved}
-use Rattle.registers.specs.Begins.{writing}
-use Rattle.registers.specs.Cursors.{CursorState, is_over}
-use Rattle.registers.specs.Rows.{write_kept}
+use Rattle.record.specs.safe_number.{NumberWrite, bits_of_number, new_write}
+use Rattle.laws.specs.{closes}
+use Rattle.registers.specs.{CursorState, WritesAt, is_over, moved, write_kept, writing}
 use Rattle.registers.proofs.ClosingMoves.{ends, unwritten}
 use Rattle.process.specs.declared.work.ProcessWork.TheVariants as work
-use Rattle.process.specs.CallParts.{PartState}
-use Rattle.process.specs.Places.{ProcessState, marks_on, stepped}
-use Rattle.process.specs.Seen.{IsCall}
-use Rattle.process.specs.Working.{HasMoved, KeepsPlace, state_at, with_doing}
+use Rattle.process.specs.{HasMoved, IsCall, KeepsPlace, PartState, ProcessState, marks_on, state_at, stepped, with_doing}
 
 -- what is done then
 abbrev pub then_closes : PartState → Closing → ProcessState

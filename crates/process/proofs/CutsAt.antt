@@ -2,33 +2,19 @@
 use Rattle.std.proofs.Common.{◌≡◌, ℕ, ◌+◌, ◌*◌, ◌==◌, ◌&&◌, ◌||◌, Bool, true, false, cond, not, List, [], ◌∷◌, get_or, length, Option, None, Some, option_map, refl, sym, ap, ◌∙◌, subst, arith, ◌<◌, ◌⊎◌, inl, inr}
 use Rattle.std.proofs.lemmas.Bool.{cases_eq, eq-eqb, ne_eqb}
 use Rattle.std.specs.Prelude.{IfSome}
-use Rattle.plain_store.specs.declared.Reply.{Reply}
-use Rattle.plain_store.specs.declared.Setup.{Setup}
+use Rattle.plain_store.specs.{Reply, Setup}
 use Rattle.registers.specs.reader_copies.Runs as copies
-use Rattle.record.specs.declared.access.Field.{Field}
+use Rattle.record.specs.{Change, Closing, Field, IsTornOf, begun_run, cut, is_read, named, no_ticket, pending_at, read_at, taken_with, torn_in, torn_run, width, written_at}
 use Rattle.record.specs.declared.access.Field.TheVariants.{Commit, Ticket}
 use Rattle.record.specs.Closings as closing
-use Rattle.record.specs.Closings.{Closing, no_ticket}
-use Rattle.record.specs.Cuts.{Change, IsTornOf, named, pending_at, torn_in, torn_run}
-use Rattle.record.specs.Failures.{begun_run, cut, taken_with}
-use Rattle.record.specs.Parts.{is_read, read_at, written_at}
-use Rattle.record.specs.Registers.{width}
 use Rattle.record.specs.safe_number.Runs as numbers
 use Rattle.record.proofs.Closing.{ticket_width}
 use Rattle.record.proofs.Ties.{written-width}
-use Rattle.laws.specs.Doings.{Closes, is_inside}
-use Rattle.registers.specs.AtParts.{ReadsAt, WritesAt, run_at, run_by}
-use Rattle.registers.specs.Begins.{is_torn, is_writing, made_of_bit, settling, torn_bit}
-use Rattle.registers.specs.Cursors.{CursorState}
-use Rattle.registers.specs.Rows.{bit_begun, write_kept}
+use Rattle.laws.specs.{Closes, is_inside}
+use Rattle.registers.specs.{CursorState, ReadsAt, RegisterName, WritesAt, bit_begun, is_torn, is_writing, made_of_bit, run_at, run_by, settling, torn_bit, write_kept}
 use Rattle.registers.specs.declared.cursor.NumberRun.TheVariants.{Writes}
-use Rattle.registers.specs.declared.fields.RegisterName.{RegisterName}
-use Rattle.process.specs.declared.work.ProcessWork.{ProcessWork}
+use Rattle.process.specs.{IsOfCommit, KeepsPlace, PartState, ProcessState, ProcessWork, SettlesAt, doing_at, failed, is_torn_at, reply_taken, settling_at, state_at, taken_at, torn_of, with_doing}
 use Rattle.process.specs.declared.work.ProcessWork.TheVariants as work
-use Rattle.process.specs.Alone.{torn_of}
-use Rattle.process.specs.CallParts.{PartState}
-use Rattle.process.specs.Places.{ProcessState, failed}
-use Rattle.process.specs.Working.{IsOfCommit, KeepsPlace, SettlesAt, doing_at, is_torn_at, reply_taken, settling_at, state_at, taken_at, with_doing}
 
 -- the process has failed, and this is done
 abbrev then_closes : PartState → Closing → ProcessState

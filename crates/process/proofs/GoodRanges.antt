@@ -1,8 +1,7 @@
 -- How many slots and callers a good setup has.
 use Rattle.std.proofs.Common.{◌≡◌, ◌≤◌, ◌==◌, ℕ, Bool, true, false, if◌then◌else◌, Ok, arith}
 use Rattle.std.proofs.lemmas.Bool.Decides.{nat_tests}
-use Rattle.plain_store.specs.Setups.{callers_of, checked}
-use Rattle.plain_store.specs.declared.Setup.{Setup}
+use Rattle.plain_store.specs.{Setup, callers_of, checked}
 use Rattle.plain_store.proofs.GoodSetups.{few-processes, good-checked}
 
 pub some-slots : (s : Setup) → checked s ≡ Ok tt → 1 ≤ s.slots

@@ -2,15 +2,12 @@
 use Rattle.std.proofs.Common.{◌≡◌, ◌<◌, ◌==◌, ℕ, Bool, true, false, List, [], ◌∷◌, get_or, length, refl, ◌∙◌, arith}
 use Rattle.std.proofs.lemmas.List.{length-map}
 use Rattle.registers.specs.safe_bit.Cell.{Cell}
-use Rattle.plain_store.specs.declared.Setup.{Setup}
-use Rattle.record.specs.declared.access.Field.{Field}
-use Rattle.record.specs.Registers.{width}
-use Rattle.record.specs.safe_number.Bytes.{number_of_bits}
-use Rattle.registers.specs.Cursors.{lane_number}
-use Rattle.registers.specs.Memory.{lane_of}
-use Rattle.registers.specs.Openings.{AreOf}
+use Rattle.plain_store.specs.{Setup}
+use Rattle.record.specs.{Field, width}
+use Rattle.record.specs.safe_number.{number_of_bits}
+use Rattle.registers.specs.{AreOf, lane_number, lane_of}
 use Rattle.registers.proofs.Openings.{register-lane}
-use Rattle.process.specs.Newest.{register_held}
+use Rattle.process.specs.{register_held}
 
 -- a register holds as many bits as it is wide
 pub held-wide : (s : Setup) (memory : List (List Cell)) (p : ℕ) (field : Field) → AreOf s memory → p < s.processes → length (register_held s memory p field) ≡ width s field

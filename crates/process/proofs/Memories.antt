@@ -4,24 +4,16 @@ use Rattle.std.proofs.Math.Nat.{div-lt_iff_lt-mul}
 use Rattle.std.proofs.lemmas.Nat.{div-add-mod', div-mul-add, mod-mul-add}
 use Rattle.std.proofs.lemmas.List.FromFn.{length-map-range_with_len, get_or-map-range_with_len}
 use Rattle.registers.specs.safe_bit.Cell.{Cell, new_cell}
-use Rattle.registers.specs.safe_bit.declared.moves.Move.{Move}
+use Rattle.registers.specs.safe_bit.{Move}
 use Rattle.registers.specs.safe_bit.declared.moves.Move.TheVariants.{BeginRead}
 use Rattle.record.proofs.safe_number.Numbers.{range_same}
-use Rattle.plain_store.specs.declared.Setup.{Setup}
-use Rattle.record.specs.declared.access.Access.{Access}
-use Rattle.record.specs.Moves.{field_number}
-use Rattle.record.specs.Newest.{copy}
-use Rattle.record.specs.Registers.{width}
-use Rattle.laws.specs.Held.{IsThere}
-use Rattle.registers.specs.Accesses.{lane_of_access}
-use Rattle.registers.specs.Cursors.{lane_number}
-use Rattle.registers.specs.reader_copies.Row.{cell_in}
-use Rattle.registers.specs.Memory.{cell_at, lane_of}
-use Rattle.registers.specs.Openings.{AreOf, field_numbered}
-use Rattle.registers.specs.Rows.{register_number}
-use Rattle.registers.specs.declared.fields.RegisterName.{RegisterName}
+use Rattle.plain_store.specs.{Setup}
+use Rattle.record.specs.{Access, copy, field_number, width}
+use Rattle.laws.specs.{IsThere}
+use Rattle.registers.specs.{AreOf, RegisterName, cell_at, field_numbered, lane_number, lane_of, lane_of_access, register_number}
+use Rattle.registers.specs.reader_copies.{cell_in}
 use Rattle.registers.proofs.Openings.{lane-field, lane-in, number-small}
-use Rattle.process.specs.Memories.{access_there, lane_with, memory_with}
+use Rattle.process.specs.{access_there, lane_with, memory_with}
 
 -- the cells of all accesses to one bit are one
 abbrev pub AreOfBits : (Access → Cell) → Type 0

@@ -4,21 +4,14 @@ use Rattle.std.proofs.lemmas.Bool.{eq-eqb}
 use Rattle.std.proofs.lemmas.Simd.{map-map}
 use Rattle.std.specs.List.{range_with_len}
 use Rattle.registers.specs.safe_bit.Cell.{Cell, cell_after, without_read}
-use Rattle.plain_store.specs.declared.Setup.{Setup}
-use Rattle.record.specs.declared.access.Access.{Access}
-use Rattle.record.specs.Moves.{field_number, same_bit}
-use Rattle.record.specs.Newest.{copy}
-use Rattle.record.specs.Registers.{width}
-use Rattle.laws.specs.Held.{IsThere}
+use Rattle.plain_store.specs.{Setup}
+use Rattle.record.specs.{Access, copy, field_number, same_bit, width}
+use Rattle.laws.specs.{IsThere}
 use Rattle.laws.proofs.FrameCells.{OnCopy, field-same, itself, on-copy}
-use Rattle.registers.specs.Accesses.{applied, lane_of_access}
-use Rattle.registers.specs.Cursors.{lane_number}
-use Rattle.registers.specs.Memory.{cell_at, lane_of, without_reads}
-use Rattle.registers.specs.Openings.{field_numbered}
-use Rattle.registers.specs.declared.fields.RegisterName.{RegisterName}
+use Rattle.registers.specs.{RegisterName, applied, cell_at, field_numbered, lane_number, lane_of, lane_of_access, without_reads}
 use Rattle.record.proofs.reader_copies.Flags.{made-set}
 use Rattle.registers.proofs.Openings.{lane-field, lane-in}
-use Rattle.process.specs.Memories.{access_there, cells_after, cells_dropped, is_of_reader, lane_with, memory_with}
+use Rattle.process.specs.{access_there, cells_after, cells_dropped, is_of_reader, lane_with, memory_with}
 use Rattle.process.proofs.Memories.{lane-named, lane-there, named-lane, with-copy, with-lane}
 
 not-true : (b : Bool) → (b ≡ true → ⊥) → b ≡ false

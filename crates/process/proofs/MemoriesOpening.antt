@@ -5,17 +5,14 @@ use Rattle.std.proofs.lemmas.Bool.{cases_eq, eq-eqb, ne_eqb}
 use Rattle.std.proofs.lemmas.List.FromFn.{get_or-map-range_with_len}
 use Rattle.std.proofs.lemmas.Simd.{map-map}
 use Rattle.registers.specs.safe_bit.Cell.{Cell, new_cell}
-use Rattle.plain_store.specs.declared.Setup.{Setup}
-use Rattle.plain_store.specs.Setups.{opening_store}
-use Rattle.record.specs.declared.access.Field.{Field}
+use Rattle.plain_store.specs.{Setup, opening_store}
+use Rattle.record.specs.{Field, field_number, opening_bits, width}
 use Rattle.record.specs.declared.access.Field.TheVariants.{Choosing, Ticket, Commit, Stamp0, Stamp1, Image0, Image1}
-use Rattle.record.specs.Moves.{field_number}
-use Rattle.record.specs.Registers.{opening_bits, width}
-use Rattle.record.specs.safe_number.Bytes.{bit_in, bits_in}
+use Rattle.record.specs.safe_number.{bit_in, bits_in}
 use Rattle.record.proofs.safe_number.Numbers.{range_same}
-use Rattle.store_image.specs.Image.{image_of}
-use Rattle.registers.specs.Openings.{field_numbered, opening_lane, opening_memory}
-use Rattle.process.specs.Memories.{cells_opening, lane_with, memory_with}
+use Rattle.store_image.specs.{image_of}
+use Rattle.registers.specs.{field_numbered, opening_lane, opening_memory}
+use Rattle.process.specs.{cells_opening, lane_with, memory_with}
 use Rattle.process.proofs.Memories.{number-back}
 
 -- a constant over a range

@@ -6,28 +6,19 @@ use Rattle.std.proofs.lemmas.List.{length-map}
 use Rattle.std.proofs.lemmas.List.FromFn.{length-map-range_with_len}
 use Rattle.std.proofs.lemmas.Simd.{map-map}
 use Rattle.registers.specs.safe_bit.Cell.{Cell}
-use Rattle.plain_store.specs.declared.Setup.{Setup}
-use Rattle.plain_store.specs.Setups.{callers_of, checked}
-use Rattle.record.specs.declared.access.Access.{Access}
-use Rattle.record.specs.declared.access.Field.{Field}
+use Rattle.plain_store.specs.{Setup, callers_of, checked}
+use Rattle.record.specs.{Access, Field, Past, Version, bits_held, bytes_of_bits, cell_after, copy, image_bytes, image_field, newest_bytes, newest_process, stamp_field, version_of, versions_held, width}
 use Rattle.record.specs.declared.access.Field.TheVariants.{Commit}
-use Rattle.record.specs.Entries.{Past}
-use Rattle.record.specs.Newest.{bits_held, cell_after, copy, newest_bytes, versions_held}
 use Rattle.record.specs.Newest as record_newest
-use Rattle.record.specs.Program.{Version, image_field, newest_process, stamp_field, version_of}
-use Rattle.record.specs.Registers.{bytes_of_bits, image_bytes, width}
 use Rattle.record.proofs.Width.{is_good}
-use Rattle.record.specs.safe_number.Bytes.{number_of_bits}
+use Rattle.record.specs.safe_number.{number_of_bits}
 use Rattle.record.proofs.safe_number.Numbers.{range_same}
-use Rattle.store_image.specs.Reading.{store_in}
-use Rattle.laws.specs.Held.{cell_held}
+use Rattle.store_image.specs.{store_in}
+use Rattle.laws.specs.{cell_held}
 use Rattle.laws.proofs.HeldCells.{held-is}
-use Rattle.registers.specs.Cursors.{lane_number}
-use Rattle.registers.specs.Openings.{field_numbered}
-use Rattle.registers.specs.declared.fields.RegisterName.{RegisterName}
+use Rattle.registers.specs.{RegisterName, field_numbered, lane_number}
 use Rattle.registers.proofs.Openings.{lane-field, lane-in}
-use Rattle.process.specs.Memories.{access_there, memory_with}
-use Rattle.process.specs.Newest.{newest_store, register_held, version_in, versions_in}
+use Rattle.process.specs.{access_there, memory_with, newest_store, register_held, version_in, versions_in}
 use Rattle.process.proofs.Greatest.{greatest-there}
 use Rattle.process.proofs.Memories.{lane-named, with-lane}
 

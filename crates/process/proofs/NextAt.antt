@@ -1,23 +1,15 @@
 -- The next access of a process is that of its cursor.
 use Rattle.std.proofs.Common.{◌≡◌, ◌+◌, Bool, true, false, List, [], ◌∷◌, Option, None, Some, ℕ, sym, ap, ◌∙◌, subst, arith, ◌⊎◌, inl, inr}
 use Rattle.std.specs.Prelude.{IfSome}
-use Rattle.plain_store.specs.declared.Reply.{Reply}
-use Rattle.record.specs.declared.access.Access.{Access}
+use Rattle.plain_store.specs.{Reply}
+use Rattle.record.specs.{Access, Mark, no_ticket}
 use Rattle.record.specs.declared.access.Field.TheVariants.{Choosing, Ticket}
-use Rattle.record.specs.declared.marks.Mark.{Mark}
-use Rattle.record.specs.Closings.{no_ticket}
-use Rattle.laws.specs.Doings.{Closes}
-use Rattle.registers.specs.Accesses.{cursor_after, move_by, next_access}
-use Rattle.registers.specs.Begins.{is_fresh}
-use Rattle.registers.specs.Cursors.{CursorState}
+use Rattle.laws.specs.{Closes}
+use Rattle.registers.specs.{CursorState, cursor_after, is_fresh, move_by, next_access}
 use Rattle.registers.proofs.ClosingMoves.{ends}
 use Rattle.registers.proofs.CursorRuns.{moves}
-use Rattle.process.specs.declared.work.ProcessWork.{ProcessWork}
+use Rattle.process.specs.{AreMarksOn, HasMoved, IsStepped, KeepsPlace, PartState, ProcessState, ProcessWork, SettlesAt, changes_at, changes_read, doing_at, given, marks_on, may_step, next_at, reply_taken, settling_at, state_at, stepped, with_doing}
 use Rattle.process.specs.declared.work.ProcessWork.TheVariants as work
-use Rattle.process.specs.CallParts.{PartState}
-use Rattle.process.specs.Places.{ProcessState, changes_at, changes_read, marks_on, may_step, stepped}
-use Rattle.process.specs.Serving.{next_at}
-use Rattle.process.specs.Working.{AreMarksOn, IsStepped, HasMoved, KeepsPlace, SettlesAt, doing_at, given, reply_taken, settling_at, state_at, with_doing}
 
 settling-next : (k : PartState) (inside flick : Bool) (taken : Option (Bool × Reply)) (cur : CursorState) → SettlesAt k.call.setup k.call.process taken cur →
     next_access cur flick ≡ next_at (state_at k (work.Settles inside taken) cur) flick

@@ -1,15 +1,9 @@
 -- The next access of a call is one to the register of its part.
 use Rattle.std.proofs.Common.{◌≡◌, Bool, true, false, cond, refl, sym, ap, ◌∙◌}
-use Rattle.record.specs.Parts.{is_read, read_at, written_at}
-use Rattle.registers.specs.Accesses.{next_access}
-use Rattle.registers.specs.AtParts.{ReadsAt, WritesAt}
-use Rattle.registers.specs.Cursors.{CursorState}
-use Rattle.registers.specs.declared.fields.RegisterName.{RegisterName}
-use Rattle.process.specs.declared.work.ProcessWork.{ProcessWork}
+use Rattle.record.specs.{is_read, read_at, written_at}
+use Rattle.registers.specs.{CursorState, ReadsAt, RegisterName, WritesAt, next_access}
+use Rattle.process.specs.{IsOfRegister, KeepsPlace, PartState, ProcessWork, doing_at, register_at}
 use Rattle.process.specs.declared.work.ProcessWork.TheVariants as work
-use Rattle.process.specs.Alone.{IsOfRegister, register_at}
-use Rattle.process.specs.CallParts.{PartState}
-use Rattle.process.specs.Working.{KeepsPlace, doing_at}
 
 runs-at : (k : PartState) (cur : CursorState) (b : Bool) → is_read k.part ≡ b →
     elim b as (λ _. Type 0) [ true ↦ ReadsAt k.call.setup k.call.process (read_at k.call k.part) cur | false ↦ WritesAt k.call.setup k.call.process (written_at k.call k.part) cur ] →

@@ -3,7 +3,7 @@ use Rattle.std.proofs.Common.{◌≡◌, ◌≢◌, ℕ, zero, suc, ◌+◌, ◌
 use Rattle.std.proofs.lemmas.Bool.{cases_eq, cases_lt, cond-false, eq-eqb, le-ltb, lt-ltb, ne_eqb}
 use Rattle.std.proofs.lemmas.Bool.Decides.{nat_tests}
 use Rattle.std.specs.List.{range_with_len}
-use Rattle.process.specs.Others.{first_other, other_numbered, others_below, others_from}
+use Rattle.process.specs.{first_other, other_numbered, others_below, others_from}
 
 -- m processes from k on, without p
 abbrev others_in : ℕ → ℕ → ℕ → List ℕ

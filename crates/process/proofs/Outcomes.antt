@@ -1,13 +1,10 @@
 -- What a read of a part has given.
 use Rattle.std.proofs.Common.{◌≡◌, ℕ, ◌^◌, ◌<◌, ◌≤◌, Bool, true, false, List, refl, subst, arith}
-use Rattle.record.specs.safe_number.Bytes.{number_of_bits}
+use Rattle.record.specs.safe_number.{number_of_bits}
 use Rattle.record.proofs.safe_number.Bits.{number-fits}
-use Rattle.record.specs.Parts.{Part, is_read, read_at}
-use Rattle.plain_store.specs.declared.Setup.{Setup}
-use Rattle.record.specs.Program.{max_of, stamp_field}
-use Rattle.record.specs.Registers.{width}
-use Rattle.record.specs.Scripts.{Call}
-use Rattle.process.specs.CallParts.{IsOutcome}
+use Rattle.record.specs.{Call, Part, is_read, max_of, read_at, stamp_field, width}
+use Rattle.plain_store.specs.{Setup}
+use Rattle.process.specs.{IsOutcome}
 
 pub outcome-fits : (c : Call) (part : Part) (bits : List Bool) (number : ℕ) → IsOutcome c part bits number → is_read part ≡ true → number ≤ max_of (width c.setup (read_at c part).1)
 outcome-fits c part bits number out reads =

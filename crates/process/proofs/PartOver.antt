@@ -1,20 +1,15 @@
 -- A part whose number access is over, and the cursor that the next one begins with.
 use Rattle.std.proofs.Common.{◌≡◌, ℕ, zero, suc, ◌*◌, ◌/◌, ◌%◌, ◌≤◌, ◌==◌, Bool, true, false, cond, not, List, [], ◌∷◌, ◌++◌, get_or, replicate, refl, sym, ap, ◌∙◌, arith}
-use Rattle.record.specs.declared.access.Field.{Field}
+use Rattle.record.specs.{Call, Field, image_bytes, image_field, version_of, width}
 use Rattle.record.specs.Parts.{Part, Raises, Asks, TakesTicket, Lowers, Refuses, Waits, AsksCommit, AsksStamp, AsksImage, WritesImage, WritesStamp, WritesCommit, Clears, Over, is_read, last_marks, part_after, read_at, written_at}
-use Rattle.record.specs.Program.{image_field, version_of}
-use Rattle.record.specs.Registers.{image_bytes, width}
-use Rattle.record.specs.Scripts.{Call}
-use Rattle.plain_store.specs.declared.Setup.{Setup}
+use Rattle.plain_store.specs.{Setup}
 use Rattle.std.specs.Int.{bit_at}
-use Rattle.record.specs.safe_number.Bytes.{bit_in, bits_in, number_of_bits}
+use Rattle.record.specs.safe_number.{bit_in, bits_in, number_of_bits}
 use Rattle.record.proofs.safe_number.Numbers.{range_same}
-use Rattle.registers.specs.AtParts.{IsDone, entered}
-use Rattle.registers.specs.Begins.{reading, writing}
-use Rattle.registers.specs.Cursors.{CursorState}
+use Rattle.registers.specs.{CursorState, IsDone, entered, reading, writing}
 use Rattle.registers.specs.declared.cursor.NumberRun.TheVariants.{Reads, Writes}
 use Rattle.registers.proofs.CursorRuns.{same-after, same-marks}
-use Rattle.process.specs.CallParts.{IsOutcome, writes_image}
+use Rattle.process.specs.{IsOutcome, writes_image}
 
 -- the bits that a part has read, none if it writes
 abbrev pub bits_read : Part → CursorState → List Bool

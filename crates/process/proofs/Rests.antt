@@ -2,18 +2,14 @@
 use Rattle.std.proofs.Common.{◌≡◌, ℕ, ◌-◌, ◌*◌, ◌&&◌, Bool, true, false, cond, get_or, None, Some, sym, ap, ◌∙◌, arith, inl, inr}
 use Rattle.std.proofs.Math.Nat.{mul-sub}
 use Rattle.std.proofs.lemmas.Bool.{cases_eq, eq-eqb, ne_eqb}
-use Rattle.record.specs.reader_copies.Runs.{Writing}
-use Rattle.record.specs.Parts.{Part, is_read, read_at, written_at}
+use Rattle.record.specs.reader_copies.{Writing}
+use Rattle.record.specs.{Call, Part, is_read, read_at, written_at}
 use Rattle.record.specs.Places as places
-use Rattle.record.specs.Scripts.{Call}
-use Rattle.registers.specs.AtParts.{IsAtPart, ReadsAt, WritesAt, run_at, run_by}
-use Rattle.registers.specs.Begins.{is_fresh, made_of_bit}
-use Rattle.registers.specs.Cursors.{CursorState, rest_by}
+use Rattle.registers.specs.{CursorState, IsAtPart, ReadsAt, WritesAt, bit_begun, is_fresh, made_of_bit, rest_by, run_at, run_by}
 use Rattle.registers.specs.Cursors as cursors
-use Rattle.registers.specs.Rows.{bit_begun}
 use Rattle.registers.specs.declared.cursor.NumberRun.TheVariants.{Reads, Writes}
 use Rattle.registers.proofs.CursorRuns.{Moves, moves}
-use Rattle.process.specs.Places.{is_told, left_of, rest_of}
+use Rattle.process.specs.{is_told, left_of, rest_of}
 
 -- what is made of the present bit
 begun-made : (made : ℕ) (value : Bool) → elim (bit_begun made value) as (λ _. ℕ) [ None ↦ 0 | Some bit ↦ bit.made ] ≡ made

@@ -1,24 +1,16 @@
 -- A process that runs its call goes on by its cursor.
 use Rattle.std.proofs.Common.{◌≡◌, ◌<◌, ◌&&◌, Bool, true, false, cond, List, [], ◌∷◌, ◌++◌, refl, sym, ap, ◌∙◌, subst}
 use Rattle.std.proofs.lemmas.List.{append-nil}
-use Rattle.record.specs.declared.marks.Mark.{Mark}
+use Rattle.record.specs.{Mark, Part, enter, first_marks, is_over, last_marks, part_after}
 use Rattle.record.specs.declared.marks.Mark.TheVariants as mark
-use Rattle.record.specs.Parts.{Part, first_marks, is_over, last_marks, part_after}
-use Rattle.record.specs.Places.{enter}
-use Rattle.laws.specs.Doings.{Rests, Runs, runs}
-use Rattle.registers.specs.Accesses.{after_by, move_by}
-use Rattle.registers.specs.AtParts.{IsAtPart, entered, marks_moved, moved, place_at, place_moved}
-use Rattle.registers.specs.Cursors.{CursorState}
+use Rattle.laws.specs.{Rests, Runs, runs}
+use Rattle.registers.specs.{CursorState, IsAtPart, NumberRun, RegisterName, after_by, entered, marks_moved, move_by, moved, place_at, place_moved}
 use Rattle.registers.specs.Cursors as cursors
-use Rattle.registers.specs.declared.cursor.NumberRun.{NumberRun}
 use Rattle.registers.specs.declared.cursor.NumberRun.TheVariants.{Reads, Writes, Settles}
-use Rattle.registers.specs.declared.fields.RegisterName.{RegisterName}
 use Rattle.registers.proofs.CursorRuns.{moves}
 use Rattle.registers.proofs.PlaceMoves.{entered-place, marks-move, place-moves}
 use Rattle.process.specs.declared.work.ProcessWork.TheVariants as work
-use Rattle.process.specs.CallParts.{PartState}
-use Rattle.process.specs.Places.{marks_on, stepped}
-use Rattle.process.specs.Working.{HasMoved, KeepsPlace, state_at, with_doing}
+use Rattle.process.specs.{HasMoved, KeepsPlace, PartState, marks_on, state_at, stepped, with_doing}
 
 -- the place after its next access
 after-is : (k : PartState) (flick value : Bool) (before cur : CursorState) (fresh : Bool) → HasMoved k work.Runs flick value before cur fresh →

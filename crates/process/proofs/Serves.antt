@@ -1,36 +1,19 @@
 -- A process is served by a memory as its cursor is.
 use Rattle.std.proofs.Common.{◌≡◌, ◌<◌, ◌≤◌, ℕ, zero, suc, ◌+◌, Bool, true, false, cond, List, get_or, Option, refl, sym, ap, ◌∙◌, subst, arith}
 use Rattle.registers.specs.safe_bit.Cell.{Cell, read_answer}
-use Rattle.registers.specs.safe_bit.declared.moves.Move.{Move}
+use Rattle.registers.specs.safe_bit.{Move}
 use Rattle.registers.specs.safe_bit.declared.moves.Move.TheVariants.{BeginWrite, EndWrite}
-use Rattle.flicks.specs.Flicks.{FlickState, after_flick, flick_of}
-use Rattle.plain_store.specs.declared.Reply.{Reply}
-use Rattle.plain_store.specs.declared.Setup.{Setup}
-use Rattle.record.specs.declared.access.Access.{Access}
-use Rattle.record.specs.declared.access.Field.{Field}
-use Rattle.record.specs.Moves.{ended}
-use Rattle.record.specs.Parts.{Part, is_over, is_read, read_at, written_at}
-use Rattle.record.specs.Places.{Place, run_after, value_of}
-use Rattle.record.specs.Registers.{width}
-use Rattle.record.specs.Scripts.{Call}
-use Rattle.laws.specs.Doings.{Runs}
-use Rattle.registers.specs.Accesses.{answered, applied, cursor_after, ends_overlapped, lane_of_access, move_by, next_access, next_answered, overlapped_of, read_move, run_of}
-use Rattle.registers.specs.AtParts.{IsAtPart, ReadsAt, WritesAt, moved, run_at}
-use Rattle.registers.specs.Begins.{is_settling}
-use Rattle.registers.specs.Cursors.{CursorState, Fits, IsAtCopy}
-use Rattle.registers.specs.Memory.{cell_at}
-use Rattle.registers.specs.Openings.{AreOf}
-use Rattle.registers.specs.declared.cursor.NumberRun.{NumberRun}
+use Rattle.flicks.specs.{FlickState, after_flick, flick_of}
+use Rattle.plain_store.specs.{Reply, Setup}
+use Rattle.record.specs.{Access, Call, Field, Part, Place, ended, is_over, is_read, read_at, run_after, value_of, width, written_at}
+use Rattle.laws.specs.{Runs}
+use Rattle.registers.specs.{AreOf, CursorState, Fits, IsAtCopy, IsAtPart, NumberRun, ReadsAt, WritesAt, answered, applied, cell_at, cursor_after, ends_overlapped, is_settling, lane_of_access, move_by, moved, next_access, next_answered, overlapped_of, read_move, run_at, run_of}
 use Rattle.registers.specs.declared.cursor.NumberRun.TheVariants as run
 use Rattle.registers.proofs.CursorRuns.{Moves, moves}
 use Rattle.registers.proofs.Openings.{setup-fits}
 use Rattle.registers.proofs.Runs.{same-by}
-use Rattle.process.specs.declared.work.ProcessWork.{ProcessWork}
+use Rattle.process.specs.{KeepsPlace, PartState, ProcessState, ProcessWork, SettlesAt, answered_at, doing_at, given, left_at, left_of, may_step, overlapped_steps, overlaps_step, state_at, step_by, step_of, stepped, steps_of}
 use Rattle.process.specs.declared.work.ProcessWork.TheVariants as work
-use Rattle.process.specs.CallParts.{PartState}
-use Rattle.process.specs.Places.{ProcessState, left_at, left_of, may_step, stepped}
-use Rattle.process.specs.Serving.{answered_at, overlapped_steps, overlaps_step, step_by, step_of, steps_of}
-use Rattle.process.specs.Working.{KeepsPlace, SettlesAt, doing_at, given, state_at}
 use Rattle.process.proofs.Left.{left-fewer, left-runs, left-some, live-by, within}
 use Rattle.process.proofs.NextAt.{next-is}
 

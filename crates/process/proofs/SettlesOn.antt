@@ -2,24 +2,18 @@
 use Rattle.std.proofs.Common.{◌≡◌, ◌<◌, ℕ, ◌+◌, ◌==◌, ◌&&◌, Bool, true, false, cond, not, [], get_or, length, Option, Some, unwrap_or, refl, sym, ap, ◌∙◌, subst, arith}
 use Rattle.std.proofs.lemmas.Bool.{eq-eqb, ne_eqb}
 use Rattle.std.specs.Prelude.{IfSome}
-use Rattle.plain_store.specs.declared.Reply.{Reply}
-use Rattle.plain_store.specs.declared.Setup.{Setup}
+use Rattle.plain_store.specs.{Reply, Setup}
 use Rattle.registers.specs.safe_bit.declared.moves.Move.TheVariants.{BeginWrite, EndWrite, Settle}
 use Rattle.registers.specs.reader_copies.Runs as copies
 use Rattle.record.specs.declared.access.Field.TheVariants.{Ticket}
 use Rattle.record.specs.Closings as closing
-use Rattle.record.specs.Closings.{freeing, is_last_settled, settled_marks}
-use Rattle.laws.specs.Doings.{Closes}
-use Rattle.registers.specs.Accesses.{after_by, ends_copy, ends_settling, move_by, value_written}
-use Rattle.registers.specs.AtParts.{moved}
-use Rattle.registers.specs.Cursors.{CursorState, is_over}
-use Rattle.registers.specs.Rows.{settling_kept}
+use Rattle.record.specs.{freeing, is_last_settled, settled_marks}
+use Rattle.laws.specs.{Closes}
+use Rattle.registers.specs.{CursorState, after_by, ends_copy, ends_settling, is_over, move_by, moved, settling_kept, value_written}
 use Rattle.registers.specs.declared.cursor.NumberRun.TheVariants.{Settles}
 use Rattle.registers.proofs.Steps.{copy_inside}
 use Rattle.process.specs.declared.work.ProcessWork.TheVariants as work
-use Rattle.process.specs.CallParts.{PartState}
-use Rattle.process.specs.Places.{ProcessState, marks_on, stepped}
-use Rattle.process.specs.Working.{HasMoved, KeepsPlace, SettlesAt, reply_taken, settling_at, state_at, with_doing}
+use Rattle.process.specs.{HasMoved, KeepsPlace, PartState, ProcessState, SettlesAt, marks_on, reply_taken, settling_at, state_at, stepped, with_doing}
 use Rattle.process.proofs.ClosingsOn.{clearing, then_closes}
 
 -- THE CURSOR AFTER ITS NEXT ACCESS, settling at v

@@ -1,24 +1,13 @@
 -- What a memory makes of a process, by what contracts see of it.
 use Rattle.std.proofs.Common.{◌≡◌, ◌<◌, ◌≤◌, ℕ, Bool, true, false, cond, List, None, Some, is_some, refl, sym, ap, ◌∙◌, subst, arith}
 use Rattle.registers.specs.safe_bit.Cell.{Cell}
-use Rattle.flicks.specs.Flicks.{FlickState}
-use Rattle.plain_store.specs.declared.Setup.{Setup}
-use Rattle.record.specs.declared.access.Access.{Access}
-use Rattle.record.specs.Parts.{Part, is_over, is_read, read_at, written_at}
-use Rattle.record.specs.Scripts.{Call}
-use Rattle.laws.specs.Doings.{Doing, Rests, Lies, Runs, Closes}
-use Rattle.laws.specs.Steps.{reads_of}
-use Rattle.registers.specs.Accesses.{applied, cursor_after, next_answered, overlapped_of, run_of}
-use Rattle.registers.specs.AtParts.{ReadsAt, WritesAt, run_at}
-use Rattle.registers.specs.Cursors.{CursorState, Fits, first_lane, lane_number, rest_of}
-use Rattle.registers.specs.Memory.{without_reads}
-use Rattle.registers.specs.Openings.{AreOf}
-use Rattle.process.specs.declared.work.ProcessWork.{ProcessWork}
+use Rattle.flicks.specs.{FlickState}
+use Rattle.plain_store.specs.{Setup}
+use Rattle.record.specs.{Access, Call, Part, is_over, is_read, read_at, written_at}
+use Rattle.laws.specs.{Closes, Doing, Lies, Rests, Runs, reads_of}
+use Rattle.registers.specs.{AreOf, CursorState, Fits, ReadsAt, WritesAt, applied, cursor_after, first_lane, lane_number, next_answered, overlapped_of, rest_of, run_at, run_of, without_reads}
+use Rattle.process.specs.{KeepsPlace, PartState, ProcessState, ProcessWork, answered_at, dropped, left_at, left_of, may_step, overlapped_steps, state_at, step_by, steps_of}
 use Rattle.process.specs.declared.work.ProcessWork.TheVariants as work
-use Rattle.process.specs.CallParts.{PartState}
-use Rattle.process.specs.Places.{ProcessState, left_at, left_of, may_step}
-use Rattle.process.specs.Serving.{answered_at, dropped, overlapped_steps, step_by, steps_of}
-use Rattle.process.specs.Working.{KeepsPlace, state_at}
 use Rattle.process.proofs.Left.{left-some, live-by}
 use Rattle.process.proofs.Rests.{rest-is}
 use Rattle.process.proofs.Serves.{answered-is, left-works, served, serves-one, serves-step, stands, stands-fit}

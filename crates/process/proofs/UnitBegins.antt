@@ -2,23 +2,14 @@
 use Rattle.std.proofs.Common.{◌≡◌, ◌<◌, ℕ, zero, suc, ◌/◌, ◌%◌, ◌==◌, Bool, true, false, cond, List, get_or, Option, None, Some, is_some, option_map, replicate, refl, sym, ap, ◌∙◌, subst}
 use Rattle.std.proofs.lemmas.Nat.Bits.{bit_at-zero}
 use Rattle.std.specs.Int.{bit_at}
-use Rattle.registers.specs.reader_copies.Runs.{HasItsValue}
-use Rattle.record.specs.declared.access.Field.{Field}
-use Rattle.record.specs.declared.access.TornBit.{TornBit}
-use Rattle.record.specs.Closings.{Settles}
-use Rattle.record.specs.Cuts.{Change, IsTornOf}
-use Rattle.record.specs.Failures.{taken_with}
-use Rattle.record.specs.Registers.{width}
-use Rattle.record.specs.Unit.{is_commit}
-use Rattle.record.specs.safe_number.Bytes.{bits_in}
+use Rattle.registers.specs.reader_copies.{HasItsValue}
+use Rattle.record.specs.{Change, Field, IsTornOf, Settles, TornBit, is_commit, taken_with, width}
+use Rattle.record.specs.safe_number.{bits_in}
 use Rattle.record.proofs.safe_number.Numbers.{get-bits, length_bits}
-use Rattle.laws.specs.Doings.{Doing, Closes}
-use Rattle.registers.specs.Begins.{settling_from}
+use Rattle.laws.specs.{Doing, Closes}
+use Rattle.registers.specs.{settling_from}
 use Rattle.process.specs.declared.work.ProcessWork.TheVariants as work
-use Rattle.process.specs.Alone.{settling_with}
-use Rattle.process.specs.CallParts.{PartState}
-use Rattle.process.specs.Seen.{IsCall}
-use Rattle.process.specs.Working.{KeepsPlace, state_at, with_doing}
+use Rattle.process.specs.{IsCall, KeepsPlace, PartState, settling_with, state_at, with_doing}
 
 some-value : (value : Option Bool) → is_some value ≡ true → (v : Bool) × (value ≡ Some v)
 some-value None some = absurd (cc)

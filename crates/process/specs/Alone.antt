@@ -1,19 +1,9 @@
 -- Parts of a process's work that stand alone, and what those who drive them want to know of it.
 use Rattle.std.specs.Prelude.{◌≡◌, ℕ, Bool, cond, true, false, [], Option, None, Some}
-use Rattle.plain_store.specs.declared.Answer.{Answer}
-use Rattle.plain_store.specs.declared.Command.{Command}
-use Rattle.plain_store.specs.declared.Setup.{Setup}
-use Rattle.record.specs.declared.access.Access.{Access}
-use Rattle.record.specs.declared.access.Field.{Field}
-use Rattle.record.specs.declared.access.TornBit.{TornBit}
-use Rattle.record.specs.Closings.{Closing, Settles}
-use Rattle.record.specs.Cuts.{Change, pending_at, torn_at, torn_closing}
-use Rattle.record.specs.Failures.{cut}
+use Rattle.plain_store.specs.{Answer, Command, Setup}
+use Rattle.record.specs.{Access, Call, Change, Closing, Field, Place, Settles, TornBit, cut, enter, pending_at, processes, torn_at, torn_closing}
 use Rattle.record.specs.Parts.{Part, Clears, Lowers, Refuses, Waits, is_read, read_at, to_e, written_at}
-use Rattle.record.specs.Places.{Place, enter}
-use Rattle.record.specs.Registers.{processes}
-use Rattle.record.specs.Scripts.{Call}
-use Rattle.laws.specs.Doings.{Doing, Closes, Runs, call}
+use Rattle.laws.specs.{Doing, Closes, Runs, call}
 use Rattle.process.specs.Places.{ProcessState}
 
 -- the ticket with which a process ends its doorway, or waits

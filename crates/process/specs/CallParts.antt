@@ -1,12 +1,10 @@
 -- A call at one of its parts: what it does there, what comes after, and the marks.
 use Rattle.std.specs.Prelude.{◌≡◌, ◌<◌, ◌≤◌, ℕ, Bool, true, false, List, [], ◌∷◌, length}
 use Rattle.plain_store.specs.declared.Answer.TheVariants as answer
-use Rattle.record.specs.declared.marks.Mark.{Mark}
+use Rattle.record.specs.{Call, Mark, width}
 use Rattle.record.specs.declared.marks.Mark.TheVariants as mark
 use Rattle.record.specs.Parts.{Part, Lowers, Refuses, Waits, AsksCommit, AsksImage, WritesImage, WritesCommit, Clears, is_over, is_read, read_at, written_at}
-use Rattle.record.specs.Registers.{width}
-use Rattle.record.specs.Scripts.{Call}
-use Rattle.record.specs.safe_number.Bytes.{bits_of_number, number_of_bits}
+use Rattle.record.specs.safe_number.{bits_of_number, number_of_bits}
 use Rattle.process.specs.declared.asked.Asked.{Asked}
 use Rattle.process.specs.declared.asked.Asked.TheVariants as asks
 

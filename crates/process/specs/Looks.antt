@@ -1,12 +1,10 @@
 -- What is known of a process by what it does.
 use Rattle.std.specs.Prelude.{ℕ, Bool, ◌&&◌, not, cond, List, [], Option, None, Some}
-use Rattle.plain_store.specs.declared.Setup.{Setup}
-use Rattle.record.specs.safe_number.Bytes.{number_of_bits}
-use Rattle.record.specs.Closings.{Closing, Settles}
+use Rattle.plain_store.specs.{Setup}
+use Rattle.record.specs.safe_number.{number_of_bits}
+use Rattle.record.specs.{Closing, Place, Reading, Run, Settles, Writing, greatest, max_of}
 use Rattle.record.specs.Parts.{Part, Asks, TakesTicket, Lowers, Refuses, is_read}
-use Rattle.record.specs.Places.{Place, Run, Reading, Writing}
-use Rattle.record.specs.Program.{greatest, max_of}
-use Rattle.laws.specs.Doings.{Doing, Runs, Closes}
+use Rattle.laws.specs.{Doing, Runs, Closes}
 use Rattle.process.specs.declared.looks.TicketKnown.{TicketKnown}
 use Rattle.process.specs.declared.looks.TicketKnown.TheVariants.{Above, Is}
 use Rattle.process.specs.declared.looks.Settling.{Settling}

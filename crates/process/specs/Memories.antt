@@ -2,13 +2,9 @@
 use Rattle.std.specs.Prelude.{ℕ, ◌==◌, ◌&&◌, ◌*◌, ◌/◌, ◌%◌, Bool, cond, List, map}
 use Rattle.std.specs.List.{range_with_len}
 use Rattle.registers.specs.safe_bit.Cell.{Cell, cell_after, new_cell, without_read}
-use Rattle.plain_store.specs.declared.Setup.{Setup}
-use Rattle.record.specs.declared.access.Access.{Access}
-use Rattle.record.specs.Moves.{field_number, same_bit}
-use Rattle.record.specs.Newest.{copy}
-use Rattle.record.specs.Registers.{opening_bit, width}
-use Rattle.registers.specs.Openings.{field_numbered}
-use Rattle.registers.specs.declared.fields.RegisterName.{RegisterName}
+use Rattle.plain_store.specs.{Setup}
+use Rattle.record.specs.{Access, copy, field_number, opening_bit, same_bit, width}
+use Rattle.registers.specs.{RegisterName, field_numbered}
 
 -- a bit of a lane, as an access names it
 abbrev pub access_there : Setup → (lane bit : ℕ) → Access

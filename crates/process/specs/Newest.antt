@@ -1,16 +1,12 @@
 -- The committed store with the greatest stamp, off the memory, as reader 0's copies have it.
 use Rattle.std.specs.Prelude.{ℕ, Bool, false, List, map, slice_index_or}
 use Rattle.registers.specs.safe_bit.Cell.{Cell}
-use Rattle.plain_store.specs.declared.Setup.{Setup}
-use Rattle.plain_store.specs.Setups.{callers_of}
-use Rattle.plain_store.specs.Store.{Contents}
-use Rattle.record.specs.declared.access.Field.{Field}
+use Rattle.plain_store.specs.{Contents, Setup, callers_of}
+use Rattle.record.specs.{Field, Version, bytes_of_bits, image_bytes, image_field, newest_process, processes, stamp_field, version_of}
 use Rattle.record.specs.declared.access.Field.TheVariants.{Commit}
-use Rattle.record.specs.Program.{Version, image_field, newest_process, stamp_field, version_of}
-use Rattle.record.specs.Registers.{bytes_of_bits, image_bytes, processes}
-use Rattle.record.specs.safe_number.Bytes.{number_of_bits}
-use Rattle.store_image.specs.Reading.{store_in}
-use Rattle.registers.specs.Rows.{values_held}
+use Rattle.record.specs.safe_number.{number_of_bits}
+use Rattle.store_image.specs.{store_in}
+use Rattle.registers.specs.{values_held}
 
 -- what a register of a process holds
 abbrev pub register_held : Setup → List (List Cell) → ℕ → Field → List Bool

@@ -1,25 +1,10 @@
 -- A process: what it does, and its last call; and what becomes of it.
 use Rattle.std.specs.Prelude.{◌≡◌, ℕ, Bool, true, false, ◌&&◌, ◌==◌, nat_le, cond, if◌then◌else◌, ◌*◌, ◌+◌, ◌-◌, List, [], ◌∷◌, length, Option, None, Some, option_map}
-use Rattle.plain_store.specs.declared.Command.{Command}
-use Rattle.plain_store.specs.declared.Setup.{Setup}
-use Rattle.record.specs.declared.events.Event.{Event}
-use Rattle.record.specs.declared.marks.Mark.{Mark}
-use Rattle.record.specs.declared.refusals.Refusal.{Refusal}
+use Rattle.plain_store.specs.{Command, Setup}
+use Rattle.record.specs.{AsksImage, Call, Change, Event, Mark, Part, Past, Raises, Reading, Refusal, Run, Stage, WritesCommit, Writing, call_number, closing_stage, enter, first_marks, is_call, is_fresh, is_over, last_command, newest_stamp, own, pending_at, read_at, refused_at, stage_at, width, withdrawing}
 use Rattle.record.specs.declared.refusals.Refusal.TheVariants.{CallsFull, Memory}
-use Rattle.record.specs.declared.stages.Stage.{Stage}
 use Rattle.record.specs.declared.stages.Stage.TheVariants as stage
-use Rattle.record.specs.Calls.{call_number, last_command}
-use Rattle.record.specs.Closings.{closing_stage, withdrawing}
-use Rattle.record.specs.Cuts.{Change, pending_at}
-use Rattle.record.specs.Entries.{Past, own}
-use Rattle.record.specs.Parts.{Part, AsksImage, Raises, WritesCommit, first_marks, is_over, read_at}
-use Rattle.record.specs.Places.{Run, Reading, Writing, enter, is_fresh, stage_at}
-use Rattle.record.specs.Program.{newest_stamp}
-use Rattle.record.specs.Records.{is_call, refused_at}
-use Rattle.record.specs.Registers.{width}
-use Rattle.record.specs.Scripts.{Call}
-use Rattle.laws.specs.Doings.{Doing, Closes, Lies, Rests, Runs, call, doing}
-use Rattle.laws.specs.Steps.{cut_of, does_then, marks_with}
+use Rattle.laws.specs.{Closes, Doing, Lies, Rests, Runs, call, cut_of, does_then, doing, marks_with}
 
 -- a process: what it does, and its last call
 pub record ProcessState : Type 0 where

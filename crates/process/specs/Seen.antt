@@ -1,12 +1,10 @@
 -- What a process has read in its call, and the part of the call that it is at.
 use Rattle.std.specs.Prelude.{◌≡◌, ◌≢◌, ◌<◌, ◌≤◌, ℕ, ◌+◌, ◌-◌, Bool, List, [], ◌∷◌, flat_map, length, take, Ok}
 use Rattle.std.specs.List.{range_with_len}
-use Rattle.plain_store.specs.declared.Setup.{Setup}
-use Rattle.plain_store.specs.Setups.{callers_of, checked}
+use Rattle.plain_store.specs.{Setup, callers_of, checked}
 use Rattle.record.specs.declared.access.Field.TheVariants.{Choosing, Ticket}
 use Rattle.record.specs.Parts.{Part, Raises, Asks, TakesTicket, Lowers, Refuses, Waits, AsksCommit, AsksStamp, AsksImage, WritesImage, WritesStamp, WritesCommit, Clears, Over}
-use Rattle.record.specs.Program.{Version, Wait, greatest, max_of}
-use Rattle.record.specs.Scripts.{Call}
+use Rattle.record.specs.{Call, Version, Wait, greatest, max_of}
 use Rattle.process.specs.declared.part.ProcessPart.{ProcessPart}
 use Rattle.process.specs.declared.part.ProcessPart.TheVariants as at
 use Rattle.process.specs.declared.part.ProcessCall.{ProcessCall}

@@ -2,14 +2,11 @@
 use Rattle.std.specs.Prelude.{ℕ, zero, suc, ◌+◌, Bool, if◌then◌else◌, List, None, Some, unwrap_or}
 use Rattle.registers.specs.safe_bit.Cell.{Cell}
 use Rattle.registers.specs.safe_bit.declared.moves.Move.TheVariants.{BeginRead}
-use Rattle.flicks.specs.Flicks.{FlickState, after_flick, flick_of}
-use Rattle.record.specs.declared.access.Access.{Access}
+use Rattle.flicks.specs.{FlickState, after_flick, flick_of}
+use Rattle.record.specs.{Access, value_of}
 use Rattle.record.specs.declared.access.Field.TheVariants.{Choosing}
-use Rattle.record.specs.Places.{value_of}
-use Rattle.laws.specs.Steps.{next_of, reads_of}
-use Rattle.registers.specs.Accesses.{answered, applied, ends_overlapped}
-use Rattle.registers.specs.Cursors.{lane_number}
-use Rattle.registers.specs.Memory.{without_reads}
+use Rattle.laws.specs.{next_of, reads_of}
+use Rattle.registers.specs.{answered, applied, ends_overlapped, lane_number, without_reads}
 use Rattle.process.specs.Places.{ProcessState, stepped}
 
 -- the next access of a process that has one, a read's end with its value left open

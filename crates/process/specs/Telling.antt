@@ -1,9 +1,7 @@
 -- What an event leads to, and its marks.
 use Rattle.std.specs.Prelude.{ℕ, List, [], ◌∷◌, map, Option, None, Some}
-use Rattle.record.specs.declared.Mark.{Mark}
+use Rattle.record.specs.{Act, Mark, placed}
 use Rattle.record.specs.declared.Mark.TheVariants as mark
-use Rattle.record.specs.Acts.{Act}
-use Rattle.record.specs.Records.{placed}
 use Rattle.process.specs.declared.told.Effect.{Effect}
 use Rattle.process.specs.declared.told.Effect.TheVariants.{Steps, Calls, Fails, Withdraws, Restarts}
 use Rattle.process.specs.declared.told.EventMade.{EventMade}

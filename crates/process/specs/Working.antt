@@ -1,22 +1,12 @@
 -- What a process does, as its call, its work and its cursor show it.
 use Rattle.std.specs.Prelude.{◌≡◌, ◌<◌, ℕ, Bool, true, false, List, [], ◌∷◌, IfSome, Option, None, Some, length, option_map, slice_index_or}
-use Rattle.plain_store.specs.declared.Reply.{Reply}
-use Rattle.plain_store.specs.declared.Setup.{Setup}
+use Rattle.plain_store.specs.{Reply, Setup}
 use Rattle.record.specs.declared.access.Field.TheVariants.{Choosing, Commit, Ticket}
-use Rattle.record.specs.declared.marks.Mark.{Mark}
+use Rattle.record.specs.{Closing, Mark, is_over, no_ticket, pending_at, taken_with, width, written_at}
 use Rattle.record.specs.Closings as closing
-use Rattle.record.specs.Closings.{Closing, no_ticket}
-use Rattle.record.specs.Cuts.{pending_at}
-use Rattle.record.specs.Failures.{taken_with}
-use Rattle.record.specs.Parts.{is_over, written_at}
-use Rattle.record.specs.Registers.{width}
 use Rattle.laws.specs.Doings as doings
-use Rattle.laws.specs.Doings.{Doing}
-use Rattle.registers.specs.AtParts.{IsAtPart, WritesAt, moved, place_at}
-use Rattle.registers.specs.Begins.{is_fresh, is_torn}
-use Rattle.registers.specs.Cursors.{CursorState}
-use Rattle.registers.specs.Rows.{settling_kept, write_kept}
-use Rattle.registers.specs.declared.cursor.NumberRun.{NumberRun}
+use Rattle.laws.specs.{Doing}
+use Rattle.registers.specs.{CursorState, IsAtPart, NumberRun, WritesAt, is_fresh, is_torn, moved, place_at, settling_kept, write_kept}
 use Rattle.registers.specs.declared.cursor.NumberRun.TheVariants as run
 use Rattle.process.specs.declared.work.ProcessWork.{ProcessWork}
 use Rattle.process.specs.declared.work.ProcessWork.TheVariants as work

@@ -1,7 +1,6 @@
 //! What a part does.
 ghost use Rattle.std.specs.Prelude.{◌≡◌, ◌+◌, ◌<◌, not, take};
-ghost use Rattle.record.specs.Parts.{AsksImage, read_at};
-ghost use Rattle.record.specs.Program.{greatest, image_field, newest_stamp, stamp_field, version_of};
+ghost use Rattle.record.specs.{AsksImage, greatest, image_field, newest_stamp, read_at, stamp_field, version_of};
 ghost use Rattle.process.specs.CallParts.{IsAsked};
 ghost use Rattle.process.specs.Seen.{HasRoom, IsCall, IsChange, KeepsPart, call_of, part_at, versions_seen};
 

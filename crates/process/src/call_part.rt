@@ -1,15 +1,11 @@
 //! A call at one of its parts.
 ghost use Rattle.std.specs.Prelude.{◌≡◌, ◌<◌, ◌≤◌, ◌∷◌, [], Bool, IfSome, List, Ok, cond, false, length, option_map, true};
-ghost use Rattle.plain_store.specs.Setups.{callers_of, checked};
+ghost use Rattle.plain_store.specs.{callers_of, checked};
 ghost use Rattle.record.specs.declared.marks.Mark.TheVariants.{Left};
-ghost use Rattle.laws.specs.Doings.{is_inside_at};
-ghost use Rattle.record.specs.Cuts.{Change, pending_at};
-ghost use Rattle.record.specs.Failures.{taken_with};
-ghost use Rattle.record.specs.Parts.{Raises, first_marks, is_over, is_read, last_marks, part_after, read_at, stage_of, to_e, written_at};
-ghost use Rattle.record.specs.Program.{store_read};
-ghost use Rattle.record.specs.Registers.{processes, width};
-ghost use Rattle.record.specs.safe_number.Bytes.{bits_in};
-ghost use Rattle.store_image.specs.Image.{image_of};
+ghost use Rattle.laws.specs.{is_inside_at};
+ghost use Rattle.record.specs.{Change, Raises, first_marks, is_over, is_read, last_marks, part_after, pending_at, processes, read_at, stage_of, store_read, taken_with, to_e, width, written_at};
+ghost use Rattle.record.specs.safe_number.{bits_in};
+ghost use Rattle.store_image.specs.{image_of};
 ghost use Rattle.process.specs.Alone.{answer_at, full_at, ticket_at};
 ghost use Rattle.process.specs.CallParts.{IsAsked, IsOutcome, reads_image, writes_image};
 ghost use Rattle.process.specs.Looks.{ticket_known_at};

@@ -1,7 +1,7 @@
 //! The committed store with the greatest stamp, off the memory.
 ghost use Rattle.std.specs.Prelude.{◌≡◌, ◌<◌, Ok};
-ghost use Rattle.plain_store.specs.Setups.{checked};
-ghost use Rattle.registers.specs.Openings.{AreOf};
+ghost use Rattle.plain_store.specs.{checked};
+ghost use Rattle.registers.specs.{AreOf};
 ghost use Rattle.process.specs.Newest.{newest_store, version_in};
 
 use crate::asked::{newest_image, stamp_field};

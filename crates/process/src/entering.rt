@@ -1,10 +1,8 @@
 //! The cursor of a part: where it begins, and where it is over.
 ghost use Rattle.std.specs.Prelude.{◌≡◌, ◌<◌, ◌≤◌, IfSome, false};
-ghost use Rattle.record.specs.Parts.{is_over, last_marks, part_after};
-ghost use Rattle.record.specs.Registers.{width};
-ghost use Rattle.record.specs.safe_number.Bytes.{bits_of_number, number_of_bits};
-ghost use Rattle.registers.specs.AtParts.{IsDone, entered};
-ghost use Rattle.registers.specs.Begins.{writing};
+ghost use Rattle.record.specs.{is_over, last_marks, part_after, width};
+ghost use Rattle.record.specs.safe_number.{bits_of_number, number_of_bits};
+ghost use Rattle.registers.specs.{IsDone, entered, writing};
 ghost use Rattle.process.specs.Places.{changes_at};
 ghost use Rattle.process.specs.Seen.{IsCall};
 ghost use Rattle.process.specs.Telling.{changes_told, marks_told};

@@ -1,6 +1,6 @@
 //! The greatest of some numbers, and where it stands.
 ghost use Rattle.std.specs.Prelude.{◌≡◌, ◌≤◌};
-ghost use Rattle.record.specs.Program.{greatest, index_of, max_of};
+ghost use Rattle.record.specs.{greatest, index_of, max_of};
 
 /// The greatest of some numbers, 0 of none.
 pub(crate) fn greatest(numbers: &[u32]) -> u32

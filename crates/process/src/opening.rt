@@ -1,6 +1,6 @@
 //! The memory as it opens.
 ghost use Rattle.std.specs.Prelude.{◌≡◌, IfOk, Ok};
-ghost use Rattle.plain_store.specs.Setups.{checked, opening_store};
+ghost use Rattle.plain_store.specs.{checked, opening_store};
 ghost use Rattle.process.specs.Memories.{cells_opening, memory_with};
 
 use plain_store::{Setup, opened, pad};

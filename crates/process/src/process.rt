@@ -1,11 +1,8 @@
 //! One process, as the place that it has come to.
 ghost use Rattle.std.specs.Prelude.{◌≡◌, ◌<◌, ℕ, [], IfSome, None, Ok, Some, cond};
-ghost use Rattle.record.specs.Parts.{is_read, read_at};
-ghost use Rattle.plain_store.specs.Setups.{checked};
-ghost use Rattle.record.specs.declared.access.Field.{Field};
-ghost use Rattle.record.specs.Doorways.{is_queued, is_waiting_stage};
-ghost use Rattle.laws.specs.Doings.{is_inside};
-ghost use Rattle.laws.specs.Steps.{reads_of};
+ghost use Rattle.record.specs.{Field, is_queued, is_read, is_waiting_stage, read_at};
+ghost use Rattle.plain_store.specs.{checked};
+ghost use Rattle.laws.specs.{is_inside, reads_of};
 ghost use Rattle.process.specs.Places.{called, changes_pending, may_step, process_after, restarted, stage_doing};
 
 mod advance;

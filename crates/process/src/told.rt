@@ -1,7 +1,6 @@
 //! What a step and an event lead to.
 ghost use Rattle.std.specs.Prelude.{◌≡◌, [], ◌∷◌, map};
-ghost use Rattle.record.specs.Histories.{reply_taken};
-ghost use Rattle.record.specs.Records.{placed};
+ghost use Rattle.record.specs.{placed, reply_taken};
 ghost use Rattle.process.specs.Telling.{act_of, marks_of, marks_told};
 
 use plain_store::{Answer, Command, Reply};

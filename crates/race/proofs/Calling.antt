@@ -1,46 +1,24 @@
 -- A call that is driven: it goes on, or it is answered.
 use Rattle.std.proofs.Common.{◌≡◌, ◌⊎◌, ℕ, zero, suc, Bool, true, false, cond, List, [], ◌∷◌, ◌++◌, inl, inr, refl, sym, ap, ◌∙◌, subst, Option, Some, None}
 use Rattle.std.specs.Prelude.{fold, option_map}
-use Rattle.plain_store.specs.declared.Answer.{Answer}
-use Rattle.plain_store.specs.declared.Reply.{Reply}
-use Rattle.plain_store.specs.declared.Setup.{Setup}
-use Rattle.plain_store.specs.Store.{changes}
-use Rattle.board.specs.flicks.Flicks.{FlickState, flick_of}
-use Rattle.record.specs.declared.history.Taken.{Taken}
-use Rattle.record.specs.declared.marks.Mark.{Mark}
+use Rattle.plain_store.specs.{Answer, Command, Reply, Setup, changes}
+use Rattle.board.specs.flicks.{FlickState, flick_of}
+use Rattle.record.specs.{Call, Event, Mark, Part, Placed, Refusal, Stage, Taken, Wait, bits_with, entered_if_none, first_marks, is_fresh, is_last, is_over, last_marks, lets_by, place_after, reply, stage_after, stage_of, store_read, waits_of}
 use Rattle.record.specs.declared.marks.Mark.TheVariants as mark
-use Rattle.record.specs.declared.stages.Stage.{Stage}
 use Rattle.record.specs.declared.stages.Stage.TheVariants as stage
-use Rattle.record.specs.Parts.{Part, first_marks, is_over, last_marks, stage_of}
-use Rattle.record.specs.Program.{Wait, entered_if_none, lets_by, reply, store_read, waits_of}
 use Rattle.record.specs.Parts as part
-use Rattle.record.specs.Places.{bits_with, is_fresh, is_last, place_after}
-use Rattle.record.specs.Scripts.{Call}
-use Rattle.record.specs.Stages.{stage_after}
-use Rattle.board.specs.laws.Doings.{Doing, Rests, Lies, Runs, Closes, call}
-use Rattle.board.specs.laws.Steps.{does_then, marks_with}
-use Rattle.board.specs.process.Places.{stage_doing}
-use Rattle.record.specs.declared.calls.Placed.{Placed}
+use Rattle.board.specs.laws.{Closes, Doing, Lies, Rests, Runs, call, does_then, marks_with}
+use Rattle.board.specs.process.{stage_doing}
 use Rattle.board.specs.Calls.{Calls, and_then, calls_after}
-use Rattle.board.specs.Driving.{Drives, EndsWith, Walks, flicks_after}
-use Rattle.board.specs.declared.driving.Driven.{Driven}
+use Rattle.board.specs.{BoardState, Driven, Drives, EndsWith, IsBegun, IsOf, Loads, Makes, OwnView, PortState, SamePort, ViewState, Walks, WordStep, at_events, called, flicks_after, goes, goes_at, port_after, refusal_in, stage_in}
 use Rattle.board.specs.declared.driving.Driven.TheVariants as driven
-use Rattle.board.specs.Views.{OwnView, ViewState, stage_in}
-use Rattle.board.specs.WordSteps.{Loads, Makes, WordStep, goes, goes_at}
 use Rattle.board.proofs.Leads.{begin_calls}
-use Rattle.board.specs.Calls.{called}
-use Rattle.board.specs.Boards.{BoardState, IsOf}
-use Rattle.board.specs.Ports.{IsBegun, PortState, SamePort, port_after}
-use Rattle.board.specs.Views.{at_events, refusal_in}
 use Rattle.board.proofs.Drives.{same_on}
-use Rattle.plain_store.specs.declared.Command.{Command}
-use Rattle.record.specs.declared.events.Event.{Event}
 use Rattle.record.specs.declared.events.Event.TheVariants as event
-use Rattle.record.specs.declared.refusals.Refusal.{Refusal}
 use Rattle.std.specs.Prelude.{OnOk, Result, Ok, Err}
 use Rattle.std.specs.Result.{is_err}
 use Rattle.race.specs.declared.workers.CallReached.TheVariants as reached
-use Rattle.race.specs.Calling.{CallGoesOn, ComesTo, HasCalled, IsAnswered, IsCalling, is_uncut}
+use Rattle.race.specs.{CallGoesOn, ComesTo, HasCalled, IsAnswered, IsCalling, is_uncut}
 
 -- What is not cut stays so, and is not down.
 

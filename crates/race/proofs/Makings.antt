@@ -1,17 +1,12 @@
 -- A plan that is made: one call after the other.
 use Rattle.std.proofs.Common.{◌≡◌, ℕ, List, [], ◌∷◌, ◌++◌, Some, refl, sym, ap, subst, ◌∙◌}
 use Rattle.std.proofs.lemmas.List.{map-append}
-use Rattle.plain_store.specs.declared.Answer.{Answer}
-use Rattle.plain_store.specs.declared.Command.{Command}
-use Rattle.plain_store.specs.declared.Setup.{Setup}
-use Rattle.record.specs.declared.calls.Placed.{Placed}
-use Rattle.board.specs.Boards.{BoardState, IsOf}
-use Rattle.board.specs.Ports.{PortState, SamePort}
+use Rattle.plain_store.specs.{Answer, Command, Setup}
+use Rattle.record.specs.{Placed}
+use Rattle.board.specs.{BoardState, IsOf, OwnView, PortState, SamePort, new_own, stage_in}
 use Rattle.board.specs.Calls.{Calls}
-use Rattle.board.specs.Views.{OwnView, new_own, stage_in}
 use Rattle.board.proofs.PortLists.{all_push}
-use Rattle.race.specs.Calling.{HasCalled}
-use Rattle.race.specs.Races.{AreMade, HasMade}
+use Rattle.race.specs.{AreMade, HasCalled, HasMade}
 use Rattle.race.proofs.Calling.{is_of_then}
 
 -- of nothing

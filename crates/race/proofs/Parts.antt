@@ -5,12 +5,10 @@ use Rattle.std.proofs.lemmas.List.{length-map, map-append, take_all, take_more}
 use Rattle.std.specs.Fmt.{decimal}
 use Rattle.std.specs.Global.{Vec}
 use Rattle.std.specs.String.{string_bytes}
-use Rattle.plain_store.specs.Shown.{answer_text}
-use Rattle.plain_store.specs.declared.commands.Answer.{Answer}
-use Rattle.record.specs.CallLists.{lists_of}
-use Rattle.scenario.specs.files.Texts.{GivesText}
-use Rattle.record.specs.declared.calls.Placed.{Placed}
-use Rattle.race.specs.Texts.{answer_line, answers_from, list_text}
+use Rattle.plain_store.specs.{Answer, answer_text}
+use Rattle.record.specs.{Placed, lists_of}
+use Rattle.scenario.specs.files.{GivesText}
+use Rattle.race.specs.{answer_line, answers_from, list_text}
 
 -- one item more
 pub items_more : {X A : Type 0} (f : X → List A) (xs : List X) (k : ℕ) (x : X) → k < length xs → x ≡ get_or xs k x → flat_map f (take (k + 1) xs) ≡ flat_map f (take k xs) ++ f x

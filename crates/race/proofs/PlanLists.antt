@@ -6,14 +6,11 @@ use Rattle.std.proofs.lemmas.List.Elements.{All-cons, All-from_get_or, All-get_o
 use Rattle.std.proofs.lemmas.Option.{get_or_from_slice_get, slice_get-get_or, slice_get_within}
 use Rattle.std.specs.Global.{Vec}
 use Rattle.std.specs.List.{range_with_len}
-use Rattle.plain_store.specs.declared.commands.Command.{Command}
-use Rattle.race.specs.Races.{IsRaced, plans_of}
-use Rattle.plain_store.specs.Store.{Contents}
-use Rattle.record.specs.declared.calls.Placed.{Placed}
-use Rattle.scenario.specs.declared.lines.Line.{Line}
+use Rattle.plain_store.specs.{Command, Contents}
+use Rattle.race.specs.{IsRaced, called_of, plan_in, plans_in, plans_of}
+use Rattle.record.specs.{Placed}
+use Rattle.scenario.specs.{Line, Script}
 use Rattle.scenario.specs.declared.lines.Line.TheVariants as line
-use Rattle.scenario.specs.Reading.{Script}
-use Rattle.race.specs.Texts.{called_of, plan_in, plans_in}
 
 -- one plan more
 pub plans_more : (had : List (Vec Command)) (plan : Vec Command) (lines : List Line) (p : ℕ) → plans_of had ≡ map (plan_in lines) (range_with_len 0 p) → plan.items ≡ plan_in lines p →

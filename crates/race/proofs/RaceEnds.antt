@@ -4,17 +4,12 @@ use Rattle.std.specs.Io.KnownBytes.{Appends, IsAtEnd, Keeps}
 use Rattle.scenario.proofs.files.CutTexts.{input_tells}
 use Rattle.scenario.proofs.files.EngineEnds.{ran_to_line, read_to_end}
 use Rattle.scenario.specs.files.Engines.{Streams}
-use Rattle.scenario.specs.files.Reads.{UnlessMemory}
-use Rattle.scenario.specs.files.Streams.{ReadsInput, WritesFront}
-use Rattle.scenario.specs.files.declared.faults.Fault.{Fault}
+use Rattle.scenario.specs.files.{Fault, LineFault, ReadsInput, UnlessMemory, WritesFront}
 use Rattle.scenario.specs.files.declared.faults.Fault.TheVariants.{Line, Memory, Read, Write}
-use Rattle.scenario.specs.files.declared.faults.LineFault.{LineFault}
 use Rattle.scenario.proofs.CutTexts.{scenario_tells_at_limit}
-use Rattle.scenario.specs.Reading.{Script, scenario_of}
-use Rattle.call_check.specs.declared.verdicts.Weighed.{Weighed}
-use Rattle.race.specs.Ends.{IsFaultOfRacing, OfInput, RanRace, TellsRace, WritesRace, WritesRaceFront}
-use Rattle.race.specs.Statuses.{status_of_race}
-use Rattle.race.specs.declared.faults.RunFault.{RunFault}
+use Rattle.scenario.specs.{Script, scenario_of}
+use Rattle.call_check.specs.{Weighed}
+use Rattle.race.specs.{IsFaultOfRacing, OfInput, RanRace, RunFault, TellsRace, WritesRace, WritesRaceFront, status_of_race}
 use Rattle.race.specs.declared.faults.RunFault.TheVariants.{File, Race}
 
 -- what holds of the scenario that was read holds of that of the whole input

@@ -4,21 +4,12 @@ use Rattle.std.specs.Prelude.{Ok, slice_get}
 use Rattle.std.proofs.lemmas.List.{length-map}
 use Rattle.std.proofs.lemmas.Option.{slice_get_within}
 use Rattle.std.specs.Global.{Vec}
-use Rattle.plain_store.specs.declared.Command.{Command}
-use Rattle.plain_store.specs.declared.Setup.{Setup}
-use Rattle.plain_store.specs.Setups.{checked}
-use Rattle.plain_store.specs.Store.{Contents}
+use Rattle.plain_store.specs.{Command, Contents, Setup, checked}
 use Rattle.plain_store.proofs.GoodSetups.{few-processes}
-use Rattle.record.specs.Records.{past_of}
-use Rattle.record.specs.declared.calls.Placed.{Placed}
-use Rattle.board.specs.Boards.{ArePortsOf, BoardState}
-use Rattle.board.specs.Calls.{changes_of}
-use Rattle.board.specs.Closings.{AreInOrder, AreListsOf, AreMadeWith, AreOfAll, AreQuiet, EachStandsInRecord, FirstLeaves}
-use Rattle.board.specs.Lists.{StandsIn}
-use Rattle.board.specs.Ports.{PortState}
-use Rattle.board.specs.Views.{new_own}
+use Rattle.record.specs.{Placed, past_of}
+use Rattle.board.specs.{AreInOrder, AreListsOf, AreMadeWith, AreOfAll, ArePortsOf, AreQuiet, BoardState, EachStandsInRecord, FirstLeaves, PortState, StandsIn, changes_of, new_own}
 use Rattle.race.proofs.Lists.{there}
-use Rattle.race.specs.Races.{AllHaveMade, AreMade, AreNew, IsRaced, plans_of}
+use Rattle.race.specs.{AllHaveMade, AreMade, AreNew, IsRaced, plans_of}
 
 -- the port that leaves a list
 answer_at : (ports : List PortState) (answers : List (List Placed)) → AreListsOf ports answers → AreInOrder ports → (k : ℕ) (calls : List Placed) → slice_get answers k ≡ Some calls →

@@ -4,17 +4,12 @@ use Rattle.std.specs.Prelude.{IfOk, IfErr, IfSome, Result, Ok, Err, slice_get}
 use Rattle.std.specs.Global.{Vec}
 use Rattle.std.proofs.lemmas.List.{length-map}
 use Rattle.std.proofs.lemmas.Option.{slice_get_within}
-use Rattle.plain_store.specs.declared.Command.{Command}
+use Rattle.plain_store.specs.{Command, Setup}
 use Rattle.board.proofs.PortLists.{all_push}
-use Rattle.board.specs.Boards.{BoardState}
-use Rattle.board.specs.Ports.{PortState}
+use Rattle.board.specs.{BoardState, OwnView, PortState}
 use Rattle.race.proofs.Lists.{at_drop, drop_more, there}
-use Rattle.race.specs.Faults.{EndsPort, IsFaultAmong, IsFaultOf}
-use Rattle.board.specs.Views.{OwnView}
-use Rattle.plain_store.specs.declared.Setup.{Setup}
-use Rattle.race.specs.declared.faults.RaceFault.{RaceFault}
+use Rattle.race.specs.{AllHaveMade, EndsPort, HasMade, IsFaultAmong, IsFaultOf, IsFor, RaceFault, plans_of}
 use Rattle.race.specs.declared.faults.RaceFault.TheVariants.{Spawn, Held, Memory}
-use Rattle.race.specs.Races.{AllHaveMade, HasMade, IsFor, plans_of}
 
 -- what follows of two facts on what a result holds
 pub if_both : {X E : Type 0} (r : Result X E) (P Q R : X → Type 0) → IfOk r P → IfOk r Q → ((x : X) → P x → Q x → R x) → IfOk r R

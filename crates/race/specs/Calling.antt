@@ -1,17 +1,13 @@
 -- A port that makes one call: how far the call has come, and what becomes of the port's list.
 use Rattle.std.specs.Prelude.{◌≡◌, ℕ, Bool, true, false, ◌∷◌, ◌++◌, [], Option, None, Some, option_map}
-use Rattle.plain_store.specs.declared.Answer.{Answer}
-use Rattle.plain_store.specs.declared.Command.{Command}
-use Rattle.plain_store.specs.declared.Setup.{Setup}
+use Rattle.plain_store.specs.{Answer, Command, Setup}
 use Rattle.record.specs.declared.stages.Stage.TheVariants.{Idle}
-use Rattle.board.specs.laws.Doings.{Doing, Rests, Runs}
+use Rattle.board.specs.laws.{Doing, Rests, Runs}
 use Rattle.board.specs.Calls.{Calls, and_then}
-use Rattle.board.specs.Ports.{PortState}
-use Rattle.board.specs.Views.{OwnView, ViewState, stage_in}
-use Rattle.board.specs.WordSteps.{goes}
+use Rattle.board.specs.{OwnView, PortState, ViewState, goes, stage_in}
 use Rattle.race.specs.declared.workers.CallReached.{CallReached}
 use Rattle.race.specs.declared.workers.CallReached.TheVariants as reached
-use Rattle.record.specs.declared.calls.Placed.{Placed}
+use Rattle.record.specs.{Placed}
 
 -- no failure has cut what the process does, and it has not withdrawn
 abbrev pub is_uncut : Doing → Bool

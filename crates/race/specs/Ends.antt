@@ -2,16 +2,14 @@
 use Rattle.std.specs.Prelude.{◌≡◌, ℕ, ◌<◌, List, [], Option, IfSome, Result, Ok, Err}
 use Rattle.std.specs.String.{string_bytes}
 use Rattle.std.specs.Io.KnownBytes.{Appends, IsAtEnd, Keeps}
-use Rattle.plain_store.specs.Store.{Contents}
+use Rattle.plain_store.specs.{Contents}
 use Rattle.scenario.specs.files.Engines.{Ran, Streams, text_by}
-use Rattle.scenario.specs.files.Streams.{WritesFront}
+use Rattle.scenario.specs.files.{LineFault, WritesFront}
 use Rattle.scenario.specs.files.declared.faults.Fault.TheVariants.{Line, Read, Write, Memory}
-use Rattle.scenario.specs.files.declared.faults.LineFault.{LineFault}
-use Rattle.scenario.specs.Reading.{Script, scenario_of}
+use Rattle.scenario.specs.{Script, scenario_of}
 use Rattle.race.specs.Races.{IsRaced}
-use Rattle.call_check.specs.Weighing.{IsWeighed}
-use Rattle.record.specs.declared.calls.Placed.{Placed}
-use Rattle.call_check.specs.declared.verdicts.Weighed.{Weighed}
+use Rattle.call_check.specs.{IsWeighed, Weighed}
+use Rattle.record.specs.{Placed}
 use Rattle.race.specs.declared.running.Report.{Report}
 use Rattle.race.specs.Statuses.{status_of_race}
 use Rattle.race.specs.Texts.{plans_in, race_text}

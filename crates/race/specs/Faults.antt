@@ -1,8 +1,8 @@
 -- What a race's fault says of what went before.
 use Rattle.std.specs.Prelude.{◌≡◌, ◌<◌, ◌+◌, ℕ}
-use Rattle.plain_store.specs.declared.Setup.{Setup}
+use Rattle.plain_store.specs.{Setup}
 use Rattle.record.specs.declared.stages.Stage.TheVariants.{Down}
-use Rattle.board.specs.Views.{OwnView, stage_in}
+use Rattle.board.specs.{OwnView, stage_in}
 use Rattle.race.specs.declared.faults.RaceFault.{RaceFault}
 use Rattle.race.specs.declared.faults.RaceFault.TheVariants.{Spawn, Held, Memory}
 

@@ -1,26 +1,11 @@
 -- What a race leaves: the calls of each plan, answered, and the image of the store after one list of changes.
 use Rattle.std.specs.Prelude.{◌≡◌, ◌≤◌, ℕ, [], vec_capacity, List, length, map, slice_get, Some}
 use Rattle.std.specs.Global.{Vec}
-use Rattle.plain_store.specs.declared.Answer.{Answer}
-use Rattle.plain_store.specs.declared.Command.{Command}
-use Rattle.plain_store.specs.declared.Setup.{Setup}
-use Rattle.plain_store.specs.Store.{Contents}
-use Rattle.record.specs.declared.events.Event.{Event}
-use Rattle.record.specs.declared.history.Taken.{Taken}
+use Rattle.plain_store.specs.{Answer, Command, Contents, Setup}
+use Rattle.record.specs.{AreGiven, Event, KeepsHeadlineThroughout, Placed, Taken, past_of, store_after}
 use Rattle.record.specs.declared.stages.Stage.TheVariants.{Idle}
-use Rattle.record.specs.Given.{AreGiven}
-use Rattle.record.specs.Headline.{KeepsHeadlineThroughout}
-use Rattle.record.specs.Histories.{store_after}
-use Rattle.record.specs.Records.{past_of}
-use Rattle.board.specs.Boards.{BoardState, IsOf}
-use Rattle.board.specs.Calls.{changes_of}
-use Rattle.board.specs.Closings.{EachStandsInRecord, lists_in}
-use Rattle.board.specs.declared.closing.Closing.{Closing}
+use Rattle.board.specs.{BoardState, Closing, EachStandsInRecord, IsOf, PortState, StandsIn, changes_of, lists_in, new_own, stage_in}
 use Rattle.race.specs.declared.racing.Making.{Making}
-use Rattle.board.specs.Lists.{StandsIn}
-use Rattle.board.specs.Ports.{PortState}
-use Rattle.board.specs.Views.{new_own, stage_in}
-use Rattle.record.specs.declared.calls.Placed.{Placed}
 
 -- the plans: list p is that of process p
 abbrev pub plans_of : List (Vec Command) → List (List Command)

@@ -1,9 +1,9 @@
 -- The exit statuses of `race`.
 use Rattle.std.specs.Prelude.{ℕ, Result, Ok, Err}
-use Rattle.scenario.specs.files.Statuses.{status_of_fault}
+use Rattle.scenario.specs.files.{status_of_fault}
 use Rattle.race.specs.declared.faults.RaceFault.{RaceFault}
 use Rattle.race.specs.declared.faults.RaceFault.TheVariants.{Spawn, Held, Memory}
-use Rattle.call_check.specs.declared.verdicts.Weighed.{Weighed}
+use Rattle.call_check.specs.{Weighed}
 use Rattle.call_check.specs.declared.verdicts.Weighed.TheVariants.{Good, Bad, BadEnd}
 use Rattle.race.specs.declared.faults.RunFault.{RunFault}
 use Rattle.race.specs.declared.faults.RunFault.TheVariants.{File, Race}

@@ -2,22 +2,13 @@
 use Rattle.std.specs.Prelude.{ℕ, suc, ◌==◌, nat_lt, if◌then◌else◌, List, [], ◌∷◌, ◌++◌, codes, flat_map, map, Option, None, Some}
 use Rattle.std.specs.Fmt.{decimal}
 use Rattle.std.specs.List.{range_with_len}
-use Rattle.plain_store.specs.Shown.{answer_text}
-use Rattle.plain_store.specs.Store.{Contents}
-use Rattle.plain_store.specs.StoreLine.{show_text}
-use Rattle.plain_store.specs.declared.commands.Answer.{Answer}
-use Rattle.plain_store.specs.declared.commands.Command.{Command}
-use Rattle.plain_store.specs.declared.setups.Setup.{Setup}
-use Rattle.scenario.specs.Reading.{Script}
-use Rattle.scenario.specs.declared.lines.Line.{Line}
+use Rattle.plain_store.specs.{Answer, Command, Contents, Setup, answer_text, show_text}
+use Rattle.scenario.specs.{Line, Script}
 use Rattle.scenario.specs.declared.lines.Line.TheVariants as line
-use Rattle.record.specs.Shown.{refusal_line}
+use Rattle.record.specs.{Placed, lists_of, refusal_line}
 use Rattle.record.specs.declared.refusals.Refusal.TheVariants.{NoProcess}
-use Rattle.call_check.specs.Shown.{verdict_text}
+use Rattle.call_check.specs.{Weighed, verdict_text}
 use Rattle.std.specs.Global.{Vec}
-use Rattle.record.specs.CallLists.{lists_of}
-use Rattle.record.specs.declared.calls.Placed.{Placed}
-use Rattle.call_check.specs.declared.verdicts.Weighed.{Weighed}
 
 -- the command that a line calls of process p, if it does
 abbrev pub called_of : ℕ → Line → List Command

@@ -1,6 +1,6 @@
 //! The plans of a race: what each process calls.
 ghost use Rattle.std.specs.Prelude.{◌≡◌, ◌++◌, IfOk, OnOk};
-ghost use Rattle.scenario.specs.Reads.{script};
+ghost use Rattle.scenario.specs.{script};
 ghost use Rattle.race.specs.Races.{plans_of as plans_listed};
 ghost use Rattle.race.specs.Texts.{called_of, plan_in, plans_in};
 

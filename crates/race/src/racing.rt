@@ -1,9 +1,8 @@
 //! Races: a thread for each port.
 ghost use Rattle.std.specs.Prelude.{◌≡◌, ◌≤◌, IfErr, IfOk, IfSome, Ok, length, vec_len};
-ghost use Rattle.board.specs.Boards.{IsOf};
-ghost use Rattle.board.specs.Views.{new_own};
-ghost use Rattle.plain_store.specs.Setups.{checked};
-ghost use Rattle.call_check.specs.Weighing.{AreShort};
+ghost use Rattle.board.specs.{IsOf, new_own};
+ghost use Rattle.plain_store.specs.{checked};
+ghost use Rattle.call_check.specs.{AreShort};
 ghost use Rattle.race.specs.Faults.{IsFaultAmong, IsFaultOf};
 ghost use Rattle.race.specs.Races.{AllMadeFor, AreNew, EachAt, EachPair, HasKept, HasMade, HasRoom, IsRacedBy, MakesFor, SomeAt, plans_of};
 

@@ -1,8 +1,7 @@
 //! The engine itself.
 ghost use Rattle.std.specs.Prelude.{◌-◌, ◌^◌, ◌<◌, IfErr, IfOk};
-ghost use Rattle.scenario.specs.files.Engines.{streams};
-ghost use Rattle.scenario.specs.files.Streams.{ReadsFront};
-ghost use Rattle.scenario.specs.Reads.{script};
+ghost use Rattle.scenario.specs.files.{ReadsFront, streams};
+ghost use Rattle.scenario.specs.{script};
 ghost use Rattle.race.specs.Ends.{IsFaultOfRacing, RanRace, TellsReport};
 
 use crate::faults::{RunFault, race_status};

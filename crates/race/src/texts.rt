@@ -1,9 +1,9 @@
 //! The text of a race.
 ghost use Rattle.std.specs.Prelude.{◌≡◌, ◌++◌, IsOkAnd, None, OnOk, Some};
 ghost use Rattle.std.specs.String.{string_bytes};
-ghost use Rattle.scenario.specs.files.Texts.{GivesText};
-ghost use Rattle.scenario.specs.Reads.{script};
-ghost use Rattle.record.specs.CallLists.{lists_of};
+ghost use Rattle.scenario.specs.files.{GivesText};
+ghost use Rattle.scenario.specs.{script};
+ghost use Rattle.record.specs.{lists_of};
 ghost use Rattle.race.specs.Texts.{answer_line as line_of_answer, answers_from, call_text, list_text, raced_text, refused_lines as lines_of_refused, refused_text, verdict_line as line_of_verdict};
 
 use board::Image;

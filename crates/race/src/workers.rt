@@ -1,8 +1,6 @@
 //! What each thread of a race does: its port makes the calls of a plan, one after the other.
 ghost use Rattle.std.specs.Prelude.{◌≡◌, IfErr, IfOk, OnOk, Some};
-ghost use Rattle.board.specs.Boards.{IsOf};
-ghost use Rattle.board.specs.Ports.{SamePort};
-ghost use Rattle.board.specs.Views.{new_own, stage_in};
+ghost use Rattle.board.specs.{IsOf, SamePort, new_own, stage_in};
 ghost use Rattle.race.specs.Calling.{ComesTo, IsCalling, PortHasCalled};
 ghost use Rattle.race.specs.Faults.{EndsPort, IsFaultOf};
 ghost use Rattle.race.specs.Races.{HasMade};

@@ -1,6 +1,6 @@
 //! What the tests race: two processes with their calls, and what is expected of each race.
 ghost use Rattle.std.specs.Prelude.{◌≡◌, Ok};
-ghost use Rattle.plain_store.specs.Setups.{checked};
+ghost use Rattle.plain_store.specs.{checked};
 
 use call_check::{Weighed, weigh};
 use plain_store::{Answer, Command, Name, NestedTypes, Reply, Setup};

@@ -1,5 +1,5 @@
 //! Ports that have nothing to do.
-ghost use Rattle.board.specs.Boards.{IsOf};
+ghost use Rattle.board.specs.{IsOf};
 
 use board::{Board, Driven, Flicks, Port};
 use plain_store::Setup;

@@ -1,17 +1,11 @@
 -- What one more move makes of the end of a read.
 use Rattle.std.proofs.Common.{◌≡◌, Bool, true, false, not, ◌&&◌, List, [], ◌∷◌, Some, cond, refl, sym, ap, ◌∙◌, subst}
-use Rattle.record.specs.safe_bit.declared.Move.{Move}
+use Rattle.record.specs.safe_bit.{MayEndWith, Move, before_read, is_overlapped, is_write_open, last_written}
 use Rattle.record.specs.safe_bit.declared.Move.TheVariants.{BeginWrite, EndWrite, BeginRead, EndRead, Settle}
-use Rattle.record.specs.safe_bit.SafeRule.{MayEndWith, before_read, is_overlapped, is_write_open, last_written}
-use Rattle.record.specs.declared.access.Access.{Access}
-use Rattle.plain_store.specs.declared.Setup.{Setup}
-use Rattle.record.specs.Entries.{Entry, Past}
-use Rattle.record.specs.Moves.{begins_read, moves_of}
-use Rattle.record.specs.Registers.{opening_bit}
-use Rattle.read_law.specs.declared.look.ReadEnd.{ReadEnd}
+use Rattle.record.specs.{Access, Entry, Past, begins_read, moves_of, opening_bit}
+use Rattle.plain_store.specs.{Setup}
+use Rattle.read_law.specs.{KeepsSafe, MatchBool, ReadEnd, ending_of}
 use Rattle.read_law.specs.declared.look.ReadEnd.TheVariants.{Free, Writing, Bound}
-use Rattle.read_law.specs.Looks.{ending_of}
-use Rattle.read_law.specs.Safe.{KeepsSafe, MatchBool}
 
 -- while a write is open, the read that began last is overlapped
 pub open_overlaps : (moves : List Move) → is_write_open moves ≡ true → (begins_read moves && not (is_overlapped moves)) ≡ false

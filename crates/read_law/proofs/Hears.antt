@@ -2,17 +2,11 @@
 use Rattle.std.proofs.Common.{◌≡◌, ℕ, ◌+◌, ◌*◌, ◌<◌, Bool, true, false, cond, List, [], ◌∷◌, ◌++◌, Option, None, Some, length, slice_index_or, slice_set, get_or, length-set, refl, sym, ap, ◌∙◌, subst, inl, inr}
 use Rattle.std.proofs.lemmas.Bool.{cases_eq}
 use Rattle.std.proofs.lemmas.List.{get_or-set_same, get_or-set_other, get_or_default}
-use Rattle.record.specs.safe_bit.declared.Move.{Move}
-use Rattle.record.specs.declared.access.Access.{Access}
-use Rattle.plain_store.specs.declared.Setup.{Setup}
-use Rattle.record.specs.Entries.{Entry, Past}
-use Rattle.record.specs.Moves.{begins_read, field_number, moves_of, same_bit}
-use Rattle.record.specs.Registers.{opening_bit}
-use Rattle.read_law.specs.declared.look.Look.{Look}
-use Rattle.read_law.specs.Looks.{LooksOn, look_of}
-use Rattle.read_law.specs.Safe.{KeepsSafe}
-use Rattle.laws.specs.Held.{IsThere}
-use Rattle.read_law.specs.Watching.{AllAreOfThere, HasHeard, IsWatch, WatchState, copy_of, look_at, register_of}
+use Rattle.record.specs.safe_bit.{Move}
+use Rattle.record.specs.{Access, Entry, Past, begins_read, field_number, moves_of, opening_bit, same_bit}
+use Rattle.plain_store.specs.{Setup}
+use Rattle.read_law.specs.{AllAreOfThere, HasHeard, IsWatch, KeepsSafe, Look, LooksOn, WatchState, copy_of, look_at, look_of, register_of}
+use Rattle.laws.specs.{IsThere}
 use Rattle.read_law.proofs.OwnPlaces.{copy_below, one_copy, one_place, one_register, register_below, there_from, there_too}
 
 -- The moves on a bit, with an entry's.

@@ -4,21 +4,15 @@ use Rattle.std.proofs.Math.Seq.{get_or-append_seam}
 use Rattle.std.proofs.lemmas.Bool.{cases_eq, cases_lt}
 use Rattle.std.proofs.lemmas.List.{get_or_append_left, get_or-replicate, get_or-set_other, get_or-set_same, length-append}
 use Rattle.std.proofs.lemmas.Nat.{mod-mul-add}
-use Rattle.record.specs.declared.access.Access.{Access}
-use Rattle.record.specs.declared.access.Field.{Field}
+use Rattle.record.specs.{Access, Field, field_number, opening_bit, opening_bits, width}
 use Rattle.record.specs.declared.access.Field.TheVariants.{Image0}
-use Rattle.record.specs.safe_number.Bytes.{bit_in}
+use Rattle.record.specs.safe_number.{bit_in}
 use Rattle.record.proofs.safe_number.Numbers.{get-bits}
-use Rattle.plain_store.specs.declared.Setup.{Setup}
-use Rattle.plain_store.specs.Setups.{checked, opening_store}
-use Rattle.store_image.specs.Image.{image_of}
-use Rattle.record.specs.Moves.{field_number}
-use Rattle.record.specs.Registers.{opening_bit, opening_bits, width}
-use Rattle.laws.specs.Held.{IsThere}
+use Rattle.plain_store.specs.{Setup, checked, opening_store}
+use Rattle.store_image.specs.{image_of}
+use Rattle.laws.specs.{IsThere}
 use Rattle.laws.proofs.FrameCells.{field-same}
-use Rattle.read_law.specs.declared.look.Look.{Look}
-use Rattle.read_law.specs.Looks.{look_of}
-use Rattle.read_law.specs.Watching.{HasHeard, IsOpened, IsWatch, copy_of, look_at, register_of}
+use Rattle.read_law.specs.{HasHeard, IsOpened, IsWatch, Look, copy_of, look_at, look_of, register_of}
 use Rattle.read_law.proofs.Openings.{opens_low}
 use Rattle.read_law.proofs.OwnPlaces.{copy_below, field_below, register_below}
 

@@ -2,17 +2,13 @@
 use Rattle.std.proofs.Common.{◌≡◌, ℕ, zero, suc, ◌+◌, ◌*◌, false, List, [], length, slice_index_or, refl, sym, ap, ◌∙◌, arith, inl, inr}
 use Rattle.std.proofs.lemmas.Bool.{cases_lt}
 use Rattle.std.proofs.lemmas.List.{get_or_past, length-replicate}
-use Rattle.record.specs.declared.access.Access.{Access}
-use Rattle.record.specs.declared.access.Field.{Field}
+use Rattle.record.specs.{Access, Field, image_bytes, opening_bit, opening_bits}
 use Rattle.record.specs.declared.access.Field.TheVariants.{Choosing, Ticket, Commit, Stamp0, Stamp1, Image0, Image1}
-use Rattle.record.specs.safe_number.Bytes.{bit_in, bits_in}
+use Rattle.record.specs.safe_number.{bit_in, bits_in}
 use Rattle.record.proofs.safe_number.Numbers.{bit_in-past, get-bits, length_bits}
-use Rattle.plain_store.specs.declared.Setup.{Setup}
-use Rattle.store_image.specs.Image.{IsStore, image_of}
-use Rattle.plain_store.specs.Setups.{callers_of, opening_store}
-use Rattle.plain_store.specs.Store.{Contents}
+use Rattle.plain_store.specs.{Contents, Setup, callers_of, opening_store}
+use Rattle.store_image.specs.{IsStore, image_of}
 use Rattle.store_image.proofs.ImageBytes.{length-image_of}
-use Rattle.record.specs.Registers.{image_bytes, opening_bit, opening_bits}
 
 -- the bit that the first image of process 0 opens at
 pub opening_bit_is : (s : Setup) (a : Access) (image : Contents) → image ≡ opening_store s → IsStore image → a.owner ≡ 0 → a.field ≡ Image0 → bit_in (image_of image) a.bit ≡ opening_bit s a

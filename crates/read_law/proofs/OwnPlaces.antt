@@ -1,14 +1,11 @@
 -- The place of a bit's look is its own.
 use Rattle.std.proofs.Common.{◌≡◌, ℕ, suc, ◌+◌, ◌*◌, ◌<◌, ◌≤◌, ◌/◌, ◌==◌, ◌&&◌, Bool, true, sym, ap, ◌∙◌, subst, arith, eq-eqb, mul-le-mul_right, suc-mul}
 use Rattle.std.proofs.lemmas.Nat.{div-mul-add}
-use Rattle.record.specs.declared.access.Access.{Access}
-use Rattle.record.specs.declared.access.Field.{Field}
+use Rattle.record.specs.{Access, Field, field_number, same_bit, width}
 use Rattle.record.specs.declared.access.Field.TheVariants.{Choosing}
-use Rattle.plain_store.specs.declared.Setup.{Setup}
-use Rattle.record.specs.Moves.{field_number, same_bit}
-use Rattle.record.specs.Registers.{width}
-use Rattle.laws.specs.Held.{IsThere}
-use Rattle.read_law.specs.Watching.{copy_of, register_of}
+use Rattle.plain_store.specs.{Setup}
+use Rattle.laws.specs.{IsThere}
+use Rattle.read_law.specs.{copy_of, register_of}
 use Rattle.laws.proofs.FrameCells.{OnCopy, field-same, on-copy}
 
 pub field_below : (f : Field) → field_number f < 7

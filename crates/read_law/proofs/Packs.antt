@@ -4,9 +4,7 @@ use Rattle.std.proofs.lemmas.List.{get_or-set_same, get_or-set_other, length-rep
 use Rattle.std.proofs.lemmas.List.FromFn.{length-map-range_with_len, get_or-map-range_with_len}
 use Rattle.std.proofs.lemmas.Bool.{cases_eq}
 use Rattle.record.proofs.reader_copies.Flags.{made-set}
-use Rattle.read_law.specs.declared.look.Look.{Look}
-use Rattle.read_law.specs.Looks.{look_of}
-use Rattle.read_law.specs.Packing.{four_bits, look_from, look_in, looks_of}
+use Rattle.read_law.specs.{Look, four_bits, look_from, look_in, look_of, looks_of}
 
 pub length-looks : (bytes : List ℕ) (n : ℕ) → length (looks_of bytes n) ≡ n
 length-looks bytes n = length-map-range_with_len (look_in bytes) 0 n

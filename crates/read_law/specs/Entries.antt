@@ -1,8 +1,6 @@
 -- An entry by its parts.
 use Rattle.std.specs.Prelude.{ℕ, List, Option}
-use Rattle.record.specs.declared.access.Access.{Access}
-use Rattle.record.specs.declared.marks.Mark.{Mark}
-use Rattle.record.specs.Entries.{Entry}
+use Rattle.record.specs.{Access, Entry, Mark}
 
 -- the entry of process p with this access and these marks
 abbrev pub entry_by : ℕ → Option Access → List Mark → Entry

@@ -4,3 +4,10 @@ pub mod Looks
 pub mod Packing
 pub mod Safe
 pub mod Watching
+pub use Entries.{entry_by}
+pub use Looks.{LooksOn, ending_of, ends_overlapped, look_of}
+pub use Packing.{four_bits, look_from, look_in, looks_of}
+pub use Safe.{KeepsSafe, MatchBool}
+pub use Watching.{AllAreOfThere, HasHeard, IsOfThere, IsOpened, IsWatch, OfHeard, TellsLook, WatchState, copy_of, look_at, register_of}
+pub use declared.look.Look.{Look}
+pub use declared.look.ReadEnd.{ReadEnd}

@@ -1,9 +1,8 @@
 -- What the moves of one bit leave, as far as the safe rule looks back at them.
 use Rattle.std.specs.Prelude.{◌≡◌, Bool, true, false, not, ◌&&◌, List, ◌∷◌, ◌++◌, cond, Option, None, Some}
-use Rattle.record.specs.safe_bit.declared.Move.{Move}
+use Rattle.record.specs.safe_bit.{Move, before_read, is_overlapped, is_write_open, last_begun, last_written}
 use Rattle.record.specs.safe_bit.declared.Move.TheVariants.{BeginRead, EndRead}
-use Rattle.record.specs.safe_bit.SafeRule.{before_read, is_overlapped, is_write_open, last_begun, last_written}
-use Rattle.record.specs.Moves.{begins_read}
+use Rattle.record.specs.{begins_read}
 use Rattle.read_law.specs.declared.look.ReadEnd.{ReadEnd}
 use Rattle.read_law.specs.declared.look.ReadEnd.TheVariants.{Free, Writing, Bound}
 use Rattle.read_law.specs.declared.look.Look.{Look}

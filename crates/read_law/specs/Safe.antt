@@ -1,13 +1,9 @@
 -- The law `Safe` of an entry, by looking back over the entries before it.
 use Rattle.std.specs.Prelude.{◌≡◌, Bool, true, false, List, Some}
-use Rattle.record.specs.safe_bit.declared.Move.{Move}
+use Rattle.record.specs.safe_bit.{MayEndWith, Move}
 use Rattle.record.specs.safe_bit.declared.Move.TheVariants.{EndRead}
-use Rattle.record.specs.safe_bit.SafeRule.{MayEndWith}
-use Rattle.record.specs.declared.access.Access.{Access}
-use Rattle.plain_store.specs.declared.Setup.{Setup}
-use Rattle.record.specs.Entries.{Entry, Past}
-use Rattle.record.specs.Moves.{begins_read, moves_of}
-use Rattle.record.specs.Registers.{opening_bit}
+use Rattle.record.specs.{Access, Entry, Past, begins_read, moves_of, opening_bit}
+use Rattle.plain_store.specs.{Setup}
 
 -- what the read may end with that began last after these moves, if one began
 abbrev pub MayGive : Bool → List Move → Bool → Type 0

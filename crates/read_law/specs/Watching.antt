@@ -1,15 +1,10 @@
 -- What a watch keeps: a look for each single-reader bit.
 use Rattle.std.specs.Prelude.{◌≡◌, ℕ, ◌+◌, ◌*◌, ◌%◌, ◌<◌, Bool, false, List, [], ◌∷◌, length, slice_index_or, Option, Ok, Some, true}
-use Rattle.record.specs.declared.access.Access.{Access}
-use Rattle.record.specs.safe_bit.declared.Move.{Move}
-use Rattle.record.specs.safe_number.Bytes.{bit_in}
-use Rattle.record.specs.declared.access.Field.{Field}
-use Rattle.plain_store.specs.declared.Setup.{Setup}
-use Rattle.plain_store.specs.Setups.{checked}
-use Rattle.record.specs.Entries.{Entry, Past}
-use Rattle.record.specs.Moves.{field_number, moves_of}
-use Rattle.record.specs.Registers.{opening_bit, width}
-use Rattle.laws.specs.Held.{IsThere}
+use Rattle.record.specs.{Access, Entry, Field, Past, field_number, moves_of, opening_bit, width}
+use Rattle.record.specs.safe_bit.{Move}
+use Rattle.record.specs.safe_number.{bit_in}
+use Rattle.plain_store.specs.{Setup, checked}
+use Rattle.laws.specs.{IsThere}
 use Rattle.read_law.specs.declared.look.Look.{Look}
 use Rattle.read_law.specs.Looks.{TellsOverlap, held, look_of}
 use Rattle.read_law.specs.Safe.{TellsSafe}

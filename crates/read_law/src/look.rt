@@ -1,8 +1,8 @@
 //! What the moves of one bit leave, kept up move by move.
 ghost use Rattle.std.specs.Prelude.{◌≡◌, [], Bool, true};
 ghost use Rattle.record.specs.safe_bit.declared.Move.TheVariants.{EndWrite, Settle};
-ghost use Rattle.record.specs.safe_bit.SafeRule.{is_overlapped};
-ghost use Rattle.record.specs.Moves.{begins_read};
+ghost use Rattle.record.specs.safe_bit.{is_overlapped};
+ghost use Rattle.record.specs.{begins_read};
 ghost use Rattle.read_law.specs.Looks.{EndsOn, LeftBy, LookLeftBy, LooksOn, ReadsOn, TellsOverlap, held, look_of};
 ghost use Rattle.read_law.specs.Safe.{MayGive, Tells};
 ghost use Rattle.read_law.specs.Watching.{LookTellsSafe};

@@ -1,7 +1,7 @@
 //! Whether an entry keeps the law `Safe`, by a look back over the entries before it.
 ghost use Rattle.std.specs.Prelude.{◌≡◌, IfOk, Ok, reverse};
-ghost use Rattle.plain_store.specs.Setups.{checked};
-ghost use Rattle.record.specs.Moves.{move_on, moves_of, same_bit as same};
+ghost use Rattle.plain_store.specs.{checked};
+ghost use Rattle.record.specs.{move_on, moves_of, same_bit as same};
 ghost use Rattle.read_law.specs.Looks.{LooksOnBy, look_of};
 ghost use Rattle.read_law.specs.Safe.{TellsUnsafe};
 

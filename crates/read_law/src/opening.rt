@@ -1,8 +1,8 @@
 //! What bits open at.
 ghost use Rattle.std.specs.Prelude.{◌↔◌, ◌≡◌, IfOk, IsTrue, Ok};
-ghost use Rattle.plain_store.specs.Setups.{checked};
-ghost use Rattle.record.specs.Registers.{opening_bit};
-ghost use Rattle.record.specs.safe_number.Bytes.{bit_in};
+ghost use Rattle.plain_store.specs.{checked};
+ghost use Rattle.record.specs.{opening_bit};
+ghost use Rattle.record.specs.safe_number.{bit_in};
 ghost use Rattle.record.specs.declared.access.Field.TheVariants.{Image0};
 
 use plain_store::{Setup, opened};

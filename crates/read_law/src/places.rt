@@ -1,9 +1,8 @@
 //! Where a bit's look stands: in which register, and at which place there.
 ghost use Rattle.std.specs.Prelude.{◌≡◌, ◌↔◌, ◌≤◌, ◌<◌, IsTrue, Ok};
-ghost use Rattle.plain_store.specs.Setups.{checked};
-ghost use Rattle.record.specs.Moves.{field_number};
-ghost use Rattle.record.specs.Registers.{width};
-ghost use Rattle.laws.specs.Held.{IsThere};
+ghost use Rattle.plain_store.specs.{checked};
+ghost use Rattle.record.specs.{field_number, width};
+ghost use Rattle.laws.specs.{IsThere};
 ghost use Rattle.read_law.specs.Watching.{copy_of, register_of};
 
 use plain_store::Setup;

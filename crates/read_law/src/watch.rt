@@ -1,8 +1,8 @@
 ghost use Rattle.std.specs.Prelude.{◌≡◌, ◌<◌, IfOk, Ok, Some, [], ◌∷◌, length, false, true};
-ghost use Rattle.plain_store.specs.Setups.{checked, opening_store};
-ghost use Rattle.store_image.specs.Image.{image_of};
-ghost use Rattle.record.specs.Registers.{width};
-ghost use Rattle.laws.specs.Held.{IsThere};
+ghost use Rattle.plain_store.specs.{checked, opening_store};
+ghost use Rattle.store_image.specs.{image_of};
+ghost use Rattle.record.specs.{width};
+ghost use Rattle.laws.specs.{IsThere};
 ghost use Rattle.read_law.specs.Safe.{TellsSafe};
 ghost use Rattle.read_law.specs.Watching.{HasHeard, HearsOn, IfAllThere, IfThere, IsOpened, OfHeard, OpenAs, PassesStray, TellsBehind, TellsEndThere, TellsHeldThere, TellsLook, TellsThere};
 

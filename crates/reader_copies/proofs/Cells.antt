@@ -5,12 +5,9 @@ use Rattle.std.proofs.lemmas.Bool.{cases_eq, cases_lt}
 use Rattle.std.proofs.lemmas.List.{get_or-set_same, get_or-set_other, get_or-replicate, length-replicate, length-map, get_or-map, get_or_default, ext_get_or}
 use Rattle.std.proofs.lemmas.List.FromFn.{length-map-range_with_len, get_or-map-range_with_len}
 use Rattle.reader_copies.specs.declared.flag_words.Flags.{Flags}
-use Rattle.reader_copies.specs.Flags.{ChangesAt, cell_among, cell_in_flags, cells_of, flag_in, no_flags, open_flags}
+use Rattle.reader_copies.specs.{ChangesAt, bits_of_words, cell_among, cell_in, cell_in_flags, cells_of, flag_in, no_flags, open_flags, over}
 use Rattle.std.specs.List.{range_with_len}
-use Rattle.reader_copies.specs.Row.{cell_in}
-use Rattle.reader_copies.specs.Words.{bits_of_words}
 use Rattle.reader_copies.proofs.Words.{bit-found, length-bits}
-use Rattle.reader_copies.specs.Wordwise.{over}
 use Rattle.reader_copies.proofs.Over.{length-over, over-inside, over-outside}
 use Rattle.reader_copies.proofs.Flags.{cell, flag-zero, made-set, same_cell}
 

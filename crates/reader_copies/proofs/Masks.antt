@@ -4,7 +4,7 @@ use Rattle.std.proofs.Math.Nat.{mul_comm, mul-sub, mod-eq_of_lt}
 use Rattle.std.proofs.lemmas.Nat.{pow-add, pow_pos}
 use Rattle.std.proofs.Math.Pow.{pow_mono}
 use Rattle.std.proofs.lemmas.Nat.Bits.{bit_at_mask_inside, bit_at_mask_below, bit_at_mask_above, bit_at_ones, ones_shr}
-use Rattle.reader_copies.specs.Flags.{IsMask, flag_in}
+use Rattle.reader_copies.specs.{IsMask, flag_in}
 use Rattle.reader_copies.proofs.Flags.{flag-both, flag-zero}
 
 pub flag-ones : (i : ℕ) → i < 64 → flag_in 18446744073709551615 i ≡ true

@@ -3,10 +3,7 @@ use Rattle.std.proofs.Common.{◌≡◌, ℕ, zero, suc, ◌+◌, ◌-◌, ◌*�
 use Rattle.std.proofs.lemmas.Bool.{cases_eq, ne_eqb, cond-true, cond-false, and_from, and_left, and_right}
 use Rattle.safe_bit.specs.Cell.{Cell, new_cell, cell_after, without_read, cell_of_calls, Makes, Drops}
 use Rattle.safe_bit.specs.declared.Move.TheVariants.{BeginWrite, EndWrite, Settle}
-use Rattle.reader_copies.specs.declared.runs.Made.{Made}
-use Rattle.reader_copies.specs.Row.{cell_at, with_cell, HasCell}
-use Rattle.reader_copies.specs.Runs.{Writing, Settling, next_write, next_settle, settle_after, is_open_at, writes_from, settles_from, rest_of_settling}
-use Rattle.reader_copies.specs.Histories.{RowCall, MakesAt, DropsAt, row_of, calls_at}
+use Rattle.reader_copies.specs.{DropsAt, HasCell, Made, MakesAt, RowCall, Settling, Writing, calls_at, cell_at, is_open_at, next_settle, next_write, rest_of_settling, row_of, settle_after, settles_from, with_cell, writes_from}
 use Rattle.reader_copies.proofs.Writing.{with_cell-same, with_cell-other, HasCell-after}
 
 -- access number k of a write from reader r on

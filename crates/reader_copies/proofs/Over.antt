@@ -3,8 +3,7 @@ use Rattle.std.proofs.Common.{◌≡◌, ◌≢◌, ℕ, zero, suc, ◌+◌, ◌
 use Rattle.std.proofs.lemmas.Bool.{cases_eq}
 use Rattle.std.proofs.lemmas.List.{get_or-set_same, get_or-set_other, length-set}
 use Rattle.safe_bit.specs.Cell.{Cell, new_cell}
-use Rattle.reader_copies.specs.Row.{cell_in}
-use Rattle.reader_copies.specs.Wordwise.{over}
+use Rattle.reader_copies.specs.{cell_in, over}
 
 pub length-over : (n : ℕ) (f : ℕ → Cell → Cell) (from : ℕ) (cells : List Cell) → length (over n f from cells) ≡ length cells
 length-over zero f from cells = refl

@@ -2,11 +2,9 @@
 use Rattle.std.proofs.Common.{◌≡◌, ℕ, ◌+◌, ◌*◌, ◌/◌, ◌%◌, ◌==◌, List, Bool, true, false, cond, ltb, refl, sym, ap, subst, ◌∙◌, length, arith, inl, inr, eq-eqb, Option, Some}
 use Rattle.std.proofs.lemmas.Bool.{cases_eq, cases_lt, cases_order, ne_eqb, lt-ltb, le-ltb, cond-true, cond-false}
 use Rattle.safe_bit.specs.Cell.{Cell, cell_after, read_answer, MayMove}
-use Rattle.safe_bit.specs.declared.Move.{Move}
+use Rattle.safe_bit.specs.{Move}
 use Rattle.safe_bit.specs.declared.Move.TheVariants.{BeginWrite, EndWrite, BeginRead, EndRead, Settle}
-use Rattle.reader_copies.specs.Row.{cell_at, with_cell, row_after, HasCell, CanMake}
-use Rattle.reader_copies.specs.Runs.{Writing, Reading, Settling, next_write, next_read, next_settle, settle_after, is_open_at}
-use Rattle.reader_copies.specs.Written.{IsAt, IsOpen, IsWritten, IsPartlyWritten, IsPartlySettled, with_value, cut_values}
+use Rattle.reader_copies.specs.{CanMake, HasCell, IsAt, IsOpen, IsPartlySettled, IsPartlyWritten, IsWritten, Reading, Settling, Writing, cell_at, cut_values, is_open_at, next_read, next_settle, next_write, row_after, settle_after, with_cell, with_value}
 use Rattle.reader_copies.proofs.Writing.{with_cell-same, with_cell-other, HasCell-before, IsAt-same, IsOpen-same}
 
 other_at : (row : List (List Cell)) (b r : ℕ) (d : Cell) (bit reader : ℕ) (v : Bool) → (bit ≡ b → reader ≡ r → ⊥) → IsAt (cell_at row bit reader) v → IsAt (cell_at (with_cell row b r d) bit reader) v

@@ -2,7 +2,7 @@
 use Rattle.std.proofs.Common.{◌≡◌, ℕ, zero, suc, ◌<◌, false, List, [], ◌∷◌, get_or, length, refl, sym, ◌∙◌, arith, ap, inl, inr}
 use Rattle.std.proofs.lemmas.Bool.{cases_eq}
 use Rattle.std.proofs.lemmas.List.{get_or_append_left, get_or_push, length_push}
-use Rattle.reader_copies.specs.Words.{bit_of_words, bits_of_words}
+use Rattle.reader_copies.specs.{bit_of_words, bits_of_words}
 
 pub length-bits : (a : List ℕ) (n : ℕ) → length (bits_of_words a n) ≡ n
 length-bits a zero = refl

@@ -3,13 +3,9 @@ use Rattle.std.proofs.Common.{◌≡◌, ℕ, ◌+◌, ◌*◌, ◌<◌, List, [
 use Rattle.std.proofs.lemmas.Bool.{cases_eq, cases_lt, cond-true, cond-false, lt-ltb, le-ltb}
 use Rattle.std.proofs.lemmas.List.{get_or-set_same, get_or-set_other, length-set, set_past, get_or_past, get_or-replicate, length-replicate, get_or-map, length-map}
 use Rattle.safe_bit.specs.Cell.{Cell, new_cell, cell_after, without_read}
-use Rattle.safe_bit.specs.declared.Move.{Move}
+use Rattle.safe_bit.specs.{Move}
 use Rattle.safe_bit.specs.declared.Move.TheVariants.{BeginWrite, EndWrite, BeginRead, EndRead, Settle}
-use Rattle.reader_copies.specs.declared.runs.Made.{Made}
-use Rattle.reader_copies.specs.Row.{cell_in, cell_at, with_cell, row_after, without_reads, HasCell, new_row}
-use Rattle.reader_copies.specs.Histories.{RowCall, MakesAt, DropsAt, row_after_call, IsReadCall}
-use Rattle.reader_copies.specs.Runs.{Reading, next_read}
-use Rattle.reader_copies.specs.Written.{IsAt, IsOpen, IsRead, IsWrite, IsWritten, IsPartlyWritten, IsPartlySettled, KeepsWrite, KeepsWrites, cut_values}
+use Rattle.reader_copies.specs.{DropsAt, HasCell, IsAt, IsOpen, IsPartlySettled, IsPartlyWritten, IsRead, IsReadCall, IsWrite, IsWritten, KeepsWrite, KeepsWrites, Made, MakesAt, Reading, RowCall, cell_at, cell_in, cut_values, new_row, next_read, row_after, row_after_call, with_cell, without_reads}
 
 pub with_cell-same : (row : List (List Cell)) (b r : ℕ) (c : Cell) → HasCell row b r → cell_at (with_cell row b r c) b r ≡ c
 with_cell-same row b r c there =

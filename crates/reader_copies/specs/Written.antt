@@ -1,7 +1,7 @@
 -- What a write, a cut write and its settling make of a row, whatever is read meanwhile.
 use Rattle.std.specs.Prelude.{◌≡◌, ◌≢◌, ℕ, ◌+◌, ◌*◌, ◌<◌, ◌≤◌, ◌==◌, nat_lt, List, Bool, true, false, if◌then◌else◌}
 use Rattle.safe_bit.specs.Cell.{Cell}
-use Rattle.safe_bit.specs.declared.Move.{Move}
+use Rattle.safe_bit.specs.{Move}
 use Rattle.safe_bit.specs.declared.Move.TheVariants.{BeginWrite, EndWrite, BeginRead, EndRead, Settle}
 use Rattle.reader_copies.specs.Row.{cell_at, HasCell}
 use Rattle.reader_copies.specs.Runs.{is_open_at}

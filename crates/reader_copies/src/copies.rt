@@ -1,5 +1,5 @@
 ghost use Rattle.std.specs.Prelude.{◌≡◌, ℕ, ◌<◌, ◌≤◌, ◌+◌, ◌*◌, ◌/◌, ◌%◌, true, false, length, map, replicate, slice_set, if◌then◌else◌, IfOk};
-ghost use Rattle.safe_bit.specs.Cell.{new_cell, cell_after, read_answer, without_read};
+ghost use Rattle.safe_bit.specs.{new_cell, cell_after, read_answer, without_read};
 ghost use Rattle.reader_copies.specs.Flags.{flag_in};
 ghost use Rattle.reader_copies.specs.Wordwise.{after_read, after_write, over};
 ghost use Rattle.reader_copies.specs.Row.{cell_in};

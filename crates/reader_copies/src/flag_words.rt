@@ -1,6 +1,6 @@
 //! The flags of sixty-four copies, side by side.
 ghost use Rattle.std.specs.Prelude.{◌≡◌, ◌≢◌, ℕ, ◌<◌, ◌≤◌, ◌+◌, true, false, if◌then◌else◌};
-ghost use Rattle.safe_bit.specs.Cell.{cell_after, new_cell, read_answer, without_read};
+ghost use Rattle.safe_bit.specs.{cell_after, new_cell, read_answer, without_read};
 ghost use Rattle.reader_copies.specs.Flags.{ChangesAt, IsMask, SetsFlag, cell_in_flags, flag_in, no_flags, open_flags};
 ghost use Rattle.reader_copies.specs.Seeing.{bit_seen};
 ghost use Rattle.reader_copies.specs.Wordwise.{after_read, after_write};

@@ -2,14 +2,11 @@
 use Rattle.std.specs.Prelude.{◌≡◌, ◌⊎◌, refl, ℕ, zero, suc, ◌+◌, ◌-◌, ◌<◌, ◌==◌, nat_lt, Bool, true, false, cond, List, [], ◌∷◌, ◌++◌, length, map, fold, slice_get, Option, None, Some}
 use Rattle.std.proofs.Common.{sym, ◌∙◌, ap, subst, arith, inl, inr, length-append, eqb-true}
 use Rattle.std.specs.List.{list_any}
-use Rattle.record.specs.declared.access.Access.{Access}
+use Rattle.record.specs.{Access, Entry, Event, Mark, Next, Past, Portion, Script, Stage, access_of, added, before, calls_full, entry_made, entry_of, has, history, is_failed, last_call, last_start, last_write, made_with, marks_at, nth, own, past_of, placed, process_of, processes, program, program_from, read_so_far, refused, refused_at, settle, settle_of, settles_at, settling, since, single, singles, stage, stage_after, starts, stepped, unfinished, unit_program, valued, withdrawn}
 use Rattle.record.specs.declared.access.Field.TheVariants.{Choosing, Ticket}
-use Rattle.plain_store.specs.declared.Setup.{Setup}
-use Rattle.record.specs.declared.events.Event.{Event}
+use Rattle.plain_store.specs.{Setup}
 use Rattle.record.specs.declared.events.Event.TheVariants.{Call, Step, Fail, Withdraw, Restart}
-use Rattle.record.specs.declared.marks.Mark.{Mark}
 use Rattle.record.specs.declared.marks.Mark.TheVariants.{Called, Failed, Withdrew, Restarted}
-use Rattle.record.specs.declared.stages.Stage.{Stage}
 use Rattle.record.specs.declared.stages.Stage.TheVariants.{Idle, Leaving, Settling, Down}
 use Rattle.record.proofs.Singles.{length-single}
 use Rattle.record.proofs.Width.{IsGood, written-pos, bits_of_number-pos, width-pos}
@@ -17,23 +14,10 @@ use Rattle.record.proofs.Staging.{stage-placed, no_start-placed}
 use Rattle.record.proofs.Local.{View, rests, down, runs, withdraws, fails, get_some, start-plain, since-plain, call-plain, running_steps, option_map-some}
 use Rattle.record.proofs.World.{withdrawn-keeps, unit-keeps, entry-accepted, entry_view, view}
 use Rattle.record.proofs.Total.{runs_on, withdrawn-ends, unit-ends}
-use Rattle.record.specs.Calls.{last_call, read_so_far}
-use Rattle.record.specs.Entries.{Entry, Past, before, has, is_failed, own, since, starts}
-use Rattle.record.specs.Histories.{history}
-use Rattle.record.specs.Moves.{valued}
-use Rattle.record.specs.Program.{withdrawn}
-use Rattle.record.specs.Records.{added, calls_full, entry_made, entry_of, last_start, past_of, placed, process_of, program, program_from, refused, refused_at, stepped}
-use Rattle.record.specs.Registers.{processes}
-use Rattle.record.specs.Scripts.{Next, Portion, Script, marks_at, nth, single, singles}
-use Rattle.record.specs.Stages.{stage, stage_after}
-use Rattle.record.specs.Unit.{made_with, settle_of, last_write, settle, settles_at, settling, unfinished, unit_program}
-use Rattle.safe_number.specs.Bytes.{bits_of_number}
+use Rattle.safe_number.specs.{at_bit, bits_of_number}
 use Rattle.std.proofs.lemmas.List.{length-map}
 use Rattle.safe_bit.specs.declared.Move.TheVariants.{BeginWrite, EndWrite, Settle}
-use Rattle.reader_copies.specs.declared.Made.{Made}
-use Rattle.reader_copies.specs.Runs.{settles_from, is_open_at}
-use Rattle.safe_number.specs.Accesses.{at_bit}
-use Rattle.record.specs.Accesses.{access_of}
+use Rattle.reader_copies.specs.{Made, is_open_at, settles_from}
 
 -- the unit makes as many accesses whatever it settles at
 pub length-settles : (m r n : ℕ) (v w : Bool) → length (settles_from m r n v) ≡ length (settles_from m r n w)

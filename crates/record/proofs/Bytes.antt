@@ -3,13 +3,11 @@ use Rattle.std.proofs.Common.{◌≡◌, ℕ, zero, suc, ◌+◌, ◌*◌, ◌/�
 use Rattle.std.proofs.lemmas.Bool.{cases_lt}
 use Rattle.std.proofs.lemmas.List.{get_or-drop, get_or-take, get_or_past, length-take-le, length-drop}
 use Rattle.std.specs.Prelude.{unwrap_or}
-use Rattle.reader_copies.specs.Runs.{Writing, next_write, write_after}
-use Rattle.safe_number.specs.Bytes.{AreBytes, IsBytesOf, bit_in, bits_in, number_of_bits}
-use Rattle.safe_number.specs.Runs.{NumberWrite, next_of_write, number_write_after, bit_write, write_on}
+use Rattle.reader_copies.specs.{Writing, next_write, write_after}
+use Rattle.safe_number.specs.{AreBytes, IsBytesOf, NumberWrite, bit_in, bit_write, bits_in, next_of_write, number_of_bits, number_write_after, write_on}
 use Rattle.safe_number.proofs.Bits.{number-bytes}
 use Rattle.safe_number.proofs.Numbers.{get-bits, bit_in-past}
-use Rattle.record.specs.Places.{bit_written, next_written, write_moved}
-use Rattle.record.specs.Registers.{bytes_of_bits}
+use Rattle.record.specs.{bit_written, bytes_of_bits, next_written, write_moved}
 
 -- the write of the present bit is the same
 same-bit : (value : List ℕ) (width bit : ℕ) (run : Option Writing) → bit < width →

@@ -2,21 +2,16 @@
 use Rattle.std.proofs.Common.{◌≡◌, ℕ, zero, suc, ◌+◌, ◌-◌, ◌<◌, ◌==◌, ◌&&◌, Bool, true, false, cond, List, [], ◌∷◌, ◌++◌, Some, length, map, refl, sym, ap, ◌∙◌, arith, append-nil}
 use Rattle.std.proofs.lemmas.Bool.{eqb-true, eqb-false}
 use Rattle.std.proofs.lemmas.List.{length-map}
-use Rattle.reader_copies.specs.declared.Made.{Made}
+use Rattle.reader_copies.specs.{Made}
 use Rattle.reader_copies.specs.Runs as copies
 use Rattle.reader_copies.proofs.Orders.{rest-settle}
-use Rattle.record.specs.declared.access.Access.{Access}
+use Rattle.record.specs.{Access, Call, Mark, Next, Script, access_of, next_written, single, singles, write_moved, writing}
 use Rattle.record.specs.declared.access.Field.TheVariants.{Choosing, Ticket}
-use Rattle.safe_number.specs.Accesses.{at_bit}
-use Rattle.record.specs.Accesses.{access_of}
-use Rattle.safe_number.specs.Runs.{NumberWrite, new_write}
+use Rattle.safe_number.specs.{NumberWrite, at_bit, new_write}
 use Rattle.safe_number.proofs.Bits.{length-bits_of_number}
 use Rattle.plain_store.specs.declared.Answer.TheVariants as answer
-use Rattle.record.specs.declared.marks.Mark.{Mark}
 use Rattle.record.specs.declared.marks.Mark.TheVariants.{Left, Answered, Down}
 use Rattle.record.specs.Closings.{Closing, Withdraws, Settles, Frees, Lowers, Quit, Ended, no_ticket, is_unwritten, settled_marks, freeing, closing_next, closing_after}
-use Rattle.record.specs.Places.{next_written, write_moved}
-use Rattle.record.specs.Scripts.{Call, Next, Script, single, singles, writing}
 use Rattle.record.proofs.Cursors.{Goes, Moved, left_written, left-next, left-new, left-done, write-moves}
 
 -- the unit's last write, and its two writes

@@ -1,27 +1,16 @@
 -- The closing machine goes through the scripts.
 use Rattle.std.proofs.Common.{◌≡◌, ℕ, zero, suc, ◌+◌, ◌-◌, ◌<◌, ◌&&◌, not, Bool, true, false, cond, List, [], ◌∷◌, ◌++◌, Option, Some, None, drop, length, map, refl, sym, ap, subst, ◌∙◌, arith, append-nil}
 use Rattle.std.specs.Prelude.{slice_get, fold}
-use Rattle.reader_copies.specs.declared.Made.{Made}
+use Rattle.reader_copies.specs.{Made}
 use Rattle.reader_copies.specs.Runs as copies
-use Rattle.record.specs.declared.access.Access.{Access}
-use Rattle.record.specs.declared.access.Field.{Field}
+use Rattle.record.specs.{Access, Call, Field, Mark, Next, Past, Script, access_of, first_flick, inside, is_called, is_commit, last_read, last_write, next_written, nth, read_so_far, reply, settle, since, single, singles, stage_after, store_read, unfinished, unit_program, value_begun, withdrawn, write_moved}
 use Rattle.record.specs.declared.access.Field.TheVariants.{Choosing, Ticket}
-use Rattle.safe_number.specs.Accesses.{at_bit}
-use Rattle.record.specs.Accesses.{access_of}
-use Rattle.safe_number.specs.Runs.{NumberWrite, new_write}
+use Rattle.safe_number.specs.{NumberWrite, at_bit, new_write}
 use Rattle.plain_store.specs.declared.Answer.TheVariants as answer
-use Rattle.plain_store.specs.declared.Reply.{Reply}
-use Rattle.record.specs.declared.marks.Mark.{Mark}
+use Rattle.plain_store.specs.{Reply}
 use Rattle.record.specs.declared.marks.Mark.TheVariants.{Taken, Left, Answered, Settled, Down}
 use Rattle.record.specs.declared.stages.Stage.TheVariants as stage
 use Rattle.record.specs.Closings.{Closing, Withdraws, Settles, Frees, Lowers, Quit, Ended, no_ticket, is_last_written, is_unwritten, is_last_settled, settled_marks, withdrawing, freeing, settling_from, failing, closing_next, closing_after, closing_stage, closing_of}
-use Rattle.record.specs.Calls.{read_so_far}
-use Rattle.record.specs.Entries.{Past, since, is_called}
-use Rattle.record.specs.Places.{next_written, write_moved}
-use Rattle.record.specs.Program.{withdrawn, store_read, reply}
-use Rattle.record.specs.Scripts.{Call, Next, Script, nth, single, singles}
-use Rattle.record.specs.Stages.{inside, stage_after}
-use Rattle.record.specs.Unit.{first_flick, last_write, last_read, unfinished, unit_program, settle, is_commit, value_begun}
 use Rattle.record.proofs.Cursors.{drop-more, get-drop, Goes, left_written, left-new}
 use Rattle.record.proofs.Width.{IsGood}
 use Rattle.record.proofs.Closing.{Fit, Further, Settled-on, Steps, clearing_too, freeing-new, further, left, lowering, lowering-new, settle-step, settles-on, ticket_width, write-step}

@@ -4,26 +4,13 @@ use Rattle.std.proofs.Common.{sym, ◌∙◌, ap}
 use Rattle.std.specs.List.{list_any}
 use Rattle.std.proofs.lemmas.List.{length-map}
 use Rattle.reader_copies.specs.Runs as copies
-use Rattle.safe_bit.specs.declared.Move.{Move}
+use Rattle.safe_bit.specs.{Move}
 use Rattle.safe_bit.specs.declared.Move.TheVariants.{BeginWrite, EndWrite, Settle}
-use Rattle.record.specs.declared.access.Access.{Access}
-use Rattle.plain_store.specs.declared.Setup.{Setup}
-use Rattle.record.specs.declared.events.Event.{Event}
-use Rattle.record.specs.declared.marks.Mark.{Mark}
+use Rattle.record.specs.{Access, Call, Entry, Event, Mark, Next, Past, Script, before, ended, entry_made, first_flick, has, history, is_failed, last_call, last_start, last_write, marks_at, moves_of, nth, opening_bit, own, past_of, placed, program, program_from, since, singles, stage as stage_in, start_in, starts, stepped, unfinished, unit_program, value_written, valued, withdrawn, write_moved}
+use Rattle.plain_store.specs.{Setup}
 use Rattle.record.specs.declared.marks.Mark.TheVariants.{Called, Failed, Withdrew}
 use Rattle.record.specs.declared.stages.Stage.TheVariants as stage
-use Rattle.record.specs.Calls.{last_call}
 use Rattle.record.specs.Closings.{Closing, Withdraws, Settles, Frees, Lowers, Quit, Ended, withdrawing, settling_from, failing, freeing, is_last_written, is_last_settled, no_ticket, closing_next, closing_after, closing_stage, closing_of, closing_entry}
-use Rattle.record.specs.Entries.{Entry, Past, own, has, since, before, starts, is_failed}
-use Rattle.record.specs.Histories.{history}
-use Rattle.record.specs.Moves.{ended, valued, moves_of}
-use Rattle.record.specs.Places.{write_moved}
-use Rattle.record.specs.Program.{withdrawn}
-use Rattle.record.specs.Records.{entry_made, last_start, start_in, past_of, placed, program, program_from, stepped}
-use Rattle.record.specs.Registers.{opening_bit}
-use Rattle.record.specs.Scripts.{Call, Next, Script, marks_at, nth, singles}
-use Rattle.record.specs.Stages.{stage as stage_in}
-use Rattle.record.specs.Unit.{first_flick, value_written, unit_program, unfinished, last_write}
 use Rattle.record.proofs.Accepted.{rooms, no_failed}
 use Rattle.record.proofs.ClosingScripts.{goes_on, over-next, first-more, withdrawal-tells, unit-tells}
 use Rattle.record.proofs.Local.{get_some}

@@ -2,21 +2,11 @@
 use Rattle.std.proofs.Common.{◌≡◌, ℕ, Bool, true, false, List, [], ◌∷◌, Some, length, map, sym, ap, ◌∙◌}
 use Rattle.std.specs.Prelude.{fold, option_map}
 use Rattle.std.specs.List.{list_any}
-use Rattle.safe_bit.specs.SafeRule.{read_value}
-use Rattle.plain_store.specs.declared.Setup.{Setup}
-use Rattle.record.specs.declared.events.Event.{Event}
+use Rattle.safe_bit.specs.{read_value}
+use Rattle.plain_store.specs.{Setup}
+use Rattle.record.specs.{Call, Closing, Entry, Event, Next, Past, before, closing_after, closing_entry, closing_next, closing_of, closing_stage, failing, has, history, is_failed, last_call, last_start, moves_of, opening_bit, own, past_of, since, stage, stage_after, starts, stepped, value_written, withdrawing}
 use Rattle.record.specs.declared.marks.Mark.TheVariants.{Failed, Withdrew}
 use Rattle.record.specs.declared.stages.Stage.TheVariants as stages
-use Rattle.record.specs.Calls.{last_call}
-use Rattle.record.specs.Closings.{Closing, withdrawing, failing, closing_next, closing_after, closing_stage, closing_of, closing_entry}
-use Rattle.record.specs.Entries.{Entry, Past, own, has, since, before, starts, is_failed}
-use Rattle.record.specs.Histories.{history}
-use Rattle.record.specs.Moves.{moves_of}
-use Rattle.record.specs.Records.{last_start, past_of, stepped}
-use Rattle.record.specs.Registers.{opening_bit}
-use Rattle.record.specs.Scripts.{Call, Next}
-use Rattle.record.specs.Stages.{stage, stage_after}
-use Rattle.record.specs.Unit.{value_written}
 use Rattle.record.proofs.Accepted.{before-plain, no_failed}
 use Rattle.record.proofs.ClosingScripts.{closing-stages}
 use Rattle.record.proofs.ClosingStanding.{withdrawn_stands, unit_stands, told-again, flick-free, chosen-after, IsChosen}

@@ -4,13 +4,11 @@ use Rattle.std.proofs.lemmas.Bool.{eqb-true, eqb-false, ne_eqb}
 use Rattle.std.proofs.lemmas.List.{drop_more}
 use Rattle.std.specs.Prelude.{slice_get, is_none}
 use Rattle.safe_bit.specs.declared.Move.TheVariants.{EndRead}
-use Rattle.reader_copies.specs.declared.Made.{Made}
-use Rattle.reader_copies.specs.Runs.{Writing, bit_writes, rest_of_write}
+use Rattle.reader_copies.specs.{Made, Writing, bit_writes, rest_of_write}
 use Rattle.reader_copies.proofs.Orders.{rest-write, length-writes}
-use Rattle.safe_number.specs.Accesses.{at_bit, writes_from, number_writes, reads_from}
-use Rattle.safe_number.specs.Runs.{NumberWrite, new_write}
+use Rattle.safe_number.specs.{NumberWrite, at_bit, new_write, number_writes, reads_from, writes_from}
 use Rattle.safe_number.proofs.Orders.{drop_past}
-use Rattle.record.specs.Places.{bit_written, next_written, write_moved, next_read}
+use Rattle.record.specs.{bit_written, next_written, write_moved, next_read}
 
 one_more : (k : ℕ) → suc k ≡ k + 1
 one_more k = omega arith

@@ -1,28 +1,14 @@
 -- In every record a failure cuts a call or a withdrawal at its place.
 use Rattle.std.proofs.Common.{◌≡◌, ℕ, ◌<◌, ◌==◌, ◌||◌, Bool, true, false, cond, not, List, [], ◌∷◌, Option, Some, None, length, map, refl, sym, ap, subst, ◌∙◌, arith, true≢false, inl, inr}
 use Rattle.std.specs.Prelude.{fold, option_map, slice_index_or}
-use Rattle.record.specs.declared.access.Access.{Access}
-use Rattle.record.specs.declared.access.Field.{Field}
+use Rattle.record.specs.{Access, Call, Change, Event, Field, IsTornOf, Numbers, Past, Place, Reading, Run, TornBit, Writing, accesses_of, begun_at, begun_closing, change_of, cut, cut_at, cut_closing, first_flick, image_field, inside, inside_after, is_called, is_running, last_call, last_read, last_start, last_write, named, own, past_of, pending_at, place_of, read_so_far, reply, since, stage, stamp_field, starts, taken_with, torn_at, torn_closing, torn_in, unfinished, value_written, version_of, width}
 use Rattle.record.specs.declared.access.Field.TheVariants.{Ticket, Commit}
-use Rattle.record.specs.declared.access.TornBit.{TornBit}
-use Rattle.safe_number.specs.Runs.{NumberWrite, torn_bit, torn_run, torn_with}
-use Rattle.plain_store.specs.declared.Command.{Command}
-use Rattle.plain_store.specs.declared.Setup.{Setup}
-use Rattle.record.specs.declared.events.Event.{Event}
+use Rattle.safe_number.specs.{NumberWrite, torn_bit, torn_run, torn_with}
+use Rattle.plain_store.specs.{Command, Setup}
 use Rattle.record.specs.declared.marks.Mark.TheVariants.{Called, Failed, Withdrew}
 use Rattle.record.specs.declared.stages.Stage.TheVariants as stages
-use Rattle.record.specs.Calls.{last_call, read_so_far}
 use Rattle.record.specs.Closings.{Closing, Withdraws, Settles, Frees, Lowers, Quit, Ended, no_ticket, freeing, withdrawing, failing, settling_from, reply_with, closing_of}
-use Rattle.record.specs.Cuts.{Change, IsTornOf, named, torn_in, torn_at, torn_closing, pending_at, change_of}
-use Rattle.record.specs.Entries.{Past, own, since, starts, is_called}
-use Rattle.record.specs.Failures.{begun_at, begun_closing, taken_with, cut, cut_at, cut_closing}
 use Rattle.record.specs.Parts.{Part, Raises, Asks, TakesTicket, Lowers as LowersChoosing, Refuses, Waits, AsksCommit, AsksStamp, AsksImage, WritesImage, WritesStamp, WritesCommit, Clears, Over, is_over, written_at}
-use Rattle.record.specs.Places.{Run, Writing, Reading, Place, accesses_of, place_of, is_running}
-use Rattle.record.specs.Program.{version_of, image_field, stamp_field, reply}
-use Rattle.record.specs.Records.{last_start, past_of}
-use Rattle.record.specs.Scripts.{Call, Numbers}
-use Rattle.record.specs.Stages.{stage, inside, inside_after}
-use Rattle.record.specs.Unit.{first_flick, last_read, last_write, unfinished, value_written}
 use Rattle.record.proofs.ClosingStanding.{is_unit, keeps-kind}
 use Rattle.record.proofs.Knows.{Knows}
 use Rattle.record.proofs.Left.{bit_left, value_at, value_closing, value-begun, value-withdrawn}
@@ -36,8 +22,7 @@ use Rattle.record.proofs.Cursors.{Goes}
 use Rattle.record.proofs.Local.{Running}
 use Rattle.record.proofs.Standing.{at_place}
 use Rattle.record.proofs.Ties.{Tie, over, writes, reads, written-width}
-use Rattle.record.specs.Registers.{width}
-use Rattle.reader_copies.specs.Runs.{Writing as BitWriting, Settling}
+use Rattle.reader_copies.specs.{Writing as BitWriting, Settling}
 
 -- whether a process is inside is seen in its own entries
 pub inside-own : (p : ℕ) (past : Past) → inside p (own p past) ≡ inside p past

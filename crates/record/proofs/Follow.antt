@@ -2,21 +2,13 @@
 use Rattle.std.specs.Prelude.{◌≡◌, ◌⊎◌, refl, ℕ, suc, ◌+◌, ◌*◌, ◌<◌, ◌==◌, Bool, true, false, cond, List, [], ◌∷◌, ◌++◌, length, slice_get, None, Some, ◌≢◌}
 use Rattle.std.proofs.Common.{sym, ◌∙◌, ap, true≢false, arith, append_assoc, append-nil, length-append, eqb-true, ne_eqb, eq-eqb, inl, inr}
 use Rattle.std.proofs.lemmas.Bool.Decides.{eqb_tells}
-use Rattle.record.specs.declared.access.Access.{Access}
-use Rattle.record.specs.declared.access.Field.{Field}
-use Rattle.safe_bit.specs.declared.Move.{Move}
+use Rattle.record.specs.{Access, Call, Field, IsFollowed, Next, Numbers, Over, Part, Portion, Raises, ReadSoFar, Script, doing, ended, ended_with, first_marks, is_over, is_read, last_marks, local_program, part_after, read_at, read_of, reads_of, scripted, single, singles, width, with_access, with_move, write_of, written_at}
+use Rattle.safe_bit.specs.{Move}
 use Rattle.safe_bit.specs.declared.Move.TheVariants.{BeginWrite, EndWrite, BeginRead, EndRead, Settle}
 use Rattle.record.proofs.Singles
 use Rattle.record.proofs.Singles.{get-append, get-left, get-none, length-single, single-access, length-reads_from, Half, begins, ends, read-at, is_write, AllWrites-write_of, AllWrites-get}
 use Rattle.record.proofs.Place.{portion, rest, rest-unread, rest-read, rest-write}
 use Rattle.record.proofs.Width.{IsGood, doing-pos}
-use Rattle.record.specs.Calls.{ReadSoFar, with_access, with_move}
-use Rattle.record.specs.Moves.{ended, ended_with}
-use Rattle.record.specs.Program.{local_program}
-use Rattle.record.specs.Registers.{read_of, width, write_of}
-use Rattle.record.specs.Scripts.{Call, Next, Numbers, Portion, Script, single, singles}
-use Rattle.record.specs.Places.{reads_of, scripted, IsFollowed}
-use Rattle.record.specs.Parts.{Part, Raises, Over, is_read, is_over, read_at, written_at, doing, first_marks, last_marks, part_after}
 
 -- a part, how many of its accesses are made, and the bits read
 pub record Spot : Type 0 where

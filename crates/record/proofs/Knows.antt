@@ -1,16 +1,9 @@
 -- What a call knows while it writes a change: the store is the one of the image that it has read last.
 use Rattle.std.proofs.Common.{◌≡◌, ℕ, ◌+◌, ◌==◌, ◌%◌, Bool, true, false, cond, List, [], ◌∷◌, ◌++◌, Some, length, refl, sym, ap, subst, ◌∙◌, true≢false}
 use Rattle.safe_bit.specs.declared.Move.TheVariants.{BeginWrite, EndWrite}
-use Rattle.record.specs.declared.access.Access.{Access}
-use Rattle.plain_store.specs.Store.{Contents, changes}
-use Rattle.record.specs.Calls.{ReadSoFar, with_access}
-use Rattle.record.specs.Moves.{ended_with}
+use Rattle.record.specs.{Access, Call, Numbers, Place, ReadSoFar, Reading, Run, Version, Wait, Writing, access_at, bit_written, ended_with, enter, greatest, is_last, last_read, lets_by, max_of, newest_stamp, others, place_after, run_after, store_read, value_of, waits_of, width, with_access, write_moved}
+use Rattle.plain_store.specs.{Contents, changes}
 use Rattle.record.specs.Parts.{Part, Raises, Asks, TakesTicket, Lowers, Refuses, Waits, AsksCommit, AsksStamp, AsksImage, WritesImage, WritesStamp, WritesCommit, Clears, is_read, is_over, read_at, written_at, part_after, to_b, to_c, to_d, to_e, to_g}
-use Rattle.record.specs.Places.{Run, Writing, Reading, Place, bit_written, write_moved, enter, is_last, run_after, place_after, access_at, value_of}
-use Rattle.record.specs.Program.{Version, Wait, greatest, max_of, newest_stamp, lets_by, waits_of, store_read}
-use Rattle.record.specs.Registers.{others, width}
-use Rattle.record.specs.Scripts.{Call, Numbers}
-use Rattle.record.specs.Unit.{last_read}
 use Rattle.record.proofs.Follow.{write-adds_nothing}
 use Rattle.record.proofs.Singles.{is_write}
 use Rattle.record.proofs.Ties.{Tie, over, writes, reads}

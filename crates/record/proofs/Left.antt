@@ -4,19 +4,9 @@ use Rattle.std.proofs.lemmas.Bool.{cases_eq, eqb-true, eqb-false, ne_eqb, eq-eqb
 use Rattle.std.specs.Prelude.{option_map, slice_index_or}
 use Rattle.safe_bit.specs.declared.Move.TheVariants.{BeginWrite, EndWrite}
 use Rattle.reader_copies.specs.Runs as copies
-use Rattle.record.specs.declared.access.Access.{Access}
-use Rattle.record.specs.declared.access.Field.{Field}
-use Rattle.record.specs.declared.access.TornBit.{TornBit}
-use Rattle.record.specs.Accesses.{access_of}
-use Rattle.safe_number.specs.Runs.{NumberWrite, new_write, torn_with}
+use Rattle.record.specs.{Access, Call, Field, Part, Place, Reading, Run, TornBit, Writing, access_of, begun_at, begun_closing, begun_run, bit_written, bits_with, enter, is_begin, is_last, is_read, made_with, named, next_written, part_after, place_after, place_of, run_after, torn_at, torn_in, torn_run, unfinished, value_of, width, write_moved, written_at}
+use Rattle.safe_number.specs.{NumberWrite, new_write, torn_with}
 use Rattle.record.specs.Closings.{Closing, Withdraws, Settles, Frees, Lowers, Quit, Ended, freeing, withdrawing, no_ticket, is_last_written, is_last_settled, closing_after, closing_of}
-use Rattle.record.specs.Cuts.{named, torn_in, torn_at, torn_run}
-use Rattle.record.specs.Failures.{begun_run, begun_at, begun_closing}
-use Rattle.record.specs.Parts.{Part, is_read, written_at, part_after}
-use Rattle.record.specs.Places.{Run, Writing, Reading, Place, bit_written, next_written, write_moved, enter, is_last, bits_with, run_after, place_after, place_of, value_of}
-use Rattle.record.specs.Registers.{width}
-use Rattle.record.specs.Scripts.{Call}
-use Rattle.record.specs.Unit.{unfinished, is_begin, made_with}
 
 -- what the last access of a write leaves to settle
 abbrev pub bit_left : Access → TornBit

@@ -2,33 +2,18 @@
 use Rattle.std.specs.Prelude.{◌≡◌, refl, ℕ, zero, suc, ◌+◌, ◌<◌, ◌==◌, Bool, true, false, cond, List, [], ◌∷◌, ◌++◌, length, map, fold, slice_get, Option, None, Some}
 use Rattle.std.proofs.Common.{sym, ◌∙◌, ap, subst, arith, ne_eqb}
 use Rattle.std.specs.List.{list_any}
-use Rattle.record.specs.declared.access.Access.{Access}
-use Rattle.record.specs.declared.access.Field.{Field}
-use Rattle.plain_store.specs.declared.Command.{Command}
-use Rattle.plain_store.specs.declared.Setup.{Setup}
-use Rattle.record.specs.declared.marks.Mark.{Mark}
+use Rattle.record.specs.{Access, Entry, Field, Mark, Next, Part, Past, Place, Portion, ReadSoFar, Script, Stage, access_at, accesses_of, calls_in, doing, ended, ended_with, entry_made, has, history, is_called, is_over, is_read, last_call, last_command, last_start, local_program, marks_at, nth, own, part_after, place_of, placed, program, program_from, read_at, read_of, read_so_far, scripted, since, single, singles, stage_after, stage_of, starts, stepped, width, with_access, with_move, write_of, written_at}
+use Rattle.plain_store.specs.{Command, Setup}
 use Rattle.record.specs.declared.marks.Mark.TheVariants.{Called, Failed, Down, Withdrew}
-use Rattle.record.specs.declared.stages.Stage.{Stage}
 use Rattle.record.specs.declared.stages.Stage.TheVariants.{Idle, Leaving, Settling, Down}
 use Rattle.record.proofs.Singles
 use Rattle.record.proofs.Singles.{get-append, get-left, length-single, Half, begins, ends, read-at, is_write, AllWrites-write_of, AllWrites-get}
 use Rattle.record.proofs.Place.{portion, rest, rest-read}
 use Rattle.record.proofs.Follow.{Spot, more_bits, moved_on, Stands, next_access, not_over, write-adds_nothing, step}
-use Rattle.record.specs.Places.{Place, scripted, accesses_of, place_of, access_at}
 use Rattle.record.proofs.Ties.{Tied, tied-next, tied-on}
 use Rattle.record.proofs.Marking.{spot_marks, marks_are}
 use Rattle.record.proofs.Width.{IsGood}
 use Rattle.record.proofs.Staging.{stage-marks, stage-placed, no_start-marks, no_start-placed, no_called, no_command, no_start}
-use Rattle.record.specs.Calls.{ReadSoFar, calls_in, last_call, last_command, read_so_far, with_access, with_move}
-use Rattle.record.specs.Entries.{Entry, Past, has, is_called, own, since, starts}
-use Rattle.record.specs.Histories.{history}
-use Rattle.record.specs.Moves.{ended, ended_with}
-use Rattle.record.specs.Program.{local_program}
-use Rattle.record.specs.Records.{entry_made, last_start, placed, program, program_from, stepped}
-use Rattle.record.specs.Registers.{read_of, width, write_of}
-use Rattle.record.specs.Scripts.{Next, Portion, Script, marks_at, nth, single, singles}
-use Rattle.record.specs.Stages.{stage_after}
-use Rattle.record.specs.Parts.{Part, is_read, is_over, read_at, written_at, doing, part_after, stage_of}
 
 pub record Running (s : Setup) (p : ℕ) (mine : Past) (st : Stage) : Type 0 where
   pub command : Command

@@ -1,19 +1,11 @@
 -- The marks that a script has at a place are those of the place.
 use Rattle.std.specs.Prelude.{◌≡◌, ◌⊎◌, refl, ℕ, zero, suc, ◌+◌, ◌*◌, ◌<◌, ◌==◌, Bool, true, false, cond, List, [], ◌∷◌, ◌++◌, length, slice_get, Some, ◌≢◌}
 use Rattle.std.proofs.Common.{sym, ◌∙◌, ap, arith, append-nil, ne_eqb, eq-eqb, inl, inr}
-use Rattle.record.specs.declared.access.Access.{Access}
-use Rattle.record.specs.declared.access.Field.{Field}
-use Rattle.record.specs.declared.marks.Mark.{Mark}
+use Rattle.record.specs.{Access, Call, Clears, Field, Mark, Next, Numbers, Part, Portion, ReadSoFar, Script, doing, ended, ended_with, first_marks, is_over, is_read, last_marks, part_after, read_at, read_of, scripted, single, singles, width, with_access, with_move, write_of, written_at}
 use Rattle.record.proofs.Singles
 use Rattle.record.proofs.Singles.{get-append, get-left, length-single, length-reads_from, Half, begins, ends, read-at, is_write, AllWrites-write_of, AllWrites-get}
 use Rattle.record.proofs.Place.{portion, rest, rest-unread, rest-read, rest-write}
 use Rattle.record.proofs.Follow.{Spot, more_bits, Stands, next_access, not_over, same_end, write-adds_nothing, write-no_bits}
-use Rattle.record.specs.Places.{scripted}
-use Rattle.record.specs.Calls.{ReadSoFar, with_access, with_move}
-use Rattle.record.specs.Moves.{ended, ended_with}
-use Rattle.record.specs.Registers.{read_of, width, write_of}
-use Rattle.record.specs.Scripts.{Call, Next, Numbers, Portion, Script, single, singles}
-use Rattle.record.specs.Parts.{Part, Clears, is_read, is_over, read_at, written_at, doing, first_marks, last_marks, part_after}
 
 -- first on the first access, last on the last one
 abbrev pub marks_on : List Mark → List Mark → ℕ → ℕ → List Mark

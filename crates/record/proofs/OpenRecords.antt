@@ -1,20 +1,11 @@
 -- In every record what is open is what the machines have open, and every write comes in its turn.
 use Rattle.std.proofs.Common.{◌≡◌, ℕ, ◌<◌, Bool, true, false, List, ◌∷◌, Some, map, refl, sym, ap, subst, ◌∙◌, true≢false, inl, inr}
 use Rattle.std.specs.Prelude.{fold}
-use Rattle.record.specs.declared.access.Access.{Access}
-use Rattle.plain_store.specs.declared.Setup.{Setup}
-use Rattle.record.specs.declared.events.Event.{Event}
+use Rattle.record.specs.{Access, Call, Entry, Event, Leads, Next, Past, Stage, before, is_failed, last_call, last_start, last_write, open_closing, own, past_of, since, stage, stage_after, starts, stepped, value_written}
+use Rattle.plain_store.specs.{Setup}
 use Rattle.record.specs.declared.marks.Mark.TheVariants.{Failed, Withdrew}
-use Rattle.record.specs.declared.stages.Stage.{Stage}
 use Rattle.record.specs.declared.stages.Stage.TheVariants as stages
-use Rattle.record.specs.Calls.{last_call}
 use Rattle.record.specs.Closings.{Closing, Withdraws, Settles, Frees, Lowers, Quit, Ended, withdrawing, failing, closing_after, closing_stage}
-use Rattle.record.specs.Entries.{Entry, Past, own, since, before, starts, is_failed}
-use Rattle.record.specs.Records.{last_start, past_of, stepped}
-use Rattle.record.specs.Scripts.{Call, Next}
-use Rattle.record.specs.Stages.{stage, stage_after}
-use Rattle.record.specs.Turns.{Leads, open_closing}
-use Rattle.record.specs.Unit.{last_write, value_written}
 use Rattle.record.proofs.Accepted.{before-plain}
 use Rattle.record.proofs.ClosingScripts.{withdrawal-stays, unit-stays}
 use Rattle.record.proofs.ClosingSteps.{ClosingStep, withdrawn-step, unit-step, leaving-then, failing-then}

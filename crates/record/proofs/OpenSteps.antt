@@ -2,36 +2,18 @@
 use Rattle.std.proofs.Common.{◌≡◌, ℕ, ◌*◌, ◌<◌, ◌==◌, ◌&&◌, Bool, true, false, cond, not, List, [], ◌∷◌, Option, Some, None, length, map, refl, sym, ap, subst, ◌∙◌, arith, true≢false, inl}
 use Rattle.std.specs.Prelude.{◌⊎◌, fold}
 use Rattle.std.specs.List.{list_any}
-use Rattle.safe_bit.specs.SafeRule.{read_value}
+use Rattle.safe_bit.specs.{read_value}
 use Rattle.safe_bit.specs.declared.Move.TheVariants.{BeginWrite, EndWrite, Settle}
 use Rattle.reader_copies.specs.Runs as copies
-use Rattle.record.specs.declared.access.Access.{Access}
-use Rattle.record.specs.declared.access.Field.{Field}
+use Rattle.record.specs.{Access, Call, Entry, Event, Field, Leads, Mark, Next, Numbers, Past, Place, ReadSoFar, Stage, TornBit, Turn, access_at, accesses_of, before, bits_with, ended, ended_with, enter, entry_at, has, history, is_called, is_failed, is_last, is_running, last_call, last_start, last_write, marks_of, moves_of, open_after, open_closing, open_place, opening_bit, own, past_of, place_after, place_of, read_so_far, run_after, same_bit, since, stage, stage_after, starts, stepped, torn_at, torn_in, value_of, value_written, with_access, write_moved}
 use Rattle.record.specs.declared.access.Field.TheVariants.{Choosing, Ticket}
-use Rattle.record.specs.declared.access.TornBit.{TornBit}
-use Rattle.safe_number.specs.Runs.{NumberWrite}
-use Rattle.plain_store.specs.declared.Command.{Command}
-use Rattle.plain_store.specs.declared.Setup.{Setup}
+use Rattle.safe_number.specs.{NumberWrite}
+use Rattle.plain_store.specs.{Command, Setup}
 use Rattle.plain_store.specs.declared.Answer.TheVariants as answer
-use Rattle.record.specs.declared.events.Event.{Event}
-use Rattle.record.specs.declared.marks.Mark.{Mark}
 use Rattle.record.specs.declared.marks.Mark.TheVariants.{Called, Failed, Withdrew, Answered, Settled, Taken, Left, Down}
-use Rattle.record.specs.declared.stages.Stage.{Stage}
 use Rattle.record.specs.declared.stages.Stage.TheVariants as stages
-use Rattle.record.specs.Calls.{ReadSoFar, last_call, read_so_far, with_access}
 use Rattle.record.specs.Closings.{Closing, Withdraws, Settles, Frees, Lowers, Quit, Ended, withdrawing, failing, freeing, no_ticket, is_last_written, is_last_settled, is_unwritten, closing_next, closing_after, closing_of}
-use Rattle.record.specs.Cuts.{torn_in, torn_at}
-use Rattle.record.specs.Entries.{Entry, Past, own, has, since, before, starts, is_called, is_failed}
-use Rattle.record.specs.Histories.{history}
-use Rattle.record.specs.Moves.{same_bit, moves_of, ended, ended_with}
 use Rattle.record.specs.Parts.{Part, Raises, Asks, TakesTicket, Lowers as LowersChoosing, Refuses, Waits, AsksCommit, AsksStamp, AsksImage, WritesImage, WritesStamp, WritesCommit, Clears, Over, is_over, stage_of, part_after}
-use Rattle.record.specs.Places.{Place, accesses_of, place_of, place_after, access_at, value_of, entry_at, marks_of, is_running, is_last, enter, bits_with, run_after, write_moved}
-use Rattle.record.specs.Records.{last_start, past_of, stepped}
-use Rattle.record.specs.Registers.{opening_bit}
-use Rattle.record.specs.Scripts.{Call, Next, Numbers}
-use Rattle.record.specs.Stages.{stage, stage_after}
-use Rattle.record.specs.Turns.{Turn, Leads, open_after, open_place, open_closing}
-use Rattle.record.specs.Unit.{last_write, value_written}
 use Rattle.record.proofs.Closing.{Fit}
 use Rattle.record.proofs.ClosingStanding.{is_unit}
 use Rattle.record.proofs.Follow.{Spot, moved_on}

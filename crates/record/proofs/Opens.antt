@@ -3,23 +3,11 @@ use Rattle.std.proofs.Common.{◌≡◌, ℕ, ◌+◌, ◌*◌, ◌%◌, ◌<◌
 use Rattle.std.proofs.lemmas.Bool.{cases_eq, ne_eqb, eq-eqb}
 use Rattle.std.specs.Prelude.{option_map}
 use Rattle.std.proofs.lemmas.Bool.Decides.{nat_tests}
-use Rattle.safe_bit.specs.SafeRule.{is_write_open}
-use Rattle.safe_bit.specs.declared.Move.{Move}
+use Rattle.safe_bit.specs.{Move, is_write_open}
 use Rattle.safe_bit.specs.declared.Move.TheVariants.{BeginWrite, EndWrite, BeginRead, EndRead, Settle}
 use Rattle.reader_copies.specs.Runs as copies
-use Rattle.record.specs.declared.access.Access.{Access}
-use Rattle.record.specs.declared.access.Field.{Field}
-use Rattle.record.specs.declared.access.TornBit.{TornBit}
-use Rattle.record.specs.Accesses.{access_of}
-use Rattle.safe_number.specs.Runs.{NumberWrite}
-use Rattle.record.specs.Cuts.{torn_in, torn_at}
-use Rattle.record.specs.Entries.{Entry, Past}
-use Rattle.record.specs.Moves.{field_number, same_bit, moves_of, ended_with}
-use Rattle.record.specs.Parts.{Part, is_over, written_at, part_after}
-use Rattle.record.specs.Places.{Run, Writing, Reading, bit_written, next_written, write_moved, enter, is_last, place_after, access_at}
-use Rattle.record.specs.Scripts.{Call}
-use Rattle.record.specs.Turns.{open_after, open_written, open_settled, open_run}
-use Rattle.record.specs.Unit.{last_write, value_begun, unfinished, is_begin, made_with}
+use Rattle.record.specs.{Access, Call, Entry, Field, Part, Past, Reading, Run, TornBit, Writing, access_at, access_of, bit_written, ended_with, enter, field_number, is_begin, is_last, is_over, last_write, made_with, moves_of, next_written, open_after, open_run, open_settled, open_written, part_after, place_after, same_bit, torn_at, torn_in, unfinished, value_begun, write_moved, written_at}
+use Rattle.safe_number.specs.{NumberWrite}
 use Rattle.record.proofs.Left.{bit_left, left-written, left-place, left-read, left-new, value-stays, value_at}
 use Rattle.record.proofs.PlaceTurns.{same-write}
 use Rattle.record.proofs.Ties.{Tie, over, writes, reads}

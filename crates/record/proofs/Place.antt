@@ -4,11 +4,9 @@ use Rattle.std.proofs.Common.{sym, ap}
 use Rattle.record.specs.declared.access.Field.TheVariants.{Choosing, Ticket}
 use Rattle.plain_store.specs.declared.Answer.TheVariants.{Reply, TicketsFull, StampsFull}
 use Rattle.record.specs.declared.marks.Mark.TheVariants.{Waiting, Answered}
-use Rattle.plain_store.specs.Store.{Contents, changes}
-use Rattle.record.specs.Program.{Version, Wait, change, entered_if_none, first_full, greatest, lets_by, local_program, max_of, newest_stamp, part_b, part_c, part_d, part_e, part_f, part_g, part_h, reply, stamp_field, store_read, waits_of}
-use Rattle.record.specs.Registers.{others, processes}
-use Rattle.record.specs.Scripts.{Call, Numbers, Portion, Script, none, then_read, writing}
-use Rattle.safe_number.specs.Bytes.{bits_of_number, number_of_bits}
+use Rattle.plain_store.specs.{Contents, changes}
+use Rattle.record.specs.{Call, Numbers, Portion, Script, Version, Wait, change, entered_if_none, first_full, greatest, lets_by, local_program, max_of, newest_stamp, none, others, part_b, part_c, part_d, part_e, part_f, part_g, part_h, processes, reply, stamp_field, store_read, then_read, waits_of, writing}
+use Rattle.safe_number.specs.{bits_of_number, number_of_bits}
 use Rattle.record.specs.Parts.{Part, Raises, Asks, TakesTicket, Lowers, Refuses, Waits, AsksCommit, AsksStamp, AsksImage, WritesImage, WritesStamp, WritesCommit, Clears, Over, is_read, is_over, doing, first_marks, last_marks, part_after, to_b, to_c, to_d, to_e, to_g}
 
 abbrev pub portion : Call → Part → List Bool → Portion

@@ -4,27 +4,17 @@ use Rattle.std.proofs.lemmas.Bool.{eqb-true, eqb-false, ne_eqb}
 use Rattle.std.proofs.lemmas.Bool.Decides.{nat_tests}
 use Rattle.safe_bit.specs.declared.Move.TheVariants.{BeginWrite, EndWrite, BeginRead, EndRead}
 use Rattle.reader_copies.specs.Runs as copies
-use Rattle.record.specs.declared.access.Access.{Access}
-use Rattle.record.specs.declared.access.Field.{Field}
+use Rattle.record.specs.{Access, Call, Field, IsFollowed, Leads, Next, Part, Past, Reading, Run, Turn, Writing, access_at, access_of, bit_written, bits_with, ended, ended_with, enter, is_begin, is_last, is_over, is_read, last_write, next_written, open_after, open_closing, open_copy, open_place, open_run, open_settled, open_written, part_after, place_after, place_of, run_after, same_bit, unfinished, width, write_moved, written_at}
 use Rattle.record.specs.declared.access.Field.TheVariants.{Choosing, Ticket}
-use Rattle.record.specs.Accesses.{access_of}
-use Rattle.safe_number.specs.Runs.{NumberWrite, new_write}
-use Rattle.plain_store.specs.declared.Reply.{Reply}
+use Rattle.safe_number.specs.{NumberWrite, new_write}
+use Rattle.plain_store.specs.{Reply}
 use Rattle.record.specs.Closings.{closing_of, failing, settling_from, withdrawing, Closing, Withdraws, Settles, Frees, Lowers, Quit, Ended, no_ticket, is_last_written, is_last_settled, freeing, closing_next, closing_after}
-use Rattle.record.specs.Moves.{same_bit, ended, ended_with}
-use Rattle.record.specs.Parts.{Part, is_over, is_read, written_at, part_after}
-use Rattle.record.specs.Places.{IsFollowed, place_of, Run, Writing, Reading, bit_written, next_written, write_moved, enter, is_last, access_at, bits_with, run_after, place_after}
-use Rattle.record.specs.Registers.{width}
-use Rattle.record.specs.Scripts.{Call, Next}
 use Rattle.record.proofs.Closing.{Fit}
 use Rattle.record.proofs.ClosingScripts.{withdrawal-stays, unit-stays}
 use Rattle.record.proofs.Follow.{spot_of}
 use Rattle.record.proofs.Width.{IsGood}
-use Rattle.record.specs.Entries.{Past}
-use Rattle.record.specs.Unit.{last_write, unfinished, is_begin}
 use Rattle.record.proofs.Cursors.{Goes}
 use Rattle.record.proofs.Ties.{follows-tied, Tie, over, writes, reads}
-use Rattle.record.specs.Turns.{Leads, Turn, open_after, open_written, open_settled, open_copy, open_run, open_place, open_closing}
 use Rattle.record.proofs.Turns.{new-closed, done-closed, write-leads, settle-leads}
 
 pub enter-closed : (c : Call) (part : Part) (a : Access) → open_place c (enter c part) a ≡ false

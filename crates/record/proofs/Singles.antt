@@ -1,19 +1,14 @@
 -- Laws of the single accesses of a number, and of the entries of a script.
 use Rattle.std.specs.Prelude.{◌≡◌, refl, ℕ, zero, suc, ◌+◌, ◌*◌, ◌<◌, Bool, true, false, List, [], ◌∷◌, ◌++◌, length, map, replicate, slice_get, Option, None, Some}
 use Rattle.std.proofs.Common.{sym, subst, ap, arith, zero-add, suc-add}
-use Rattle.record.specs.declared.access.Access.{Access}
-use Rattle.record.specs.declared.access.Field.{Field}
-use Rattle.safe_bit.specs.declared.Move.{Move}
+use Rattle.record.specs.{Access, Field, Mark, Next, access_of, single, write_of}
+use Rattle.safe_bit.specs.{Move}
 use Rattle.safe_bit.specs.declared.Move.TheVariants.{BeginWrite, EndWrite, BeginRead, EndRead, Settle}
-use Rattle.plain_store.specs.declared.Setup.{Setup}
-use Rattle.record.specs.declared.marks.Mark.{Mark}
-use Rattle.record.specs.Registers.{write_of}
-use Rattle.safe_number.specs.Accesses.{at_bit}
-use Rattle.record.specs.Accesses.{access_of}
+use Rattle.plain_store.specs.{Setup}
+use Rattle.safe_number.specs.{at_bit}
 use Rattle.safe_number.specs.Accesses as number
 use Rattle.reader_copies.specs.Runs as copies
-use Rattle.reader_copies.specs.Written.{IsWrite}
-use Rattle.record.specs.Scripts.{Next, single}
+use Rattle.reader_copies.specs.{IsWrite}
 
 pub get-append : {X : Type 0} → (xs ys : List X) (k : ℕ) → slice_get (xs ++ ys) (length xs + k) ≡ slice_get ys k
 get-append [] ys k = rw zero-add refl

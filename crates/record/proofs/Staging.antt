@@ -4,18 +4,10 @@ use Rattle.std.proofs.Common.{sym, ◌∙◌, ap}
 use Rattle.std.specs.List.{list_any}
 use Rattle.std.proofs.lemmas.List.Folds.{list_any-append}
 use Rattle.plain_store.specs.declared.Answer.TheVariants.{Reply, StampsFull}
-use Rattle.record.specs.declared.marks.Mark.{Mark}
+use Rattle.record.specs.{Call, Mark, Stage, Version, Wait, called_in, entered_if_none, first_full, greatest, is_called, lets_by, max_of, newest_stamp, others, placed, processes, reply, stage_after, start_in, starts, store_read, waits_of}
 use Rattle.record.specs.declared.marks.Mark.TheVariants.{Called, Waiting, Taken, Failed, Withdrew}
-use Rattle.record.specs.declared.stages.Stage.{Stage}
 use Rattle.record.specs.declared.stages.Stage.TheVariants.{Doorway, Waiting, Inside}
-use Rattle.plain_store.specs.Store.{Contents, changes}
-use Rattle.record.specs.Calls.{called_in}
-use Rattle.record.specs.Entries.{is_called, starts}
-use Rattle.record.specs.Program.{Version, Wait, entered_if_none, first_full, greatest, lets_by, max_of, newest_stamp, reply, store_read, waits_of}
-use Rattle.record.specs.Records.{placed, start_in}
-use Rattle.record.specs.Registers.{others, processes}
-use Rattle.record.specs.Scripts.{Call}
-use Rattle.record.specs.Stages.{stage_after}
+use Rattle.plain_store.specs.{Contents, changes}
 use Rattle.record.specs.Parts.{stage_of, Part, Raises, Asks, TakesTicket, Lowers, Refuses, Waits, AsksCommit, AsksStamp, AsksImage, WritesImage, WritesStamp, WritesCommit, Clears, Over, first_marks, last_marks, to_e, to_d, to_b, to_g, part_after}
 
 pub stage-to_e : (ks : List ℕ) (vs : List Version) (f : Bool) → stage_of (to_e ks vs) f ≡ Inside

@@ -1,24 +1,10 @@
 -- What a process does next, by its place.
 use Rattle.std.specs.Prelude.{◌≡◌, refl, ℕ, Bool, true, false, cond, List, [], ◌∷◌, length, map, Option, None, Some, option_map}
 use Rattle.std.proofs.Common.{sym, ◌∙◌, ap, true≢false}
-use Rattle.safe_bit.specs.SafeRule.{read_value}
-use Rattle.record.specs.declared.access.Access.{Access}
-use Rattle.plain_store.specs.declared.Setup.{Setup}
-use Rattle.record.specs.declared.events.Event.{Event}
-use Rattle.record.specs.declared.marks.Mark.{Mark}
+use Rattle.safe_bit.specs.{read_value}
+use Rattle.record.specs.{Access, Call, Entry, Event, IsFollowed, Mark, Next, Past, Place, ReadSoFar, Stage, access_at, accesses_of, ended, ended_with, entry_at, entry_made, history, is_over, is_running, last_call, last_start, local_program, marks_at, marks_of, moves_of, next_access, nth, opening_bit, own, past_of, place_of, placed, program, program_from, read_so_far, reads_of, scripted, since, stage, stage_at, starts, stepped, value_of, valued, with_access}
+use Rattle.plain_store.specs.{Setup}
 use Rattle.record.specs.declared.marks.Mark.TheVariants.{Called, Failed, Withdrew}
-use Rattle.record.specs.declared.stages.Stage.{Stage}
-use Rattle.record.specs.Calls.{ReadSoFar, read_so_far, with_access, last_call}
-use Rattle.record.specs.Entries.{Entry, Past, own, since, starts}
-use Rattle.record.specs.Histories.{history}
-use Rattle.record.specs.Moves.{ended, ended_with, moves_of, valued}
-use Rattle.record.specs.Parts.{is_over}
-use Rattle.record.specs.Places.{Place, IsFollowed, accesses_of, reads_of, scripted, place_of, access_at, next_access, marks_of, stage_at, value_of, entry_at, is_running}
-use Rattle.record.specs.Program.{local_program}
-use Rattle.record.specs.Records.{entry_made, last_start, past_of, placed, program, program_from, stepped}
-use Rattle.record.specs.Registers.{opening_bit}
-use Rattle.record.specs.Scripts.{Call, Next, marks_at, nth}
-use Rattle.record.specs.Stages.{stage}
 use Rattle.record.proofs.Follow as follow
 use Rattle.record.proofs.Follow.{Spot, Stands, spot_of, stands, not_over}
 use Rattle.record.proofs.Local.{View, Running, rests, down, runs, withdraws, fails, made_too}

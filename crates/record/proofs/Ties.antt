@@ -3,22 +3,15 @@ use Rattle.std.proofs.Common.{◌≡◌, ◌≢◌, ℕ, zero, suc, ◌+◌, ◌
 use Rattle.std.proofs.lemmas.Bool.{eqb-true, eqb-false, ne_eqb, eq-eqb}
 use Rattle.std.proofs.lemmas.List.{length-map, length_push}
 use Rattle.std.specs.Prelude.{slice_get}
-use Rattle.reader_copies.specs.declared.Made.{Made}
-use Rattle.record.specs.declared.access.Access.{Access}
-use Rattle.safe_number.specs.Accesses.{number_writes, number_reads}
-use Rattle.record.specs.Accesses.{access_of}
-use Rattle.safe_number.specs.Bytes.{bits_of_number}
-use Rattle.safe_number.specs.Runs.{NumberWrite, new_write}
+use Rattle.reader_copies.specs.{Made}
+use Rattle.record.specs.{Access, Call, IsFollowed, Place, Reading, Run, Writing, access_at, access_of, bit_written, bits_with, ended, ended_with, enter, is_fresh, is_last, marks_of, next_read, next_written, place_after, place_of, read_of, reads_of, run_after, stage_at, value_of, width, write_moved, write_of}
+use Rattle.safe_number.specs.{NumberWrite, bits_of_number, new_write, number_reads, number_writes}
 use Rattle.safe_number.proofs.Numbers.{length_bits}
 use Rattle.safe_number.proofs.Bits.{length-bits_of_number}
-use Rattle.record.specs.Moves.{ended, ended_with}
 use Rattle.record.specs.Parts.{Part, Raises, Asks, TakesTicket, Lowers, Refuses, Waits, AsksCommit, AsksStamp, AsksImage, WritesImage, WritesStamp, WritesCommit, Clears, Over, is_read, is_over, read_at, written_at, doing, part_after, stage_of, first_marks, last_marks}
-use Rattle.record.specs.Places.{reads_of, IsFollowed, Run, Writing, Reading, Place, bit_written, next_written, write_moved, next_read, enter, is_fresh, is_last, access_at, bits_with, run_after, place_after, marks_of, stage_at, value_of, place_of}
-use Rattle.record.specs.Registers.{read_of, width, write_of}
-use Rattle.record.specs.Scripts.{Call}
 use Rattle.record.proofs.Cursors.{drop-map, drop-more, get-drop, length-drop, left_written, left_read, left-next, left-new, left-done, write-moves, Goes, Moved, read-begins, read-ends}
 use Rattle.record.proofs.Follow.{Spot, moved_on, more_bits, spot_of, stands, not_over, next_access}
-use Rattle.safe_bit.specs.declared.Move.{Move}
+use Rattle.safe_bit.specs.{Move}
 use Rattle.safe_bit.specs.declared.Move.TheVariants.{BeginWrite, EndWrite}
 use Rattle.record.proofs.Marking.{spot_marks}
 use Rattle.record.proofs.Width.{IsGood, width-pos}

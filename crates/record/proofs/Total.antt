@@ -3,25 +3,17 @@ use Rattle.std.specs.Prelude.{◌≡◌, refl, ℕ, ◌+◌, ◌-◌, ◌<◌, �
 use Rattle.std.proofs.Common.{sym, ◌∙◌, ap, subst, arith, append-nil, length-append, eq-eqb}
 use Rattle.record.specs.declared.access.Field.TheVariants.{Choosing, Ticket}
 use Rattle.plain_store.specs.declared.Answer.TheVariants.{Withdrawn}
-use Rattle.record.specs.declared.marks.Mark.{Mark}
+use Rattle.record.specs.{Mark, Next, Past, Portion, Script, Stage, doing, inside, is_over, is_read, last_write, marks_at, scripted, settle, single, singles, stage_after, unfinished, unit_program, withdrawn, writing}
 use Rattle.record.specs.declared.marks.Mark.TheVariants.{Answered, Left, Down}
-use Rattle.record.specs.declared.stages.Stage.{Stage}
 use Rattle.record.specs.declared.stages.Stage.TheVariants.{Idle, Leaving, Settling, Down}
 use Rattle.record.proofs.Singles.{get-append, get-left, length-single}
 use Rattle.record.proofs.Place.{portion, rest, rest-unread, rest-write}
 use Rattle.record.proofs.Follow.{Spot, Stands}
-use Rattle.record.specs.Places.{scripted}
 use Rattle.record.proofs.Marking.{marks_on, single-marks}
 use Rattle.record.proofs.Local.{get_some}
 use Rattle.record.proofs.Whole.{flat_map-append}
 use Rattle.record.proofs.Width.{IsGood, written-pos, bits_of_number-pos, width-pos}
-use Rattle.record.specs.Entries.{Past}
-use Rattle.record.specs.Program.{withdrawn}
-use Rattle.record.specs.Scripts.{Next, Portion, Script, marks_at, single, singles, writing}
-use Rattle.record.specs.Stages.{inside, stage_after}
-use Rattle.record.specs.Unit.{last_write, settle, unfinished, unit_program}
-use Rattle.record.specs.Parts.{is_read, is_over, doing}
-use Rattle.safe_number.specs.Bytes.{bits_of_number}
+use Rattle.safe_number.specs.{bits_of_number}
 
 -- a running process has a next access
 pub runs_on : (c : Rattle.record.specs.Scripts.Call) (r : Rattle.record.specs.Calls.ReadSoFar) (len : ℕ) (at : Spot) → Stands c r len at → is_over at.part ≡ false → (n : Next) × (scripted c r.finished len ≡ Some n)

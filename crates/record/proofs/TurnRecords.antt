@@ -2,31 +2,14 @@
 use Rattle.std.proofs.Common.{◌≡◌, ℕ, ◌==◌, ◌&&◌, Bool, true, false, cond, List, [], ◌∷◌, ◌++◌, Option, Some, None, refl, sym, ap, subst, ◌∙◌, true≢false, inl, inr, eqb-true}
 use Rattle.std.specs.Prelude.{fold, nat_lt}
 use Rattle.safe_bit.specs.Cell.{Cell, cell_of, MayWrite, AreWritesInTurn}
-use Rattle.safe_bit.specs.SafeRule.{is_write_open}
-use Rattle.safe_bit.specs.declared.Move.{Move}
+use Rattle.safe_bit.specs.{Move, is_write_open}
 use Rattle.safe_bit.specs.declared.Move.TheVariants.{BeginWrite, EndWrite, BeginRead, EndRead, Settle}
-use Rattle.record.specs.declared.access.Access.{Access}
-use Rattle.record.specs.declared.access.TornBit.{TornBit}
-use Rattle.plain_store.specs.declared.Setup.{Setup}
-use Rattle.record.specs.declared.events.Event.{Event}
+use Rattle.record.specs.{Access, Call, Entry, Event, Mark, Past, Run, Stage, TornBit, Turn, added, entry_of, field_number, is_running, last_call, last_write, moves_of, open_closing, open_run, opening_bit, own, past_of, process_of, refused_at, same_bit, settling_from, stage, stage_after, torn_at, torn_run, unfinished}
+use Rattle.plain_store.specs.{Setup}
 use Rattle.record.specs.declared.events.Event.TheVariants.{Call as Calls, Step, Fail, Withdraw, Restart}
-use Rattle.record.specs.declared.marks.Mark.{Mark}
 use Rattle.record.specs.declared.marks.Mark.TheVariants.{Called, Failed, Withdrew, Restarted}
-use Rattle.record.specs.declared.stages.Stage.{Stage}
 use Rattle.record.specs.declared.stages.Stage.TheVariants.{Idle, Doorway, Waiting, Leaving, Settling, Down}
-use Rattle.record.specs.Calls.{last_call}
-use Rattle.record.specs.Closings.{settling_from}
-use Rattle.record.specs.Cuts.{torn_at, torn_run}
-use Rattle.record.specs.Entries.{Entry, Past, own}
-use Rattle.record.specs.Moves.{field_number, same_bit, moves_of}
 use Rattle.record.specs.Parts.{Part, Raises, Asks, TakesTicket, Lowers, Refuses, Waits, AsksCommit, AsksStamp, AsksImage, WritesImage, WritesStamp, WritesCommit, Clears, Over, is_over, is_read, stage_of}
-use Rattle.record.specs.Places.{Run, is_running}
-use Rattle.record.specs.Records.{added, entry_of, past_of, process_of, refused_at}
-use Rattle.record.specs.Registers.{opening_bit}
-use Rattle.record.specs.Scripts.{Call}
-use Rattle.record.specs.Stages.{stage, stage_after}
-use Rattle.record.specs.Turns.{Turn, open_closing, open_run}
-use Rattle.record.specs.Unit.{unfinished, last_write}
 use Rattle.record.proofs.OpenRecords.{withdrawn-out, unit-out}
 use Rattle.record.proofs.OpenSteps.{Opens, closed, runs_at, leaves, settles, Out, IsLate, place_at, running-out}
 use Rattle.record.proofs.Opens.{opened, Torn, open_torn}

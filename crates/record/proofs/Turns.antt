@@ -2,17 +2,12 @@
 use Rattle.std.proofs.Common.{◌≡◌, ◌≢◌, ℕ, ◌+◌, ◌*◌, ◌/◌, ◌%◌, ◌<◌, ◌≤◌, ◌==◌, ◌&&◌, ◌||◌, Bool, true, false, cond, not, List, Option, Some, None, nat_le, refl, sym, ap, subst, ◌∙◌, arith, inl, inr}
 use Rattle.std.proofs.lemmas.Bool.{cases_eq, eqb-true, eqb-false, ne_eqb, eq-eqb}
 use Rattle.std.proofs.lemmas.Bool.Decides.{nat_tests}
-use Rattle.safe_bit.specs.declared.Move.{Move}
+use Rattle.safe_bit.specs.{Move}
 use Rattle.safe_bit.specs.declared.Move.TheVariants.{BeginWrite, EndWrite, Settle}
 use Rattle.reader_copies.specs.Runs as copies
-use Rattle.record.specs.declared.access.Access.{Access}
-use Rattle.record.specs.declared.access.Field.{Field}
-use Rattle.record.specs.Accesses.{access_of}
-use Rattle.safe_number.specs.Runs.{NumberWrite, new_write}
-use Rattle.record.specs.Moves.{field_number, same_bit}
-use Rattle.record.specs.Places.{bit_written, next_written, write_moved}
+use Rattle.record.specs.{Access, Field, Leads, Turn, access_of, bit_written, field_number, next_written, open_after, open_copy, open_settled, open_written, same_bit, write_moved}
+use Rattle.safe_number.specs.{NumberWrite, new_write}
 use Rattle.record.proofs.Cursors.{Goes}
-use Rattle.record.specs.Turns.{Leads, Turn, open_after, open_written, open_copy, open_settled}
 
 pub and_false : (b : Bool) → (b && false) ≡ false
 and_false true = refl

@@ -1,18 +1,12 @@
 -- A read that no write of its register meets gives the register's bits.
 use Rattle.std.specs.Prelude.{◌≡◌, refl, ℕ, ◌+◌, ◌<◌, Bool, true, false, List, [], ◌∷◌, ◌++◌, length, flat_map, slice_index_or}
 use Rattle.std.proofs.Common.{sym, ◌∙◌, ap, append_assoc}
-use Rattle.record.specs.declared.access.Field.{Field}
-use Rattle.safe_bit.specs.declared.Move.{Move}
+use Rattle.record.specs.{AllReads, Field, HasBits, Past, begins_read, copy, move_on, moves_of, opening_bit}
+use Rattle.safe_bit.specs.{Move, is_write_open, last_written, read_value}
 use Rattle.safe_bit.specs.declared.Move.TheVariants.{BeginWrite, EndWrite, BeginRead, EndRead, Settle}
-use Rattle.reader_copies.specs.Written.{IsRead}
-use Rattle.plain_store.specs.declared.Setup.{Setup}
+use Rattle.reader_copies.specs.{IsRead}
+use Rattle.plain_store.specs.{Setup}
 use Rattle.record.proofs.Singles.{is_write}
-use Rattle.record.specs.Entries.{Past}
-use Rattle.record.specs.Laws.{HasBits}
-use Rattle.record.specs.Newest.{copy}
-use Rattle.record.specs.Moves.{move_on, moves_of, AllReads, begins_read}
-use Rattle.record.specs.Registers.{opening_bit}
-use Rattle.safe_bit.specs.SafeRule.{is_write_open, last_written, read_value}
 
 abbrev pub NoWrites : List Move → Type 0
 NoWrites [] = Unit {0}

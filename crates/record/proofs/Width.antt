@@ -3,19 +3,14 @@ use Rattle.std.specs.Prelude.{◌≡◌, ℕ, zero, suc, ◌+◌, ◌-◌, ◌<�
 use Rattle.std.proofs.Common.{arith}
 use Rattle.std.proofs.lemmas.Bool.Decides.{nat_tests}
 use Rattle.std.specs.Int.{is_in_range}
-use Rattle.record.specs.declared.access.Field.{Field}
+use Rattle.record.specs.{Call, Field, caller, new_image, newest_stamp, read_of, stamp_field, version_of, width, write_of}
 use Rattle.record.specs.declared.access.Field.TheVariants.{Choosing, Ticket, Commit, Stamp0, Stamp1, Image0, Image1}
-use Rattle.safe_number.specs.Bytes.{bits_of_number}
+use Rattle.safe_number.specs.{bits_of_number}
 use Rattle.safe_number.proofs.Numbers.{length_bits}
-use Rattle.plain_store.specs.declared.Setup.{Setup}
-use Rattle.store_image.specs.Image.{image_of}
-use Rattle.plain_store.specs.Setups.{checked}
-use Rattle.plain_store.specs.Store.{after}
+use Rattle.plain_store.specs.{Setup, after, checked}
+use Rattle.store_image.specs.{image_of}
 use Rattle.plain_store.proofs.GoodSetups.{good-checked}
 use Rattle.record.specs.Parts.{Part, Raises, Asks, TakesTicket, Lowers, Refuses, Waits, AsksCommit, AsksStamp, AsksImage, WritesImage, WritesStamp, WritesCommit, Clears, Over, is_over, read_at, doing}
-use Rattle.record.specs.Program.{newest_stamp, new_image, stamp_field, version_of}
-use Rattle.record.specs.Registers.{read_of, width, write_of}
-use Rattle.record.specs.Scripts.{Call, caller}
 use Rattle.record.proofs.Singles.{write_of-pos, length-reads_from}
 
 -- what a setup that the check passes has

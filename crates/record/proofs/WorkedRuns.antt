@@ -3,25 +3,13 @@ use Rattle.std.specs.Prelude.{◌≡◌, refl, ℕ, true, false, List, [], ◌�
 use Rattle.plain_store.specs.declared.Command.TheVariants.{Read, Write}
 use Rattle.plain_store.specs.declared.Value.TheVariants.{Count}
 use Rattle.plain_store.specs.declared.Answer.TheVariants.{TicketsFull, Withdrawn}
-use Rattle.plain_store.specs.declared.Setup.{Setup}
-use Rattle.record.specs.declared.events.Event.{Event}
+use Rattle.plain_store.specs.{Setup, changes, empty_store}
+use Rattle.record.specs.{Event, Mark, Past, Refusal, added, ahead, new_image, newest_bytes, past_of, process_of, refused}
 use Rattle.record.specs.declared.events.Event.TheVariants.{Call, Step, Fail, Withdraw, Restart}
-use Rattle.record.specs.declared.marks.Mark.{Mark}
 use Rattle.record.specs.declared.marks.Mark.TheVariants.{Called, Waiting, Entered, Answered, Failed, Settled, Down, Withdrew, Restarted}
-use Rattle.record.specs.declared.refusals.Refusal.{Refusal}
 use Rattle.record.specs.declared.refusals.Refusal.TheVariants.{Busy, IsDown, NotRunning, NotWaiting, AlreadyFailed, NotDown}
-use Rattle.store_image.specs.Image.{image_of}
-use Rattle.store_image.specs.Slots.{unused_slot}
-use Rattle.record.specs.Doorways.{ahead}
-use Rattle.record.specs.Entries.{Past}
-use Rattle.record.specs.Newest.{newest_bytes}
-use Rattle.record.specs.Records.{refused, added, past_of, process_of}
+use Rattle.store_image.specs.{count_bytes, count_in, image_of, name_in, number_bytes, number_in, store_in, unused_slot, value_in}
 use Rattle.store_image.specs.Image as slots
-use Rattle.store_image.specs.Image.{number_bytes, number_in}
-use Rattle.store_image.specs.Reading.{store_in}
-use Rattle.store_image.specs.Slots.{count_bytes, count_in, name_in, value_in}
-use Rattle.plain_store.specs.Store.{changes, empty_store}
-use Rattle.record.specs.Program.{new_image}
 
 -- a mark of an entry with its number and process, or a refusal
 data Line : Type 0 where

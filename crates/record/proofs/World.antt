@@ -2,32 +2,19 @@
 use Rattle.std.specs.Prelude.{◌≡◌, ◌⊎◌, refl, ℕ, zero, suc, ◌==◌, nat_lt, Bool, true, false, cond, not, ◌&&◌, List, [], ◌∷◌, ◌++◌, length, map, fold, slice_get, if◌then◌else◌, Option, None, Some}
 use Rattle.std.proofs.Common.{sym, ◌∙◌, ap, subst, inl, inr, append-nil, eqb-true}
 use Rattle.std.specs.List.{list_any}
-use Rattle.record.specs.declared.access.Access.{Access}
-use Rattle.plain_store.specs.declared.Setup.{Setup}
+use Rattle.record.specs.{Access, Entry, Event, Mark, Next, Past, Raises, Refusal, Script, Stage, added, before, calls_full, entry_made, entry_of, has, history, inside, is_called, is_commit, is_failed, last_call, last_read, last_start, last_write, marks_at, nth, own, past_of, placed, process_of, program, program_from, read_so_far, refused_at, reply, settle, settles_at, since, single, singles, stage, stage_after, starts, store_read, unfinished, unit_program, value_begun, withdrawn, writing}
+use Rattle.plain_store.specs.{Setup}
 use Rattle.plain_store.specs.declared.Answer.TheVariants.{Withdrawn}
 use Rattle.record.specs.declared.access.Field.TheVariants.{Choosing, Ticket}
-use Rattle.record.specs.declared.events.Event.{Event}
 use Rattle.record.specs.declared.events.Event.TheVariants.{Call, Step, Fail, Withdraw, Restart}
-use Rattle.record.specs.declared.refusals.Refusal.{Refusal}
-use Rattle.record.specs.declared.marks.Mark.{Mark}
 use Rattle.record.specs.declared.marks.Mark.TheVariants.{Called, Taken, Left, Answered, Failed, Settled, Down, Withdrew, Restarted}
-use Rattle.record.specs.declared.stages.Stage.{Stage}
 use Rattle.record.specs.declared.stages.Stage.TheVariants.{Idle, Leaving, Settling, Down}
 use Rattle.record.proofs.Follow.{start}
 use Rattle.record.proofs.Ties.{enters}
 use Rattle.record.proofs.Width.{IsGood, doing-pos}
 use Rattle.record.proofs.Staging.{stage-placed, no_start-placed}
 use Rattle.record.proofs.Local.{View, rests, down, runs, withdraws, fails, start-plain, running_steps, option_map-some}
-use Rattle.record.specs.Calls.{last_call, read_so_far}
-use Rattle.record.specs.Entries.{Entry, Past, before, has, is_called, is_failed, own, since, starts}
-use Rattle.record.specs.Histories.{history}
-use Rattle.record.specs.Program.{reply, store_read, withdrawn}
-use Rattle.record.specs.Records.{added, calls_full, entry_made, entry_of, last_start, past_of, placed, process_of, program, program_from, refused_at}
-use Rattle.record.specs.Scripts.{Next, Script, marks_at, nth, single, singles, writing}
-use Rattle.record.specs.Stages.{inside, stage, stage_after}
-use Rattle.record.specs.Unit.{is_commit, last_read, last_write, settle, settles_at, unfinished, unit_program, value_begun}
-use Rattle.record.specs.Parts.{Raises}
-use Rattle.safe_number.specs.Bytes.{bits_of_number}
+use Rattle.safe_number.specs.{bits_of_number}
 
 -- what holds of the marks of each portion holds of each entry's
 abbrev pub EachPortion : (List Mark → Type 0) → Script → Type 0

@@ -1,15 +1,12 @@
 -- Every bit has one writer: who makes a write move owns the bit.
 use Rattle.std.specs.Prelude.{◌≡◌, refl, ℕ, zero, suc, ◌+◌, ◌==◌, nat_lt, Bool, true, false, cond, ◌&&◌, List, [], ◌∷◌, ◌++◌, length, map, slice_get, Option, None, Some}
 use Rattle.std.proofs.Common.{sym, ◌∙◌, ap, subst, true≢false, eqb-true, eq-eqb}
-use Rattle.record.specs.declared.access.Access.{Access}
-use Rattle.record.specs.declared.access.Field.{Field}
+use Rattle.record.specs.{Access, Entry, Event, Field, Mark, Next, Past, Script, access_of, added, before, doing, ended, ended_with, entry_made, entry_of, field_number, has, inside, is_failed, is_finished, is_read, last_call, last_write, made_with, move_on, moves_of, nth, own, past_of, process_of, program, program_from, read_at, read_of, refused_at, same_bit, settle, settles_at, since, single, singles, stage, starts, stepped, unfinished, unit_program, valued, width, withdrawn, write_of, writing, written_at}
 use Rattle.record.specs.declared.access.Field.TheVariants.{Choosing, Ticket}
-use Rattle.safe_bit.specs.declared.Move.{Move}
+use Rattle.safe_bit.specs.{Move, is_write_open}
 use Rattle.safe_bit.specs.declared.Move.TheVariants.{BeginWrite, EndWrite, BeginRead, EndRead, Settle}
-use Rattle.plain_store.specs.declared.Setup.{Setup}
-use Rattle.record.specs.declared.events.Event.{Event}
+use Rattle.plain_store.specs.{Setup}
 use Rattle.record.specs.declared.events.Event.TheVariants.{Call, Step, Fail, Withdraw, Restart}
-use Rattle.record.specs.declared.marks.Mark.{Mark}
 use Rattle.record.specs.declared.marks.Mark.TheVariants.{Left, Down, Failed, Withdrew}
 use Rattle.record.specs.declared.stages.Stage.TheVariants.{Idle, Down}
 use Rattle.record.proofs.Singles.{is_write, reads_from, map-joined}
@@ -18,23 +15,10 @@ use Rattle.record.proofs.Follow.{Spot, next_access}
 use Rattle.record.proofs.Local.{View, rests, down, runs, withdraws, fails, option_map-some}
 use Rattle.record.proofs.World.{entry-accepted, entry_view, view}
 use Rattle.record.proofs.Width.{IsGood}
-use Rattle.record.specs.Calls.{last_call}
-use Rattle.record.specs.Entries.{Entry, Past, before, has, is_failed, own, since, starts}
-use Rattle.record.specs.Moves.{ended, ended_with, field_number, move_on, moves_of, same_bit, valued}
-use Rattle.record.specs.Program.{withdrawn}
-use Rattle.record.specs.Records.{added, entry_made, entry_of, past_of, process_of, program, program_from, refused_at, stepped}
-use Rattle.record.specs.Registers.{read_of, width, write_of}
-use Rattle.record.specs.Scripts.{Next, Script, nth, single, singles, writing}
-use Rattle.record.specs.Stages.{inside, stage}
-use Rattle.record.specs.Unit.{made_with, is_finished, last_write, settle, settles_at, unfinished, unit_program}
-use Rattle.safe_bit.specs.SafeRule.{is_write_open}
-use Rattle.record.specs.Parts.{is_read, read_at, written_at, doing}
-use Rattle.safe_number.specs.Accesses.{at_bit}
-use Rattle.record.specs.Accesses.{access_of}
+use Rattle.safe_number.specs.{at_bit, bits_of_number}
 use Rattle.safe_number.specs.Accesses as number
-use Rattle.reader_copies.specs.Runs.{settles_from, is_open_at}
+use Rattle.reader_copies.specs.{settles_from, is_open_at}
 use Rattle.reader_copies.specs.Runs as copies
-use Rattle.safe_number.specs.Bytes.{bits_of_number}
 
 -- a write move of p is on a bit of p
 abbrev pub IsOwn : ℕ → Access → Type 0

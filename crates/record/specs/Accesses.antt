@@ -1,6 +1,6 @@
 -- Accesses to the registers of processes.
 use Rattle.std.specs.Prelude.{ℕ}
-use Rattle.reader_copies.specs.declared.Made.{Made}
+use Rattle.reader_copies.specs.{Made}
 use Rattle.record.specs.declared.access.Access.{Access}
 use Rattle.record.specs.declared.access.Field.{Field}
 

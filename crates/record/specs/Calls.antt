@@ -1,11 +1,10 @@
 -- What a process calls, and what it has read: looked up in its own entries.
 use Rattle.std.specs.Prelude.{ℕ, suc, ◌+◌, ◌==◌, Bool, true, false, List, [], ◌∷◌, ◌++◌, Option, None, Some, cond}
-use Rattle.safe_bit.specs.declared.Move.{Move}
+use Rattle.safe_bit.specs.{Move}
 use Rattle.safe_bit.specs.declared.Move.TheVariants.{EndRead}
 use Rattle.record.specs.declared.access.Access.{Access}
-use Rattle.plain_store.specs.declared.Command.{Command}
+use Rattle.plain_store.specs.{Command, Setup}
 use Rattle.plain_store.specs.declared.Command.TheVariants.{Ask}
-use Rattle.plain_store.specs.declared.Setup.{Setup}
 use Rattle.record.specs.declared.marks.Mark.{Mark}
 use Rattle.record.specs.declared.marks.Mark.TheVariants.{Called}
 use Rattle.record.specs.Entries.{Past, has, is_called}

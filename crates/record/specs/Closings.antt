@@ -5,11 +5,9 @@ use Rattle.record.specs.declared.access.Access.{Access}
 use Rattle.record.specs.declared.access.Field.{Field}
 use Rattle.record.specs.declared.access.Field.TheVariants.{Choosing, Ticket}
 use Rattle.record.specs.Accesses.{access_of}
-use Rattle.safe_number.specs.Bytes.{bits_of_number}
-use Rattle.safe_number.specs.Runs.{NumberWrite, new_write}
+use Rattle.safe_number.specs.{NumberWrite, bits_of_number, new_write}
 use Rattle.plain_store.specs.declared.Answer.TheVariants as answer
-use Rattle.plain_store.specs.declared.Reply.{Reply}
-use Rattle.plain_store.specs.declared.Setup.{Setup}
+use Rattle.plain_store.specs.{Reply, Setup}
 use Rattle.record.specs.declared.marks.Mark.{Mark}
 use Rattle.record.specs.declared.marks.Mark.TheVariants.{Taken, Left, Answered, Settled, Down}
 use Rattle.record.specs.declared.stages.Stage.{Stage}

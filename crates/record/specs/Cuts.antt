@@ -4,10 +4,8 @@ use Rattle.reader_copies.specs.Runs as copies
 use Rattle.record.specs.declared.access.Field.{Field}
 use Rattle.record.specs.declared.access.Field.TheVariants.{Ticket}
 use Rattle.record.specs.declared.access.TornBit.{TornBit}
-use Rattle.safe_number.specs.Runs.{NumberWrite, torn_bit}
-use Rattle.plain_store.specs.declared.Reply.{Reply}
-use Rattle.plain_store.specs.declared.Setup.{Setup}
-use Rattle.plain_store.specs.Store.{Contents}
+use Rattle.safe_number.specs.{NumberWrite, torn_bit}
+use Rattle.plain_store.specs.{Contents, Reply, Setup}
 use Rattle.record.specs.Closings.{Closing, Withdraws}
 use Rattle.record.specs.Parts.{Part, WritesImage, WritesStamp, WritesCommit, written_at}
 use Rattle.record.specs.Places.{Run, Writing, Reading, Place}

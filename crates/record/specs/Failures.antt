@@ -2,7 +2,7 @@
 use Rattle.std.specs.Prelude.{Bool, false, cond, slice_index_or, Option, None, Some, option_map}
 use Rattle.record.specs.declared.access.Field.{Field}
 use Rattle.record.specs.declared.access.TornBit.{TornBit}
-use Rattle.plain_store.specs.declared.Reply.{Reply}
+use Rattle.plain_store.specs.{Reply}
 use Rattle.record.specs.Closings.{Closing, Withdraws, Settles, freeing, no_ticket}
 use Rattle.record.specs.Cuts.{Change, pending_at, torn_at, torn_closing}
 use Rattle.record.specs.Parts.{Part, written_at}

@@ -1,10 +1,7 @@
 -- What the laws of the data take for granted: names, values and counts are what their types allow.
 use Rattle.std.specs.Prelude.{◌≡◌, Bool, true, List, ◌∷◌, Ok, Some}
 use Rattle.std.specs.List.{list_all}
-use Rattle.plain_store.specs.declared.Setup.{Setup}
-use Rattle.plain_store.specs.Commands.{is_command}
-use Rattle.plain_store.specs.Store.{are_pairs}
-use Rattle.plain_store.specs.Setups.{checked}
+use Rattle.plain_store.specs.{Setup, are_pairs, checked, is_command}
 use Rattle.record.specs.declared.events.Event.{Event}
 use Rattle.record.specs.declared.events.Event.TheVariants as event
 use Rattle.record.specs.Entries.{Entry, Past}

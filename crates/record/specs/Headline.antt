@@ -1,23 +1,17 @@
 -- The headline's statements, about the record of every list of events. They stand here to be proved, by the crates of laws above: nothing here claims them.
 use Rattle.std.specs.Prelude.{◌≡◌, ◌↔◌, ℕ, suc, ◌+◌, ◌<◌, ◌==◌, nat_lt, Bool, true, false, ◌&&◌, ◌||◌, List, [], ◌∷◌, ◌++◌, length, map, take, slice_get, Option, None, Some, Ok, cond, IsTrue, IsFalse, Contains}
 use Rattle.std.specs.List.{list_any}
-use Rattle.safe_bit.specs.declared.Move.{Move}
+use Rattle.safe_bit.specs.{Move, is_overlapped}
 use Rattle.safe_bit.specs.declared.Move.TheVariants.{EndRead}
-use Rattle.safe_bit.specs.SafeRule.{is_overlapped}
 use Rattle.record.specs.declared.access.Access.{Access}
 use Rattle.record.specs.declared.access.Field.{Field}
 use Rattle.record.specs.declared.access.Field.TheVariants.{Choosing, Ticket, Image0, Image1}
-use Rattle.safe_number.specs.Bytes.{number_of_bits}
-use Rattle.plain_store.specs.declared.Answer.{Answer}
+use Rattle.safe_number.specs.{number_of_bits}
+use Rattle.plain_store.specs.{Answer, Contents, Reply, Setup, after, callers_of, changes, checked, opening_store, reply_to}
 use Rattle.plain_store.specs.declared.Answer.TheVariants as answer
 use Rattle.plain_store.specs.declared.Command.TheVariants.{Ask}
-use Rattle.plain_store.specs.declared.Reply.{Reply}
 use Rattle.plain_store.specs.declared.Reply.TheVariants.{Last}
-use Rattle.plain_store.specs.declared.Setup.{Setup}
-use Rattle.store_image.specs.Image.{image_of}
-use Rattle.store_image.specs.Reading.{IsImageOf}
-use Rattle.plain_store.specs.Setups.{callers_of, checked, opening_store}
-use Rattle.plain_store.specs.Store.{Contents, changes, reply_to, after}
+use Rattle.store_image.specs.{IsImageOf, image_of}
 use Rattle.record.specs.declared.events.Event.{Event}
 use Rattle.record.specs.declared.history.Taken.{Taken}
 use Rattle.record.specs.declared.marks.Mark.TheVariants.{Answered}

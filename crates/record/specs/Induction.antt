@@ -1,6 +1,6 @@
 -- Induction over the pasts of records.
 use Rattle.std.specs.Prelude.{◌≡◌, refl, List, [], ◌∷◌, Option, None, Some}
-use Rattle.plain_store.specs.declared.Setup.{Setup}
+use Rattle.plain_store.specs.{Setup}
 use Rattle.record.specs.declared.events.Event.{Event}
 use Rattle.record.specs.Entries.{Entry, Past}
 use Rattle.record.specs.Records.{past_of, entry_of}

@@ -1,20 +1,17 @@
 -- The laws of every record of a list of events, and of the place machine beside the script.
 use Rattle.std.specs.Prelude.{◌≡◌, ◌≢◌, ℕ, ◌*◌, ◌<◌, Bool, true, false, List, [], ◌∷◌, ◌++◌, length, map, slice_index_or, fold, None, Some, Ok, option_map}
-use Rattle.safe_bit.specs.SafeRule.{is_write_open, last_written, read_value}
+use Rattle.safe_bit.specs.{AreWritesInTurn, is_write_open, last_written, read_answer, read_value}
 use Rattle.record.specs.declared.access.Access.{Access}
 use Rattle.record.specs.declared.access.Field.{Field}
 use Rattle.record.specs.declared.access.Field.TheVariants.{Commit}
 use Rattle.record.specs.declared.access.TornBit.{TornBit}
-use Rattle.reader_copies.specs.Written.{IsWrite}
-use Rattle.plain_store.specs.declared.Command.{Command}
-use Rattle.plain_store.specs.declared.Setup.{Setup}
-use Rattle.plain_store.specs.Setups.{checked}
+use Rattle.reader_copies.specs.{IsWrite}
+use Rattle.plain_store.specs.{Command, Setup, checked}
 use Rattle.record.specs.declared.events.Event.{Event}
 use Rattle.record.specs.declared.marks.Mark.TheVariants.{Called, Failed, Withdrew}
 use Rattle.record.specs.declared.stages.Stage.TheVariants.{Idle, Leaving, Settling}
 use Rattle.record.specs.Entries.{Entry, Past, own, since, before, starts, is_failed}
 use Rattle.record.specs.Moves.{ended, ended_with, moves_of, AllReads, begins_read}
-use Rattle.safe_bit.specs.Cell.{AreWritesInTurn, read_answer}
 use Rattle.record.specs.Newest.{copy, cell_after}
 use Rattle.record.specs.Parts.{is_over}
 use Rattle.record.specs.Calls.{last_call}
@@ -25,8 +22,7 @@ use Rattle.record.specs.Closings.{Closing, withdrawing, failing, freeing, closin
 use Rattle.record.specs.Program.{local_program, withdrawn}
 use Rattle.record.specs.Records.{past_of, entry_of, process_of, refused, last_start, stepped}
 use Rattle.record.specs.Registers.{opening_bit, bytes_of_bits}
-use Rattle.safe_number.specs.Bytes.{AreBytes, IsBytesOf, bits_in}
-use Rattle.safe_number.specs.Runs.{NumberWrite, next_of_write, number_write_after}
+use Rattle.safe_number.specs.{AreBytes, IsBytesOf, NumberWrite, bits_in, next_of_write, number_write_after}
 use Rattle.record.specs.Scripts.{Call, Next, nth, marks_at}
 use Rattle.record.specs.Stages.{stage, stage_after, inside}
 use Rattle.record.specs.Turns.{Leads, open_place, open_closing}

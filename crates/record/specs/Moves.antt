@@ -1,13 +1,12 @@
 -- The moves of one single-reader bit, and what the safe rule makes of them.
 use Rattle.std.specs.Prelude.{ℕ, ◌==◌, Bool, true, false, ◌&&◌, List, [], ◌∷◌, None, Some, cond, flat_map}
-use Rattle.safe_bit.specs.declared.Move.{Move}
+use Rattle.safe_bit.specs.{Move, read_value}
 use Rattle.safe_bit.specs.declared.Move.TheVariants.{BeginRead, EndRead}
-use Rattle.reader_copies.specs.Written.{IsRead}
-use Rattle.safe_bit.specs.SafeRule.{read_value}
+use Rattle.reader_copies.specs.{IsRead}
 use Rattle.record.specs.declared.access.Access.{Access}
 use Rattle.record.specs.declared.access.Field.{Field}
 use Rattle.record.specs.declared.access.Field.TheVariants.{Choosing, Ticket, Commit, Stamp0, Stamp1, Image0, Image1}
-use Rattle.plain_store.specs.declared.Setup.{Setup}
+use Rattle.plain_store.specs.{Setup}
 use Rattle.record.specs.Entries.{Entry, Past}
 use Rattle.record.specs.Registers.{opening_bit}
 

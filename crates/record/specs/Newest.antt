@@ -6,9 +6,9 @@ use Rattle.safe_bit.specs.declared.Move.TheVariants.{BeginRead}
 use Rattle.record.specs.declared.access.Access.{Access}
 use Rattle.record.specs.declared.access.Field.{Field}
 use Rattle.record.specs.declared.access.Field.TheVariants.{Commit}
-use Rattle.safe_number.specs.Bytes.{number_of_bits}
-use Rattle.plain_store.specs.declared.Setup.{Setup}
-use Rattle.store_image.specs.Image.{image_of}
+use Rattle.safe_number.specs.{number_of_bits}
+use Rattle.plain_store.specs.{Setup}
+use Rattle.store_image.specs.{image_of}
 use Rattle.record.specs.Entries.{Past}
 use Rattle.record.specs.Histories.{history, store_after}
 use Rattle.record.specs.Moves.{moves_of}

@@ -3,10 +3,9 @@ use Rattle.std.specs.Prelude.{ℕ, ◌+◌, ◌==◌, Bool, true, false, cond, n
 use Rattle.record.specs.declared.access.Access.{Access}
 use Rattle.record.specs.declared.access.Field.{Field}
 use Rattle.record.specs.declared.access.Field.TheVariants.{Choosing, Ticket, Commit}
-use Rattle.safe_number.specs.Bytes.{bits_of_number, number_of_bits}
-use Rattle.plain_store.specs.declared.Answer.{Answer}
+use Rattle.safe_number.specs.{bits_of_number, number_of_bits}
+use Rattle.plain_store.specs.{Answer, Contents, changes}
 use Rattle.plain_store.specs.declared.Answer.TheVariants as answer
-use Rattle.plain_store.specs.Store.{Contents, changes}
 use Rattle.record.specs.declared.marks.Mark.{Mark}
 use Rattle.record.specs.declared.marks.Mark.TheVariants.{Waiting, Taken, Left, Answered}
 use Rattle.record.specs.declared.stages.Stage.{Stage}

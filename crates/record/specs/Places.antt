@@ -1,14 +1,14 @@
 -- Where a process stands in its program: the machine beside the script. It is moved on by one access with its value, whatever memory serves it.
 use Rattle.std.specs.Prelude.{◌≡◌, ℕ, ◌+◌, ◌==◌, Bool, true, false, ◌&&◌, cond, List, [], ◌∷◌, ◌++◌, length, map, slice_index_or, Option, None, Some, is_none, unwrap_or}
-use Rattle.safe_bit.specs.declared.Move.{Move}
+use Rattle.safe_bit.specs.{Move}
 use Rattle.safe_bit.specs.declared.Move.TheVariants.{EndRead}
-use Rattle.reader_copies.specs.declared.Made.{Made}
+use Rattle.reader_copies.specs.{Made}
 use Rattle.reader_copies.specs.Runs as copies
 use Rattle.record.specs.declared.access.Access.{Access}
 use Rattle.record.specs.Accesses.{access_of}
-use Rattle.safe_number.specs.Runs.{NumberWrite, new_write, write_on}
+use Rattle.safe_number.specs.{NumberWrite, new_write, write_on}
 use Rattle.record.specs.declared.marks.Mark.{Mark}
-use Rattle.plain_store.specs.declared.Setup.{Setup}
+use Rattle.plain_store.specs.{Setup}
 use Rattle.record.specs.declared.stages.Stage.{Stage}
 use Rattle.record.specs.declared.stages.Stage.TheVariants as stage
 use Rattle.record.specs.Calls.{ReadSoFar, with_access}

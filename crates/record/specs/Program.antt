@@ -2,14 +2,10 @@
 use Rattle.std.specs.Prelude.{ℕ, ◌+◌, ◌-◌, ◌^◌, ◌==◌, nat_lt, max, Bool, true, false, not, ◌&&◌, ◌||◌, List, [], ◌∷◌, ◌++◌, map, flat_map, fold, slice_index, slice_index_or, cond}
 use Rattle.record.specs.declared.access.Field.{Field}
 use Rattle.record.specs.declared.access.Field.TheVariants.{Choosing, Ticket, Commit, Stamp0, Stamp1, Image0, Image1}
-use Rattle.safe_number.specs.Bytes.{bits_in, bits_of_number, number_of_bits}
-use Rattle.plain_store.specs.declared.Answer.{Answer}
+use Rattle.safe_number.specs.{bits_in, bits_of_number, number_of_bits}
+use Rattle.plain_store.specs.{Answer, Contents, Reply, after, callers_of, changes, reply_to}
 use Rattle.plain_store.specs.declared.Answer.TheVariants as answer
-use Rattle.plain_store.specs.declared.Reply.{Reply}
-use Rattle.store_image.specs.Image.{image_of}
-use Rattle.store_image.specs.Reading.{store_in}
-use Rattle.plain_store.specs.Setups.{callers_of}
-use Rattle.plain_store.specs.Store.{Contents, changes, reply_to, after}
+use Rattle.store_image.specs.{image_of, store_in}
 use Rattle.record.specs.declared.marks.Mark.{Mark}
 use Rattle.record.specs.declared.marks.Mark.TheVariants.{Waiting, Entered, Taken, Left, Answered}
 use Rattle.record.specs.Registers.{processes, others, width, image_bytes, bytes_of_bits}

@@ -4,12 +4,10 @@ use Rattle.std.specs.List.{range_with_len}
 use Rattle.record.specs.declared.access.Access.{Access}
 use Rattle.record.specs.declared.access.Field.{Field}
 use Rattle.record.specs.declared.access.Field.TheVariants.{Choosing, Ticket, Commit, Stamp0, Stamp1, Image0, Image1}
-use Rattle.safe_number.specs.Accesses.{number_writes, number_reads}
+use Rattle.safe_number.specs.{bits_in, number_of_bits, number_reads, number_writes}
 use Rattle.record.specs.Accesses.{access_of}
-use Rattle.safe_number.specs.Bytes.{bits_in, number_of_bits}
-use Rattle.plain_store.specs.declared.Setup.{Setup}
-use Rattle.plain_store.specs.Setups.{callers_of, opening_store}
-use Rattle.store_image.specs.Image.{image_of}
+use Rattle.plain_store.specs.{Setup, callers_of, opening_store}
+use Rattle.store_image.specs.{image_of}
 
 -- all processes, ascending
 abbrev pub processes : Setup → List ℕ

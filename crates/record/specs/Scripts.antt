@@ -2,9 +2,7 @@
 use Rattle.std.specs.Prelude.{ℕ, Bool, List, [], ◌∷◌, ◌++◌, flat_map, slice_get, Option, None, Some}
 use Rattle.record.specs.declared.access.Access.{Access}
 use Rattle.record.specs.declared.access.Field.{Field}
-use Rattle.plain_store.specs.declared.Caller.{Caller}
-use Rattle.plain_store.specs.declared.Command.{Command}
-use Rattle.plain_store.specs.declared.Setup.{Setup}
+use Rattle.plain_store.specs.{Caller, Command, Setup}
 use Rattle.record.specs.declared.marks.Mark.{Mark}
 use Rattle.record.specs.Registers.{write_of, read_of}
 

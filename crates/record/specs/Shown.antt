@@ -1,7 +1,7 @@
 -- How marks and refusals are printed.
 use Rattle.std.specs.Prelude.{ℕ, true, false, List, ◌++◌, codes}
 use Rattle.std.specs.Fmt.{decimal}
-use Rattle.plain_store.specs.Shown.{command_text, reply_text, answer_text}
+use Rattle.plain_store.specs.{command_text, reply_text, answer_text}
 use Rattle.record.specs.declared.marks.Mark.{Mark}
 use Rattle.record.specs.declared.marks.Mark.TheVariants.{Called, Waiting, Entered, Taken, Left, Answered, Failed, Settled, Down, Withdrew, Restarted}
 use Rattle.record.specs.declared.refusals.Refusal.{Refusal}

@@ -1,7 +1,7 @@
 -- Calls, their spans, and what they took.
 use Rattle.std.specs.Prelude.{ℕ, Bool, true, false, ◌||◌, List, [], ◌∷◌, ◌++◌}
 use Rattle.std.specs.List.{list_any}
-use Rattle.plain_store.specs.declared.Reply.{Reply}
+use Rattle.plain_store.specs.{Reply}
 use Rattle.record.specs.declared.marks.Mark.{Mark}
 use Rattle.record.specs.declared.marks.Mark.TheVariants.{Taken, Answered, Down}
 use Rattle.record.specs.Entries.{Past, own, has, is_called}

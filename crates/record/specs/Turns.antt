@@ -1,13 +1,13 @@
 -- Writes in their turn: which copies a process or its memory unit has open for writing, by its place.
 use Rattle.std.specs.Prelude.{◌≡◌, ℕ, ◌%◌, ◌==◌, nat_le, Bool, true, false, ◌&&◌, cond, List, [], ◌∷◌}
 use Rattle.safe_bit.specs.Cell.{Cell, cell_after, MayWrite}
-use Rattle.safe_bit.specs.declared.Move.{Move}
+use Rattle.safe_bit.specs.{Move}
 use Rattle.reader_copies.specs.Runs as copies
 use Rattle.record.specs.declared.access.Access.{Access}
 use Rattle.record.specs.declared.access.Field.{Field}
 use Rattle.record.specs.declared.access.Field.TheVariants.{Choosing, Ticket}
 use Rattle.record.specs.Accesses.{access_of}
-use Rattle.safe_number.specs.Runs.{NumberWrite}
+use Rattle.safe_number.specs.{NumberWrite}
 use Rattle.record.specs.Closings.{Closing, Withdraws, Settles, Frees, Lowers, Quit, Ended, no_ticket}
 use Rattle.record.specs.Moves.{field_number, same_bit}
 use Rattle.record.specs.Parts.{Part, written_at}

@@ -1,14 +1,13 @@
 -- The failure rule (this project's own): what the memory unit of a failed process does.
 use Rattle.std.specs.Prelude.{ℕ, ◌+◌, ◌*◌, ◌==◌, Bool, true, false, not, ◌&&◌, List, [], ◌∷◌, ◌++◌, map, Option, None, Some, cond, if◌then◌else◌}
-use Rattle.safe_bit.specs.declared.Move.{Move}
+use Rattle.safe_bit.specs.{Move}
 use Rattle.safe_bit.specs.declared.Move.TheVariants.{BeginWrite, EndWrite, BeginRead, EndRead, Settle}
-use Rattle.reader_copies.specs.Runs.{settles_from}
+use Rattle.reader_copies.specs.{settles_from}
 use Rattle.record.specs.declared.access.Access.{Access}
 use Rattle.record.specs.declared.access.Field.{Field}
 use Rattle.record.specs.declared.access.Field.TheVariants.{Choosing, Ticket, Commit}
-use Rattle.safe_number.specs.Accesses.{at_bit}
+use Rattle.safe_number.specs.{at_bit, bits_of_number}
 use Rattle.record.specs.Accesses.{access_of}
-use Rattle.safe_number.specs.Bytes.{bits_of_number}
 use Rattle.record.specs.declared.marks.Mark.TheVariants.{Taken, Left, Settled, Down}
 use Rattle.record.specs.Calls.{read_so_far}
 use Rattle.record.specs.Entries.{Entry, Past, since, is_called}

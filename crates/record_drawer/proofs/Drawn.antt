@@ -2,17 +2,12 @@
 use Rattle.std.proofs.Common.{◌≡◌, ℕ, true, List, [], ◌∷◌, ◌++◌, Option, refl, ap, sym, subst, ◌∙◌, append-nil, append_assoc}
 use Rattle.std.proofs.lemmas.Grind.{flat_map-append}
 use Rattle.std.specs.Io.KnownBytes.{Appends}
-use Rattle.companions.specs.picture.markup.Elements.{EndsAll, opens_in}
-use Rattle.companions.specs.picture.markup.Titles.{is_at_rest, lines_in, tags_of}
+use Rattle.companions.specs.picture.markup.{EndsAll, is_at_rest, lines_in, opens_in, tags_of}
 use Rattle.companions.proofs.picture.markup.Lines.{lines_on, rests_on}
 use Rattle.companions.proofs.picture.markup.Stacks.{opens_on}
-use Rattle.companions.specs.picture.Bandings.{Item, Plan, Reads, Tells, bands_told, full_told}
-use Rattle.companions.specs.picture.Pages.{GivesRest, GoesOn, SeenPage, band_text, lines_of_band, page_of}
-use Rattle.companions.specs.picture.columns.Told.{saying_text, text_of}
-use Rattle.companions.specs.picture.columns.declared.reads.OverlappedRead.{OverlappedRead}
-use Rattle.companions.specs.picture.columns.declared.told.RunLine.{RunLine}
-use Rattle.record_drawer.specs.Drawings.{Draws, DrawsBands, DrawsOn, DrawsRest, Fills, Kept, Writes}
-use Rattle.record_drawer.specs.Items.{Gives, GivesLine, GivesRead, given, says_of, says_text, text_given, texts_given}
+use Rattle.companions.specs.picture.{GivesRest, GoesOn, Item, Plan, Reads, SeenPage, Tells, band_text, bands_told, full_told, lines_of_band, page_of}
+use Rattle.companions.specs.picture.columns.{OverlappedRead, RunLine, saying_text, text_of}
+use Rattle.record_drawer.specs.{Draws, DrawsBands, DrawsOn, DrawsRest, Fills, Gives, GivesLine, GivesRead, Kept, Writes, given, says_of, says_text, text_given, texts_given}
 use Rattle.record_drawer.proofs.Written.{appends_both, appends_none}
 
 -- the lines of what is given, and then of more

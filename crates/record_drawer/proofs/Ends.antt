@@ -2,25 +2,14 @@
 use Rattle.std.proofs.Common.{◌≡◌, ℕ, ◌+◌, ◌≤◌, Bool, false, List, [], ◌++◌, length, reverse, Option, Some, None, Result, Ok, Err, IfOk, OnOk, IsErrAnd, IfSome, IsSome, refl, ap, sym, subst, ◌∙◌, arith}
 use Rattle.std.proofs.lemmas.List.{length-append, reverse-reverse}
 use Rattle.std.specs.Io.KnownBytes.{IsAtEnd, prepend_known}
-use Rattle.files.specs.Reads.{UnlessMemory}
-use Rattle.files.specs.Words.{lines}
-use Rattle.files.specs.declared.faults.Fault.{Fault}
+use Rattle.files.specs.{Fault, FaultKind, Given, GoesToNext, IsTooLong, LineFault, LineState, TakesLine, TakesNext, Told, UnlessMemory, coming, failed_reading, lines, unless_ended}
 use Rattle.files.specs.declared.faults.Fault.TheVariants as fault
-use Rattle.files.specs.declared.faults.FaultKind.{FaultKind}
 use Rattle.files.specs.declared.faults.FaultKind.TheVariants.{NotFirst, TooLong}
-use Rattle.companions.specs.picture.declared.page.Form.{Form}
+use Rattle.companions.specs.picture.{Form}
 use Rattle.companions.specs.picture.declared.reads.Reads.{Reads as Mode}
-use Rattle.record.specs.Entries.{Entry, Past}
-use Rattle.record_file.specs.RecordFiles.{Progress, cleared, entry_in, line_read, record_of, rest_read}
-use Rattle.files.specs.Lines.{IsTooLong, TakesLine}
-use Rattle.files.specs.Streams.{failed_reading}
-use Rattle.files.specs.declared.faults.LineFault.{LineFault}
-use Rattle.files.specs.SourceLines.{Given, GoesToNext, LineState, TakesNext, Told, coming, unless_ended}
-use Rattle.record_drawer.specs.Sheets.{DrawsAllBands, DrawsAt, EndsAt, GoesOn, IsDrawFault, LineStops, Stands, entries_of}
-use Rattle.record_drawer.specs.Writing.{failed_write}
-use Rattle.record_drawer.specs.declared.drawing.RecordDrawing.{RecordDrawing}
-use Rattle.record_drawer.specs.declared.sheet.DrawnEntry.{DrawnEntry}
-use Rattle.record_drawer.specs.declared.sheet.Sheet.{Sheet}
+use Rattle.record.specs.{Entry, Past}
+use Rattle.record_file.specs.{Progress, cleared, entry_in, line_read, record_of, rest_read}
+use Rattle.record_drawer.specs.{DrawnEntry, DrawsAllBands, DrawsAt, EndsAt, GoesOn, IsDrawFault, LineStops, RecordDrawing, Sheet, Stands, entries_of, failed_write}
 use Rattle.judge.proofs.Ends.{at_end, line_fault, line_then, of_input, told_on}
 use Rattle.judge.proofs.Lines.{few_in, long_read}
 use Rattle.judge.proofs.Trials.{unless_then}

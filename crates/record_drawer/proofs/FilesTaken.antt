@@ -6,22 +6,16 @@ use Rattle.std.proofs.Math.Seq.{take-append-add}
 use Rattle.std.proofs.lemmas.Slice.Eq.{bytes_eq-Decides}
 use Rattle.std.specs.Option.{is_some, unwrap_or}
 use Rattle.std.specs.Str.{bytes_eq}
-use Rattle.files.specs.Checks.{◌>>=◌, fault_if, word}
-use Rattle.files.specs.Cuts.{input_limit}
-use Rattle.files.specs.Files.{at_line, begun, file_of, statement_read, words_read}
-use Rattle.files.specs.Limits.{is_said, said_words}
-use Rattle.files.specs.Words.{begins_with, lines, words_of}
-use Rattle.files.specs.declared.faults.FaultKind.{FaultKind}
+use Rattle.files.specs.{FaultKind, at_line, begins_with, begun, fault_if, file_of, input_limit, is_said, lines, said_words, statement_read, word, words_of, words_read, ◌>>=◌}
 use Rattle.files.specs.declared.faults.FaultKind.TheVariants.{NotFirst, TooLong}
 use Rattle.files.proofs.CutTexts.{tells_at_limit}
 use Rattle.files.proofs.Passing.{Passed, no_fault, passed}
 use Rattle.files.proofs.Said.{first_then, said_read, text_said}
-use Rattle.record.specs.Entries.{Entry}
-use Rattle.record_file.specs.RecordFiles.{Progress, Said, cleared, entry_in, first_read, line_read, lines_read, record_grammar, record_of, said_by}
-use Rattle.record_file.specs.scenario.Reading.{Progress as Head, Script, at_version, scenario_grammar, scenario_of, script_of}
-use Rattle.record_file.specs.scenario.Reading.{first_read as scenario_first}
+use Rattle.record.specs.{Entry}
+use Rattle.record_file.specs.{Progress, Said, cleared, entry_in, first_read, line_read, lines_read, record_grammar, record_of, said_by}
+use Rattle.record_file.specs.scenario.{Progress as Head, Script, at_version, first_read as scenario_first, scenario_grammar, scenario_of, script_of}
 use Rattle.record_drawer.proofs.Opening.{opened_behind}
-use Rattle.record_drawer.specs.Openings.{Front, IsLookedAt, Whole, is_record, record_opened}
+use Rattle.record_drawer.specs.{Front, IsLookedAt, Whole, is_record, record_opened}
 
 -- Of records.
 

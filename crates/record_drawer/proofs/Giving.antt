@@ -2,22 +2,16 @@
 use Rattle.std.proofs.Common.{◌≡◌, ◌<◌, ℕ, zero, suc, ◌+◌, List, [], ◌∷◌, ◌++◌, flat_map, length, get_or, map, reverse, Option, take, refl, ap, sym, ◌∙◌, append-nil, append_assoc}
 use Rattle.std.proofs.lemmas.Grind.{flat_map-append}
 use Rattle.std.proofs.lemmas.List.{map-append, take_more}
-use Rattle.plain_store.specs.declared.setups.Setup.{Setup}
-use Rattle.record.specs.Entries.{Past}
-use Rattle.record.specs.declared.marks.Mark.{Mark}
-use Rattle.record_file.specs.RecordFiles.{Said}
-use Rattle.companions.specs.picture.Bandings.{Item, Reads, Tells}
-use Rattle.companions.specs.picture.Standings.{sayings}
-use Rattle.companions.specs.picture.columns.Stages.{marks_in, marks_said}
-use Rattle.companions.specs.picture.columns.declared.reads.OverlappedRead.{OverlappedRead}
-use Rattle.companions.specs.picture.columns.declared.told.Saying.{Saying}
+use Rattle.plain_store.specs.{Setup}
+use Rattle.record.specs.{Mark, Past}
+use Rattle.record_file.specs.{Said}
+use Rattle.companions.specs.picture.{Item, Reads, Tells, sayings}
+use Rattle.companions.specs.picture.columns.{OverlappedRead, Saying, marks_in, marks_said}
 use Rattle.companions.specs.picture.columns.declared.told.Saying.TheVariants.{Ended}
 use Rattle.companions.specs.picture.declared.reads.Reads.{Reads as Mode}
 use Rattle.companions.specs.picture.declared.reads.Reads.TheVariants.{Hidden, Shown as ReadsShown}
-use Rattle.record_drawer.specs.Items.{Gives, GivesLine, GivesRead, Says, SaysEnd, SaysMark, behind, given, given_at_end, given_by, given_of, lines_given, lines_of_past, mark_given, mark_line, marks_back, marks_given, marks_says, judged_line, reads_since, record_gives, record_lines, say_judged, says_judged, says_marks, says_of, says_text, source_of, taken_by, text_given, texts_given, waiting}
-use Rattle.companions.specs.Overlaps.{overlapped_by, shown_of}
-use Rattle.record_drawer.specs.Judged.{bad_process, told_lines}
-use Rattle.record_drawer.specs.Takings.{change_of}
+use Rattle.record_drawer.specs.{Gives, GivesLine, GivesRead, Says, SaysEnd, SaysMark, bad_process, behind, change_of, given, given_at_end, given_by, given_of, judged_line, lines_given, lines_of_past, mark_given, mark_line, marks_back, marks_given, marks_says, reads_since, record_gives, record_lines, say_judged, says_judged, says_marks, says_of, says_text, source_of, taken_by, text_given, texts_given, told_lines, waiting}
+use Rattle.companions.specs.{overlapped_by, shown_of}
 
 -- one more, by what is made of each
 pub map_next : {A : Type 0} {B : Type 0} (f : A → B) (xs : List A) (k : ℕ) (d : A) → k < length xs → map f (take (k + 1) xs) ≡ map f (take k xs) ++ f (get_or xs k d) ∷ []

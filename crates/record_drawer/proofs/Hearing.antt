@@ -1,17 +1,11 @@
 -- A drawing hears an entry.
 use Rattle.std.proofs.Common.{◌≡◌, ◌+◌, List, ◌∷◌, ◌++◌, length, Option, sym, subst, ◌∙◌, arith}
-use Rattle.plain_store.specs.declared.setups.Setup.{Setup}
-use Rattle.record.specs.Entries.{Entry, Past}
-use Rattle.record.specs.declared.access.Access.{Access}
-use Rattle.companions.specs.picture.columns.declared.reads.OverlappedRead.{OverlappedRead}
+use Rattle.plain_store.specs.{Setup}
+use Rattle.record.specs.{Access, Entry, Past}
+use Rattle.companions.specs.picture.columns.{OverlappedRead}
 use Rattle.companions.specs.picture.declared.reads.Reads.{Reads as Mode}
-use Rattle.record_drawer.specs.Drawings.{IsAmong, Recalls}
-use Rattle.record_drawer.specs.Items.{behind, marks_back, reads_since, waiting}
-use Rattle.companions.specs.Overlaps.{Overhears, overlapped_by}
-use Rattle.record_drawer.specs.Takings.{Knows}
-use Rattle.record_drawer.specs.declared.changes.RecordedChanges.{RecordedChanges}
-use Rattle.record_drawer.specs.declared.drawing.RecordDrawing.{RecordDrawing}
-use Rattle.companions.specs.declared.overlaps.OverlapsHeard.{OverlapsHeard}
+use Rattle.record_drawer.specs.{IsAmong, Knows, Recalls, RecordDrawing, RecordedChanges, behind, marks_back, reads_since, waiting}
+use Rattle.companions.specs.{Overhears, OverlapsHeard, overlapped_by}
 
 module _ (mode : Mode) (s : Setup) (past : Past) (e : Entry) (access : Option Access) (is : e.access ≡ access) (d : RecordDrawing) (recalls : Recalls mode s past d) where
   -- once its access was heard

@@ -2,32 +2,22 @@
 use Rattle.std.proofs.Common.{◌≡◌, ℕ, ◌+◌, ◌≤◌, nat_lt, Bool, true, false, if◌then◌else◌, List, [], ◌∷◌, ◌++◌, length, reverse, Option, Some, None, Result, Ok, Err, IfSome, refl, ap, sym, subst, ◌∙◌, append-nil, append_assoc, arith}
 use Rattle.std.proofs.lemmas.List.{length-reverse, reverse-append}
 use Rattle.std.specs.Option.{option_to_list}
-use Rattle.plain_store.specs.declared.setups.Setup.{Setup}
+use Rattle.plain_store.specs.{Setup}
 use Rattle.std.specs.Io.KnownBytes.{IsAtEnd, prepend_known}
-use Rattle.files.specs.Files.{words_read}
-use Rattle.files.specs.SourceLines.{Given, LineState, TakesNext, coming, unless_ended}
-use Rattle.files.specs.Words.{words_of}
-use Rattle.files.specs.Reads.{UnlessMemory}
-use Rattle.files.specs.declared.faults.Fault.{Fault}
+use Rattle.files.specs.{Fault, FaultKind, Given, LineState, TakesNext, UnlessMemory, coming, unless_ended, words_of, words_read}
 use Rattle.files.specs.declared.faults.Fault.TheVariants as fault
-use Rattle.files.specs.declared.faults.FaultKind.{FaultKind}
 use Rattle.files.specs.declared.faults.FaultKind.TheVariants.{NotFirst, TooLong}
-use Rattle.record.specs.Entries.{Entry, Past}
-use Rattle.record_file.specs.RecordFiles.{Progress, cleared, entry_in, line_read, record_grammar, record_of}
-use Rattle.record_file.specs.scenario.Reading.{Progress as Head}
-use Rattle.judge.specs.Numbers.{number_in, say_entry}
+use Rattle.record.specs.{Entry, Past}
+use Rattle.record_file.specs.{Progress, cleared, entry_in, line_read, record_grammar, record_of}
+use Rattle.record_file.specs.scenario.{Progress as Head}
+use Rattle.judge.specs.{IsInputFault, IsOfRecord, Telling, number_in, say_entry}
 use Rattle.judge.specs.Trials.{HearsAt, good_in}
 use Rattle.judge.specs.Trials.{GoesOn as HearsOn}
 use Rattle.judge.specs.Trials.{Stands as HearerStands}
-use Rattle.judge.specs.Ends.{IsInputFault, IsOfRecord}
-use Rattle.judge.specs.declared.hearers.Telling.{Telling}
 use Rattle.judge.proofs.Ends.{GoesOnTo, Onwards, at_end, goes_on_at_first, of_input, onwards_fault, onwards_on}
 use Rattle.judge.proofs.Trials.{unless_then}
 use Rattle.judge.proofs.Lines.{later_left}
-use Rattle.record_drawer.specs.Sheets.{All, DrawsBandsOf, EndsAt, GoesOn, IsDrawFault, IsJudged, LineStops, Stands, UpTo, entries_of}
-use Rattle.record_drawer.specs.declared.sheet.DrawnEntry.{DrawnEntry}
-use Rattle.record_drawer.specs.declared.sheet.Sheet.{Sheet}
-use Rattle.record_drawer.specs.Judgings.{HasRead, HasStopped, IsShown, SaysAll, TellsOfLines}
+use Rattle.record_drawer.specs.{All, DrawnEntry, DrawsBandsOf, EndsAt, GoesOn, HasRead, HasStopped, IsDrawFault, IsJudged, IsShown, LineStops, SaysAll, Sheet, Stands, TellsOfLines, UpTo, entries_of}
 use Rattle.record_drawer.proofs.Ends.{drawn_count}
 use Rattle.record_drawer.proofs.Lines.{head_stays}
 use Rattle.record_drawer.proofs.Whole.{if_some}

@@ -1,15 +1,12 @@
 -- The lines of a judge are drawn one by one.
 use Rattle.std.proofs.Common.{◌≡◌, ℕ, List, [], ◌∷◌, ◌++◌, Option, refl, sym, subst, ap, ◌∙◌, append-nil, append_assoc}
 use Rattle.std.proofs.lemmas.List.{map-append}
-use Rattle.plain_store.specs.declared.setups.Setup.{Setup}
-use Rattle.record.specs.Entries.{Past}
-use Rattle.companions.specs.Overlaps.{Overhears}
-use Rattle.companions.specs.picture.columns.declared.reads.OverlappedRead.{OverlappedRead}
+use Rattle.plain_store.specs.{Setup}
+use Rattle.record.specs.{Past}
+use Rattle.companions.specs.{Overhears}
+use Rattle.companions.specs.picture.columns.{OverlappedRead}
 use Rattle.companions.specs.picture.declared.reads.Reads.{Reads as Mode}
-use Rattle.record_drawer.specs.Drawings.{DrawsOn, kept}
-use Rattle.record_drawer.specs.Items.{Says, judged_with, lines_given, say_judged, says_judged, waiting}
-use Rattle.record_drawer.specs.Judged.{bad_process, told_lines}
-use Rattle.record_drawer.specs.declared.drawing.RecordDrawing.{RecordDrawing}
+use Rattle.record_drawer.specs.{DrawsOn, RecordDrawing, Says, bad_process, judged_with, kept, lines_given, say_judged, says_judged, told_lines, waiting}
 use Rattle.record_drawer.proofs.Drawn.{draws_on_both, draws_on_none}
 use Rattle.record_drawer.proofs.Giving.{lines_more, waiting_none}
 

@@ -2,7 +2,7 @@
 use Rattle.std.proofs.Common.{◌≡◌, ◌<◌, ℕ, ◌+◌, ◌*◌, ◌-◌, min, true, false, List, ◌∷◌, cond, drop, get_or, length, ap, sym, ◌∙◌}
 use Rattle.std.proofs.lemmas.List.{drop_more}
 use Rattle.std.specs.Char.{is_ascii_digit}
-use Rattle.record_drawer.specs.Judged.{number_from}
+use Rattle.record_drawer.specs.{number_from}
 
 module _ (text : List ℕ) (k b n : ℕ) (within : k < length text) (is : b ≡ get_or text k b) where
   here : drop k text ≡ b ∷ drop (k + 1) text

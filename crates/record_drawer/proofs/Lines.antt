@@ -2,24 +2,17 @@
 use Rattle.std.proofs.Common.{◌≡◌, ℕ, ◌≤◌, Bool, true, false, List, [], ◌∷◌, ◌++◌, length, reverse, IsSome, Option, Some, None, Ok, refl, ap, sym, subst, ◌∙◌, append-nil, arith}
 use Rattle.std.proofs.lemmas.List.{reverse-append}
 use Rattle.std.specs.Option.{option_to_list}
-use Rattle.plain_store.specs.declared.setups.Setup.{Setup}
-use Rattle.files.specs.Files.{words_read}
-use Rattle.files.specs.Words.{words_of}
-use Rattle.companions.specs.picture.declared.page.Form.{Form}
+use Rattle.plain_store.specs.{Setup}
+use Rattle.files.specs.{words_of, words_read}
+use Rattle.companions.specs.picture.{Form}
 use Rattle.companions.specs.picture.declared.reads.Reads.{Reads as Mode}
-use Rattle.record.specs.Entries.{Entry, Past}
-use Rattle.record.specs.declared.access.Access.{Access}
-use Rattle.record_file.specs.Given.{is_entry}
-use Rattle.record_file.specs.Printing.{entry_words, step_entry}
-use Rattle.record_file.specs.RecordFiles.{Progress, cleared, entry_in, line_read, record_grammar}
-use Rattle.record_file.specs.scenario.Printing.{spaced}
-use Rattle.record_file.specs.scenario.Reading.{Progress as Head}
+use Rattle.record.specs.{Access, Entry, Past}
+use Rattle.record_file.specs.{Progress, cleared, entry_in, entry_words, is_entry, line_read, record_grammar, step_entry}
+use Rattle.record_file.specs.scenario.{Progress as Head, spaced}
 use Rattle.record_file.proofs.EntryLines.{entry_of_line}
-use Rattle.judge.specs.Numbers.{say_entry}
+use Rattle.judge.specs.{say_entry}
 use Rattle.judge.proofs.Lines.{Left, clear_twice, empty, first_left, later_left, short_read}
-use Rattle.record_drawer.specs.Sheets.{DrawsPast, DrawsAt, GoesOn, IsDrawn, Stands}
-use Rattle.record_drawer.specs.declared.drawing.RecordDrawing.{RecordDrawing}
-use Rattle.record_drawer.specs.declared.sheet.Sheet.{Sheet}
+use Rattle.record_drawer.specs.{DrawsAt, DrawsPast, GoesOn, IsDrawn, RecordDrawing, Sheet, Stands}
 
 -- behind an entry the head stays
 pub head_stays : (b : Bool) (p next : Progress) → p.ended ≡ true → Left b p next → (next.ended ≡ true) × (next.head ≡ p.head)

@@ -6,12 +6,8 @@ use Rattle.std.proofs.lemmas.List.Elements.{filter-append}
 use Rattle.std.proofs.Math.Seq.{take-append-add, take-suc}
 use Rattle.std.specs.Io.KnownBytes.{Consumes, IsAtEnd, Keeps, ReadConsumes, prepend_known}
 use Rattle.std.specs.Option.{is_some, unwrap_or}
-use Rattle.files.specs.Cuts.{input_limit}
-use Rattle.files.specs.Limits.{is_said, said_words}
-use Rattle.files.specs.Words.{begins_with, lines, onto, words_of}
-use Rattle.files.specs.declared.streams.Failed.{Failed}
-use Rattle.files.specs.Streams.{GivesByte}
-use Rattle.record_drawer.specs.Openings.{is_record, record_opened}
+use Rattle.files.specs.{Failed, GivesByte, begins_with, input_limit, is_said, lines, onto, said_words, words_of}
+use Rattle.record_drawer.specs.{is_record, record_opened}
 
 pub keeps_none : (o : Option (List ℕ)) → Keeps o (prepend_known [] o)
 keeps_none None = tt

@@ -1,22 +1,13 @@
 -- The picture of a record goes on, entry by entry.
 use Rattle.std.proofs.Common.{◌≡◌, ℕ, ◌+◌, ◌-◌, List, [], ◌∷◌, ◌++◌, is_some, false, true≢false, Option, None, Some, refl, sym, subst, ◌∙◌, append-nil, arith}
-use Rattle.plain_store.specs.declared.setups.Setup.{Setup}
-use Rattle.record.specs.Entries.{Entry, Past}
-use Rattle.record.specs.declared.access.Access.{Access}
-use Rattle.record_file.specs.Printing.{step_entry}
-use Rattle.record_file.specs.RecordFiles.{Progress}
-use Rattle.companions.specs.picture.Sheets.{page_front}
-use Rattle.companions.specs.picture.Pages.{page_names}
-use Rattle.companions.specs.picture.declared.page.Form.{Form}
+use Rattle.plain_store.specs.{Setup}
+use Rattle.record.specs.{Access, Entry, Past}
+use Rattle.record_file.specs.{Progress, step_entry}
+use Rattle.companions.specs.picture.{Form, Page, page_front, page_names}
 use Rattle.companions.specs.picture.declared.page.Form.TheVariants as form
-use Rattle.companions.specs.picture.declared.page.Page.{Page}
 use Rattle.companions.specs.picture.declared.reads.Reads.{Reads as Mode}
-use Rattle.companions.specs.picture.markup.Elements.{opens_in}
-use Rattle.companions.specs.picture.markup.Titles.{lines_in}
-use Rattle.record_drawer.specs.Drawings.{DrawsOn, DrawsRest, Kept, Recalls, Writes, kept, kept_at_first, plan_of}
-use Rattle.record_drawer.specs.Items.{SaysEnd, given_at_end, given_by, given_of, lines_given, reads_since, says_judged, source_of}
-use Rattle.record_drawer.specs.Sheets.{DrawsPast, DrawsAt, EndsAt, Heads, IsDrawn, listed}
-use Rattle.record_drawer.specs.declared.drawing.RecordDrawing.{RecordDrawing}
+use Rattle.companions.specs.picture.markup.{lines_in, opens_in}
+use Rattle.record_drawer.specs.{DrawsAt, DrawsOn, DrawsPast, DrawsRest, EndsAt, Heads, IsDrawn, Kept, Recalls, RecordDrawing, SaysEnd, Writes, given_at_end, given_by, given_of, kept, kept_at_first, lines_given, listed, plan_of, reads_since, says_judged, source_of}
 use Rattle.record_drawer.proofs.Drawn.{draws_bands, draws_on_both, draws_on_none}
 
 module _ (reads : Mode) (form : Form) (s : Setup) where

@@ -4,16 +4,11 @@ use Rattle.std.proofs.lemmas.Bool.{cases_lt}
 use Rattle.std.proofs.lemmas.Bool.Decides.{nat_tests}
 use Rattle.std.proofs.lemmas.List.{get_or-set_same, get_or-set_other}
 use Rattle.std.proofs.lemmas.Option.{get_or_from_slice_get, slice_get-get_or, slice_get_within}
-use Rattle.plain_store.specs.Store.{Contents}
-use Rattle.plain_store.specs.declared.commands.Command.{Command}
-use Rattle.plain_store.specs.declared.commands.Reply.{Reply}
-use Rattle.plain_store.specs.declared.setups.Setup.{Setup}
-use Rattle.record.specs.declared.marks.Mark.{Mark}
+use Rattle.plain_store.specs.{Command, Contents, Reply, Setup}
+use Rattle.record.specs.{Mark}
 use Rattle.record.specs.declared.marks.Mark.TheVariants as mark
-use Rattle.companions.specs.StoreChanges.{Changed}
-use Rattle.record_drawer.specs.Takings.{Knows, after_call, call_after, called_by, change_by_call, change_of, change_with, next_number, no_call, store_by, store_with}
-use Rattle.record_drawer.specs.declared.changes.LastCall.{LastCall}
-use Rattle.record_drawer.specs.declared.changes.RecordedChanges.{RecordedChanges}
+use Rattle.companions.specs.{Changed}
+use Rattle.record_drawer.specs.{Knows, LastCall, RecordedChanges, after_call, call_after, called_by, change_by_call, change_of, change_with, next_number, no_call, store_by, store_with}
 
 -- where nothing is looked up, there is nothing
 past_all : (xs : List LastCall) (p : ℕ) → slice_get xs p ≡ None → length xs ≤ p

@@ -2,31 +2,20 @@
 use Rattle.std.proofs.Common.{◌≡◌, ℕ, ◌+◌, List, [], ◌++◌, Option, Some, None, Result, Ok, Err, OnOk, IfErr, IfSome, IsErrAnd, ap, sym, subst, ◌∙◌, append-nil, arith}
 use Rattle.std.specs.Io.KnownBytes.{Appends, IsAtEnd, Keeps}
 use Rattle.files.specs.Engines.{Streams}
-use Rattle.files.specs.Streams.{failed_reading}
-use Rattle.files.specs.declared.faults.Fault.{Fault}
+use Rattle.files.specs.{Fault, failed_reading}
 use Rattle.files.specs.declared.faults.Fault.TheVariants as fault
-use Rattle.plain_store.specs.Setups.{opening_store}
-use Rattle.plain_store.specs.declared.setups.Setup.{Setup}
-use Rattle.record.specs.Entries.{Entry}
-use Rattle.record_file.specs.RecordFiles.{Said}
-use Rattle.judge.specs.Ends.{IsOfRecord}
-use Rattle.judge.specs.Numbers.{numbers_of}
-use Rattle.companions.specs.picture.Bandings.{bands_told}
-use Rattle.companions.specs.picture.Pages.{page_names, picture_names}
-use Rattle.companions.specs.picture.Sheets.{page_back, picture_back, picture_front}
-use Rattle.companions.specs.picture.declared.page.Form.{Form}
+use Rattle.plain_store.specs.{Setup, opening_store}
+use Rattle.record.specs.{Entry}
+use Rattle.record_file.specs.{Said}
+use Rattle.judge.specs.{IsOfRecord, numbers_of}
+use Rattle.companions.specs.picture.{Form, bands_told, page_back, page_names, picture_back, picture_front, picture_names}
 use Rattle.companions.specs.picture.declared.page.Form.TheVariants as form
 use Rattle.companions.specs.picture.declared.reads.Reads.{Reads as Mode}
-use Rattle.companions.specs.picture.markup.Elements.{opens_in}
-use Rattle.companions.specs.picture.markup.Titles.{lines_in}
+use Rattle.companions.specs.picture.markup.{lines_in, opens_in}
 use Rattle.companions.proofs.picture.markup.Lines.{lines_on}
 use Rattle.companions.proofs.picture.markup.Stacks.{opens_on}
-use Rattle.record_drawer.specs.Drawings.{DrawsBands, Writes, plan_of}
-use Rattle.record_drawer.specs.Items.{record_gives, record_lines}
-use Rattle.record_drawer.specs.Sheets.{DrawsBandsOf, DrawsRecord, DrawsSaid, Drew, DrewAs, IsDrawFault, IsJudged, IsPictureOf, LeavesNone, picture_of, without_write}
-use Rattle.companions.specs.StoreChanges.{store_words}
-use Rattle.record_drawer.specs.Writing.{IsWriteFault, failed_write}
-use Rattle.record_drawer.specs.declared.sheet.DrawnEntry.{DrawnEntry}
+use Rattle.record_drawer.specs.{DrawnEntry, DrawsBands, DrawsBandsOf, DrawsRecord, DrawsSaid, Drew, DrewAs, IsDrawFault, IsJudged, IsPictureOf, IsWriteFault, LeavesNone, Writes, failed_write, picture_of, plan_of, record_gives, record_lines, without_write}
+use Rattle.companions.specs.{store_words}
 use Rattle.record_drawer.proofs.Drawn.{writes_both}
 use Rattle.record_drawer.proofs.Giving.{marks_of_record, texts_of_record}
 

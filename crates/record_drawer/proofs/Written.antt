@@ -1,9 +1,9 @@
 -- Pieces that are written one after the other.
 use Rattle.std.proofs.Common.{◌≡◌, ℕ, Result, Ok, Err, IfErr, IfOk, OnOk, IsErrAnd, List, [], ◌++◌, Option, Some, None, refl, ap, sym, ◌∙◌, append-nil, append_assoc}
 use Rattle.std.specs.Io.KnownBytes.{Appends}
-use Rattle.files.specs.declared.faults.Fault.{Fault}
+use Rattle.files.specs.{Fault}
 use Rattle.files.specs.declared.faults.Fault.TheVariants as fault
-use Rattle.record_drawer.specs.Writing.{failed_write}
+use Rattle.record_drawer.specs.{failed_write}
 
 -- one piece, and then the next
 pub appends_both : (a b c : Option (List ℕ)) (front more : List ℕ) → Appends a b front → Appends b c more → Appends a c (front ++ more)

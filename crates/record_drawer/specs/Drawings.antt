@@ -1,21 +1,14 @@
 -- What was written of a record's picture, and what is read back of it.
 use Rattle.std.specs.Prelude.{◌≡◌, ℕ, true, List, [], ◌++◌, length, Option}
 use Rattle.std.specs.Io.KnownBytes.{Appends}
-use Rattle.companions.specs.picture.markup.Elements.{EndsAll}
-use Rattle.companions.specs.picture.markup.Titles.{is_at_rest, lines_in, tags_of}
-use Rattle.plain_store.specs.Setups.{opening_store}
-use Rattle.plain_store.specs.declared.setups.Setup.{Setup}
-use Rattle.record.specs.Entries.{Past}
-use Rattle.record.specs.declared.marks.Mark.{Mark}
-use Rattle.companions.specs.picture.Bandings.{Item, Plan, bands_told, full_told, heights_told}
-use Rattle.companions.specs.picture.Pages.{SeenPage, held, page_of, seen_page}
-use Rattle.companions.specs.picture.declared.page.Form.{Form}
-use Rattle.companions.specs.picture.declared.page.Page.{Page}
-use Rattle.companions.specs.picture.columns.declared.reads.OverlappedRead.{OverlappedRead}
+use Rattle.companions.specs.picture.markup.{EndsAll, is_at_rest, lines_in, tags_of}
+use Rattle.plain_store.specs.{Setup, opening_store}
+use Rattle.record.specs.{Mark, Past}
+use Rattle.companions.specs.picture.{Form, Item, Page, Plan, SeenPage, bands_told, full_told, heights_told, held, page_of, seen_page}
+use Rattle.companions.specs.picture.columns.{OverlappedRead}
 use Rattle.companions.specs.picture.declared.reads.Reads.{Reads as Mode}
 use Rattle.record_drawer.specs.Items.{Gives, given, marks_back, reads_since, taken_by, texts_given}
-use Rattle.companions.specs.Overlaps.{Overhears}
-use Rattle.companions.specs.StoreChanges.{words_by}
+use Rattle.companions.specs.{Overhears, words_by}
 use Rattle.record_drawer.specs.Takings.{Knows}
 use Rattle.record_drawer.specs.declared.drawing.RecordDrawing.{RecordDrawing}
 

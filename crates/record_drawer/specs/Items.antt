@@ -1,21 +1,14 @@
 -- What a record gives its picture, item by item: a line for each mark of its entries, the reads that writes overlapped, and a last line.
 use Rattle.std.specs.Prelude.{ℕ, zero, suc, ◌+◌, List, [], ◌∷◌, ◌++◌, codes, flat_map, length, map, reverse, Option, option_map}
 use Rattle.std.specs.Fmt.{decimal}
-use Rattle.plain_store.specs.declared.setups.Setup.{Setup}
-use Rattle.record.specs.Entries.{Entry, Past}
-use Rattle.record.specs.Shown.{mark_text}
-use Rattle.record.specs.declared.marks.Mark.{Mark}
-use Rattle.record_file.specs.Printing.{head_words}
-use Rattle.record_file.specs.RecordFiles.{Said}
-use Rattle.companions.specs.picture.Bandings.{Item, Reads, Tells}
-use Rattle.companions.specs.picture.columns.Told.{saying_text}
-use Rattle.companions.specs.picture.columns.States.{places_marked}
-use Rattle.companions.specs.picture.columns.declared.reads.OverlappedRead.{OverlappedRead}
+use Rattle.plain_store.specs.{Setup}
+use Rattle.record.specs.{Entry, Mark, Past, mark_text}
+use Rattle.record_file.specs.{Said, head_words}
+use Rattle.companions.specs.picture.{Item, Reads, Tells}
+use Rattle.companions.specs.picture.columns.{OverlappedRead, Saying, places_marked, saying_text}
 use Rattle.companions.specs.picture.declared.reads.Reads.{Reads as Mode}
-use Rattle.companions.specs.picture.columns.declared.told.Saying.{Saying}
 use Rattle.companions.specs.picture.columns.declared.told.Saying.TheVariants.{Marked, Refused, Tired, Shown, Judged, Ended}
-use Rattle.companions.specs.Overlaps.{overlapped_by, shown_of}
-use Rattle.companions.specs.StoreChanges.{Changed, changed}
+use Rattle.companions.specs.{Changed, changed, overlapped_by, shown_of}
 use Rattle.record_drawer.specs.Judged.{bad_process, lane_told, told_lines}
 use Rattle.record_drawer.specs.Takings.{change_of}
 

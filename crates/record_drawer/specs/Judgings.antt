@@ -1,13 +1,11 @@
 -- What stands while a record is heard by a judge and drawn, and once all of it was read.
 use Rattle.std.specs.Prelude.{◌≡◌, ◌+◌, ℕ, Bool, true, false, List, [], ◌∷◌, ◌++◌, reverse, Option, Some, None, IfSome, Err, Ok}
-use Rattle.plain_store.specs.declared.setups.Setup.{Setup}
+use Rattle.plain_store.specs.{Setup}
 use Rattle.files.specs.declared.faults.FaultKind.TheVariants.{NotFirst}
-use Rattle.record.specs.Entries.{Entry}
-use Rattle.record_file.specs.RecordFiles.{Progress, record_of}
-use Rattle.judge.specs.Numbers.{numbers_of}
-use Rattle.judge.specs.Trials.{good_in}
+use Rattle.record.specs.{Entry}
+use Rattle.record_file.specs.{Progress, record_of}
+use Rattle.judge.specs.{Telling, good_in, numbers_of}
 use Rattle.judge.specs.Trials.{Stands as HearerStands}
-use Rattle.judge.specs.declared.hearers.Telling.{Telling}
 use Rattle.record_drawer.specs.Sheets.{Stands}
 use Rattle.record_drawer.specs.declared.sheet.Sheet.{Sheet}
 

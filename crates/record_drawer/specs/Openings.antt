@@ -2,11 +2,9 @@
 use Rattle.std.specs.Prelude.{◌≡◌, ◌<◌, ◌≤◌, ℕ, Bool, true, false, List, [], ◌∷◌, ◌++◌, codes, length, take, Option, None, Some, Ok}
 use Rattle.std.specs.Option.{is_some, unwrap_or}
 use Rattle.std.specs.Str.{bytes_eq}
-use Rattle.files.specs.Cuts.{input_limit}
-use Rattle.files.specs.Files.{Grammar}
-use Rattle.files.specs.Limits.{said_words}
-use Rattle.record_file.specs.RecordFiles.{Said, record_of}
-use Rattle.record_file.specs.scenario.Reading.{Script, scenario_of}
+use Rattle.files.specs.{Grammar, input_limit, said_words}
+use Rattle.record_file.specs.{Said, record_of}
+use Rattle.record_file.specs.scenario.{Script, scenario_of}
 use Rattle.record_drawer.specs.declared.opened.FirstLine.{FirstLine}
 
 -- what is read of the first line that is not skipped

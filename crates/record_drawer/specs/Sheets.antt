@@ -2,30 +2,21 @@
 use Rattle.std.specs.Prelude.{◌≡◌, ◌<◌, ◌+◌, ℕ, true, List, [], ◌∷◌, ◌++◌, codes, flat_map, reverse, Option, None, Some, IfSome, Result, Ok, Err}
 use Rattle.std.specs.Io.KnownBytes.{IsAtEnd, Keeps}
 use Rattle.files.specs.Engines.{Streams}
-use Rattle.files.specs.Reads.{UnlessMemory}
-use Rattle.files.specs.declared.faults.Fault.{Fault}
+use Rattle.files.specs.{Fault, FaultKind, UnlessMemory}
 use Rattle.files.specs.declared.faults.Fault.TheVariants as fault
-use Rattle.files.specs.declared.faults.FaultKind.{FaultKind}
-use Rattle.plain_store.specs.Setups.{opening_store}
-use Rattle.plain_store.specs.declared.setups.Setup.{Setup}
-use Rattle.record.specs.Entries.{Entry, Past}
-use Rattle.record_file.specs.Printing.{head_words}
-use Rattle.record_file.specs.scenario.Printing.{printed_line}
-use Rattle.record_file.specs.RecordFiles.{Progress, Said, cleared, entry_in, record_of}
-use Rattle.judge.specs.Ends.{IsOfRecord}
-use Rattle.companions.specs.picture.Bandings.{Item, bands_told, heights_told}
-use Rattle.companions.specs.picture.Pages.{page_names}
-use Rattle.companions.specs.picture.Sheets.{page_back, page_front, picture_back, picture_front}
-use Rattle.companions.specs.picture.Standings.{sayings}
-use Rattle.companions.specs.picture.columns.Stages.{marks_in, marks_said}
-use Rattle.companions.specs.picture.declared.page.Form.{Form}
+use Rattle.plain_store.specs.{Setup, opening_store}
+use Rattle.record.specs.{Entry, Past}
+use Rattle.record_file.specs.{Progress, Said, cleared, entry_in, head_words, record_of}
+use Rattle.record_file.specs.scenario.{printed_line}
+use Rattle.judge.specs.{IsOfRecord}
+use Rattle.companions.specs.picture.{Form, Item, bands_told, heights_told, page_back, page_front, page_names, picture_back, picture_front, sayings}
+use Rattle.companions.specs.picture.columns.{marks_in, marks_said}
 use Rattle.companions.specs.picture.declared.page.Form.TheVariants as form
 use Rattle.companions.specs.picture.declared.reads.Reads.{Reads as Mode}
-use Rattle.companions.specs.picture.markup.Elements.{opens_in}
-use Rattle.companions.specs.picture.markup.Titles.{lines_in}
+use Rattle.companions.specs.picture.markup.{lines_in, opens_in}
 use Rattle.record_drawer.specs.Drawings.{DrawsBands, DrawsOn, Recalls, Writes, kept, kept_at_first, plan_of}
 use Rattle.record_drawer.specs.Items.{given, given_at_end, given_by, record_gives, record_lines, source_of}
-use Rattle.companions.specs.StoreChanges.{store_words}
+use Rattle.companions.specs.{store_words}
 use Rattle.record_drawer.specs.declared.drawing.RecordDrawing.{RecordDrawing}
 use Rattle.record_drawer.specs.declared.sheet.DrawnEntry.{DrawnEntry}
 use Rattle.record_drawer.specs.declared.sheet.Sheet.{Sheet}

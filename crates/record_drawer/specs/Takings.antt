@@ -1,12 +1,10 @@
 -- What the commands that marks take change in the one-thread store. Of marks, each with its process, the newest stands first.
 use Rattle.std.specs.Prelude.{◌≡◌, ◌<◌, ℕ, ◌+◌, ◌==◌, Bool, true, cond, min, nat_lt, List, [], ◌∷◌, get_or, length, Option, None}
-use Rattle.plain_store.specs.Setups.{opening_store}
-use Rattle.plain_store.specs.Store.{Contents, after}
+use Rattle.plain_store.specs.{Contents, Setup, after, opening_store}
 use Rattle.plain_store.specs.declared.commands.Command.TheVariants.{Ask}
-use Rattle.plain_store.specs.declared.setups.Setup.{Setup}
-use Rattle.record.specs.declared.marks.Mark.{Mark}
+use Rattle.record.specs.{Mark}
 use Rattle.record.specs.declared.marks.Mark.TheVariants as mark
-use Rattle.companions.specs.StoreChanges.{Changed, change_by}
+use Rattle.companions.specs.{Changed, change_by}
 use Rattle.record_drawer.specs.declared.changes.LastCall.{LastCall}
 use Rattle.record_drawer.specs.declared.changes.RecordedChanges.{RecordedChanges}
 

@@ -1,6 +1,6 @@
 -- How writing ends.
 use Rattle.std.specs.Prelude.{ℕ, Result, Ok, Err}
-use Rattle.files.specs.declared.faults.Fault.{Fault}
+use Rattle.files.specs.{Fault}
 use Rattle.files.specs.declared.faults.Fault.TheVariants.{Line, Read, Write, Memory}
 
 -- writing ends early only by a call that failed, or for want of memory

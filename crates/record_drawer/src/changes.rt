@@ -1,9 +1,9 @@
 //! What the commands taken change: the one-thread store beside a record, and what each process called last.
 ghost use Rattle.std.specs.Prelude.{◌≡◌, ◌∷◌, ◌<◌, ℕ, [], List, Ok, IfOk, OnOk, option_map, set, slice_get};
-ghost use Rattle.plain_store.specs.Setups.{checked};
+ghost use Rattle.plain_store.specs.{checked};
 ghost use Rattle.plain_store.specs.declared.setups.Setup.{Setup as Given};
 ghost use Rattle.record.specs.declared.marks.Mark.{Mark as Noted};
-ghost use Rattle.companions.specs.StoreChanges.{changed, store_words as words_of_store, words_by};
+ghost use Rattle.companions.specs.{changed, store_words as words_of_store, words_by};
 ghost use Rattle.record_drawer.specs.Takings.{Knows, after_call, change_by_call, change_of, next_number as number_after};
 
 use companions::{TakenChange, opening_store, store_words, words_by_pairs};

@@ -1,18 +1,17 @@
 //! The entries of a record told line by line to a picture, whose bands are written as they are full.
 ghost use Rattle.std.specs.Prelude.{◌≡◌, ◌+◌, ◌-◌, ◌^◌, ◌<◌, ℕ, List, [], ◌∷◌, ◌++◌, is_none, map, IfErr, IfOk, Ok, OnOk};
-ghost use Rattle.plain_store.specs.Setups.{checked, opening_store as store_at_first};
+ghost use Rattle.plain_store.specs.{checked, opening_store as store_at_first};
 ghost use Rattle.plain_store.specs.declared.setups.Setup.{Setup as Given};
-ghost use Rattle.record.specs.Entries.{Entry as Noted, Past};
+ghost use Rattle.record.specs.{Entry as Noted, Past};
 ghost use Rattle.record.specs.declared.marks.Mark.{Mark as Told};
-ghost use Rattle.record_file.specs.Printing.{step_entry};
-ghost use Rattle.companions.specs.picture.Pages.{held, page_of, seen_page};
+ghost use Rattle.record_file.specs.{step_entry};
+ghost use Rattle.companions.specs.picture.{held, page_of, seen_page};
 ghost use Rattle.companions.specs.picture.columns.declared.reads.OverlappedRead.{OverlappedRead as Ended};
 ghost use Rattle.companions.specs.picture.declared.reads.Reads.{Reads as Mode};
 ghost use Rattle.record_drawer.specs.Drawings.{DrawsOn, DrawsRest, IsAmong, Recalls, kept, kept_at_first, plan_of};
 ghost use Rattle.record_drawer.specs.Items.{GivesRead, SaysEnd, SaysJudged, SaysMark, behind, given_of, lines_given, says_judged, says_marks, says_of, says_text, source_of, waiting};
-ghost use Rattle.companions.specs.picture.columns.States.{places_marked};
-ghost use Rattle.companions.specs.picture.columns.Told.{saying_text};
-ghost use Rattle.companions.specs.Overlaps.{Overhears, shown_of};
+ghost use Rattle.companions.specs.picture.columns.{places_marked, saying_text};
+ghost use Rattle.companions.specs.{Overhears, shown_of};
 ghost use Rattle.record_drawer.specs.Takings.{change_of};
 ghost use Rattle.record_drawer.specs.Writing.{IsWriteFault, failed_write};
 

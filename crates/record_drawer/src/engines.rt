@@ -1,15 +1,14 @@
 //! The two engines.
 ghost use Rattle.std.specs.Prelude.{◌≡◌, ◌+◌, ◌-◌, ◌^◌, ◌<◌, ℕ, [], false, IfErr, IfOk, IfSome, List, None, Ok, OnOk, Option, Some};
-ghost use Rattle.plain_store.specs.Setups.{checked};
+ghost use Rattle.plain_store.specs.{checked};
 ghost use Rattle.std.specs.Io.KnownBytes.{IsAtEnd};
-ghost use Rattle.files.specs.Engines.{streams};
-ghost use Rattle.files.specs.Streams.{failed_reading};
+ghost use Rattle.files.specs.{failed_reading, streams};
 ghost use Rattle.companions.specs.picture.declared.page.Form.TheVariants as form_variants;
-ghost use Rattle.judge.specs.Ends.{IsOfRecord};
+ghost use Rattle.judge.specs.{IsOfRecord};
 ghost use Rattle.judge.specs.Trials.{Stands as HearerStands};
 ghost use Rattle.companions.specs.picture.declared.reads.Reads.{Reads as Mode};
-ghost use Rattle.record.specs.Entries.{Entry as Noted};
-ghost use Rattle.record_file.specs.RecordFiles.{Progress, Said};
+ghost use Rattle.record.specs.{Entry as Noted};
+ghost use Rattle.record_file.specs.{Progress, Said};
 ghost use Rattle.record_drawer.specs.Judgings.{HasRead, TellsOfLines};
 ghost use Rattle.record_drawer.specs.Sheets.{DrawsAllBands, DrawsBandsOf, DrawsSaid, Drew, DrewJudged, IsDrawFault, IsJudged, Stands, without_write};
 ghost use Rattle.record_drawer.specs.Writing.{IsWriteFault, failed_write};

@@ -1,10 +1,7 @@
 //! A source whose front was looked at, to tell what kind of file it is.
 ghost use Rattle.std.specs.Prelude.{◌≡◌, ◌+◌, ◌-◌, ◌^◌, ◌<◌, ◌≤◌, ◌++◌, cond, false, true, List, ℕ, drop, length, min, take, IfErr, IfOk, IfSome};
 ghost use Rattle.std.specs.Io.KnownBytes.{IsAtEnd, Keeps, prepend_known};
-ghost use Rattle.files.specs.Cuts.{input_limit};
-ghost use Rattle.files.specs.Limits.{said_words};
-ghost use Rattle.files.specs.Streams.{IsReadFault, failed_reading};
-ghost use Rattle.files.specs.Words.{lines};
+ghost use Rattle.files.specs.{IsReadFault, failed_reading, input_limit, lines, said_words};
 ghost use Rattle.record_drawer.specs.Openings.{is_record as taken_for_record, record_opened as opened_by};
 
 use bstr::ByteSlice;

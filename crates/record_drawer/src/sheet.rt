@@ -1,12 +1,10 @@
 //! A record file that is read and drawn line by line.
 ghost use Rattle.std.specs.Prelude.{◌≡◌, ◌+◌, ◌-◌, ◌^◌, ◌<◌, ◌≤◌, ◌∷◌, ℕ, [], None, Some, true, false, Err, IfErr, IfOk, IfSome, IsSome, List, Ok, OnOk, Option, length};
-ghost use Rattle.plain_store.specs.Setups.{checked};
-ghost use Rattle.record.specs.Entries.{Past};
-ghost use Rattle.record_file.specs.RecordFiles.{Progress, line_read};
-ghost use Rattle.companions.specs.picture.Pages.{page_names};
-ghost use Rattle.companions.specs.picture.Sheets.{page_front};
-ghost use Rattle.companions.specs.picture.markup.Elements.{opens_in};
-ghost use Rattle.companions.specs.picture.markup.Titles.{lines_in};
+ghost use Rattle.plain_store.specs.{checked};
+ghost use Rattle.record.specs.{Past};
+ghost use Rattle.record_file.specs.{Progress, line_read};
+ghost use Rattle.companions.specs.picture.{page_front, page_names};
+ghost use Rattle.companions.specs.picture.markup.{lines_in, opens_in};
 ghost use Rattle.record_drawer.specs.Sheets.{DrawsPast, EndsAt, GoesOn, Heads, LineStops, Stands, entries_of, listed};
 ghost use Rattle.record_drawer.specs.Writing.{IsWriteFault, failed_write};
 

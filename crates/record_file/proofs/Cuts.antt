@@ -6,8 +6,8 @@ use Rattle.std.proofs.lemmas.List.Splits.{slice_split_none, slice_split_first}
 use Rattle.std.proofs.lemmas.List.Sums.{fails_before_first}
 use Rattle.std.specs.Borrow.{Bor}
 use Rattle.std.specs.List.{slice_split, onto_first, position, position_or_len}
-use Rattle.files.specs.Words.{texts}
-use Rattle.record_file.specs.Reading.{dotted, is_sign, parts_of}
+use Rattle.files.specs.{texts}
+use Rattle.record_file.specs.{dotted, is_sign, parts_of}
 
 -- cut at the first such element,
 cut : {X : Type 0} (p : X → Bool) (xs : List X) (k : ℕ) → position p xs ≡ Some k → slice_split p xs ≡ take k xs ∷ slice_split p (drop (k + 1) xs)

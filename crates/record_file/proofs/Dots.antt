@@ -2,8 +2,8 @@
 use Rattle.std.proofs.Common.{◌≡◌, ℕ, ◌<◌, ◌==◌, List, [], ◌∷◌, ◌++◌, length, codes, refl, sym, ◌∙◌, arith}
 use Rattle.std.proofs.lemmas.List.Splits.{join_with_byte-slice_split, length-slice_split}
 use Rattle.std.specs.List.{join_with_byte}
-use Rattle.files.specs.Checks.{word}
-use Rattle.record_file.specs.Reading.{dotted}
+use Rattle.files.specs.{word}
+use Rattle.record_file.specs.{dotted}
 
 -- each word has a part
 pub some_part : (bs : List ℕ) → 0 < length (dotted bs)

@@ -6,20 +6,14 @@ use Rattle.std.proofs.lemmas.Fmt.{decimal_nonempty, digits_decimal}
 use Rattle.std.specs.Fmt.{decimal}
 use Rattle.std.specs.List.{list_all}
 use Rattle.std.specs.Str.{bytes_eq}
-use Rattle.files.specs.Checks.{◌>>=◌, known}
-use Rattle.files.specs.Files.{statement_read, words_read}
-use Rattle.files.specs.Words.{begins_with, words_of}
-use Rattle.record.specs.Entries.{Entry}
-use Rattle.scenario.specs.Keywords.{opener_of}
-use Rattle.scenario.specs.Numbers.{are_digits}
-use Rattle.scenario.specs.Printing.{spaced}
+use Rattle.files.specs.{begins_with, known, statement_read, words_of, words_read, ◌>>=◌}
+use Rattle.record.specs.{Entry}
+use Rattle.scenario.specs.{are_digits, opener_of, spaced}
 use Rattle.scenario.proofs.Numerals.{own}
 use Rattle.scenario.proofs.Spaced.{words_of_spaced}
 use Rattle.record_file.proofs.PrintedWords.{entry_is_words}
 use Rattle.record_file.proofs.ReadBack.{entry_words_again}
-use Rattle.record_file.specs.Given.{IsEntry, is_access, is_mark}
-use Rattle.record_file.specs.Printing.{access_words, entry_words, signed_words}
-use Rattle.record_file.specs.RecordFiles.{Progress, begins_with_digit, kind_in, line_said, record_grammar}
+use Rattle.record_file.specs.{IsEntry, Progress, access_words, begins_with_digit, entry_words, is_access, is_mark, kind_in, line_said, record_grammar, signed_words}
 use Rattle.record_file.specs.declared.line_kinds.LineKind.TheVariants as kind
 
 -- the first word of an entry is a number: it begins with a digit

@@ -7,29 +7,18 @@ use Rattle.std.proofs.lemmas.List.{length-append}
 use Rattle.std.proofs.lemmas.Slice.Eq.{bytes_eq-Decides}
 use Rattle.std.specs.Fmt.{decimal, signed_decimal}
 use Rattle.std.specs.List.{list_all}
-use Rattle.safe_bit.specs.declared.Move.{Move}
+use Rattle.safe_bit.specs.{Move}
 use Rattle.safe_bit.specs.declared.Move.TheVariants as move
-use Rattle.record.specs.declared.access.Access.{Access}
-use Rattle.plain_store.specs.Commands.{is_command}
-use Rattle.plain_store.specs.Names.{is_name}
-use Rattle.plain_store.specs.Shown.{value_text}
-use Rattle.plain_store.specs.Values.{fits_i64, is_value}
-use Rattle.plain_store.specs.declared.commands.Answer.{Answer}
+use Rattle.record.specs.{Access, Mark}
+use Rattle.plain_store.specs.{Answer, Command, Reply, Value, fits_i64, is_command, is_name, is_value, value_text}
 use Rattle.plain_store.specs.declared.commands.Answer.TheVariants as answer
-use Rattle.plain_store.specs.declared.commands.Command.{Command}
 use Rattle.plain_store.specs.declared.commands.Command.TheVariants as command
-use Rattle.plain_store.specs.declared.commands.Reply.{Reply}
 use Rattle.plain_store.specs.declared.commands.Reply.TheVariants as reply
-use Rattle.plain_store.specs.declared.commands.Value.{Value}
 use Rattle.plain_store.specs.declared.commands.Value.TheVariants.{Count, Text}
-use Rattle.record.specs.declared.marks.Mark.{Mark}
 use Rattle.record.specs.declared.marks.Mark.TheVariants as mark
-use Rattle.scenario.specs.Numbers.{are_digits}
-use Rattle.scenario.specs.Printing.{command_words}
+use Rattle.scenario.specs.{are_digits, command_words}
 use Rattle.scenario.proofs.Numerals.{own}
-use Rattle.record_file.specs.Given.{is_access, is_reply, is_answer, is_mark}
-use Rattle.record_file.specs.Printing.{move_words, access_words, reply_words, answer_words, mark_words}
-use Rattle.record_file.specs.Reading.{is_sign}
+use Rattle.record_file.specs.{access_words, answer_words, is_access, is_answer, is_mark, is_reply, is_sign, mark_words, move_words, reply_words}
 use Rattle.record_file.proofs.Parts.{has_no_sign}
 
 -- a word that passes a test that the sign fails

@@ -7,29 +7,19 @@ use Rattle.std.proofs.lemmas.List.Folds.{list_all-append}
 use Rattle.std.specs.Char.{is_ascii_graphic}
 use Rattle.std.specs.Fmt.{decimal, signed_decimal}
 use Rattle.std.specs.List.{list_all}
-use Rattle.safe_bit.specs.declared.Move.{Move}
+use Rattle.safe_bit.specs.{Move}
 use Rattle.safe_bit.specs.declared.Move.TheVariants as move
-use Rattle.record.specs.declared.access.Access.{Access}
-use Rattle.record.specs.declared.access.Field.{Field}
+use Rattle.record.specs.{Access, Entry, Field, Mark}
 use Rattle.record.specs.declared.access.Field.TheVariants.{Choosing, Ticket, Commit, Stamp0, Stamp1, Image0, Image1}
-use Rattle.plain_store.specs.Commands.{is_command}
-use Rattle.plain_store.specs.Names.{is_name}
-use Rattle.plain_store.specs.Shown.{value_text}
-use Rattle.plain_store.specs.Values.{fits_i64, is_value}
-use Rattle.plain_store.specs.declared.commands.Answer.{Answer}
+use Rattle.plain_store.specs.{Answer, Command, Reply, fits_i64, is_command, is_name, is_value, value_text}
 use Rattle.plain_store.specs.declared.commands.Answer.TheVariants as answer
-use Rattle.plain_store.specs.declared.commands.Command.{Command}
 use Rattle.plain_store.specs.declared.commands.Command.TheVariants as command
-use Rattle.plain_store.specs.declared.commands.Reply.{Reply}
 use Rattle.plain_store.specs.declared.commands.Reply.TheVariants as reply
-use Rattle.record.specs.Entries.{Entry}
-use Rattle.record.specs.declared.marks.Mark.{Mark}
 use Rattle.record.specs.declared.marks.Mark.TheVariants as mark
-use Rattle.scenario.specs.Printing.{command_words}
+use Rattle.scenario.specs.{command_words}
 use Rattle.scenario.proofs.Spaced.{is_word}
 use Rattle.scenario.proofs.Spelled.{integer_word, name_word, number_word, value_word}
-use Rattle.record_file.specs.Given.{is_access, is_answer, is_entry, is_mark, is_reply}
-use Rattle.record_file.specs.Printing.{access_words, answer_words, entry_words, field_word, mark_words, move_words, reply_words, signed_words}
+use Rattle.record_file.specs.{access_words, answer_words, entry_words, field_word, is_access, is_answer, is_entry, is_mark, is_reply, mark_words, move_words, reply_words, signed_words}
 
 -- one word, and no other
 one : (w : List ℕ) → is_word w ≡ true → list_all is_word (w ∷ []) ≡ true

@@ -8,48 +8,25 @@ use Rattle.std.specs.Char.{is_ascii_digit}
 use Rattle.std.specs.Fmt.{decimal, signed_decimal}
 use Rattle.std.specs.List.{All, list_all}
 use Rattle.std.specs.Option.{ok_or}
-use Rattle.safe_bit.specs.declared.Move.{Move}
+use Rattle.safe_bit.specs.{Move}
 use Rattle.safe_bit.specs.declared.Move.TheVariants as move
-use Rattle.record.specs.declared.access.Access.{Access}
-use Rattle.record.specs.declared.access.Field.{Field}
+use Rattle.record.specs.{Access, Entry, Field, Mark}
 use Rattle.record.specs.declared.access.Field.TheVariants.{Choosing, Ticket, Commit, Stamp0, Stamp1, Image0, Image1}
-use Rattle.plain_store.specs.Commands.{is_command}
-use Rattle.plain_store.specs.Names.{is_name}
-use Rattle.plain_store.specs.Shown.{value_text}
-use Rattle.plain_store.specs.Values.{fits_i64}
-use Rattle.plain_store.specs.declared.commands.Answer.{Answer}
+use Rattle.plain_store.specs.{Answer, Command, Reply, fits_i64, is_command, is_name, value_text}
 use Rattle.plain_store.specs.declared.commands.Answer.TheVariants as answer
-use Rattle.plain_store.specs.declared.commands.Command.{Command}
 use Rattle.plain_store.specs.declared.commands.Command.TheVariants as command
-use Rattle.plain_store.specs.declared.commands.Reply.{Reply}
 use Rattle.plain_store.specs.declared.commands.Reply.TheVariants as reply
-use Rattle.files.specs.Checks.{◌>>=◌, known, fault_if, counted}
-use Rattle.files.specs.declared.faults.FaultKind.{FaultKind}
+use Rattle.files.specs.{FaultKind, counted, fault_if, known, ◌>>=◌}
 use Rattle.files.specs.declared.faults.FaultKind.TheVariants.{Words, Number}
-use Rattle.record.specs.Entries.{Entry}
-use Rattle.record.specs.declared.marks.Mark.{Mark}
 use Rattle.record.specs.declared.marks.Mark.TheVariants as mark
-use Rattle.scenario.specs.BitFiles.{bit_word_of}
-use Rattle.scenario.specs.Keywords.{verb_of}
-use Rattle.scenario.specs.Numbers.{are_digits}
-use Rattle.scenario.specs.Operands.{number_at}
-use Rattle.scenario.specs.Spelling.{bit_word}
-use Rattle.scenario.specs.Statements.{operand_count, command_of, verb_in}
-use Rattle.scenario.specs.declared.bit_files.BitWord.{BitWord}
+use Rattle.scenario.specs.{BitWord, Verb, are_digits, bit_word, bit_word_of, command_of, number_at, operand_count, verb_in, verb_of}
 use Rattle.scenario.specs.declared.bit_files.BitWord.TheVariants as bits
-use Rattle.scenario.specs.declared.keywords.Verb.{Verb}
 use Rattle.scenario.specs.declared.keywords.Verb.TheVariants as verb
 use Rattle.scenario.proofs.Numerals.{own}
 use Rattle.scenario.proofs.ReadBack.{process_again, operands_of, command_again}
 use Rattle.scenario.proofs.Spelled.{number_again, integer_again, value_again}
-use Rattle.record_file.specs.Faults.{both}
-use Rattle.record_file.specs.Given.{is_access, is_reply, is_answer, is_mark, IsEntry}
-use Rattle.record_file.specs.Keywords.{field_of, reply_word_of, answer_word_of}
-use Rattle.record_file.specs.Printing.{field_word, copy_word, move_words, access_words, reply_words, answer_words, mark_words, signed_words, entry_words}
-use Rattle.record_file.specs.Reading.{dotted, field_at, move_of, copy_of, access_of, sum_first, called_of, reply_count, reply_of, taken_of, answer_count, answer_of, answered_of, mark_of, with_mark, marks_read, entry_with, entry_by, entry_of}
-use Rattle.record_file.specs.declared.keywords.AnswerWord.{AnswerWord}
+use Rattle.record_file.specs.{AnswerWord, IsEntry, ReplyWord, access_of, access_words, answer_count, answer_of, answer_word_of, answer_words, answered_of, both, called_of, copy_of, copy_word, dotted, entry_by, entry_of, entry_with, entry_words, field_at, field_of, field_word, is_access, is_answer, is_mark, is_reply, mark_of, mark_words, marks_read, move_of, move_words, reply_count, reply_of, reply_word_of, reply_words, signed_words, sum_first, taken_of, with_mark}
 use Rattle.record_file.specs.declared.keywords.AnswerWord.TheVariants as answer_word
-use Rattle.record_file.specs.declared.keywords.ReplyWord.{ReplyWord}
 use Rattle.record_file.specs.declared.keywords.ReplyWord.TheVariants as reply_word
 use Rattle.record_file.proofs.NoSigns.{access_has_none, marks_have_none}
 use Rattle.record_file.proofs.Parts.{parts_of_signed}

@@ -9,26 +9,11 @@ use Rattle.std.specs.Fmt.{decimal}
 use Rattle.std.specs.Int.{is_in_range}
 use Rattle.std.specs.List.{list_all}
 use Rattle.plain_store.proofs.GoodSetups.{IsGood, few-opening, good-checked}
-use Rattle.plain_store.specs.Pairs.{Pair, is_pair}
-use Rattle.plain_store.specs.Shown.{value_text}
-use Rattle.plain_store.specs.Setups.{checked}
-use Rattle.plain_store.specs.Store.{are_pairs, names_differ}
-use Rattle.plain_store.specs.declared.setups.Setup.{Setup}
-use Rattle.files.specs.Checks.{◌>>=◌, fault_if}
-use Rattle.files.specs.Files.{at_line, words_read}
-use Rattle.files.specs.Limits.{is_said}
-use Rattle.files.specs.Words.{lines, words_of}
-use Rattle.files.specs.declared.faults.FaultKind.{FaultKind}
+use Rattle.plain_store.specs.{Pair, Setup, are_pairs, checked, is_pair, names_differ, value_text}
+use Rattle.files.specs.{FaultKind, LineFault, at_line, fault_if, is_said, lines, words_of, words_read, ◌>>=◌}
 use Rattle.files.specs.declared.faults.FaultKind.TheVariants.{TooLong, Unknown}
-use Rattle.files.specs.declared.faults.LineFault.{LineFault}
-use Rattle.record.specs.Entries.{Entry}
-use Rattle.scenario.specs.Printing.{heading_words, headings_of, open_words, printed_line, spaced}
-use Rattle.scenario.specs.Reading.{heading_read, open_read}
-use Rattle.scenario.specs.Reading.{Progress as Head}
-use Rattle.scenario.specs.Setting.{and_given, default_setup, is_given, most_of, none_given, with_heading, with_pair}
-use Rattle.scenario.specs.Spelling.{headings_differ, with_headings}
-use Rattle.scenario.specs.declared.headings.Given.{Given}
-use Rattle.scenario.specs.declared.keywords.Heading.{Heading}
+use Rattle.record.specs.{Entry}
+use Rattle.scenario.specs.{Given, Heading, Progress as Head, and_given, default_setup, heading_read, heading_words, headings_differ, headings_of, is_given, most_of, none_given, open_read, open_words, printed_line, spaced, with_heading, with_headings, with_pair}
 use Rattle.scenario.specs.declared.keywords.Heading.TheVariants.{Processes, Tickets, Stamps, Slots}
 use Rattle.scenario.proofs.HeadingLists.{all_given, are_free, are_others, free_more, heading_in, heading_keeps, number_kept, number_set, version_keeps}
 use Rattle.scenario.proofs.Printout.{all_free, may_add, none_before, two_if_open}
@@ -36,10 +21,8 @@ use Rattle.scenario.proofs.ReadBack.{heading_said_again, open_again, version_aga
 use Rattle.scenario.proofs.ShortLines.{heading_fits, script_printable, small_heading}
 use Rattle.scenario.proofs.Spaced.{is_printable, is_word, length-spaced, lines_of_words, printable_words, size, words_of_spaced}
 use Rattle.record_file.proofs.PrintedWords.{entry_is_words}
-use Rattle.record_file.specs.Printing.{entry_line, entry_words, head_words, record_text}
-use Rattle.record_file.specs.RecordFiles.{Progress, cleared, entry_in, first_read, head_read, line_read, lines_read, pair_read, record_grammar, record_of, said_by}
+use Rattle.record_file.specs.{BeginsRecord, FitLines, IsSetupOfFile, Progress, cleared, entry_in, entry_line, entry_words, first_read, head_read, head_words, line_read, lines_read, pair_read, record_grammar, record_of, record_text, said_by}
 use Rattle.record_file.proofs.EntryLines.{entry_of_words}
-use Rattle.record_file.specs.ReadAgain.{BeginsRecord, FitLines, IsSetupOfFile}
 
 -- One line.
 

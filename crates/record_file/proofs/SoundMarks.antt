@@ -4,19 +4,13 @@ use Rattle.std.proofs.lemmas.Bool.{and_from, and_parts}
 use Rattle.std.proofs.lemmas.List.Folds.{list_all-append}
 use Rattle.std.specs.List.{list_all}
 use Rattle.record.specs.reader_copies.Runs as copies
-use Rattle.plain_store.specs.Store.{changes}
+use Rattle.plain_store.specs.{Reply, changes}
 use Rattle.plain_store.specs.declared.Answer.TheVariants as answer
-use Rattle.plain_store.specs.declared.Reply.{Reply}
 use Rattle.record.specs.Closings.{Closing, Withdraws, Settles, Frees, Lowers, Quit, Ended, closing_next, is_last_settled, is_last_written, is_unwritten, no_ticket, settled_marks}
-use Rattle.record.specs.Parts.{Part, Refuses, Waits, AsksImage, WritesCommit, Clears, first_marks, last_marks}
+use Rattle.record.specs.{AsksImage, Call, Clears, Mark, Next, Part, Place, Refuses, Wait, Waits, WritesCommit, bits_with, caller, entered_if_none, first_marks, is_fresh, is_last, last_marks, lets_by, marks_of, placed, reply, store_read, waits_of}
 use Rattle.record.specs.Parts as part
-use Rattle.record.specs.Places.{Place, bits_with, is_fresh, is_last, marks_of}
-use Rattle.record.specs.Program.{Wait, entered_if_none, lets_by, reply, store_read, waits_of}
-use Rattle.record.specs.Records.{placed}
-use Rattle.record.specs.Scripts.{Call, Next, caller}
-use Rattle.record.specs.declared.marks.Mark.{Mark}
 use Rattle.record.specs.declared.marks.Mark.TheVariants.{Called, Waiting, Taken, Left, Answered, Down}
-use Rattle.record_file.specs.Given.{is_mark, is_reply}
+use Rattle.record_file.specs.{is_mark, is_reply}
 use Rattle.record_file.proofs.SoundReplies.{read_sound, reply_sound}
 use Rattle.record_file.proofs.SoundParts.{is_sound_closing, is_sound_part, is_sound_taken}
 

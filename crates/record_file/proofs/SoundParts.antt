@@ -3,25 +3,14 @@ use Rattle.std.proofs.Common.{◌≡◌, ℕ, zero, suc, ◌+◌, ◌≤◌, ◌
 use Rattle.std.proofs.lemmas.Bool.{and_from, and_parts}
 use Rattle.std.proofs.lemmas.Bool.Decides.{nat_tests}
 use Rattle.std.specs.List.{list_all, range_with_len}
-use Rattle.record.specs.declared.access.Access.{Access}
-use Rattle.record.specs.declared.access.Field.{Field}
-use Rattle.record.specs.safe_number.Bytes.{number_of_bits}
-use Rattle.record.specs.safe_number.Runs.{new_write}
-use Rattle.plain_store.specs.Store.{Contents, changes}
+use Rattle.record.specs.{Access, Asks, AsksCommit, AsksImage, AsksStamp, Call, Clears, Field, Over, Part, Past, Place, Raises, Refuses, TakesTicket, Version, Wait, Waits, WritesCommit, WritesImage, WritesStamp, bits_with, caller, enter, first_full, greatest, index_of, is_called, is_commit, is_last, last_read, last_write, lets_by, max_of, newest_stamp, others, part_after, place_after, processes, read_so_far, reply, run_after, since, store_read, to_b, to_c, to_d, to_e, to_g, unfinished, waits_of, write_moved}
+use Rattle.record.specs.safe_number.{new_write, number_of_bits}
+use Rattle.plain_store.specs.{Contents, Reply, changes}
 use Rattle.plain_store.specs.declared.Answer.TheVariants as answer
-use Rattle.plain_store.specs.declared.Reply.{Reply}
-use Rattle.record.specs.Calls.{read_so_far}
 use Rattle.record.specs.Closings.{Closing, Withdraws, Settles, Frees, Lowers, Quit, Ended, closing_after, failing, freeing, is_last_settled, is_last_written, no_ticket, reply_with, settling_from}
-use Rattle.record.specs.Entries.{Past, is_called, since}
-use Rattle.record.specs.Parts.{Part, Raises, Asks, TakesTicket, Refuses, Waits, AsksCommit, AsksStamp, AsksImage, WritesImage, WritesStamp, WritesCommit, Clears, Over, part_after, to_b, to_c, to_d, to_e, to_g}
 use Rattle.record.specs.Parts as part
-use Rattle.record.specs.Places.{Place, bits_with, enter, is_last, place_after, run_after, write_moved}
-use Rattle.record.specs.Program.{Version, Wait, first_full, greatest, lets_by, max_of, newest_stamp, index_of, reply, store_read, waits_of}
-use Rattle.record.specs.Registers.{others, processes}
-use Rattle.record.specs.Scripts.{Call, caller}
-use Rattle.record.specs.Unit.{is_commit, last_read, last_write, unfinished}
 use Rattle.record.specs.reader_copies.Runs as copies
-use Rattle.record_file.specs.Given.{is_answer, is_reply}
+use Rattle.record_file.specs.{is_answer, is_reply}
 use Rattle.record_file.proofs.SoundReplies.{index_small, is_sound, read_sound, reply_sound}
 
 -- what a part holds fits

@@ -4,26 +4,13 @@ use Rattle.std.proofs.lemmas.Bool.{and_from, and_parts}
 use Rattle.std.proofs.lemmas.Bool.Decides.{nat_tests}
 use Rattle.std.specs.List.{list_all}
 use Rattle.std.specs.Str.{bytes_eq}
-use Rattle.plain_store.specs.Commands.{name_of}
-use Rattle.plain_store.specs.Names.{is_name}
-use Rattle.plain_store.specs.Outcomes.{added, at_absent, at_present, outcome, replies, writes}
-use Rattle.plain_store.specs.Pairs.{Pair, is_pair}
-use Rattle.plain_store.specs.Setups.{callers_of}
-use Rattle.plain_store.specs.Store.{Contents, empty_store, names_differ, number_of, reply_to, value_at, value_for}
-use Rattle.plain_store.specs.Values.{fits_i64, is_value, same_value}
-use Rattle.plain_store.specs.declared.commands.Caller.{Caller}
-use Rattle.plain_store.specs.declared.commands.Command.{Command}
+use Rattle.plain_store.specs.{Caller, Command, Contents, Pair, Value, added, at_absent, at_present, callers_of, empty_store, fits_i64, is_name, is_pair, is_value, name_of, names_differ, number_of, outcome, replies, reply_to, same_value, value_at, value_for, writes}
 use Rattle.plain_store.specs.declared.commands.Command.TheVariants.{Read, Write, Add, Cas, Ask}
 use Rattle.plain_store.specs.declared.commands.Reply.TheVariants as reply
-use Rattle.plain_store.specs.declared.commands.Value.{Value}
 use Rattle.plain_store.specs.declared.commands.Value.TheVariants.{Count, Text}
-use Rattle.record.specs.store_image.Image.{image_of, is_number}
-use Rattle.record.specs.store_image.Image.{store_read as fields_read}
-use Rattle.record.specs.store_image.Reading.{has_image, store_in, used_in}
-use Rattle.record.specs.Program.{store_read}
-use Rattle.record.specs.Registers.{bytes_of_bits, image_bytes}
-use Rattle.record.specs.Scripts.{Call}
-use Rattle.record_file.specs.Given.{is_reply}
+use Rattle.record.specs.store_image.{has_image, image_of, is_number, store_in, store_read as fields_read, used_in}
+use Rattle.record.specs.{Call, bytes_of_bits, image_bytes, store_read}
+use Rattle.record_file.specs.{is_reply}
 
 -- its pairs are pairs, and its numbers have 16 bits
 abbrev pub is_sound : Contents → Bool

@@ -4,40 +4,24 @@ use Rattle.std.proofs.lemmas.Bool.{and_from}
 use Rattle.std.proofs.lemmas.Bool.Decides.{nat_tests}
 use Rattle.std.specs.Fmt.{decimal}
 use Rattle.std.specs.List.{list_all}
-use Rattle.safe_bit.specs.declared.Move.{Move}
+use Rattle.safe_bit.specs.{Move}
 use Rattle.safe_bit.specs.declared.Move.TheVariants as move
-use Rattle.record.specs.declared.access.Access.{Access}
-use Rattle.record.specs.declared.access.Field.{Field}
-use Rattle.plain_store.specs.declared.commands.Answer.{Answer}
+use Rattle.record.specs.{Access, Entry, Field, Mark}
+use Rattle.plain_store.specs.{Answer, Reply}
 use Rattle.plain_store.specs.declared.commands.Answer.TheVariants as answer
-use Rattle.plain_store.specs.declared.commands.Reply.{Reply}
 use Rattle.plain_store.specs.declared.commands.Reply.TheVariants as reply
-use Rattle.files.specs.Checks.{◌>>=◌, known, fault_if, counted, word}
-use Rattle.files.specs.declared.faults.FaultKind.{FaultKind}
+use Rattle.files.specs.{FaultKind, counted, fault_if, known, word, ◌>>=◌}
 use Rattle.files.specs.declared.faults.FaultKind.TheVariants.{Unknown, Words}
 use Rattle.files.proofs.Passing.{passed, no_fault, length_of}
-use Rattle.record.specs.Entries.{Entry}
-use Rattle.record.specs.declared.marks.Mark.{Mark}
 use Rattle.record.specs.declared.marks.Mark.TheVariants as mark
-use Rattle.scenario.specs.BitFiles.{bit_word_of, one_bit_of}
-use Rattle.scenario.specs.Keywords.{verbs, verb_of}
-use Rattle.scenario.specs.Operands.{number_at, integer_at, value_at}
-use Rattle.scenario.specs.Statements.{operand_count, command_of}
-use Rattle.scenario.specs.declared.bit_files.BitWord.{BitWord}
+use Rattle.scenario.specs.{BitWord, bit_word_of, command_of, integer_at, number_at, one_bit_of, operand_count, value_at, verb_of, verbs}
 use Rattle.scenario.specs.declared.bit_files.BitWord.TheVariants as bits
 use Rattle.scenario.proofs.BitsSaid.{bit_key, key_spelled, one_bit_spelled}
 use Rattle.scenario.proofs.LineSpelled.{none_of, one_of, command_said, process_spelled}
 use Rattle.scenario.proofs.OneSpelling.{number_spelled, integer_at_spelled, value_spelled, verb_word, found_spelled}
-use Rattle.record_file.specs.Faults.{both}
-use Rattle.record_file.specs.Given.{is_access, is_reply, is_answer, is_mark, IsEntry}
-use Rattle.record_file.specs.Keywords.{fields, field_of, mark_names, mark_word_of, reply_names, reply_word_of, own_answers, own_answer_of, or_reply, answer_word_of}
-use Rattle.record_file.specs.Printing.{field_word, copy_word, move_words, access_words, reply_words, answer_words, mark_words, signed_words, entry_words}
-use Rattle.record_file.specs.Reading.{dotted, field_at, move_of, copy_of, access_of, sum_first, called_of, reply_count, reply_of, taken_of, answer_count, answer_of, answered_of, waiting_of, lone_mark_of, named_mark_of, mark_of, parts_of, with_mark, marks_read, entry_by, entry_of}
-use Rattle.record_file.specs.declared.keywords.AnswerWord.{AnswerWord}
+use Rattle.record_file.specs.{AnswerWord, IsEntry, MarkWord, ReplyWord, access_of, access_words, answer_count, answer_of, answer_word_of, answer_words, answered_of, both, called_of, copy_of, copy_word, dotted, entry_by, entry_of, entry_words, field_at, field_of, field_word, fields, is_access, is_answer, is_mark, is_reply, lone_mark_of, mark_names, mark_of, mark_word_of, mark_words, marks_read, move_of, move_words, named_mark_of, or_reply, own_answer_of, own_answers, parts_of, reply_count, reply_names, reply_of, reply_word_of, reply_words, signed_words, sum_first, taken_of, waiting_of, with_mark}
 use Rattle.record_file.specs.declared.keywords.AnswerWord.TheVariants as answer_word
-use Rattle.record_file.specs.declared.keywords.MarkWord.{MarkWord}
 use Rattle.record_file.specs.declared.keywords.MarkWord.TheVariants as mark_word
-use Rattle.record_file.specs.declared.keywords.ReplyWord.{ReplyWord}
 use Rattle.record_file.specs.declared.keywords.ReplyWord.TheVariants as reply_word
 use Rattle.record_file.proofs.Dots.{four_parts}
 use Rattle.record_file.proofs.Parts.{signed, joined, joined_parts}

@@ -1,6 +1,6 @@
 -- The order of the faults of a line.
 use Rattle.std.specs.Prelude.{ℕ, nat_le, if◌then◌else◌, Result, Ok, Err}
-use Rattle.files.specs.declared.faults.FaultKind.{FaultKind}
+use Rattle.files.specs.{FaultKind}
 use Rattle.files.specs.declared.faults.FaultKind.TheVariants.{NotFirst, Unknown, Words, Number, BadName, BadValue, BadSetup, TooLong, Memory}
 
 -- the place of a fault in the order in which the faults of a line are told

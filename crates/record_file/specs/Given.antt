@@ -1,15 +1,10 @@
 -- What the types of an entry say of its parts.
 use Rattle.std.specs.Prelude.{◌≡◌, ◌≤◌, ◌^◌, Bool, true, nat_lt, ◌&&◌, Option, Some, None, length}
 use Rattle.std.specs.List.{list_all}
-use Rattle.record.specs.declared.access.Access.{Access}
-use Rattle.plain_store.specs.Commands.{is_command}
-use Rattle.plain_store.specs.Values.{fits_i64, is_value}
-use Rattle.plain_store.specs.declared.commands.Answer.{Answer}
+use Rattle.record.specs.{Access, Entry, Mark}
+use Rattle.plain_store.specs.{Answer, Reply, fits_i64, is_command, is_value}
 use Rattle.plain_store.specs.declared.commands.Answer.TheVariants as answer
-use Rattle.plain_store.specs.declared.commands.Reply.{Reply}
 use Rattle.plain_store.specs.declared.commands.Reply.TheVariants as reply
-use Rattle.record.specs.Entries.{Entry}
-use Rattle.record.specs.declared.marks.Mark.{Mark}
 use Rattle.record.specs.declared.marks.Mark.TheVariants as mark
 
 -- an owner and a reader have 8 bits, the number of a bit has 16

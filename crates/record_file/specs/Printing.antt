@@ -1,23 +1,15 @@
 -- The words of an entry, and the text of a record.
 use Rattle.std.specs.Prelude.{ℕ, List, [], ◌∷◌, ◌++◌, codes, flat_map, map, Option, Some, None}
 use Rattle.std.specs.Fmt.{decimal, signed_decimal}
-use Rattle.safe_bit.specs.declared.Move.{Move}
+use Rattle.safe_bit.specs.{Move}
 use Rattle.safe_bit.specs.declared.Move.TheVariants.{BeginWrite, EndWrite, BeginRead, EndRead, Settle}
-use Rattle.record.specs.declared.access.Access.{Access}
-use Rattle.record.specs.declared.access.Field.{Field}
+use Rattle.record.specs.{Access, Entry, Field, Mark}
 use Rattle.record.specs.declared.access.Field.TheVariants.{Choosing, Ticket, Commit, Stamp0, Stamp1, Image0, Image1}
-use Rattle.plain_store.specs.Shown.{value_text}
-use Rattle.plain_store.specs.declared.commands.Answer.{Answer}
+use Rattle.plain_store.specs.{Answer, Reply, Setup, value_text}
 use Rattle.plain_store.specs.declared.commands.Answer.TheVariants as answer
-use Rattle.plain_store.specs.declared.commands.Reply.{Reply}
 use Rattle.plain_store.specs.declared.commands.Reply.TheVariants as reply
-use Rattle.plain_store.specs.declared.setups.Setup.{Setup}
-use Rattle.record.specs.Entries.{Entry}
-use Rattle.record.specs.declared.marks.Mark.{Mark}
 use Rattle.record.specs.declared.marks.Mark.TheVariants as mark
-use Rattle.scenario.specs.Printing.{command_words, kind_words, open_words, printed_line, spaced}
-use Rattle.scenario.specs.Spelling.{bit_word, bit_line_words}
-use Rattle.scenario.specs.declared.bit_files.BitLine.{BitLine}
+use Rattle.scenario.specs.{BitLine, bit_line_words, bit_word, command_words, kind_words, open_words, printed_line, spaced}
 use Rattle.scenario.specs.declared.bit_files.BitLine.TheVariants as line
 
 -- the word of a register

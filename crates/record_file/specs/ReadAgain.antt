@@ -2,14 +2,9 @@
 use Rattle.std.specs.Prelude.{◌≡◌, ◌↔◌, ◌∷◌, ℕ, ◌<◌, ◌≤◌, ◌^◌, true, List, [], ◌++◌, length, flat_map, Ok, IfOk, Result}
 use Rattle.std.specs.Global.{Vec}
 use Rattle.std.specs.List.{AllByRecursion, list_all}
-use Rattle.plain_store.specs.Setups.{checked}
-use Rattle.plain_store.specs.declared.setups.Setup.{Setup}
-use Rattle.record.specs.Entries.{Entry}
-use Rattle.record.specs.Given.{is_event}
-use Rattle.record.specs.Records.{record_of}
-use Rattle.record.specs.declared.events.Event.{Event}
-use Rattle.scenario.specs.Printing.{spaced}
-use Rattle.scenario.specs.Scripts.{IsScenario}
+use Rattle.plain_store.specs.{Setup, checked}
+use Rattle.record.specs.{Entry, Event, is_event, record_of}
+use Rattle.scenario.specs.{IsScenario, spaced}
 use Rattle.record_file.specs.Given.{IsEntry}
 use Rattle.record_file.specs.Printing.{entry_line, entry_words, record_text}
 use Rattle.record_file.specs.Reading.{entry_of}

@@ -3,28 +3,17 @@ use Rattle.std.specs.Prelude.{ℕ, ◌+◌, ◌-◌, ◌^◌, ◌==◌, nat_lt, 
 use Rattle.std.specs.Borrow.{Bor}
 use Rattle.std.specs.List.{slice_split}
 use Rattle.std.specs.Str.{bytes_eq}
-use Rattle.safe_bit.specs.declared.Move.{Move}
+use Rattle.safe_bit.specs.{Move}
 use Rattle.safe_bit.specs.declared.Move.TheVariants as move
-use Rattle.record.specs.declared.access.Access.{Access}
-use Rattle.record.specs.declared.access.Field.{Field}
-use Rattle.plain_store.specs.declared.commands.Answer.{Answer}
+use Rattle.record.specs.{Access, Entry, Field, Mark}
+use Rattle.plain_store.specs.{Answer, Reply}
 use Rattle.plain_store.specs.declared.commands.Answer.TheVariants as answer
-use Rattle.plain_store.specs.declared.commands.Reply.{Reply}
 use Rattle.plain_store.specs.declared.commands.Reply.TheVariants as reply
-use Rattle.files.specs.Checks.{◌>>=◌, known, fault_if, counted, word}
-use Rattle.files.specs.Words.{texts}
-use Rattle.files.specs.declared.faults.FaultKind.{FaultKind}
+use Rattle.files.specs.{FaultKind, counted, fault_if, known, texts, word, ◌>>=◌}
 use Rattle.files.specs.declared.faults.FaultKind.TheVariants.{Unknown, Words}
-use Rattle.record.specs.Entries.{Entry}
-use Rattle.record.specs.declared.marks.Mark.{Mark}
 use Rattle.record.specs.declared.marks.Mark.TheVariants as mark
-use Rattle.scenario.specs.BitFiles.{bit_word_of, one_bit_of}
-use Rattle.scenario.specs.Keywords.{verb_of}
-use Rattle.scenario.specs.Operands.{number_at, integer_at, value_at}
-use Rattle.scenario.specs.Statements.{operand_count, command_of}
-use Rattle.scenario.specs.declared.bit_files.BitWord.{BitWord}
+use Rattle.scenario.specs.{BitWord, Verb, bit_word_of, command_of, integer_at, number_at, one_bit_of, operand_count, value_at, verb_of}
 use Rattle.scenario.specs.declared.bit_files.BitWord.TheVariants as bits
-use Rattle.scenario.specs.declared.keywords.Verb.{Verb}
 use Rattle.scenario.specs.declared.keywords.Verb.TheVariants as verb
 use Rattle.record_file.specs.Faults.{both}
 use Rattle.record_file.specs.Keywords.{field_of, mark_word_of, reply_word_of, answer_word_of}

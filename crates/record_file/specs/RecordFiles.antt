@@ -4,19 +4,11 @@ use Rattle.std.specs.Prelude.{ℕ, ◌+◌, ◌==◌, ◌||◌, not, nat_lt, Boo
 use Rattle.std.specs.Char.{is_ascii_digit}
 use Rattle.std.specs.Option.{option_to_list}
 use Rattle.std.specs.Str.{bytes_eq}
-use Rattle.plain_store.specs.declared.setups.Setup.{Setup}
-use Rattle.files.specs.Checks.{◌>>=◌, known, fault_if, word}
-use Rattle.files.specs.Files.{Grammar, words_read, at_line, begun}
-use Rattle.files.specs.Words.{lines, words_of}
-use Rattle.files.specs.declared.faults.FaultKind.{FaultKind}
+use Rattle.plain_store.specs.{Setup}
+use Rattle.files.specs.{FaultKind, Grammar, LineFault, at_line, begun, fault_if, known, lines, word, words_of, words_read, ◌>>=◌}
 use Rattle.files.specs.declared.faults.FaultKind.TheVariants.{NotFirst, Unknown, TooLong}
-use Rattle.files.specs.declared.faults.LineFault.{LineFault}
-use Rattle.record.specs.Entries.{Entry}
-use Rattle.scenario.specs.Keywords.{opener_of}
-use Rattle.scenario.specs.Reading.{at_version, heading_read, open_read}
-use Rattle.scenario.specs.Reading.{Progress as Head}
-use Rattle.scenario.specs.declared.keywords.Heading.{Heading}
-use Rattle.scenario.specs.declared.keywords.Opener.{Opener}
+use Rattle.record.specs.{Entry}
+use Rattle.scenario.specs.{Heading, Opener, Progress as Head, at_version, heading_read, open_read, opener_of}
 use Rattle.scenario.specs.declared.keywords.Opener.TheVariants as opener
 use Rattle.record_file.specs.Reading.{entry_of}
 use Rattle.record_file.specs.declared.line_kinds.LineKind.{LineKind}

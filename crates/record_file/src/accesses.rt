@@ -2,7 +2,7 @@
 ghost use Rattle.std.specs.Prelude.{◌≡◌, ◌∷◌, [], ◌==◌, length, ◌<◌, IfSome};
 ghost use Rattle.std.specs.Option.{option_map_or};
 ghost use Rattle.std.specs.List.{position};
-ghost use Rattle.files.specs.Words.{texts};
+ghost use Rattle.files.specs.{texts};
 ghost use Rattle.record_file.specs.Reading.{AreFourParts, access_of, copy_of, dotted, lone_move_of, move_of};
 
 use crate::keywords::field as field_named;

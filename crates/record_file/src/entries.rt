@@ -1,7 +1,7 @@
 //! Reading an entry by its words.
 ghost use Rattle.std.specs.Prelude.{◌≡◌, ◌∷◌, [], ◌+◌, ◌<◌, ◌≤◌, Ok, IfOk, IfSome, length};
 ghost use Rattle.std.specs.List.{position};
-ghost use Rattle.files.specs.Words.{texts};
+ghost use Rattle.files.specs.{texts};
 ghost use Rattle.record_file.specs.Reading.{entry_of, entry_with, is_sign as sign, marks_behind, parts_behind, parts_of, with_mark as one_more};
 
 use crate::accesses::access;
@@ -26,7 +26,7 @@ struct MarkList {
 
 impl Model for MarkList {
     ghost use Rattle.std.specs.Prelude.{List, ◌≤◌};
-    ghost use Rattle.record.specs.declared.marks.Mark.{Mark};
+    ghost use Rattle.record.specs.{Mark};
 
     ghost Value = { List Mark };
 

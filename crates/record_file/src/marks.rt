@@ -1,7 +1,7 @@
 //! Reading a mark by its words.
 ghost use Rattle.std.specs.Prelude.{◌≡◌, length};
-ghost use Rattle.scenario.specs.Statements.{operand_count};
-ghost use Rattle.files.specs.Words.{texts};
+ghost use Rattle.scenario.specs.{operand_count};
+ghost use Rattle.files.specs.{texts};
 ghost use Rattle.record_file.specs.Reading.{answer_count, answer_of, answered_of, called_of, lone_mark_of, mark_of, named_mark_of, reply_count, reply_of, sum_first, taken_of, waiting_of};
 
 use crate::keywords::{AnswerWord, MarkWord, ReplyWord};

@@ -1,7 +1,7 @@
 //! How a record is printed: its head, and then each entry as a line.
 ghost use Rattle.std.specs.Prelude.{◌≡◌, ◌++◌, flat_map, IfOk, OnOk, true};
 ghost use Rattle.std.specs.String.{string_bytes};
-ghost use Rattle.scenario.specs.Printing.{printed_line};
+ghost use Rattle.scenario.specs.{printed_line};
 ghost use Rattle.record_file.specs.Printing.{behind_spaces, entry_line, front_text, head_words, marks_text, signed_words};
 ghost use Rattle.record_file.specs.Given.{is_entry};
 ghost use Rattle.record_file.specs.ReadAgain.{GivesBeginning, PrintedRecordsAreReadAgain};

@@ -1,8 +1,7 @@
 //! What the lines of a record file say.
 ghost use Rattle.std.specs.Prelude.{◌≡◌, MatchOption, None, Ok, Some};
-ghost use Rattle.plain_store.specs.Setups.{checked};
-ghost use Rattle.files.specs.Reads.{Makes, Takes};
-ghost use Rattle.files.specs.Words.{texts};
+ghost use Rattle.plain_store.specs.{checked};
+ghost use Rattle.files.specs.{Makes, Takes, texts};
 ghost use Rattle.record_file.specs.RecordFiles.{entry_read, first_read, head_read, line_said, pair_read};
 
 use crate::entries::read_entry;

@@ -1,7 +1,7 @@
 //! What the types of an entry say of its parts. Each function has nothing to do but to name the parts.
 ghost use Rattle.std.specs.Prelude.{◌≡◌, ◌^◌, ◌&&◌, true, nat_lt, Some};
 ghost use Rattle.std.specs.List.{list_all};
-ghost use Rattle.plain_store.specs.Values.{is_value};
+ghost use Rattle.plain_store.specs.{is_value};
 ghost use Rattle.record_file.specs.Given.{is_access, is_answer, is_entry, is_mark, is_reply};
 ghost use Rattle.record_file.specs.Printing.{step_entry};
 

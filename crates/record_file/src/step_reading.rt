@@ -2,7 +2,7 @@
 //! so what differs from line to line is looked up and compared, and is no branch.
 ghost use Rattle.std.specs.Prelude.{◌≡◌, ◌+◌, ◌-◌, ◌<◌, ◌≤◌, ◌∷◌, ◌++◌, [], codes, drop, take, false, true, IfSome};
 ghost use Rattle.std.specs.Fmt.{decimal};
-ghost use Rattle.scenario.specs.Printing.{spaced};
+ghost use Rattle.scenario.specs.{spaced};
 ghost use Rattle.record_file.specs.Given.{is_entry};
 ghost use Rattle.record_file.specs.Printing.{access_text, entry_words, field_word, move_words, step_entry};
 

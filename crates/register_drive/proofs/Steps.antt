@@ -3,21 +3,15 @@ use Rattle.std.proofs.Common.{◌≡◌, ◌≢◌, ℕ, ◌+◌, ◌<◌, ◌�
 use Rattle.std.proofs.lemmas.List.{length_push}
 use Rattle.std.proofs.lemmas.Bool.{eqb-true, eqb-false}
 use Rattle.reader_copies.specs.safe_bit.Cell.{Cell}
-use Rattle.reader_copies.specs.declared.Made.{Made}
-use Rattle.reader_copies.specs.declared.Progress.{Progress}
+use Rattle.reader_copies.specs.{HasCell, IsAt, IsRow, IsWrite, IsWritten, Made, Progress, Settling, cell_at, is_open_at, new_row, next_read, next_settle, next_write, progress_of, row_after, settle_after, settled_at}
 use Rattle.reader_copies.specs.declared.Progress.TheVariants.{Going, Done}
-use Rattle.reader_copies.specs.Row.{cell_at, row_after, HasCell, IsRow, new_row}
 use Rattle.reader_copies.specs.safe_bit.declared.Move.TheVariants.{BeginWrite, EndWrite, Settle}
-use Rattle.reader_copies.specs.Written.{IsAt, IsWrite, IsWritten}
-use Rattle.reader_copies.specs.Runs.{Settling, next_write, next_read, next_settle, settle_after, settled_at, is_open_at, progress_of}
 use Rattle.reader_copies.proofs.Writing.{reading-kept, HasCell-before, length-row_with_cell, written-kept, new_row-cell}
-use Rattle.safe_number.specs.Runs.{NumberWrite, NumberRead, bit_write, number_write_after, bit_read, number_read_after}
-use Rattle.safe_number.specs.Written.{IsWriting, IsSettling, IsReading, IsUndisturbed, loaded}
+use Rattle.safe_number.specs.{IsReading, IsSettling, IsUndisturbed, IsWriting, NumberRead, NumberWrite, bit_read, bit_write, loaded, number_read_after, number_write_after}
 use Rattle.safe_number.proofs.IntervalSteps.{settling-on, settled-stays}
 use Rattle.safe_number.proofs.WrittenSteps.{writing-can, writing-on, write_is, has_cell, shape_after, reading-on, undisturbed-on, read_keeps}
-use Rattle.reader_copies.specs.safe_bit.Cell.{cell_after}
-use Rattle.register_drive.specs.Idle.{IsIdle}
-use Rattle.register_drive.specs.Reads.{ReadsAlong}
+use Rattle.reader_copies.specs.safe_bit.{cell_after}
+use Rattle.register_drive.specs.{IsIdle, ReadsAlong}
 
 made_row : (row : List (List Cell)) (b b' : ℕ) (m m' : Made) → b ≡ b' → m ≡ m' → row_after row b m ≡ row_after row b' m'
 made_row row b b' m m' e f = ap (λ x. row_after row x m) e ∙ ap (row_after row b') f

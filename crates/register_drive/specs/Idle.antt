@@ -1,7 +1,7 @@
 -- A reader has no read open.
 use Rattle.std.specs.Prelude.{◌≡◌, ℕ, List, false}
 use Rattle.reader_copies.specs.safe_bit.Cell.{Cell}
-use Rattle.reader_copies.specs.Row.{cell_at, HasCell}
+use Rattle.reader_copies.specs.{cell_at, HasCell}
 
 -- none of its copies is being read
 pub record IsIdle (row : List (List Cell)) (reader : ℕ) : Type 0 where

@@ -1,10 +1,8 @@
 -- A read that nobody disturbs.
 use Rattle.std.specs.Prelude.{◌≡◌, ℕ, ◌<◌, List, Bool, length}
 use Rattle.reader_copies.specs.safe_bit.Cell.{Cell}
-use Rattle.reader_copies.specs.Row.{IsRow}
-use Rattle.reader_copies.specs.Written.{IsWritten}
-use Rattle.safe_number.specs.Runs.{NumberRead}
-use Rattle.safe_number.specs.Written.{IsReading, IsUndisturbed, first_bits}
+use Rattle.reader_copies.specs.{IsRow, IsWritten}
+use Rattle.safe_number.specs.{IsReading, IsUndisturbed, NumberRead, first_bits}
 
 -- these are the first bits of what is written
 abbrev pub AreWritten : List (List Cell) → ℕ → List Bool → Type 0

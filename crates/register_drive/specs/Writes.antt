@@ -1,10 +1,8 @@
 -- What becomes of a register that is written.
 use Rattle.std.specs.Prelude.{ℕ, List, Bool}
-use Rattle.reader_copies.specs.Runs.{Settling}
+use Rattle.reader_copies.specs.{IsWritten, Settling, with_value}
 use Rattle.reader_copies.specs.safe_bit.Cell.{Cell}
-use Rattle.reader_copies.specs.Written.{IsWritten, with_value}
-use Rattle.safe_number.specs.Runs.{NumberWrite}
-use Rattle.safe_number.specs.Written.{IsSettling, IsWriting}
+use Rattle.safe_number.specs.{IsSettling, IsWriting, NumberWrite}
 
 -- a write goes on
 abbrev pub WritesOn : List (List Cell) → NumberWrite → List ℕ → List (List Cell) → NumberWrite → Type 0

@@ -1,8 +1,7 @@
 //! Whole writes and whole reads.
 ghost use Rattle.std.specs.Prelude.{◌≡◌, ℕ, Bool, ◌<◌, ◌≤◌, ◌*◌, length, OnSome};
-ghost use Rattle.reader_copies.specs.Row.{IsRow};
-ghost use Rattle.reader_copies.specs.Written.{IsWritten};
-ghost use Rattle.safe_number.specs.Bytes.{bit_in};
+ghost use Rattle.reader_copies.specs.{IsRow, IsWritten};
+ghost use Rattle.safe_number.specs.{bit_in};
 ghost use Rattle.register_drive.specs.Idle.{IsIdle};
 ghost use Rattle.register_drive.specs.Reads.{AreWritten};
 

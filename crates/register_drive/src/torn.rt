@@ -1,9 +1,7 @@
 //! Writes that are cut, and their torn bit settled.
 ghost use Rattle.std.specs.Prelude.{◌≡◌, ℕ, Bool, ◌<◌, ◌≤◌, ◌*◌, length, OnSome};
-ghost use Rattle.reader_copies.specs.Row.{IsRow};
-ghost use Rattle.reader_copies.specs.Runs.{settled_at};
-ghost use Rattle.reader_copies.specs.Written.{IsWritten};
-ghost use Rattle.safe_number.specs.Written.{IsWriting, IsSettling};
+ghost use Rattle.reader_copies.specs.{IsRow, IsWritten, settled_at};
+ghost use Rattle.safe_number.specs.{IsWriting, IsSettling};
 ghost use Rattle.register_drive.specs.Idle.{IsIdle};
 ghost use Rattle.register_drive.specs.Writes.{SettlesAt, WritesOn};
 

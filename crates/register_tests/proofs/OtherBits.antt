@@ -1,10 +1,9 @@
 -- A write of one bit of a row, beside whatever is done with the others.
 use Rattle.std.proofs.Common.{◌≡◌, ℕ, List, ◌∙◌}
 use Rattle.reader_copies.specs.safe_bit.Cell.{Cell, cell_after}
-use Rattle.reader_copies.specs.declared.runs.Made.{Made}
-use Rattle.reader_copies.specs.Row.{cell_at, row_after}
+use Rattle.reader_copies.specs.{Made, cell_at, row_after}
 use Rattle.reader_copies.proofs.Writing.{with_cell-other}
-use Rattle.register_tests.specs.Copies.{OthersStay, first_made, second_made, third_made, last_made}
+use Rattle.register_tests.specs.{OthersStay, first_made, second_made, third_made, last_made}
 
 -- an access to bit 64 leaves the copies of another bit
 leaves : (row : List (List Cell)) (made : Made) (bit reader : ℕ) → (bit ≡ 64 → ⊥) → cell_at (row_after row 64 made) bit reader ≡ cell_at row bit reader

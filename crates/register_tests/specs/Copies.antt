@@ -2,8 +2,7 @@
 use Rattle.std.specs.Prelude.{◌≡◌, ℕ, true, false, List, [], ◌∷◌}
 use Rattle.reader_copies.specs.safe_bit.Cell.{Cell, cell_of}
 use Rattle.record.specs.safe_bit.declared.Move.TheVariants.{BeginWrite, EndWrite, BeginRead, EndRead}
-use Rattle.reader_copies.specs.declared.runs.Made.{Made}
-use Rattle.reader_copies.specs.Row.{cell_at, new_row, row_after}
+use Rattle.reader_copies.specs.{Made, cell_at, new_row, row_after}
 
 -- a copy in which 1 was written
 abbrev pub written_copy : Cell

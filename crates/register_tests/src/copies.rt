@@ -1,5 +1,5 @@
 ghost use Rattle.std.specs.Prelude.{◌≡◌, true, false, [], ◌∷◌, replicate, None};
-ghost use Rattle.reader_copies.specs.Row.{new_bit, new_row};
+ghost use Rattle.reader_copies.specs.{new_bit, new_row};
 ghost use Rattle.register_tests.specs.Copies.{OthersStay, written_copy, open_row, last_row, with_last_written};
 
 use reader_copies::{CopiedBit, CopiedRow, CopyRead, CopyWrite, Made, Progress};

@@ -1,14 +1,9 @@
 -- What the words do, as so many accesses.
 use Rattle.std.proofs.Common.{◌≡◌, ℕ, ◌+◌, ◌-◌, ◌*◌, ◌/◌, ◌%◌, ◌<◌, ◌≤◌, Bool, false, List, set, get_or, length, sym, ◌∙◌, arith, ap}
 use Rattle.safe_bit.specs.Cell.{Cell}
-use Rattle.flicks.specs.Flicks.{FlickState, flicks_after}
-use Rattle.reader_copies.specs.Flags.{flag_in}
-use Rattle.reader_copies.specs.Row.{cell_in}
-use Rattle.registers.specs.Memory.{HasLanes, cell_at, lane_of}
-use Rattle.registers.specs.Cursors.{CursorState, first_lane}
-use Rattle.registers.specs.Accesses.{reads_of, writes_of}
-use Rattle.reader_copies.specs.Wordwise.{after_read, after_write, over}
-use Rattle.registers.specs.Wordwise.{over_lanes, more_bits}
+use Rattle.flicks.specs.{FlickState, flicks_after}
+use Rattle.reader_copies.specs.{after_read, after_write, cell_in, flag_in, over}
+use Rattle.registers.specs.{CursorState, HasLanes, cell_at, first_lane, lane_of, more_bits, over_lanes, reads_of, writes_of}
 use Rattle.reader_copies.proofs.Over.{over-same}
 use Rattle.registers.proofs.Over.{lanes-same, more-same}
 use Rattle.registers.proofs.Quiet.{reads-quiet}

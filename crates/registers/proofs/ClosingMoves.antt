@@ -1,16 +1,9 @@
 -- A write that ends a call goes on by its cursor.
 use Rattle.std.proofs.Common.{◌≡◌, ℕ, ◌==◌, ◌&&◌, Bool, false, not, List, get_or, sym, ap, ◌∙◌, subst}
-use Rattle.plain_store.specs.declared.Setup.{Setup}
-use Rattle.record.specs.declared.access.Field.{Field}
-use Rattle.record.specs.Accesses.{access_of}
-use Rattle.record.specs.Closings.{is_unwritten}
-use Rattle.record.specs.Places.{next_written, write_moved}
-use Rattle.safe_number.specs.Runs.{NumberWrite}
-use Rattle.registers.specs.Accesses.{next_access, write_after}
-use Rattle.registers.specs.Begins.{is_fresh, is_settling}
-use Rattle.registers.specs.Cursors.{CursorState, is_over}
-use Rattle.registers.specs.Rows.{write_kept}
-use Rattle.registers.specs.AtParts.{WritesAt, moved}
+use Rattle.plain_store.specs.{Setup}
+use Rattle.record.specs.{Field, access_of, is_unwritten, next_written, write_moved}
+use Rattle.safe_number.specs.{NumberWrite}
+use Rattle.registers.specs.{CursorState, WritesAt, is_fresh, is_over, is_settling, moved, next_access, write_after, write_kept}
 use Rattle.registers.proofs.CursorRuns.{fresh-write, write-moved, write-next, write-stays, write-step}
 
 pub record Ends (s : Setup) (p : ℕ) (written : Field × List Bool) (cur : CursorState) (v : Bool) : Type 0 where

@@ -1,23 +1,15 @@
 -- The cursor of a part goes on as the number access of its script.
 use Rattle.std.proofs.Common.{◌≡◌, ℕ, ◌+◌, ◌*◌, ◌<◌, ◌==◌, ◌&&◌, Bool, true, false, cond, not, List, [], ◌∷◌, ◌++◌, get_or, length, None, Some, is_none, refl, sym, ap, ◌∙◌, subst, arith, eqb-true, inl, inr, length-append}
 use Rattle.std.proofs.lemmas.Bool.{cases_eq, eq-eqb, eqb-false, ne_eqb}
-use Rattle.plain_store.specs.declared.Setup.{Setup}
+use Rattle.plain_store.specs.{Setup}
 use Rattle.reader_copies.specs.Runs as copies
-use Rattle.record.specs.declared.access.Field.{Field}
-use Rattle.record.specs.Accesses.{access_of}
+use Rattle.record.specs.{Call, Field, Reading, Run, Writing, access_at, access_of, bits_with, is_last, next_written, run_after, value_of, width, write_moved}
 use Rattle.record.specs.Parts.{Part, Raises, Asks, TakesTicket, Lowers, Refuses, Waits, AsksCommit, AsksStamp, AsksImage, WritesImage, WritesStamp, WritesCommit, Clears, Over, is_read, last_marks, part_after, read_at, written_at}
-use Rattle.record.specs.Places.{Run, Reading, Writing, access_at, bits_with, is_last, next_written, run_after, value_of, write_moved}
 use Rattle.record.specs.Places as places
-use Rattle.record.specs.Registers.{width}
-use Rattle.record.specs.Scripts.{Call}
-use Rattle.safe_number.specs.Runs.{NumberWrite}
-use Rattle.registers.specs.Accesses.{after_by, ends_bit, move_by, next_access, read_after, read_move, write_after, write_move}
-use Rattle.registers.specs.Begins.{is_fresh, is_settling}
-use Rattle.registers.specs.Cursors.{CursorState, is_over}
-use Rattle.registers.specs.Rows.{bit_begun, write_kept}
+use Rattle.safe_number.specs.{NumberWrite}
+use Rattle.registers.specs.{CursorState, IsAtPart, IsDone, ReadsAt, WritesAt, after_by, bit_begun, ends_bit, is_fresh, is_over, is_settling, move_by, moved, next_access, read_after, read_move, run_at, run_by, write_after, write_kept, write_move}
 use Rattle.registers.proofs.Kept.{next-kept, write-kept}
 use Rattle.registers.proofs.Steps.{copy_inside}
-use Rattle.registers.specs.AtParts.{IsAtPart, IsDone, ReadsAt, WritesAt, moved, run_at, run_by}
 
 -- A READ
 

@@ -3,10 +3,8 @@ use Rattle.std.proofs.Common.{◌≡◌, ◌<◌, ◌+◌, ◌*◌, ◌/◌, ◌
 use Rattle.std.proofs.lemmas.Bool.{cases_eq}
 use Rattle.std.proofs.lemmas.List.{ext_get_or, get_or_default, get_or-map, length-map}
 use Rattle.safe_bit.specs.Cell.{Cell, new_cell}
-use Rattle.reader_copies.specs.Row.{cell_in}
-use Rattle.registers.specs.Memory.{lane_of}
-use Rattle.reader_copies.specs.Words.{bit_of_words, bits_of_words}
-use Rattle.reader_copies.specs.Flags.{flag_in}
+use Rattle.reader_copies.specs.{bit_of_words, bits_of_words, cell_in, flag_in}
+use Rattle.registers.specs.{lane_of}
 use Rattle.reader_copies.proofs.Words.{bit-found, length-bits}
 use Rattle.registers.proofs.Words.{bit-elsewhere, bit-in_word}
 

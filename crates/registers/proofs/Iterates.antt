@@ -1,15 +1,11 @@
 -- Accesses one behind another.
 use Rattle.std.proofs.Common.{◌≡◌, ℕ, zero, suc, ◌+◌, Bool, true, false, not, cond, List, [], ◌∷◌, ◌++◌, refl, ◌∙◌, arith, ap}
 use Rattle.safe_bit.specs.Cell.{Cell, read_answer}
-use Rattle.safe_bit.specs.declared.moves.Move.{Move}
+use Rattle.safe_bit.specs.{Move}
 use Rattle.safe_bit.specs.declared.moves.Move.TheVariants.{BeginWrite, EndWrite}
-use Rattle.flicks.specs.Flicks.{FlickState, flick_of, after_flick, flicks_after}
-use Rattle.record.specs.Moves.{ended}
-use Rattle.record.specs.Places.{value_of}
-use Rattle.registers.specs.Memory.{cell_at, memory_moved}
-use Rattle.registers.specs.Cursors.{CursorState, first_lane, lane_number}
-use Rattle.registers.specs.Accesses.{access_of, after_by, move_by, read_access, read_move, reads_of, run_of, write_access, writes_of}
-use Rattle.registers.specs.declared.cursor.NumberRun.{NumberRun}
+use Rattle.flicks.specs.{FlickState, flick_of, after_flick, flicks_after}
+use Rattle.record.specs.{ended, value_of}
+use Rattle.registers.specs.{CursorState, NumberRun, access_of, after_by, cell_at, first_lane, lane_number, memory_moved, move_by, read_access, read_move, reads_of, run_of, write_access, writes_of}
 use Rattle.registers.specs.declared.cursor.NumberRun.TheVariants.{Reads, Writes}
 
 -- an access of a run of this kind, on this lane

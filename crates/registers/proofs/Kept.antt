@@ -3,12 +3,9 @@ use Rattle.std.proofs.Common.{◌≡◌, ◌≢◌, ℕ, ◌+◌, ◌*◌, ◌/�
 use Rattle.std.proofs.lemmas.Bool.{cases_eq, eq-eqb, ne_eqb}
 use Rattle.safe_bit.specs.declared.moves.Move.TheVariants.{BeginWrite, EndWrite}
 use Rattle.reader_copies.specs.Runs as copies
-use Rattle.safe_number.specs.Runs.{NumberWrite, write_on}
-use Rattle.record.specs.Places.{bit_written, next_written, write_moved}
-use Rattle.registers.specs.Accesses.{write_after, write_move}
-use Rattle.registers.specs.Begins.{made_of_bit}
-use Rattle.registers.specs.Cursors.{CursorState}
-use Rattle.registers.specs.Rows.{bit_begun, write_kept}
+use Rattle.safe_number.specs.{NumberWrite, write_on}
+use Rattle.record.specs.{bit_written, next_written, write_moved}
+use Rattle.registers.specs.{CursorState, bit_begun, made_of_bit, write_after, write_kept, write_move}
 
 abbrev writing : Bool → ℕ → copies.Writing
 writing value made = record { value = value; made = made; ended = false }

@@ -4,10 +4,9 @@ use Rattle.std.proofs.lemmas.Bool.{cases_eq, eq-eqb, ne_eqb}
 use Rattle.std.proofs.lemmas.List.{ext_get_or}
 use Rattle.std.proofs.lemmas.Nat.{mod-pow-add}
 use Rattle.std.proofs.lemmas.Nat.Bits.{bit_at_lowest, bit_at-suc}
-use Rattle.safe_number.specs.Bytes.{bits_of_number, number_of_bits}
+use Rattle.safe_number.specs.{bits_of_number, number_of_bits}
 use Rattle.safe_number.proofs.Bits.{length-bits_of_number}
-use Rattle.reader_copies.specs.Flags.{flag_in}
-use Rattle.reader_copies.specs.Words.{bits_of_words}
+use Rattle.reader_copies.specs.{bits_of_words, flag_in}
 use Rattle.reader_copies.proofs.Words.{bit-found, length-bits}
 
 number-bit : (w n k : ℕ) → k < w → get_or (bits_of_number w n) k false ≡ flag_in n k

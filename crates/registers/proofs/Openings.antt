@@ -3,18 +3,10 @@ use Rattle.std.proofs.Common.{◌≡◌, ℕ, ◌+◌, ◌-◌, ◌*◌, ◌/◌
 use Rattle.std.proofs.Math.Nat.{mul-le-mul_right}
 use Rattle.std.proofs.lemmas.Nat.{div-mul-add}
 use Rattle.safe_bit.specs.Cell.{Cell}
-use Rattle.plain_store.specs.declared.Setup.{Setup}
-use Rattle.record.specs.declared.access.Access.{Access}
-use Rattle.record.specs.declared.access.Field.{Field}
+use Rattle.plain_store.specs.{Setup}
+use Rattle.record.specs.{Access, Field, field_number, width}
 use Rattle.record.specs.declared.access.Field.TheVariants.{Choosing, Ticket, Commit, Stamp0, Stamp1, Image0, Image1}
-use Rattle.registers.specs.declared.fields.RegisterName.{RegisterName}
-use Rattle.record.specs.Moves.{field_number}
-use Rattle.record.specs.Registers.{width}
-use Rattle.registers.specs.Accesses.{lane_of_access}
-use Rattle.registers.specs.Cursors.{CursorState, Fits, IsAtCopy, lane_number}
-use Rattle.registers.specs.Memory.{HasLanes, lane_of}
-use Rattle.registers.specs.Openings.{AreOf, AreOfOneSetup, field_numbered}
-use Rattle.registers.specs.Rows.{register_number}
+use Rattle.registers.specs.{AreOf, AreOfOneSetup, CursorState, Fits, HasLanes, IsAtCopy, RegisterName, field_numbered, lane_number, lane_of, lane_of_access, register_number}
 
 numbered : (f : Field) → field_numbered (field_number f) ≡ f
 numbered Choosing = refl

@@ -2,8 +2,7 @@
 use Rattle.std.proofs.Common.{◌≡◌, ◌≢◌, ℕ, zero, suc, ◌+◌, ◌<◌, ◌≤◌, Bool, List, [], ◌∷◌, ◌++◌, set, length, refl, sym, ◌∙◌, arith, ap}
 use Rattle.std.proofs.lemmas.List.{get_or-set_same, get_or-set_other, length-set, set-set, set_comm, set-get_or}
 use Rattle.safe_bit.specs.Cell.{Cell}
-use Rattle.registers.specs.Memory.{HasLanes, lane_of}
-use Rattle.registers.specs.Wordwise.{over_lanes, more_bits}
+use Rattle.registers.specs.{HasLanes, lane_of, more_bits, over_lanes}
 use Rattle.registers.proofs.Steps.{lanes-set}
 
 pub more-same : (n : ℕ) (f g : ℕ → Bool) (bits : List Bool) → ((j : ℕ) → j < n → f j ≡ g j) → more_bits n f bits ≡ more_bits n g bits

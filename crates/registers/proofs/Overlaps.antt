@@ -3,14 +3,10 @@ use Rattle.std.proofs.Common.{◌≡◌, ℕ, zero, suc, ◌+◌, ◌*◌, ◌<�
 use Rattle.std.proofs.lemmas.List.{get_or-set_same, length-set}
 use Rattle.safe_bit.specs.Cell.{Cell, read_answer}
 use Rattle.safe_bit.specs.declared.moves.Move.TheVariants.{BeginRead, BeginWrite, EndWrite}
-use Rattle.flicks.specs.Flicks.{FlickState, flick_of, flicks_after}
-use Rattle.record.specs.Moves.{ended}
-use Rattle.reader_copies.specs.Row.{cell_in}
-use Rattle.registers.specs.Memory.{cell_at, lane_of}
-use Rattle.registers.specs.Cursors.{CursorState, first_lane, lane_number}
-use Rattle.registers.specs.Accesses.{ends_touched, move_by, overlapped_of, overlapped_reads, overlaps_next, read_access, read_move, read_overlaps, reads_of, writes_of}
-use Rattle.reader_copies.specs.Wordwise.{after_read, over}
-use Rattle.registers.specs.declared.cursor.NumberRun.{NumberRun}
+use Rattle.flicks.specs.{FlickState, flick_of, flicks_after}
+use Rattle.record.specs.{ended}
+use Rattle.reader_copies.specs.{after_read, cell_in, over}
+use Rattle.registers.specs.{CursorState, NumberRun, cell_at, ends_touched, first_lane, lane_number, lane_of, move_by, overlapped_of, overlapped_reads, overlaps_next, read_access, read_move, read_overlaps, reads_of, writes_of}
 use Rattle.registers.specs.declared.cursor.NumberRun.TheVariants.{Reads, Writes}
 use Rattle.registers.proofs.Iterates.{of_write, reads-stay, run-reads, run-writes, writes-stay}
 use Rattle.reader_copies.proofs.Over.{length-over, over-outside}

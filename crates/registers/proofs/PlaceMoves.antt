@@ -1,17 +1,11 @@
 -- A place goes on by its cursor.
 use Rattle.std.proofs.Common.{◌≡◌, ◌<◌, Bool, true, false, cond, [], ◌++◌, refl, arith}
-use Rattle.plain_store.specs.declared.Setup.{Setup}
-use Rattle.record.specs.declared.access.Field.{Field}
+use Rattle.plain_store.specs.{Setup}
+use Rattle.record.specs.{Call, Field, Part, Reading, Writing, enter, first_marks, is_read, marks_of, new_run, place_after, read_at, width, written_at}
 use Rattle.record.specs.declared.access.Field.TheVariants.{Choosing, Ticket, Commit, Stamp0, Stamp1, Image0, Image1}
-use Rattle.record.specs.Parts.{Part, first_marks, is_read, read_at, written_at}
-use Rattle.record.specs.Places.{Reading, Writing, enter, marks_of, new_run, place_after}
-use Rattle.record.specs.Registers.{width}
-use Rattle.record.specs.Scripts.{Call}
-use Rattle.safe_number.specs.Runs.{new_write}
+use Rattle.safe_number.specs.{new_write}
 use Rattle.record.proofs.Width.{IsGood}
-use Rattle.registers.specs.Begins.{reading, writing}
-use Rattle.registers.specs.Cursors.{CursorState}
-use Rattle.registers.specs.AtParts.{IsAtPart, ReadsAt, WritesAt, entered, marks_moved, moved, place_at, place_moved, run_at}
+use Rattle.registers.specs.{CursorState, IsAtPart, ReadsAt, WritesAt, entered, marks_moved, moved, place_at, place_moved, reading, run_at, writing}
 use Rattle.registers.proofs.CursorRuns.{moves}
 
 pub place-moves : (c : Call) (part : Part) (cur : CursorState) (v : Bool) → IsAtPart c part cur → place_after c (place_at part cur) v ≡ place_moved c part (moved cur v)

@@ -2,15 +2,11 @@
 use Rattle.std.proofs.Common.{◌≡◌, ℕ, zero, suc, ◌+◌, ◌*◌, ◌<◌, ◌≤◌, Bool, false, cond, List, [], ◌∷◌, ◌++◌, set, length, refl, sym, ◌∙◌, arith, ap}
 use Rattle.std.proofs.lemmas.List.{get_or-set_same, length-set, set-set, set-get_or}
 use Rattle.safe_bit.specs.Cell.{Cell, new_cell, cell_after, read_answer}
-use Rattle.safe_bit.specs.declared.moves.Move.{Move}
+use Rattle.safe_bit.specs.{Move}
 use Rattle.safe_bit.specs.declared.moves.Move.TheVariants.{BeginRead, EndRead}
-use Rattle.flicks.specs.Flicks.{FlickState, flick_of, after_flick, flicks_after}
-use Rattle.reader_copies.specs.Row.{cell_in}
-use Rattle.registers.specs.Memory.{cell_at, lane_of, memory_moved}
-use Rattle.registers.specs.Cursors.{CursorState, first_lane}
-use Rattle.registers.specs.Accesses.{read_access, reads_of}
-use Rattle.reader_copies.specs.Wordwise.{after_read, over}
-use Rattle.registers.specs.Wordwise.{more_bits}
+use Rattle.flicks.specs.{FlickState, flick_of, after_flick, flicks_after}
+use Rattle.reader_copies.specs.{after_read, cell_in, over}
+use Rattle.registers.specs.{CursorState, cell_at, first_lane, lane_of, memory_moved, more_bits, read_access, reads_of}
 use Rattle.reader_copies.proofs.Over.{length-over, over-outside}
 
 -- a cell that was changed

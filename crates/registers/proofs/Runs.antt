@@ -3,14 +3,10 @@ use Rattle.std.proofs.Common.{◌≡◌, ◌<◌, ℕ, zero, suc, ◌+◌, Bool,
 use Rattle.std.proofs.lemmas.Bool.{cases_lt}
 use Rattle.std.proofs.lemmas.List.{set_past}
 use Rattle.safe_bit.specs.Cell.{Cell}
-use Rattle.safe_bit.specs.declared.moves.Move.{Move}
-use Rattle.flicks.specs.Flicks.{FlickState, flick_of}
-use Rattle.record.specs.declared.access.Access.{Access}
-use Rattle.registers.specs.declared.fields.RegisterName.{RegisterName}
-use Rattle.registers.specs.Memory.{HasLanes, memory_moved}
-use Rattle.registers.specs.Cursors.{CursorState, Fits, IsAtCopy, lane_number}
-use Rattle.registers.specs.Accesses.{after_by, answered, cursor_after, ends_copy, lane_of_access, next_access, run_of}
-use Rattle.registers.specs.declared.cursor.NumberRun.{NumberRun}
+use Rattle.safe_bit.specs.{Move}
+use Rattle.flicks.specs.{FlickState, flick_of}
+use Rattle.record.specs.{Access}
+use Rattle.registers.specs.{CursorState, Fits, HasLanes, IsAtCopy, NumberRun, RegisterName, after_by, answered, cursor_after, ends_copy, lane_number, lane_of_access, memory_moved, next_access, run_of}
 use Rattle.registers.specs.declared.cursor.NumberRun.TheVariants.{Reads, Writes, Settles}
 use Rattle.registers.proofs.Steps.{copy_inside, lanes-moved}
 

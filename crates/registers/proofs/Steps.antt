@@ -4,13 +4,10 @@ use Rattle.std.proofs.Math.Nat.{mul-suc}
 use Rattle.std.proofs.lemmas.Bool.{cases_eq, eq-eqb, ne_eqb}
 use Rattle.std.proofs.lemmas.List.{get_or-set_same, get_or-set_other, length-set}
 use Rattle.safe_bit.specs.Cell.{Cell}
-use Rattle.safe_bit.specs.declared.moves.Move.{Move}
-use Rattle.flicks.specs.Flicks.{FlickState, flick_of}
-use Rattle.registers.specs.Memory.{HasLanes, lane_of, memory_moved}
-use Rattle.registers.specs.Cursors.{CursorState, first_lane, made_of_read, made_of_write, rest_by}
+use Rattle.safe_bit.specs.{Move}
+use Rattle.flicks.specs.{FlickState, flick_of}
+use Rattle.registers.specs.{CursorState, HasLanes, HasRead, HasWritten, answer_of, first_lane, lane_of, made_of_read, made_of_write, memory_moved, read_access, read_after, read_move, reads_of, rest_by, write_access, write_after, write_move, writes_of}
 use Rattle.registers.specs.declared.cursor.NumberRun.TheVariants.{Reads}
-use Rattle.registers.specs.Accesses.{read_after, write_after, read_access, write_access, reads_of, writes_of, answer_of, read_move, write_move}
-use Rattle.registers.specs.Loops.{HasRead, HasWritten}
 
 -- a changed lane of its old length leaves all lanes as long as they were
 pub length-lane : (memory : List (List Cell)) (lane l : ℕ) (new : List Cell) → length new ≡ length (lane_of memory lane) → lane < length memory → length (lane_of (set memory lane new) l) ≡ length (lane_of memory l)

@@ -6,11 +6,10 @@ use Rattle.std.proofs.lemmas.List.{ext_get_or, get_or-drop, get_or-take, get_or_
 use Rattle.std.proofs.lemmas.List.FromFn.{get_or-map-range_with_len, length-map-range_with_len}
 use Rattle.std.proofs.lemmas.Nat.{pow_pos}
 use Rattle.std.proofs.lemmas.Nat.Bits.{bit_at_cat_high, bit_at_cat_low}
-use Rattle.safe_number.specs.Bytes.{AreBytes, bit_in, bits_in, little_endian}
+use Rattle.safe_number.specs.{AreBytes, bit_in, bits_in, little_endian}
 use Rattle.safe_number.proofs.Bits.{bit_in-number}
-use Rattle.reader_copies.specs.Flags.{flag_in}
-use Rattle.reader_copies.specs.Words.{bit_of_words, bits_of_words}
-use Rattle.registers.specs.Words.{byte_of_word}
+use Rattle.reader_copies.specs.{bit_of_words, bits_of_words, flag_in}
+use Rattle.registers.specs.{byte_of_word}
 use Rattle.reader_copies.proofs.Words.{bit-found, length-bits}
 use Rattle.registers.proofs.Words.{bit-elsewhere, bit-in_word}
 

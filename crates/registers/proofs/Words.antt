@@ -3,9 +3,8 @@ use Rattle.std.proofs.Common.{true, ◌≡◌, ◌≢◌, ℕ, zero, suc, ◌+�
 use Rattle.std.proofs.lemmas.Bool.{cases_eq}
 use Rattle.std.proofs.lemmas.List.{get_or-set_same, get_or-set_other}
 use mir.Val.{bool_byte}
-use Rattle.reader_copies.specs.Flags.{IsMask, SetsFlag, flag_in}
-use Rattle.registers.specs.Wordwise.{more_bits}
-use Rattle.reader_copies.specs.Words.{bit_of_words, bits_of_words}
+use Rattle.reader_copies.specs.{IsMask, SetsFlag, bit_of_words, bits_of_words, flag_in}
+use Rattle.registers.specs.{more_bits}
 
 pub bits-same : (a b : List ℕ) (n : ℕ) → ((i : ℕ) → i < n → bit_of_words a i ≡ bit_of_words b i) → bits_of_words a n ≡ bits_of_words b n
 bits-same a b zero same = refl

@@ -5,12 +5,8 @@ use Rattle.std.proofs.lemmas.Bool.{eq-eqb, ne_eqb}
 use Rattle.std.proofs.lemmas.List.{length-set}
 use Rattle.safe_bit.specs.Cell.{Cell}
 use Rattle.safe_bit.specs.declared.moves.Move.TheVariants.{BeginWrite, EndWrite}
-use Rattle.reader_copies.specs.Row.{cell_in}
-use Rattle.registers.specs.Memory.{HasLanes, lane_of}
-use Rattle.registers.specs.Cursors.{CursorState, first_lane}
-use Rattle.registers.specs.Accesses.{write_access, writes_of}
-use Rattle.reader_copies.specs.Wordwise.{after_write, over}
-use Rattle.registers.specs.Wordwise.{over_lanes}
+use Rattle.reader_copies.specs.{after_write, cell_in, over}
+use Rattle.registers.specs.{CursorState, HasLanes, first_lane, lane_of, over_lanes, write_access, writes_of}
 use Rattle.registers.proofs.Iterates.{writes-more}
 use Rattle.reader_copies.proofs.Over.{length-over}
 use Rattle.registers.proofs.Over.{lanes-kept, lanes-nothing, lanes-twice}

@@ -1,13 +1,11 @@
 -- The single access of a cursor, and so many of them.
 use Rattle.std.specs.Prelude.{ℕ, zero, suc, ◌+◌, ◌==◌, ◌&&◌, ◌||◌, Bool, true, false, not, if◌then◌else◌, List, [], ◌∷◌, ◌++◌, Option, Some, unwrap_or, slice_index_or}
 use Rattle.safe_bit.specs.Cell.{Cell, read_answer}
-use Rattle.safe_bit.specs.declared.moves.Move.{Move}
+use Rattle.safe_bit.specs.{Move}
 use Rattle.safe_bit.specs.declared.moves.Move.TheVariants.{BeginWrite, EndWrite, BeginRead, EndRead, Settle}
-use Rattle.reader_copies.specs.Runs.{is_open_at}
-use Rattle.flicks.specs.Flicks.{FlickState, flick_of, after_flick}
-use Rattle.record.specs.declared.access.Access.{Access}
-use Rattle.record.specs.Moves.{ended_with}
-use Rattle.record.specs.Places.{value_of}
+use Rattle.reader_copies.specs.{is_open_at}
+use Rattle.flicks.specs.{FlickState, flick_of, after_flick}
+use Rattle.record.specs.{Access, ended_with, value_of}
 use Rattle.registers.specs.Memory.{cell_at, memory_moved}
 use Rattle.registers.specs.Cursors.{CursorState, first_lane, lane_number}
 use Rattle.registers.specs.declared.cursor.NumberRun.{NumberRun}

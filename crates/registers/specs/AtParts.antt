@@ -1,12 +1,7 @@
 -- The cursor of a number access: as a script has it, and at a part of a call.
 use Rattle.std.specs.Prelude.{◌≡◌, ◌<◌, ℕ, Bool, true, false, cond, List, [], ◌++◌, length}
-use Rattle.plain_store.specs.declared.Setup.{Setup}
-use Rattle.record.specs.declared.access.Field.{Field}
-use Rattle.record.specs.declared.marks.Mark.{Mark}
-use Rattle.record.specs.Parts.{Part, first_marks, is_read, last_marks, part_after, read_at, written_at}
-use Rattle.record.specs.Places.{Place, Run, Reading, Writing, enter}
-use Rattle.record.specs.Registers.{width}
-use Rattle.record.specs.Scripts.{Call}
+use Rattle.plain_store.specs.{Setup}
+use Rattle.record.specs.{Call, Field, Mark, Part, Place, Reading, Run, Writing, enter, first_marks, is_read, last_marks, part_after, read_at, width, written_at}
 use Rattle.registers.specs.Accesses.{cursor_after, next_access}
 use Rattle.registers.specs.Begins.{is_fresh, reading, writing}
 use Rattle.registers.specs.Cursors.{CursorState, is_over}

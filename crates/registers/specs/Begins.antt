@@ -1,11 +1,10 @@
 -- A number access of which nothing is made, and what the fields of a cursor keep.
 use Rattle.std.specs.Prelude.{◌≡◌, ℕ, ◌+◌, ◌*◌, ◌<◌, ◌≤◌, ◌==◌, ◌&&◌, ◌||◌, not, Bool, true, false, cond, if◌then◌else◌, List, [], Option, None, Some, length, replicate}
-use Rattle.plain_store.specs.declared.Setup.{Setup}
+use Rattle.plain_store.specs.{Setup}
 use Rattle.record.specs.declared.access.Field.TheVariants.{Choosing}
 use Rattle.registers.specs.declared.fields.RegisterName.{RegisterName}
-use Rattle.record.specs.declared.access.TornBit.{TornBit}
-use Rattle.record.specs.Registers.{width}
-use Rattle.safe_number.specs.Bytes.{bits_in}
+use Rattle.record.specs.{TornBit, width}
+use Rattle.safe_number.specs.{bits_in}
 use Rattle.registers.specs.Cursors.{CursorState, IsAtCopy, lane_number}
 use Rattle.registers.specs.declared.cursor.NumberRun.{NumberRun}
 use Rattle.registers.specs.declared.cursor.NumberRun.TheVariants.{Reads, Writes, Settles}

@@ -2,9 +2,9 @@
 use Rattle.std.specs.Prelude.{◌≡◌, ◌<◌, ℕ, ◌+◌, ◌-◌, ◌*◌, ◌==◌, Bool, if◌then◌else◌, List}
 use Rattle.safe_bit.specs.Cell.{Cell}
 use Rattle.registers.specs.declared.fields.RegisterName.{RegisterName}
-use Rattle.record.specs.Moves.{field_number}
+use Rattle.record.specs.{field_number}
 use Rattle.registers.specs.Memory.{HasLanes}
-use Rattle.reader_copies.specs.Words.{bits_of_words}
+use Rattle.reader_copies.specs.{bits_of_words}
 use Rattle.registers.specs.declared.cursor.NumberRun.{NumberRun}
 use Rattle.registers.specs.declared.cursor.NumberRun.TheVariants.{Reads, Writes, Settles}
 

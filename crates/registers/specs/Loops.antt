@@ -1,7 +1,7 @@
 -- What the loops of a run keep.
 use Rattle.std.specs.Prelude.{◌≡◌, ℕ, ◌+◌, List}
 use Rattle.safe_bit.specs.Cell.{Cell}
-use Rattle.flicks.specs.Flicks.{FlickState}
+use Rattle.flicks.specs.{FlickState}
 use Rattle.registers.specs.Memory.{HasLanes}
 use Rattle.registers.specs.Cursors.{CursorState, first_lane, made_of_read, made_of_write}
 use Rattle.registers.specs.Accesses.{reads_of, writes_of}

@@ -1,8 +1,8 @@
 -- A memory of safe bits: lanes of cells. A lane holds the copies that one reader has of one register, bit by bit.
 use Rattle.std.specs.Prelude.{ℕ, ◌<◌, ◌≤◌, ◌+◌, List, [], length, map, slice_index_or, slice_set}
 use Rattle.safe_bit.specs.Cell.{Cell, cell_after, without_read}
-use Rattle.safe_bit.specs.declared.moves.Move.{Move}
-use Rattle.reader_copies.specs.Row.{cell_in}
+use Rattle.safe_bit.specs.{Move}
+use Rattle.reader_copies.specs.{cell_in}
 
 -- a lane of a memory
 abbrev pub lane_of : List (List Cell) → ℕ → List Cell

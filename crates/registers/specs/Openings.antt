@@ -2,10 +2,9 @@
 use Rattle.std.specs.Prelude.{◌≡◌, ◌<◌, ◌==◌, ℕ, ◌*◌, ◌/◌, ◌%◌, Bool, false, if◌then◌else◌, List, [], ◌∷◌, length, map, replicate, slice_index_or}
 use Rattle.std.specs.List.{range_with_len}
 use Rattle.safe_bit.specs.Cell.{Cell, new_cell}
-use Rattle.plain_store.specs.declared.Setup.{Setup}
-use Rattle.record.specs.declared.access.Field.{Field}
+use Rattle.plain_store.specs.{Setup}
+use Rattle.record.specs.{Field, width}
 use Rattle.record.specs.declared.access.Field.TheVariants.{Choosing, Ticket, Commit, Stamp0, Stamp1, Image0, Image1}
-use Rattle.record.specs.Registers.{width}
 use Rattle.registers.specs.Memory.{lane_of}
 
 -- the field of this number in their order

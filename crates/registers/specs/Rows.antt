@@ -3,9 +3,9 @@ use Rattle.std.specs.Prelude.{ℕ, ◌+◌, ◌*◌, ◌==◌, Bool, false, if�
 use Rattle.std.specs.List.{range_with_len}
 use Rattle.safe_bit.specs.Cell.{Cell}
 use Rattle.reader_copies.specs.Runs as copies
-use Rattle.safe_number.specs.Runs.{NumberWrite}
+use Rattle.safe_number.specs.{NumberWrite}
 use Rattle.registers.specs.declared.fields.RegisterName.{RegisterName}
-use Rattle.record.specs.Moves.{field_number}
+use Rattle.record.specs.{field_number}
 use Rattle.registers.specs.Memory.{lane_of}
 use Rattle.registers.specs.Begins.{made_of_bit}
 use Rattle.registers.specs.Cursors.{CursorState, lane_number}

@@ -1,11 +1,9 @@
 //! How far a number access of a process has come.
 ghost use Rattle.std.specs.Prelude.{◌≡◌, ℕ, ◌<◌, ◌≤◌, ◌+◌, ◌*◌, ◌/◌, ◌%◌, ◌^◌, false, Ok, length, slice_index_or};
-ghost use Rattle.plain_store.specs.Setups.{checked};
-ghost use Rattle.reader_copies.specs.Runs.{HasItsValue};
-ghost use Rattle.record.specs.Cuts.{IsTornOf};
-ghost use Rattle.record.specs.Places.{value_of};
-ghost use Rattle.record.specs.Registers.{width};
-ghost use Rattle.safe_number.specs.Bytes.{bit_in, bits_in, bits_of_number, number_of_bits};
+ghost use Rattle.plain_store.specs.{checked};
+ghost use Rattle.reader_copies.specs.{HasItsValue};
+ghost use Rattle.record.specs.{IsTornOf, value_of, width};
+ghost use Rattle.safe_number.specs.{bit_in, bits_in, bits_of_number, number_of_bits};
 ghost use Rattle.registers.specs.Accesses.{cursor_after, next_access, value_written};
 ghost use Rattle.registers.specs.Begins.{idle_cursor, is_fresh, is_torn, reading, settling, settling_from, torn_bit, writing};
 ghost use Rattle.registers.specs.Cursors.{is_over, lane_number, rest_of};

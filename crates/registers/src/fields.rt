@@ -1,8 +1,7 @@
 //! The registers of a process: their order, their names and their widths.
 ghost use Rattle.std.specs.Prelude.{◌≡◌, ◌<◌, ◌≤◌, Ok};
-ghost use Rattle.plain_store.specs.Setups.{checked};
-ghost use Rattle.record.specs.Moves.{field_number};
-ghost use Rattle.record.specs.Registers.{image_bytes, width};
+ghost use Rattle.plain_store.specs.{checked};
+ghost use Rattle.record.specs.{field_number, image_bytes, width};
 
 use plain_store::Setup;
 use record::Field;

@@ -1,16 +1,14 @@
 //! The memory, and the accesses on it.
 ghost use Rattle.std.specs.Prelude.{◌≡◌, ◌≢◌, ℕ, ◌<◌, ◌≤◌, ◌+◌, ◌*◌, ◌%◌, length, false, IfOk, Ok};
-ghost use Rattle.plain_store.specs.Setups.{checked};
-ghost use Rattle.record.specs.Registers.{width};
-ghost use Rattle.flicks.specs.Flicks.{FlickState, flicks_after};
+ghost use Rattle.plain_store.specs.{checked};
+ghost use Rattle.record.specs.{width};
+ghost use Rattle.flicks.specs.{FlickState, flicks_after};
 ghost use Rattle.registers.specs.Accesses.{answer_of, applied, cursor_after, ends_overlapped, ends_read, next_access, next_answered, overlapped_of, overlapped_reads, read_after, read_move, read_overlaps, reads_of, run_of, write_access, writes_of};
 ghost use Rattle.registers.specs.Begins.{is_settling};
 ghost use Rattle.registers.specs.Cursors.{Fits, first_lane, rest_of, rest_by};
-ghost use Rattle.reader_copies.specs.Flags.{flag_in};
+ghost use Rattle.reader_copies.specs.{after_write, bits_of_words, flag_in, over};
 ghost use Rattle.registers.specs.Memory.{HasLanes, cell_at, memory_moved, without_reads};
 ghost use Rattle.registers.specs.Openings.{AreOfOneSetup, field_numbered, opening_lane, opening_memory};
-ghost use Rattle.reader_copies.specs.Words.{bits_of_words};
-ghost use Rattle.reader_copies.specs.Wordwise.{after_write, over};
 ghost use Rattle.registers.specs.Wordwise.{over_lanes};
 
 mod held;

@@ -1,7 +1,7 @@
 //! Words as bytes, the least significant first.
 ghost use Rattle.std.specs.Prelude.{◌≡◌, ◌<◌, ℕ, length};
-ghost use Rattle.safe_number.specs.Bytes.{bit_in};
-ghost use Rattle.reader_copies.specs.Words.{bit_of_words};
+ghost use Rattle.safe_number.specs.{bit_in};
+ghost use Rattle.reader_copies.specs.{bit_of_words};
 ghost use Rattle.registers.specs.Words.{byte_of_word};
 
 use safe_number::number_of;

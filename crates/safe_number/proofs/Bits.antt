@@ -5,7 +5,7 @@ use Rattle.std.proofs.Math.Nat.{pow-suc}
 use Rattle.std.proofs.lemmas.Bool.{cases_eq, cases_lt, eq-eqb, ne_eqb, eqb-true, eqb-false}
 use Rattle.std.proofs.lemmas.List.{ext_get_or}
 use Rattle.std.proofs.lemmas.Nat.Bits.{bit_at-zero, bit_at-lt, bit_at_lowest, bit_at-suc, bit_at_cat_low, bit_at_cat_high, same_from_bits}
-use Rattle.safe_number.specs.Bytes.{little_endian, AreBytes, bit_in, bits_in, IsBytesOf, number_of_bits, bits_of_number}
+use Rattle.safe_number.specs.{little_endian, AreBytes, bit_in, bits_in, IsBytesOf, number_of_bits, bits_of_number}
 use Rattle.safe_number.proofs.Numbers.{length_bits, get-bits}
 
 -- bit k of bytes is bit k of their number

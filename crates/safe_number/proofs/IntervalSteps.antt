@@ -1,18 +1,12 @@
 -- What a write, its settling and a read make of a register over whole intervals.
 use Rattle.std.proofs.Common.{◌≡◌, ◌≢◌, ℕ, ◌+◌, ◌<◌, ◌==◌, ◌||◌, List, [], ◌∷◌, Bool, true, false, cond, Option, Some, None, unwrap_or, length, refl, sym, ap, subst, ◌∙◌, arith, inl, inr}
 use Rattle.std.proofs.lemmas.Bool.{eqb-true, eq-eqb, cases_lt}
-use Rattle.reader_copies.specs.safe_bit.declared.Move.{Move}
+use Rattle.reader_copies.specs.safe_bit.{Move}
 use Rattle.reader_copies.specs.safe_bit.Cell.{Cell, cell_after, without_read}
-use Rattle.reader_copies.specs.Histories.{RowCall, MakesAt, DropsAt, row_after_call, IsReadCall}
-use Rattle.reader_copies.specs.Row.{cell_at, row_after, HasCell, CanMake, IsRow}
-use Rattle.reader_copies.specs.Runs.{Writing, Settling, next_read, next_settle, settle_after, settled_at, is_open_at}
-use Rattle.reader_copies.specs.Written.{IsWritten, IsPartlyWritten, IsPartlySettled, cut_values, with_value}
+use Rattle.reader_copies.specs.{CanMake, DropsAt, HasCell, IsPartlySettled, IsPartlyWritten, IsReadCall, IsRow, IsWritten, MakesAt, RowCall, Settling, Writing, cell_at, cut_values, is_open_at, next_read, next_settle, row_after, row_after_call, settle_after, settled_at, with_value}
 use Rattle.reader_copies.proofs.Writing.{call-keeps, written-kept, partly_written-kept, partly_settled-kept, partly_written-cut, length-row_with_cell}
 use Rattle.reader_copies.proofs.Steps.{settle_starts, settle_on, settle_done}
-use Rattle.safe_number.specs.Bytes.{bit_in}
-use Rattle.safe_number.specs.Runs.{NumberWrite, NumberRead, bit_write, bit_read, torn_with, torn_run, torn_bit, new_read}
-use Rattle.safe_number.specs.Written.{IsWriting, IsSettling, IsUndisturbed, first_bits, loaded}
-use Rattle.safe_number.specs.Intervals.{Moment, Own, Other, WriteState, write_interval, IsWriteInterval, SettleState, settle_moment, settle_interval, IsSettleInterval, first_given, ReadState, read_moment, read_interval, IsUndisturbedInterval, reader_of}
+use Rattle.safe_number.specs.{IsSettleInterval, IsSettling, IsUndisturbed, IsUndisturbedInterval, IsWriteInterval, IsWriting, Moment, NumberRead, NumberWrite, Other, Own, ReadState, SettleState, WriteState, bit_in, bit_read, bit_write, first_bits, first_given, loaded, new_read, read_interval, read_moment, reader_of, settle_interval, settle_moment, torn_bit, torn_run, torn_with, write_interval}
 use Rattle.safe_number.proofs.WrittenSteps.{shape_after, has_cell, writing-on, undisturbed-start, undisturbed-on, undisturbed-apart, read_keeps}
 
 -- the settling of a write that was cut after so many accesses, before its first access

@@ -7,9 +7,8 @@ use Rattle.std.proofs.lemmas.List.{get_or-set_same, get_or-set_other, get_or_def
 use Rattle.std.proofs.lemmas.List.FromFn.{length-map-range_with_len, get_or-map-range_with_len, map-range_with_len_more, fill_by_all}
 use Rattle.std.proofs.lemmas.Nat.Bits.{bit_at-zero}
 use Rattle.reader_copies.specs.declared.Progress.TheVariants.{Going}
-use Rattle.reader_copies.specs.Runs.{progress_of}
-use Rattle.safe_number.specs.Bytes.{bit_in, bits_in, little_endian}
-use Rattle.safe_number.specs.Runs.{NumberRead, number_read_after}
+use Rattle.reader_copies.specs.{progress_of}
+use Rattle.safe_number.specs.{NumberRead, bit_in, bits_in, little_endian, number_read_after}
 
 -- a read that has come so far
 abbrev read-with : NumberRead → List Bool → Bool → NumberRead

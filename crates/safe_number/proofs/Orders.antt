@@ -5,12 +5,9 @@ use Rattle.std.proofs.lemmas.Bool.{cases_lt, eqb-true, eqb-false}
 use Rattle.std.proofs.lemmas.List.{length-append, length-map, length_push}
 use Rattle.std.specs.List.{range_with_len}
 use Rattle.reader_copies.specs.safe_bit.declared.Move.TheVariants.{BeginRead, EndRead}
-use Rattle.reader_copies.specs.declared.Made.{Made}
-use Rattle.reader_copies.specs.Runs.{Writing, bit_writes}
+use Rattle.reader_copies.specs.{Made, Writing, bit_writes}
 use Rattle.reader_copies.proofs.Orders.{rest-write, length-writes}
-use Rattle.safe_number.specs.Bytes.{bit_in, bits_in}
-use Rattle.safe_number.specs.Runs.{NumberWrite, NumberRead, bit_write, next_of_write, number_write_after, new_write, next_of_read, number_read_after, new_read}
-use Rattle.safe_number.specs.Accesses.{at_bit, writes_from, number_writes, reads_from, number_reads, rest_of_bits, rest_of_number_write, told_by_write, write_after_steps, made_by_read, told_by_read, read_after_steps}
+use Rattle.safe_number.specs.{NumberRead, NumberWrite, at_bit, bit_in, bit_write, bits_in, made_by_read, new_read, new_write, next_of_read, next_of_write, number_read_after, number_reads, number_write_after, number_writes, read_after_steps, reads_from, rest_of_bits, rest_of_number_write, told_by_read, told_by_write, write_after_steps, writes_from}
 use Rattle.safe_number.proofs.Numbers.{length_bits}
 
 -- a write that has more accesses to make

@@ -6,11 +6,9 @@ use Rattle.std.proofs.lemmas.List.{get_or-map, ext_get_or, length-map, map-id}
 use Rattle.std.proofs.lemmas.Simd.{map-map}
 use Rattle.std.proofs.lemmas.List.FromFn.{length-map-range_with_len, get_or-map-range_with_len, fill_by_all}
 use Rattle.reader_copies.specs.safe_bit.Cell.{Cell, new_cell}
-use Rattle.reader_copies.specs.Row.{cell_in, cell_at, preset_row, IsRow}
-use Rattle.reader_copies.specs.Written.{IsAt, IsWritten}
+use Rattle.reader_copies.specs.{IsAt, IsRow, IsWritten, cell_at, cell_in, preset_row}
 use Rattle.reader_copies.proofs.Flags.{made-set}
-use Rattle.safe_number.specs.Bytes.{bit_in}
-use Rattle.safe_number.specs.Runs.{preset_number}
+use Rattle.safe_number.specs.{bit_in, preset_number}
 use Rattle.safe_number.proofs.Numbers.{range_same}
 
 -- one reader's copies once the bits below k are preset

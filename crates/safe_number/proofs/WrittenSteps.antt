@@ -5,14 +5,10 @@ use Rattle.std.proofs.lemmas.List.{length_push}
 use Rattle.std.proofs.lemmas.List.FromFn.{map-range_with_len_more}
 use Rattle.reader_copies.specs.safe_bit.Cell.{Cell, cell_after, read_answer}
 use Rattle.reader_copies.specs.safe_bit.declared.Move.TheVariants.{BeginWrite, EndWrite, BeginRead, EndRead}
-use Rattle.reader_copies.specs.Row.{cell_at, with_cell, row_after, HasCell, CanMake, IsRow}
-use Rattle.reader_copies.specs.Runs.{Writing, next_write, write_after, next_read}
-use Rattle.reader_copies.specs.Written.{IsWrite, IsWritten, IsPartlyWritten, KeepsWrites}
+use Rattle.reader_copies.specs.{CanMake, HasCell, IsPartlyWritten, IsRow, IsWrite, IsWritten, KeepsWrites, Writing, cell_at, next_read, next_write, row_after, with_cell, write_after}
 use Rattle.reader_copies.proofs.Writing.{read-keeps, read_is, partly_written-start, partly_written-carry, partly_written-end, with_cell-same, with_cell-other, HasCell-before, length-with_cell, length-row_with_cell}
 use Rattle.reader_copies.proofs.Steps.{write_can, write_on}
-use Rattle.safe_number.specs.Bytes.{bit_in}
-use Rattle.safe_number.specs.Runs.{NumberWrite, NumberRead, bit_write, bit_read, number_write_after, number_read_after, new_write, new_read}
-use Rattle.safe_number.specs.Written.{IsWriting, IsReading, IsUndisturbed, first_bits, loaded}
+use Rattle.safe_number.specs.{IsReading, IsUndisturbed, IsWriting, NumberRead, NumberWrite, bit_in, bit_read, bit_write, first_bits, loaded, new_read, new_write, number_read_after, number_write_after}
 
 pub shape_after : (row : List (List Cell)) (b r : ℕ) (c : Cell) (width : ℕ) → IsRow row width → IsRow (with_cell row b r c) width
 shape_after row b r c width shape = record {

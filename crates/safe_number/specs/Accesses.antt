@@ -2,8 +2,7 @@
 use Rattle.std.specs.Prelude.{ℕ, zero, suc, ◌+◌, ◌-◌, Bool, List, [], ◌∷◌, ◌++◌, map, length, if◌then◌else◌}
 use Rattle.std.specs.List.{range_with_len}
 use Rattle.reader_copies.specs.safe_bit.declared.Move.TheVariants.{BeginRead, EndRead}
-use Rattle.reader_copies.specs.declared.Made.{Made}
-use Rattle.reader_copies.specs.Runs.{bit_writes, rest_of_write}
+use Rattle.reader_copies.specs.{Made, bit_writes, rest_of_write}
 use Rattle.safe_number.specs.Bytes.{bit_in}
 use Rattle.safe_number.specs.Runs.{NumberWrite, NumberRead, bit_write, next_of_write, number_write_after, next_of_read, number_read_after}
 

@@ -1,9 +1,7 @@
 -- What happens to a register while an access to it goes on: the access's own steps, and between them what others do.
 use Rattle.std.specs.Prelude.{◌≢◌, ℕ, ◌<◌, Bool, List, [], ◌∷◌, length, Option, Some, None, unwrap_or}
 use Rattle.reader_copies.specs.safe_bit.Cell.{Cell}
-use Rattle.reader_copies.specs.Histories.{RowCall, MakesAt, DropsAt, row_after_call, IsReadCall}
-use Rattle.reader_copies.specs.Row.{row_after}
-use Rattle.reader_copies.specs.Runs.{Settling, next_settle, settle_after, settled_at}
+use Rattle.reader_copies.specs.{DropsAt, IsReadCall, MakesAt, RowCall, Settling, next_settle, row_after, row_after_call, settle_after, settled_at}
 use Rattle.safe_number.specs.Runs.{NumberWrite, NumberRead, number_write_after, number_read_after, register_written}
 use Rattle.safe_number.specs.Written.{loaded, register_read}
 

@@ -2,9 +2,7 @@
 use Rattle.std.specs.Prelude.{◌≡◌, ◌≢◌, ℕ, ◌*◌, ◌^◌, ◌<◌, ◌==◌, List, ◌∷◌, ◌++◌, [], Bool, false, Some, None, length}
 use Rattle.std.specs.Int.{bit_at}
 use Rattle.reader_copies.specs.safe_bit.Cell.{Cell}
-use Rattle.reader_copies.specs.Row.{cell_at, with_cell, row_after, HasCell, CanMake, IsRow}
-use Rattle.reader_copies.specs.Runs.{Settling, next_write, next_read, next_settle, settle_after, settled_at}
-use Rattle.reader_copies.specs.Written.{IsWritten, cut_values, with_value}
+use Rattle.reader_copies.specs.{CanMake, HasCell, IsRow, IsWritten, Settling, cell_at, cut_values, next_read, next_settle, next_write, row_after, settle_after, settled_at, with_cell, with_value}
 use Rattle.safe_number.specs.Accesses.{number_writes, number_reads, rest_of_number_write, told_by_write, write_after_steps, made_by_read, told_by_read, read_after_steps}
 use Rattle.safe_number.specs.Bytes.{bit_in, bits_in, little_endian, AreBytes, IsBytesOf, number_of_bits, bits_of_number}
 use Rattle.safe_number.specs.Intervals.{Moment, WriteState, write_interval, IsWriteInterval, SettleState, settle_interval, IsSettleInterval, first_given, ReadState, read_interval, IsUndisturbedInterval}

@@ -1,6 +1,6 @@
 -- What the fields of a read keep.
 use Rattle.std.specs.Prelude.{◌≡◌, ℕ, ◌+◌, ◌/◌, ◌<◌, ◌≤◌, List, false, None, length}
-use Rattle.reader_copies.specs.Runs.{Reading}
+use Rattle.reader_copies.specs.{Reading}
 use Rattle.safe_number.specs.Bytes.{bit_in}
 
 -- a read has come to a bit, and the bits below it stand in the bytes

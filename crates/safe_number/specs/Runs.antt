@@ -2,9 +2,7 @@
 use Rattle.std.specs.Prelude.{ℕ, ◌+◌, ◌*◌, ◌<◌, Bool, false, not, if◌then◌else◌, Option, Some, None, unwrap_or, List, [], ◌∷◌, ◌++◌, map, length}
 use Rattle.std.specs.List.{range_with_len}
 use Rattle.reader_copies.specs.safe_bit.Cell.{Cell, new_cell}
-use Rattle.reader_copies.specs.declared.Made.{Made}
-use Rattle.reader_copies.specs.Row.{row_after}
-use Rattle.reader_copies.specs.Runs.{Writing, Reading, Settling, next_write, write_after, next_read, torn_of}
+use Rattle.reader_copies.specs.{Made, Reading, Settling, Writing, next_read, next_write, row_after, torn_of, write_after}
 use Rattle.safe_number.specs.Bytes.{bit_in}
 
 -- a write of a register

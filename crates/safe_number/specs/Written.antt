@@ -2,10 +2,7 @@
 use Rattle.std.specs.Prelude.{◌≡◌, ◌≢◌, ℕ, ◌*◌, ◌<◌, ◌≤◌, List, Bool, true, false, length, map}
 use Rattle.std.specs.List.{range_with_len}
 use Rattle.reader_copies.specs.safe_bit.Cell.{Cell, read_answer}
-use Rattle.reader_copies.specs.declared.Made.{Made}
-use Rattle.reader_copies.specs.Row.{cell_at, row_after, HasCell, IsClosed, IsRow}
-use Rattle.reader_copies.specs.Runs.{Settling, next_read, settled_at}
-use Rattle.reader_copies.specs.Written.{IsPartlyWritten, IsPartlySettled}
+use Rattle.reader_copies.specs.{HasCell, IsClosed, IsPartlySettled, IsPartlyWritten, IsRow, Made, Settling, cell_at, next_read, row_after, settled_at}
 use Rattle.safe_number.specs.Bytes.{bit_in}
 use Rattle.safe_number.specs.Runs.{NumberWrite, NumberRead, bit_read, bit_write}
 

@@ -1,5 +1,5 @@
 ghost use Rattle.std.specs.Prelude.{◌≡◌, ◌<◌, ◌≤◌, ◌+◌, ◌-◌, ◌/◌, ◌==◌, Bool, true, false, length, IfOk, IsErrOf, ◌↔◌};
-ghost use Rattle.reader_copies.specs.Runs.{progress_of};
+ghost use Rattle.reader_copies.specs.{progress_of};
 ghost use Rattle.safe_number.specs.Bytes.{IsBytesOf, IsBadWidth};
 ghost use Rattle.safe_number.specs.Runs.{NumberRead, next_of_read, number_read_after, new_read};
 

@@ -1,7 +1,6 @@
 ghost use Rattle.std.specs.Prelude.{◌≡◌, ◌<◌, ◌≤◌, ◌*◌, ◌==◌, ◌↔◌, false, length, IfOk, IsErrOf, slice_index_or, []};
-ghost use Rattle.reader_copies.specs.safe_bit.Cell.{read_answer};
-ghost use Rattle.reader_copies.specs.Row.{cell_at, row_after, new_row, without_reads, HasCell, CanMake};
-ghost use Rattle.reader_copies.specs.Runs.{next_write, next_settle, settle_after, settled_at, progress_of};
+ghost use Rattle.reader_copies.specs.safe_bit.{read_answer};
+ghost use Rattle.reader_copies.specs.{CanMake, HasCell, cell_at, new_row, next_settle, next_write, progress_of, row_after, settle_after, settled_at, without_reads};
 ghost use Rattle.safe_number.specs.Bytes.{IsBadWidth};
 ghost use Rattle.safe_number.specs.Runs.{IsGoing, bit_write, number_write_after, number_read_after, preset_number};
 ghost use Rattle.safe_number.specs.Written.{AreClosed, loaded, read_made};
@@ -28,7 +27,7 @@ pub struct Register {
 impl Model for Register {
     ghost use Rattle.std.specs.Prelude.{List};
     ghost use Rattle.reader_copies.specs.safe_bit.Cell.{Cell};
-    ghost use Rattle.reader_copies.specs.Row.{IsRow};
+    ghost use Rattle.reader_copies.specs.{IsRow};
 
     ghost Value = { List (List Cell) };
 

@@ -1,5 +1,5 @@
 ghost use Rattle.std.specs.Prelude.{◌≡◌, ◌<◌, ◌≤◌, ◌+◌, ◌-◌, ◌*◌, ◌==◌, length};
-ghost use Rattle.reader_copies.specs.Runs.{progress_of};
+ghost use Rattle.reader_copies.specs.{progress_of};
 ghost use Rattle.safe_number.specs.Runs.{IsGoing, NumberWrite, bit_write, next_of_write, number_write_after, new_write, torn_bit};
 
 use crate::bytes;

@@ -6,14 +6,9 @@ use Rattle.std.proofs.lemmas.Slice.Eq.{bytes_eq-Decides}
 use Rattle.std.specs.Map.{lookup}
 use Rattle.std.specs.Option.{ok_or}
 use Rattle.std.specs.Str.{bytes_eq}
-use Rattle.scenario.specs.BitFiles.{bit_words, bit_word_of, bits, bit_at, one_bit_of, lone_word_of, bit_line_of, first_bits_read, later_bits_read, bits_grammar, bits_of}
-use Rattle.files.specs.Checks.{◌>>=◌, known, counted, word}
-use Rattle.files.specs.Files.{one_more}
-use Rattle.files.specs.Limits.{said_words}
-use Rattle.scenario.specs.Spelling.{bit_word, bit_line_words, SaysBits}
-use Rattle.scenario.specs.declared.bit_files.BitLine.{BitLine}
+use Rattle.scenario.specs.{BitLine, BitWord, SaysBits, bit_at, bit_line_of, bit_line_words, bit_word, bit_word_of, bit_words, bits, bits_grammar, bits_of, first_bits_read, later_bits_read, lone_word_of, one_bit_of}
+use Rattle.files.specs.{counted, known, one_more, said_words, word, ◌>>=◌}
 use Rattle.scenario.specs.declared.bit_files.BitLine.TheVariants as line
-use Rattle.scenario.specs.declared.bit_files.BitWord.{BitWord}
 use Rattle.scenario.specs.declared.bit_files.BitWord.TheVariants.{Bits, Write, End, Settle, Read, Value, Drop}
 use Rattle.files.specs.declared.faults.FaultKind.TheVariants.{NotFirst, Number, TooLong}
 use Rattle.scenario.proofs.LineSpelled.{none_of, one_of}

@@ -2,9 +2,8 @@
 use Rattle.std.specs.Prelude.{◌≡◌, ℕ, ◌≤◌, List, length, Option, Some, Ok}
 use Rattle.std.specs.Io.KnownBytes.{IsAtEnd}
 use Rattle.files.proofs.CutTexts.{tells_at_limit_then, input_tells, input_ended}
-use Rattle.files.specs.Cuts.{input_limit, TellsAtLimit}
-use Rattle.files.specs.Streams.{ReadsInput}
-use Rattle.scenario.specs.Reading.{Script, scenario_grammar, script_of, scenario_of}
+use Rattle.files.specs.{ReadsInput, TellsAtLimit, input_limit}
+use Rattle.scenario.specs.{Script, scenario_grammar, script_of, scenario_of}
 
 -- The first bytes, as many as the limit, have the fault of the whole.
 pub scenario_tells_at_limit : (text : List ℕ) → input_limit ≤ length text → TellsAtLimit scenario_of text

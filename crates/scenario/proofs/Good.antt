@@ -6,20 +6,11 @@ use Rattle.std.proofs.lemmas.List.{length-append}
 use Rattle.std.proofs.lemmas.List.Folds.{list_all-append}
 use Rattle.std.specs.Int.{is_in_range}
 use Rattle.std.specs.List.{list_all}
-use Rattle.plain_store.specs.Pairs.{Pair, is_pair}
+use Rattle.plain_store.specs.{Pair, Setup, Value, checked, checks, is_good_opening, is_pair, names_differ, value_at}
 use Rattle.plain_store.proofs.GoodSetups.{all_pass, no_fault}
 use Rattle.plain_store.proofs.OpeningPairs.{differ-more}
-use Rattle.plain_store.specs.Setups.{checks, checked, is_good_opening}
-use Rattle.plain_store.specs.Store.{value_at, names_differ}
-use Rattle.plain_store.specs.declared.commands.Value.{Value}
-use Rattle.plain_store.specs.declared.setups.Setup.{Setup}
-use Rattle.scenario.specs.Reading.{Script}
-use Rattle.scenario.specs.Scripts.{IsScenario, is_line}
-use Rattle.scenario.specs.Setting.{most_of, default_setup, with_heading, may_open, with_pair}
-use Rattle.scenario.specs.Statements.{is_line_of}
-use Rattle.scenario.specs.declared.lines.Line.{Line}
+use Rattle.scenario.specs.{Heading, IsScenario, Line, Script, default_setup, is_line, is_line_of, may_open, most_of, with_heading, with_pair}
 use Rattle.scenario.proofs.HeadingLists.{heading_keeps, version_keeps}
-use Rattle.scenario.specs.declared.keywords.Heading.{Heading}
 use Rattle.scenario.specs.declared.keywords.Heading.TheVariants.{Processes, Tickets, Stamps, Slots}
 
 -- no pairs are a good opening

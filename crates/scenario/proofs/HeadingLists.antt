@@ -3,11 +3,8 @@ use Rattle.std.proofs.Common.{◌≡◌, ℕ, ◌||◌, not, Bool, true, false, 
 use Rattle.std.proofs.lemmas.Bool.{and_from, and_parts}
 use Rattle.std.proofs.lemmas.Bool.Decides.{nat_tests}
 use Rattle.std.specs.List.{list_all}
-use Rattle.plain_store.specs.declared.setups.Setup.{Setup}
-use Rattle.scenario.specs.Setting.{is_given, and_given, with_heading}
-use Rattle.scenario.specs.Spelling.{same_heading, with_headings}
-use Rattle.scenario.specs.declared.headings.Given.{Given}
-use Rattle.scenario.specs.declared.keywords.Heading.{Heading}
+use Rattle.plain_store.specs.{Setup}
+use Rattle.scenario.specs.{Given, Heading, and_given, is_given, same_heading, with_heading, with_headings}
 use Rattle.scenario.specs.declared.keywords.Heading.TheVariants.{Processes, Tickets, Stamps, Slots}
 
 -- a heading leaves the opening pairs and the version

@@ -5,25 +5,14 @@ use Rattle.std.proofs.lemmas.Bool.Decides.{nat_tests}
 use Rattle.std.proofs.lemmas.Slice.Eq.{bytes_eq-Decides}
 use Rattle.std.specs.Fmt.{decimal}
 use Rattle.std.specs.Str.{bytes_eq}
-use Rattle.plain_store.specs.Commands.{is_command}
-use Rattle.plain_store.specs.Shown.{value_text}
-use Rattle.plain_store.specs.declared.commands.Command.{Command}
+use Rattle.plain_store.specs.{Command, is_command, value_text}
 use Rattle.plain_store.specs.declared.commands.Command.TheVariants as command
-use Rattle.files.specs.Checks.{◌>>=◌, known, counted, word}
-use Rattle.scenario.specs.Keywords.{target_of}
-use Rattle.scenario.specs.Operands.{number_at, integer_at, name_at, value_at}
-use Rattle.scenario.specs.Printing.{command_words, line_words}
-use Rattle.scenario.specs.Scripts.{is_line}
-use Rattle.scenario.specs.Spelling.{line_word}
-use Rattle.scenario.specs.Statements.{operand_count, verb_at, command_of, call_of, step_of, go_of, process_of, flick_of, wander_of, show_of, line_of, verb_in, is_verb_of, is_line_of}
-use Rattle.files.specs.declared.faults.FaultKind.{FaultKind}
+use Rattle.files.specs.{FaultKind, counted, known, word, ◌>>=◌}
+use Rattle.scenario.specs.{Line, LineWord, Verb, call_of, command_of, command_words, flick_of, go_of, integer_at, is_line, is_line_of, is_verb_of, line_of, line_word, line_words, name_at, number_at, operand_count, process_of, show_of, step_of, target_of, value_at, verb_at, verb_in, wander_of}
 use Rattle.files.specs.declared.faults.FaultKind.TheVariants.{Unknown}
-use Rattle.scenario.specs.declared.keywords.LineWord.{LineWord}
 use Rattle.scenario.specs.declared.keywords.LineWord.TheVariants as opener
-use Rattle.scenario.specs.declared.keywords.Verb.{Verb}
 use Rattle.scenario.specs.declared.keywords.Verb.TheVariants as verb
 use Rattle.flicks.specs.declared.Flick.TheVariants as flick
-use Rattle.scenario.specs.declared.lines.Line.{Line}
 use Rattle.scenario.specs.declared.lines.Line.TheVariants as line
 use Rattle.scenario.proofs.OneSpelling.{number_spelled, integer_at_spelled, name_spelled, value_spelled, verb_word, verb_spelled, target_spelled}
 use Rattle.files.proofs.Passing.{passed, length_of}

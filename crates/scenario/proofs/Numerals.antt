@@ -1,7 +1,7 @@
 -- What is parsed of a numeral.
 use Rattle.std.specs.Int.RustNames.{FitsSigned}
 use Rattle.std.proofs.lemmas.Str.Ascii.{IsAscii-cons}
-use Rattle.plain_store.specs.Values.{fits_i64}
+use Rattle.plain_store.specs.{fits_i64}
 use Rattle.std.proofs.Common.{◌==◌, drop, take, get_or, negsuc, slice_index, ◌≡◌, ℕ, ℤ, pos, ◌+◌, ◌-◌, ◌*◌, ◌<◌, ◌≤◌, ◌^◌, Bool, true, false, not, cond, nat_le, List, [], ◌∷◌, ◌&&◌, length, Some, None, Result, Ok, Err, refl, ap, sym, ◌∙◌, arith, rules, if◌then◌else◌, w64}
 use Rattle.std.specs.Char.{is_ascii_digit, digit_value}
 use Rattle.std.specs.Int.{IsInRange}
@@ -15,7 +15,7 @@ use Rattle.std.specs.Str.Parse.{IsNumeral, without_leading_sign, ParsesSigned, d
 use Rattle.std.proofs.lemmas.Str.Parse.{IsNumeralModel, numerals_by_value, digits_value-take-le}
 use Rattle.std.proofs.lemmas.Bool.Decides.{nat_tests}
 use Rattle.std.proofs.lemmas.Fmt.{IsAscii-from_digits}
-use Rattle.scenario.specs.Numbers.{are_digits, is_numeral, number_up_to, is_signed_numeral, in_i64, integer_of}
+use Rattle.scenario.specs.{are_digits, is_numeral, number_up_to, is_signed_numeral, in_i64, integer_of}
 
 -- std's words for digits and their value
 pub own : IsNumeralModel (λ ds. are_digits ds ≡ true) (digits_value 10)

@@ -10,21 +10,12 @@ use Rattle.std.specs.Map.{lookup}
 use Rattle.std.specs.Option.{ok_or}
 use Rattle.std.specs.Str.{bytes_eq}
 use Rattle.std.specs.Str.Parse.{digits_value, signed_digits_value}
-use Rattle.plain_store.specs.Names.{is_name, is_text}
-use Rattle.plain_store.specs.Values.{fits_i64, is_value}
-use Rattle.plain_store.specs.Shown.{value_text}
-use Rattle.plain_store.specs.declared.commands.Value.{Value}
+use Rattle.plain_store.specs.{Value, fits_i64, is_name, is_text, is_value, value_text}
 use Rattle.plain_store.specs.declared.commands.Value.TheVariants.{Count, Text}
-use Rattle.files.specs.Checks.{◌>>=◌, known}
-use Rattle.scenario.specs.Keywords.{verbs, verb_of, targets, target_of}
-use Rattle.scenario.specs.Numbers.{is_numeral, is_signed_numeral, in_i64, integer_of}
-use Rattle.scenario.specs.Operands.{number_at, integer_at, name_at, counter, value_at}
-use Rattle.scenario.specs.Printing.{target_word}
-use Rattle.scenario.specs.Statements.{is_verb_of, verb_at}
+use Rattle.files.specs.{◌>>=◌, known}
+use Rattle.scenario.specs.{Target, Verb, counter, in_i64, integer_at, integer_of, is_numeral, is_signed_numeral, is_verb_of, name_at, number_at, target_of, target_word, targets, value_at, verb_at, verb_of, verbs}
 use Rattle.files.specs.declared.faults.FaultKind.TheVariants.{Number, BadName, BadValue, Unknown}
-use Rattle.scenario.specs.declared.keywords.Verb.{Verb}
 use Rattle.scenario.specs.declared.keywords.Verb.TheVariants as verb
-use Rattle.scenario.specs.declared.lines.Target.{Target}
 use Rattle.scenario.proofs.Numerals.{own, numeral_is}
 use Rattle.scenario.proofs.Spelled.{no_sign}
 

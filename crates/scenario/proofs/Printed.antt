@@ -2,14 +2,9 @@
 use Rattle.std.proofs.Common.{◌≡◌, ℕ, ◌+◌, ◌<◌, List, [], ◌∷◌, ◌++◌, Some, length, drop, get_or, slice_get, flat_map, map, codes, refl, ap, sym, ◌∙◌, append_assoc}
 use Rattle.std.specs.Fmt.{decimal}
 use Rattle.plain_store.proofs.OpeningPairs.{drop-next}
-use Rattle.plain_store.specs.Pairs.{Pair}
-use Rattle.plain_store.specs.Shown.{command_text, value_text}
-use Rattle.plain_store.specs.declared.commands.Command.{Command}
+use Rattle.plain_store.specs.{Command, Pair, Setup, Value, command_text, value_text}
 use Rattle.plain_store.specs.declared.commands.Command.TheVariants as command
-use Rattle.plain_store.specs.declared.commands.Value.{Value}
-use Rattle.plain_store.specs.declared.setups.Setup.{Setup}
-use Rattle.scenario.specs.Printing.{command_words, kind_words, line_words, open_words, spaced, printed_line}
-use Rattle.scenario.specs.declared.lines.Line.{Line}
+use Rattle.scenario.specs.{Line, command_words, kind_words, line_words, open_words, printed_line, spaced}
 use Rattle.scenario.specs.declared.lines.Line.TheVariants as line
 use Rattle.scenario.proofs.Places.{drop_in}
 

@@ -8,22 +8,11 @@ use Rattle.std.specs.Int.{is_in_range}
 use Rattle.std.specs.List.{list_all}
 use Rattle.std.specs.Str.{bytes_eq}
 use Rattle.plain_store.proofs.GoodSetups.{good-checked, few-opening}
-use Rattle.plain_store.specs.Pairs.{Pair, is_pair}
-use Rattle.plain_store.specs.Setups.{is_good_opening}
-use Rattle.plain_store.specs.Store.{value_at, names_differ}
-use Rattle.plain_store.specs.declared.setups.Setup.{Setup}
-use Rattle.files.specs.Checks.{◌>>=◌}
-use Rattle.scenario.specs.Printing.{heading_words, headings_of, line_words, open_words, script_words, scenario_text}
-use Rattle.scenario.specs.Reading.{Progress, Script, scenario_grammar, kept_read, script_of, scenario_of}
-use Rattle.scenario.specs.Scripts.{IsScenario, is_line}
-use Rattle.scenario.specs.Setting.{none_given, is_given, and_given, default_setup, most_of, with_heading, with_pair, may_open}
-use Rattle.scenario.specs.Spelling.{with_headings, headings_differ, Says}
-use Rattle.scenario.specs.Statements.{is_line_of}
+use Rattle.plain_store.specs.{Pair, Setup, is_good_opening, is_pair, names_differ, value_at}
+use Rattle.files.specs.{◌>>=◌}
+use Rattle.scenario.specs.{Given, Heading, IsScenario, Line, Progress, Says, Script, and_given, default_setup, heading_words, headings_differ, headings_of, is_given, is_line, is_line_of, kept_read, line_words, may_open, most_of, none_given, open_words, scenario_grammar, scenario_of, scenario_text, script_of, script_words, with_heading, with_headings, with_pair}
 use Rattle.files.specs.declared.faults.FaultKind.TheVariants.{TooLong}
-use Rattle.scenario.specs.declared.headings.Given.{Given}
-use Rattle.scenario.specs.declared.keywords.Heading.{Heading}
 use Rattle.scenario.specs.declared.keywords.Heading.TheVariants.{Processes, Tickets, Stamps, Slots}
-use Rattle.scenario.specs.declared.lines.Line.{Line}
 use Rattle.scenario.proofs.HeadingLists.{are_free, are_others, free_more, all_given, heading_in, heading_keeps, version_keeps, headings_keep, opening_kept, number_kept, number_set}
 use Rattle.scenario.proofs.ReadBack.{line_said_again, open_again, heading_said_again, first_again}
 use Rattle.files.proofs.Said.{said_read, text_is_read}

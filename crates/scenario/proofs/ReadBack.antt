@@ -6,38 +6,18 @@ use Rattle.std.proofs.lemmas.Fmt.{decimal_digit}
 use Rattle.std.specs.Fmt.{decimal, signed_decimal}
 use Rattle.std.specs.Int.{is_in_range}
 use Rattle.std.specs.Option.{ok_or}
-use Rattle.plain_store.specs.Commands.{is_command}
-use Rattle.plain_store.specs.Names.{is_name}
-use Rattle.plain_store.specs.Values.{fits_i64, is_value}
-use Rattle.plain_store.specs.Pairs.{Pair, is_pair}
-use Rattle.plain_store.specs.Shown.{value_text}
-use Rattle.plain_store.specs.declared.commands.Command.{Command}
+use Rattle.plain_store.specs.{Command, Pair, Setup, Value, fits_i64, is_command, is_name, is_pair, is_value, value_text}
 use Rattle.plain_store.specs.declared.commands.Command.TheVariants as command
-use Rattle.plain_store.specs.declared.commands.Value.{Value}
-use Rattle.plain_store.specs.declared.setups.Setup.{Setup}
-use Rattle.files.specs.Checks.{◌>>=◌, known, fault_if, counted}
-use Rattle.scenario.specs.Keywords.{opener_of}
-use Rattle.scenario.specs.Operands.{number_at, integer_at, name_at, value_at}
-use Rattle.scenario.specs.Printing.{version_words, command_words, target_word, flick_words, heading_word, heading_words, line_words, open_words}
-use Rattle.scenario.specs.Reading.{Progress, scenario_grammar, version_of, first_read, heading_read, pair_read, open_read, kept_read, other_read, opened_read}
-use Rattle.scenario.specs.Scripts.{is_flick, is_line}
-use Rattle.scenario.specs.Setting.{none_given, default_setup, is_given, and_given, most_of, with_heading, may_open, with_pair}
-use Rattle.scenario.specs.Spelling.{line_word}
-use Rattle.scenario.specs.Statements.{operand_count, is_verb_of, verb_at, command_of, call_of, step_of, go_of, process_of, flick_of, wander_of, show_of, line_of, verb_in, is_line_of}
+use Rattle.files.specs.{◌>>=◌, known, fault_if, counted}
+use Rattle.scenario.specs.{Given, Heading, Line, LineWord, Progress, Target, Verb, and_given, call_of, command_of, command_words, default_setup, first_read, flick_of, flick_words, go_of, heading_read, heading_word, heading_words, integer_at, is_flick, is_given, is_line, is_line_of, is_verb_of, kept_read, line_of, line_word, line_words, may_open, most_of, name_at, none_given, number_at, open_read, open_words, opened_read, opener_of, operand_count, other_read, pair_read, process_of, scenario_grammar, show_of, step_of, target_word, value_at, verb_at, verb_in, version_of, version_words, wander_of, with_heading, with_pair}
 use Rattle.files.specs.declared.faults.FaultKind.TheVariants.{Unknown, NotFirst, Number, BadSetup}
-use Rattle.scenario.specs.declared.headings.Given.{Given}
-use Rattle.scenario.specs.declared.keywords.Heading.{Heading}
 use Rattle.scenario.specs.declared.keywords.Heading.TheVariants.{Processes, Tickets, Stamps, Slots}
-use Rattle.scenario.specs.declared.keywords.LineWord.{LineWord}
 use Rattle.scenario.specs.declared.keywords.LineWord.TheVariants as name
 use Rattle.scenario.specs.declared.keywords.Opener.TheVariants as opener
-use Rattle.scenario.specs.declared.keywords.Verb.{Verb}
 use Rattle.scenario.specs.declared.keywords.Verb.TheVariants as verb
-use Rattle.flicks.specs.declared.Flick.{Flick}
+use Rattle.flicks.specs.{Flick}
 use Rattle.flicks.specs.declared.Flick.TheVariants as flick
-use Rattle.scenario.specs.declared.lines.Line.{Line}
 use Rattle.scenario.specs.declared.lines.Line.TheVariants as line
-use Rattle.scenario.specs.declared.lines.Target.{Target}
 use Rattle.scenario.specs.declared.lines.Target.TheVariants as target
 use Rattle.files.proofs.Said.{said_line}
 use Rattle.scenario.proofs.Spelled.{number_again, integer_again, name_again, value_again}

@@ -4,24 +4,11 @@ use Rattle.std.proofs.lemmas.Bool.{and_from}
 use Rattle.std.proofs.lemmas.Bool.Decides.{nat_tests}
 use Rattle.std.specs.Fmt.{decimal}
 use Rattle.std.specs.Int.{is_in_range}
-use Rattle.plain_store.specs.Pairs.{Pair}
-use Rattle.plain_store.specs.Shown.{value_text}
-use Rattle.plain_store.specs.declared.commands.Value.{Value}
-use Rattle.files.specs.Checks.{◌>>=◌, fault_if, counted, word}
-use Rattle.scenario.specs.Keywords.{openers, opener_of}
-use Rattle.scenario.specs.Operands.{number_at, name_at, value_at}
-use Rattle.scenario.specs.Printing.{heading_word, line_words}
-use Rattle.scenario.specs.Reading.{Progress, heading_read, pair_read, open_read, kept_read, other_read, script_of}
-use Rattle.scenario.specs.Scripts.{IsScenario}
-use Rattle.scenario.specs.Setting.{is_given, and_given, most_of, with_heading, may_open, with_pair}
-use Rattle.scenario.specs.Spelling.{line_word}
-use Rattle.scenario.specs.Statements.{line_of}
+use Rattle.plain_store.specs.{Pair, Value, value_text}
+use Rattle.files.specs.{◌>>=◌, fault_if, counted, word}
+use Rattle.scenario.specs.{Heading, IsScenario, Line, LineWord, Opener, Progress, and_given, heading_read, heading_word, is_given, kept_read, line_of, line_word, line_words, may_open, most_of, name_at, number_at, open_read, opener_of, openers, other_read, pair_read, script_of, value_at, with_heading, with_pair}
 use Rattle.files.specs.declared.faults.FaultKind.TheVariants.{NotFirst, Unknown, BadSetup, TooLong}
-use Rattle.scenario.specs.declared.keywords.Heading.{Heading}
-use Rattle.scenario.specs.declared.keywords.LineWord.{LineWord}
-use Rattle.scenario.specs.declared.keywords.Opener.{Opener}
 use Rattle.scenario.specs.declared.keywords.Opener.TheVariants as opener
-use Rattle.scenario.specs.declared.lines.Line.{Line}
 use Rattle.scenario.proofs.Good.{scenario_with_heading, scenario_with_pair, scenario_with_line}
 use Rattle.scenario.proofs.LineSpelled.{one_of, two_of, line_said}
 use Rattle.scenario.proofs.OneSpelling.{number_spelled, name_spelled, value_spelled, found_spelled}

@@ -7,26 +7,13 @@ use Rattle.std.specs.Fmt.{decimal, signed_decimal}
 use Rattle.std.specs.Int.{is_in_range}
 use Rattle.std.specs.List.{list_all}
 use Rattle.plain_store.proofs.GoodSetups.{IsGood}
-use Rattle.plain_store.specs.Commands.{is_command}
-use Rattle.plain_store.specs.Names.{is_name}
-use Rattle.plain_store.specs.Values.{fits_i64, is_value}
-use Rattle.plain_store.specs.Pairs.{Pair, is_pair}
-use Rattle.plain_store.specs.Shown.{value_text}
-use Rattle.plain_store.specs.declared.commands.Command.{Command}
+use Rattle.plain_store.specs.{Command, Pair, Setup, fits_i64, is_command, is_name, is_pair, is_value, value_text}
 use Rattle.plain_store.specs.declared.commands.Command.TheVariants as command
-use Rattle.plain_store.specs.declared.setups.Setup.{Setup}
-use Rattle.scenario.specs.Printing.{command_words, target_word, line_words, open_words, setup_words, script_words}
-use Rattle.scenario.specs.Reading.{Script}
-use Rattle.scenario.specs.Scripts.{IsScenario, is_line}
-use Rattle.scenario.specs.Setting.{most_of}
-use Rattle.scenario.specs.Statements.{is_line_of}
-use Rattle.files.specs.Words.{begins_with}
-use Rattle.scenario.specs.declared.keywords.Heading.{Heading}
+use Rattle.scenario.specs.{Heading, IsScenario, Line, Script, Target, command_words, is_line, is_line_of, line_words, most_of, open_words, script_words, setup_words, target_word}
+use Rattle.files.specs.{begins_with}
 use Rattle.scenario.specs.declared.keywords.Heading.TheVariants.{Processes, Tickets, Stamps, Slots}
 use Rattle.flicks.specs.declared.Flick.TheVariants as flick
-use Rattle.scenario.specs.declared.lines.Line.{Line}
 use Rattle.scenario.specs.declared.lines.Line.TheVariants as line
-use Rattle.scenario.specs.declared.lines.Target.{Target}
 use Rattle.scenario.specs.declared.lines.Target.TheVariants as target
 use Rattle.scenario.proofs.HeadingLists.{heading_in}
 use Rattle.scenario.proofs.Spaced.{is_word, IsLine, is_printable, printable_line}

@@ -7,9 +7,8 @@ use Rattle.std.proofs.lemmas.List.Folds.{list_all-append}
 use Rattle.std.proofs.lemmas.List.Splits.{slice_split_none, slice_split_at}
 use Rattle.std.specs.Char.{is_ascii_graphic}
 use Rattle.std.specs.List.{All, list_all, slice_split}
-use Rattle.scenario.specs.Printing.{spaced, printed_line}
-use Rattle.files.specs.Limits.{is_said, said_words, is_short, IsWithinLimits}
-use Rattle.files.specs.Words.{lines, onto, begins_with, is_blank, words_of}
+use Rattle.scenario.specs.{spaced, printed_line}
+use Rattle.files.specs.{IsWithinLimits, begins_with, is_blank, is_said, is_short, lines, onto, said_words, words_of}
 
 -- a byte or more, all of them printable and none a blank
 abbrev pub is_word : List ℕ → Bool

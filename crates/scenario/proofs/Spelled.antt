@@ -7,13 +7,9 @@ use Rattle.std.specs.Fmt.{decimal, signed_decimal}
 use Rattle.std.specs.List.{list_all}
 use Rattle.std.specs.Option.{ok_or}
 use Rattle.std.specs.Str.Parse.{digits_value, signed_digits_value}
-use Rattle.plain_store.specs.Names.{is_name, is_name_byte}
-use Rattle.plain_store.specs.Values.{fits_i64, is_value}
-use Rattle.plain_store.specs.Shown.{value_text}
-use Rattle.plain_store.specs.declared.commands.Value.{Value}
+use Rattle.plain_store.specs.{Value, fits_i64, is_name, is_name_byte, is_value, value_text}
 use Rattle.plain_store.specs.declared.commands.Value.TheVariants.{Count, Text}
-use Rattle.scenario.specs.Numbers.{are_digits, is_numeral, is_signed_numeral, in_i64, integer_of}
-use Rattle.scenario.specs.Operands.{number_at, name_at, counter, value_at}
+use Rattle.scenario.specs.{are_digits, counter, in_i64, integer_of, is_numeral, is_signed_numeral, name_at, number_at, value_at}
 use Rattle.files.specs.declared.faults.FaultKind.TheVariants.{Number, BadName, BadValue}
 use Rattle.scenario.proofs.Numerals.{own}
 use Rattle.scenario.proofs.Spaced.{is_word}

@@ -9,23 +9,11 @@ use Rattle.std.specs.Fmt.{decimal}
 use Rattle.std.specs.Int.{is_in_range}
 use Rattle.std.specs.Option.{ok_or}
 use Rattle.std.specs.Str.{bytes_eq}
-use Rattle.plain_store.specs.Pairs.{Pair}
-use Rattle.plain_store.specs.declared.setups.Setup.{Setup}
-use Rattle.files.specs.Checks.{◌>>=◌, known, fault_if, word}
-use Rattle.files.specs.Files.{file_of}
-use Rattle.scenario.specs.Keywords.{opener_of}
-use Rattle.scenario.specs.Printing.{version_words, heading_word, heading_words, line_words, open_words}
-use Rattle.scenario.specs.Reading.{Progress, Script, scenario_grammar, version_of, first_read, opened_read, later_read, script_of, scenario_of}
-use Rattle.scenario.specs.Scripts.{IsScenario}
-use Rattle.scenario.specs.Setting.{none_given, and_given, default_setup, with_heading, with_pair}
-use Rattle.files.specs.Limits.{said_words, IsWithinLimits}
-use Rattle.scenario.specs.Spelling.{line_word, with_headings, headings_differ, Says}
+use Rattle.plain_store.specs.{Pair, Setup}
+use Rattle.files.specs.{IsWithinLimits, fault_if, file_of, known, said_words, word, ◌>>=◌}
+use Rattle.scenario.specs.{Heading, IsScenario, Line, LineWord, Opener, Progress, Says, Script, and_given, default_setup, first_read, heading_word, heading_words, headings_differ, later_read, line_word, line_words, none_given, open_words, opened_read, opener_of, scenario_grammar, scenario_of, script_of, version_of, version_words, with_heading, with_headings, with_pair}
 use Rattle.files.specs.declared.faults.FaultKind.TheVariants.{NotFirst}
-use Rattle.scenario.specs.declared.keywords.Heading.{Heading}
-use Rattle.scenario.specs.declared.keywords.LineWord.{LineWord}
-use Rattle.scenario.specs.declared.keywords.Opener.{Opener}
 use Rattle.scenario.specs.declared.keywords.Opener.TheVariants as opener
-use Rattle.scenario.specs.declared.lines.Line.{Line}
 use Rattle.scenario.proofs.Good.{scenario_at_first}
 use Rattle.scenario.proofs.HeadingLists.{are_free, free_less, heading_keeps, headings_keep}
 use Rattle.scenario.proofs.LineSpelled.{one_of}

@@ -4,16 +4,12 @@ use Rattle.std.specs.Global.{Vec}
 use Rattle.std.specs.Map.{lookup}
 use Rattle.std.specs.Option.{ok_or}
 use Rattle.std.specs.Str.{bytes_eq}
-use Rattle.files.specs.Checks.{◌>>=◌, known, counted, word}
-use Rattle.files.specs.Files.{Grammar, file_of, one_more}
-use Rattle.files.specs.Reads.{UnlessMemory}
+use Rattle.files.specs.{FaultKind, Grammar, LineFault, UnlessMemory, counted, file_of, known, one_more, word, ◌>>=◌}
 use Rattle.scenario.specs.declared.bit_files.BitLine.{BitLine}
 use Rattle.scenario.specs.declared.bit_files.BitLine.TheVariants as line
 use Rattle.scenario.specs.declared.bit_files.BitWord.{BitWord}
 use Rattle.scenario.specs.declared.bit_files.BitWord.TheVariants.{Bits, Write, End, Settle, Read, Value, Drop}
-use Rattle.files.specs.declared.faults.FaultKind.{FaultKind}
 use Rattle.files.specs.declared.faults.FaultKind.TheVariants.{NotFirst, Number}
-use Rattle.files.specs.declared.faults.LineFault.{LineFault}
 
 -- the first words of lines, and what they mean
 abbrev pub bit_words : List (List ℕ × BitWord)

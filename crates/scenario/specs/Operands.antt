@@ -2,11 +2,10 @@
 use Rattle.std.specs.Prelude.{ℕ, ℤ, ◌&&◌, codes, if◌then◌else◌, List, [], ◌∷◌, Option, Some, None, Result, Ok, Err}
 use Rattle.std.specs.Option.{ok_or}
 use Rattle.std.specs.Str.{bytes_eq}
-use Rattle.plain_store.specs.Names.{is_name, is_text}
-use Rattle.plain_store.specs.declared.commands.Value.{Value}
+use Rattle.plain_store.specs.{Value, is_name, is_text}
 use Rattle.plain_store.specs.declared.commands.Value.TheVariants.{Count, Text}
 use Rattle.scenario.specs.Numbers.{number_up_to, integer_of}
-use Rattle.files.specs.declared.faults.FaultKind.{FaultKind}
+use Rattle.files.specs.{FaultKind}
 use Rattle.files.specs.declared.faults.FaultKind.TheVariants.{Number, BadName, BadValue}
 
 -- a number up to `most`

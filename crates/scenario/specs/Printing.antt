@@ -1,15 +1,12 @@
 -- How a scenario is printed: each line by its words.
 use Rattle.std.specs.Prelude.{ℕ, List, [], ◌∷◌, ◌++◌, codes, flat_map, map}
 use Rattle.std.specs.Fmt.{decimal, signed_decimal}
-use Rattle.plain_store.specs.Pairs.{Pair}
-use Rattle.plain_store.specs.Shown.{value_text}
-use Rattle.plain_store.specs.declared.commands.Command.{Command}
+use Rattle.plain_store.specs.{Command, Pair, Setup, value_text}
 use Rattle.plain_store.specs.declared.commands.Command.TheVariants as command
-use Rattle.plain_store.specs.declared.setups.Setup.{Setup}
 use Rattle.scenario.specs.Reading.{Script}
 use Rattle.scenario.specs.declared.keywords.Heading.{Heading}
 use Rattle.scenario.specs.declared.keywords.Heading.TheVariants.{Processes, Tickets, Stamps, Slots}
-use Rattle.flicks.specs.declared.Flick.{Flick}
+use Rattle.flicks.specs.{Flick}
 use Rattle.flicks.specs.declared.Flick.TheVariants as flick
 use Rattle.scenario.specs.declared.lines.Line.{Line}
 use Rattle.scenario.specs.declared.lines.Line.TheVariants as line

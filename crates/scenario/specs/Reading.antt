@@ -6,17 +6,13 @@ use Rattle.std.specs.Int.{is_in_range}
 use Rattle.std.specs.Map.{lookup}
 use Rattle.std.specs.Option.{ok_or}
 use Rattle.std.specs.Str.{bytes_eq}
-use Rattle.plain_store.specs.declared.commands.Value.{Value}
-use Rattle.plain_store.specs.declared.setups.Setup.{Setup}
-use Rattle.files.specs.Checks.{◌>>=◌, known, fault_if, counted, word}
-use Rattle.files.specs.Files.{Grammar, file_of, one_more}
+use Rattle.plain_store.specs.{Setup, Value}
+use Rattle.files.specs.{FaultKind, Grammar, LineFault, counted, fault_if, file_of, known, one_more, word, ◌>>=◌}
 use Rattle.scenario.specs.Keywords.{opener_of}
 use Rattle.scenario.specs.Operands.{number_at, name_at, value_at}
 use Rattle.scenario.specs.Setting.{none_given, is_given, and_given, most_of, default_setup, with_heading, may_open, with_pair}
 use Rattle.scenario.specs.Statements.{line_of}
-use Rattle.files.specs.declared.faults.FaultKind.{FaultKind}
 use Rattle.files.specs.declared.faults.FaultKind.TheVariants.{NotFirst, Unknown, BadSetup}
-use Rattle.files.specs.declared.faults.LineFault.{LineFault}
 use Rattle.scenario.specs.declared.headings.Given.{Given}
 use Rattle.scenario.specs.declared.keywords.Heading.{Heading}
 use Rattle.scenario.specs.declared.keywords.LineWord.{LineWord}

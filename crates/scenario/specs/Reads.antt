@@ -1,10 +1,7 @@
 -- What the reading of a scenario file answered, beside what the grammar says.
 use Rattle.std.specs.Prelude.{◌≡◌, ◌≤◌, ℕ, List, length, Option, Some, Result, Ok, Err}
 use Rattle.std.specs.Io.KnownBytes.{IsAtEnd}
-use Rattle.files.specs.Cuts.{input_limit, TellsAtLimit}
-use Rattle.files.specs.Streams.{ReadsInput}
-use Rattle.files.specs.Reads.{UnlessMemory}
-use Rattle.files.specs.declared.faults.LineFault.{LineFault}
+use Rattle.files.specs.{LineFault, ReadsInput, TellsAtLimit, UnlessMemory, input_limit}
 use Rattle.scenario.specs.Reading.{Script, scenario_of}
 use Rattle.scenario.specs.declared.scenarios.Scenario.{Scenario}
 

@@ -1,13 +1,10 @@
 -- Which scripts a scenario can be.
 use Rattle.std.specs.Prelude.{◌≡◌, ◌≤◌, ◌^◌, Bool, true, nat_lt, ◌&&◌, length, Ok}
 use Rattle.std.specs.List.{list_all}
-use Rattle.plain_store.specs.Commands.{is_command}
-use Rattle.plain_store.specs.Setups.{checked}
-use Rattle.plain_store.specs.Pairs.{is_pair}
-use Rattle.plain_store.specs.Store.{names_differ}
+use Rattle.plain_store.specs.{checked, is_command, is_pair, names_differ}
 use Rattle.scenario.specs.Reading.{Script}
 use Rattle.scenario.specs.Statements.{is_line_of}
-use Rattle.flicks.specs.declared.Flick.{Flick}
+use Rattle.flicks.specs.{Flick}
 use Rattle.flicks.specs.declared.Flick.TheVariants as flick
 use Rattle.scenario.specs.declared.lines.Line.{Line}
 use Rattle.scenario.specs.declared.lines.Line.TheVariants as line

@@ -1,9 +1,6 @@
 -- Headings and opening pairs, and what they set up.
 use Rattle.std.specs.Prelude.{ℕ, Bool, true, false, not, nat_lt, ◌&&◌, List, [], ◌∷◌, ◌++◌, length, is_some}
-use Rattle.plain_store.specs.Setups.{most_processes, most_bits}
-use Rattle.plain_store.specs.Store.{value_at}
-use Rattle.plain_store.specs.declared.commands.Value.{Value}
-use Rattle.plain_store.specs.declared.setups.Setup.{Setup}
+use Rattle.plain_store.specs.{Setup, Value, most_bits, most_processes, value_at}
 use Rattle.scenario.specs.declared.headings.Given.{Given}
 use Rattle.scenario.specs.declared.keywords.Heading.{Heading}
 use Rattle.scenario.specs.declared.keywords.Heading.TheVariants.{Processes, Tickets, Stamps, Slots}

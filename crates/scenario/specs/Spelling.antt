@@ -2,7 +2,7 @@
 use Rattle.std.specs.Prelude.{◌≡◌, ◌↔◌, ◌≤◌, Ok, ℕ, Bool, true, false, not, ◌&&◌, List, [], ◌∷◌, ◌++◌, length, codes, map}
 use Rattle.std.specs.List.{list_all}
 use Rattle.std.specs.Str.{bytes_eq}
-use Rattle.plain_store.specs.declared.setups.Setup.{Setup}
+use Rattle.plain_store.specs.{Setup}
 use Rattle.scenario.specs.BitFiles.{bits_of}
 use Rattle.scenario.specs.Printing.{version_words, heading_word, heading_words, line_words, open_words}
 use Rattle.scenario.specs.Reading.{Script}
@@ -10,7 +10,7 @@ use Rattle.scenario.specs.Scripts.{IsScenario, is_line}
 use Rattle.scenario.specs.Setting.{default_setup, with_heading}
 use Rattle.scenario.specs.Statements.{is_line_of, line_of}
 use Rattle.scenario.specs.declared.lines.Line.{Line}
-use Rattle.files.specs.Limits.{said_words, IsWithinLimits}
+use Rattle.files.specs.{said_words, IsWithinLimits}
 use Rattle.scenario.specs.declared.bit_files.BitLine.{BitLine}
 use Rattle.scenario.specs.declared.bit_files.BitLine.TheVariants as bit
 use Rattle.scenario.specs.declared.keywords.Heading.{Heading}

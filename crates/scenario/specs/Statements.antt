@@ -1,12 +1,11 @@
 -- What the words of a line behind the first one say.
 use Rattle.std.specs.Prelude.{ℕ, ◌-◌, ◌^◌, Bool, true, ◌==◌, nat_le, if◌then◌else◌, List, [], ◌∷◌, codes, Result, Ok, Err}
 use Rattle.std.specs.Str.{bytes_eq}
-use Rattle.plain_store.specs.declared.commands.Command.{Command}
+use Rattle.plain_store.specs.{Command}
 use Rattle.plain_store.specs.declared.commands.Command.TheVariants as command
-use Rattle.files.specs.Checks.{◌>>=◌, known, counted, word}
+use Rattle.files.specs.{FaultKind, counted, known, word, ◌>>=◌}
 use Rattle.scenario.specs.Keywords.{verb_of, target_of}
 use Rattle.scenario.specs.Operands.{number_at, integer_at, name_at, value_at}
-use Rattle.files.specs.declared.faults.FaultKind.{FaultKind}
 use Rattle.files.specs.declared.faults.FaultKind.TheVariants.{Unknown, Words}
 use Rattle.scenario.specs.declared.keywords.LineWord.{LineWord}
 use Rattle.scenario.specs.declared.keywords.LineWord.TheVariants as opener

@@ -1,8 +1,7 @@
 //! Bits files: the calls that are made on one safe bit.
 ghost use Rattle.std.specs.Prelude.{◌≡◌};
 ghost use Rattle.scenario.specs.BitFiles.{bit_word_of, bit_at, one_bit_of, lone_word_of, bit_line_of, first_bits_read, bits_of, GivesBits};
-ghost use Rattle.files.specs.Reads.{Makes};
-ghost use Rattle.files.specs.Words.{texts};
+ghost use Rattle.files.specs.{Makes, texts};
 
 use files::{FaultKind, FromLines, LineFault, keep_line, meaning_of, read_file};
 use std::alloc::Global;

@@ -1,6 +1,6 @@
 //! How scenarios are printed.
 ghost use Rattle.std.specs.Prelude.{◌≡◌, flat_map, true, IfOk, OnOk, Ok};
-ghost use Rattle.files.specs.Texts.{AddsText, GivesText};
+ghost use Rattle.files.specs.{AddsText, GivesText};
 ghost use Rattle.scenario.specs.Printing.{target_word, line_words, lines_text, kind_words, open_words, opening_text, spaced, printed_line, scenario_text};
 ghost use Rattle.scenario.specs.Reading.{scenario_of};
 ghost use Rattle.scenario.specs.Reads.{script};

@@ -1,13 +1,12 @@
 //! Reading a scenario file, line by line.
 ghost use Rattle.std.specs.Prelude.{◌≡◌, [], true, length, Ok};
 ghost use Rattle.std.specs.Int.{is_in_range};
-ghost use Rattle.plain_store.specs.Setups.{checked};
-ghost use Rattle.files.specs.Reads.{Makes, Takes};
+ghost use Rattle.plain_store.specs.{checked};
+ghost use Rattle.files.specs.{Makes, Takes, texts};
 ghost use Rattle.scenario.specs.Reads.{Gives, script};
 ghost use Rattle.scenario.specs.Reading.{first_read, at_version, heading_read, heading_set, pair_read, open_read, kept_read, other_read, opened_read, script_of, scenario_of};
 ghost use Rattle.scenario.specs.Setting.{most_of};
 ghost use Rattle.scenario.specs.Statements.{is_line_of};
-ghost use Rattle.files.specs.Words.{texts};
 
 use crate::headings::{Given, default_setup};
 use crate::keywords::{Heading, LineWord, Opener};
@@ -39,7 +38,7 @@ pub struct Reader {
 impl Model for Reader {
     ghost use Rattle.std.specs.Prelude.{◌≡◌, ◌≤◌, true, length, Ok};
     ghost use Rattle.std.specs.List.{list_all};
-    ghost use Rattle.plain_store.specs.Setups.{checked};
+    ghost use Rattle.plain_store.specs.{checked};
     ghost use Rattle.scenario.specs.Reading.{Progress};
     ghost use Rattle.scenario.specs.Statements.{is_line_of};
 

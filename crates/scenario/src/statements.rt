@@ -1,6 +1,6 @@
 //! What the words of a line say.
 ghost use Rattle.std.specs.Prelude.{◌≡◌, ◌<◌, ℕ, true, length, IfOk};
-ghost use Rattle.files.specs.Words.{texts};
+ghost use Rattle.files.specs.{texts};
 ghost use Rattle.scenario.specs.Statements.{is_line_of, is_verb_of, verb_in, operand_count, verb_at, command_of, call_of, step_of, go_of, process_of, flick_of, wander_of, show_of, line_of};
 
 use crate::keywords::{LineWord, Verb};

@@ -1,22 +1,15 @@
 -- What the contracts of a world and of a replay give, put together for one caller.
 use Rattle.std.proofs.Common.{◌≡◌, ℕ, List, ◌∷◌, Option, None, Some, Result, Ok, Err, IfSome, OnOk, ap, subst, sym, ◌∙◌}
 use Rattle.std.specs.Io.KnownBytes.{Appends}
-use Rattle.plain_store.specs.declared.Setup.{Setup}
-use Rattle.record.specs.declared.events.Event.{Event}
-use Rattle.record.specs.Acts.{Act}
-use Rattle.record.specs.Entries.{Entry, Past}
-use Rattle.record.specs.Headline.{IsAlone}
-use Rattle.record.specs.Records.{past_of}
+use Rattle.plain_store.specs.{Setup}
+use Rattle.record.specs.{Act, Entry, Event, IsAlone, Past, past_of}
 use Rattle.scenario.specs.files.Engines.{Streams, Ran}
-use Rattle.scenario.specs.Reading.{Script, scenario_of}
-use Rattle.scenario.specs.files.Checks.{◌>>=◌}
-use Rattle.scenario.specs.files.declared.faults.Fault.{Fault}
-use Rattle.world.specs.Events.{Adds, GoesOn, KeepsTheHeadline, entry_with}
+use Rattle.scenario.specs.{Script, scenario_of}
+use Rattle.scenario.specs.files.{Fault, ◌>>=◌}
+use Rattle.world.specs.{Adds, GoesOn, KeepsTheHeadline, entry_with}
 use Rattle.world.specs.Shows.{Shows, WorldState}
-use Rattle.engines.specs.course.Replays.{InputKeepsHeadline, RunKeepsHeadline, ended}
-use Rattle.engines.specs.course.Texts.{replay_text, replayed}
-use Rattle.engines.specs.course.declared.summaries.Summary.{Summary}
-use Rattle.scenario_tests.specs.Uses.{AreAlone, InputPrintsTrueReplies, PrintsTrueReplies}
+use Rattle.engines.specs.course.{InputKeepsHeadline, RunKeepsHeadline, Summary, ended, replay_text, replayed}
+use Rattle.scenario_tests.specs.{AreAlone, InputPrintsTrueReplies, PrintsTrueReplies}
 
 pub two_alone : (w mid : WorldState) (first : Event) (p : ℕ) (one : Act) (q : ℕ) (two : Act) → (events : List Event) × Shows w events →
     Adds w first p one → GoesOn w first mid → mid.setup ≡ w.setup → KeepsTheHeadline w p one → KeepsTheHeadline mid q two → AreAlone p one q two

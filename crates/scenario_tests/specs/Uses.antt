@@ -1,14 +1,10 @@
 -- What callers of a world and of a replay know from the contracts alone.
 use Rattle.std.specs.Prelude.{◌≡◌, ℕ, List, ◌∷◌, ◌++◌, Option, IfSome, Ok}
 use Rattle.std.specs.Io.KnownBytes.{Appends}
-use Rattle.record.specs.Acts.{Act}
-use Rattle.record.specs.Entries.{Entry, Past}
-use Rattle.record.specs.Headline.{IsAlone, StandsInHistory}
-use Rattle.scenario.specs.Reading.{Script, scenario_of}
-use Rattle.world.specs.Events.{entry_with}
-use Rattle.engines.specs.course.Happenings.{past_after}
-use Rattle.engines.specs.course.Runs.{happenings}
-use Rattle.engines.specs.course.Texts.{replayed}
+use Rattle.record.specs.{Act, Entry, IsAlone, Past, StandsInHistory}
+use Rattle.scenario.specs.{Script, scenario_of}
+use Rattle.world.specs.{entry_with}
+use Rattle.engines.specs.course.{happenings, past_after, replayed}
 
 -- after some past these are the acts of two processes, one after the other, and with each of them no two processes are inside together
 pub record AreAlone (p : ℕ) (first : Act) (q : ℕ) (second : Act) : Type 0 where

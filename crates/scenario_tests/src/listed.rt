@@ -1,7 +1,7 @@
 //! Worked runs as lists of events, each of which is made on a world by itself. What is held across calls that may fail is held
 //! by a function with one exit, which lends it.
 ghost use Rattle.std.specs.Prelude.{◌≡◌, Ok};
-ghost use Rattle.plain_store.specs.Setups.{checked};
+ghost use Rattle.plain_store.specs.{checked};
 
 use crate::scenarios::SCENARIOS;
 use crate::uses::printed_replies;

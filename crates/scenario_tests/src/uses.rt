@@ -1,7 +1,7 @@
 //! What callers get from the contracts of a world and of a replay alone: no law is called here, and no proof of
 //! the crates below is cited.
 ghost use Rattle.std.specs.Prelude.{◌-◌, ◌^◌, ◌<◌, IfOk, OnOk};
-ghost use Rattle.record.specs.Records.{process_of};
+ghost use Rattle.record.specs.{process_of};
 ghost use Rattle.scenario_tests.specs.Uses.{AreAlone, InputPrintsTrueReplies};
 
 use engines::progress::Nobody;

@@ -1,7 +1,7 @@
 //! The calls by which a run is listed, recorded, audited and swept, on one call of a process alone; and a sweep of events of
 //! which some are refused.
 ghost use Rattle.std.specs.Prelude.{◌≡◌, Ok};
-ghost use Rattle.plain_store.specs.Setups.{checked};
+ghost use Rattle.plain_store.specs.{checked};
 
 use crate::scenarios::LONE_WRITE;
 use crate::worlds::a;

@@ -1,24 +1,19 @@
 -- A process within a number access has made an access of its call.
 use Rattle.std.proofs.Common.{◌≡◌, ◌≢◌, ◌<◌, ◌==◌, ◌&&◌, ℕ, Bool, true, false, List, ◌∷◌, Option, None, Some, length, refl, sym, ap, subst, ◌∙◌, arith, eq-eqb, eqb-true, true≢false}
 use Rattle.std.specs.Prelude.{is_some}
-use Rattle.plain_store.specs.declared.Command.{Command}
+use Rattle.plain_store.specs.{Command, Setup}
 use Rattle.plain_store.specs.declared.Command.TheVariants.{Ask}
-use Rattle.plain_store.specs.declared.setups.Setup.{Setup}
-use Rattle.record.specs.declared.events.Event.{Event}
+use Rattle.record.specs.{Entry, Event, Past, entry_of, first_of, has, is_called, number_in_call, past-induction, past_of}
 use Rattle.record.specs.Closings.{Closing, Withdraws, Settles, Frees, Lowers, Quit, Ended, closing_after}
-use Rattle.record.specs.Doorways.{first_of, number_in_call}
-use Rattle.record.specs.Entries.{Entry, Past, has, is_called}
-use Rattle.record.specs.Induction.{past-induction}
-use Rattle.record.specs.Records.{entry_of, past_of}
 use Rattle.record.proofs.Width.{IsGood}
-use Rattle.calls.specs.Columns.{has_access}
-use Rattle.calls.specs.read_law.laws.Doings.{Doing, call, closes, doing}
+use Rattle.calls.specs.{has_access}
+use Rattle.calls.specs.read_law.laws.{Doing, call, closes, doing}
 use Rattle.calls.proofs.InCall.{number-mine, number-other}
 use Rattle.calls.proofs.read_law.laws.Frame.{Happens, a_call, a_closing, a_failure, a_restart, a_step, a_withdrawal, doing-other}
 use Rattle.calls.proofs.read_law.laws.FrameEvents.{accepted}
 use Rattle.calls.proofs.read_law.laws.FrameMarks.{called-is, is_resting, is_running}
-use Rattle.world.specs.process.Places.{left_at, process_after}
-use Rattle.snapshot.specs.Keeping.{has_accessed}
+use Rattle.world.specs.process.{left_at, process_after}
+use Rattle.snapshot.specs.{has_accessed}
 
 -- how many accesses are left to a process that does this
 abbrev left_doing : Setup → ℕ → Doing → ℕ

@@ -4,15 +4,11 @@ use Rattle.std.proofs.lemmas.List.{length-replicate}
 use Rattle.std.proofs.lemmas.Slice.Eq.{bytes_eq-Decides}
 use Rattle.std.specs.Prelude.{codes}
 use Rattle.std.specs.Str.{bytes_eq}
-use Rattle.plain_store.specs.declared.setups.Setup.{Setup}
-use Rattle.plain_store.specs.Setups.{callers_of}
-use Rattle.plain_store.specs.Store.{Contents, empty_store}
-use Rattle.record.specs.Registers.{image_bytes}
-use Rattle.record.specs.store_image.Image.{IsStore, image_of}
-use Rattle.record.specs.store_image.Reading.{IsImageOf, store_in}
+use Rattle.plain_store.specs.{Contents, Setup, callers_of, empty_store}
+use Rattle.record.specs.{image_bytes}
+use Rattle.record.specs.store_image.{IsImageOf, IsStore, image_of, store_in}
 use Rattle.record.proofs.store_image.ImageBytes.{length-image_of}
-use Rattle.snapshot.specs.Copies.{image_text}
-use Rattle.snapshot.specs.Stores.{store_text}
+use Rattle.snapshot.specs.{image_text, store_text}
 
 -- that of its store
 pub image_ok : (s : Setup) (callers : ℕ) (bytes : List ℕ) (store : Contents) → callers ≡ callers_of s → length bytes ≡ image_bytes s → IsImageOf callers bytes store → store ≡ store_in store.slots callers bytes →

@@ -5,28 +5,16 @@ use Rattle.std.proofs.lemmas.List.FromFn.{get_or-map-range_with_len, length-map-
 use Rattle.std.proofs.lemmas.Option.{get_or_from_slice_get, slice_get-get_or, slice_get_within}
 use Rattle.std.specs.List.{list_any, range_with_len}
 use Rattle.std.specs.Prelude.{is_some, slice_index_or}
-use Rattle.plain_store.specs.declared.Command.{Command}
-use Rattle.plain_store.specs.declared.setups.Setup.{Setup}
-use Rattle.record.specs.declared.access.Access.{Access}
-use Rattle.record.specs.declared.marks.Mark.{Mark}
-use Rattle.record.specs.Calls.{called_in, calls_in}
-use Rattle.record.specs.Doorways.{first_of}
-use Rattle.record.specs.Entries.{Entry, Past, has, is_failed, own}
-use Rattle.record.specs.Registers.{width}
-use Rattle.snapshot.specs.declared.kept.FinishedRead.{FinishedRead}
-use Rattle.calls.specs.declared.called.EntryKnown.{EntryKnown}
-use Rattle.calls.specs.declared.standing.CallStanding.{CallStanding}
-use Rattle.calls.specs.Columns.{ends_number, number_after}
-use Rattle.calls.specs.Stepping.{accessed_by, begun, marked_all, standing, heard}
-use Rattle.calls.specs.read_law.laws.Doings.{doing}
+use Rattle.plain_store.specs.{Command, Setup}
+use Rattle.record.specs.{Access, Entry, Mark, Past, called_in, calls_in, first_of, has, is_failed, own, width}
+use Rattle.snapshot.specs.{FinishedRead, HasHeard, Passes, ProcessKept, SnapshotState, TellsNumber, failed_at, has_accessed, kept, kept_marked, kept_stepped, nothing_kept, opened_if, read_after, read_last, read_with, without_accesses}
+use Rattle.calls.specs.{CallStanding, EntryKnown, accessed_by, begun, ends_number, heard, marked_all, number_after, standing}
+use Rattle.calls.specs.read_law.laws.{doing}
 use Rattle.calls.proofs.Folds.{marked_all-is}
 use Rattle.calls.proofs.Heard.{slice_get-set_other, slice_get-set_same}
 use Rattle.calls.proofs.InCall.{calls-few}
 use Rattle.calls.proofs.Steps.{known_of, standing-heard, standing-other}
-use Rattle.world.specs.process.Looks.{number_read}
-use Rattle.snapshot.specs.declared.kept.ProcessKept.{ProcessKept}
-use Rattle.snapshot.specs.Keeping.{Passes, TellsNumber, failed_at, has_accessed, kept, kept_marked, kept_stepped, nothing_kept, opened_if, read_after, read_last, read_with, without_accesses}
-use Rattle.snapshot.specs.States.{HasHeard, SnapshotState}
+use Rattle.world.specs.process.{number_read}
 
 -- Before the first entry.
 

@@ -1,19 +1,11 @@
 -- Of the accesses of a call only the first one is told.
 use Rattle.std.proofs.Common.{◌≡◌, ℕ, Bool, true, false, cond, List, Option, Some, None, refl}
-use Rattle.plain_store.specs.declared.setups.Setup.{Setup}
-use Rattle.record.specs.declared.history.Taken.{Taken}
-use Rattle.record.specs.declared.stages.Stage.{Stage}
+use Rattle.plain_store.specs.{Setup}
+use Rattle.record.specs.{Past, Stage, Taken}
 use Rattle.record.specs.declared.stages.Stage.TheVariants.{Idle, Doorway, Waiting, Inside, Leaving, Settling, Down}
-use Rattle.record.specs.Entries.{Past}
-use Rattle.snapshot.specs.declared.kept.FinishedRead.{FinishedRead}
-use Rattle.calls.specs.declared.standing.CallStanding.{CallStanding}
-use Rattle.calls.specs.Columns.{is_calling}
-use Rattle.calls.specs.Hearing.{open_call}
-use Rattle.calls.specs.Stepping.{standing}
-use Rattle.world.specs.process.declared.looks.TicketKnown.{TicketKnown}
-use Rattle.snapshot.specs.Doing.{call_told, ticket_lines}
-use Rattle.snapshot.specs.Keeping.{call_kept, kept, without_accesses}
-use Rattle.snapshot.specs.Lines.{open_lines}
+use Rattle.snapshot.specs.{FinishedRead, call_kept, call_told, kept, open_lines, ticket_lines, without_accesses}
+use Rattle.calls.specs.{CallStanding, is_calling, open_call, standing}
+use Rattle.world.specs.process.{TicketKnown}
 
 lines_by : (p : ℕ) (taken : List Taken) (calling : Bool) (k : CallStanding) → open_lines p taken (cond calling (Some (without_accesses k).last) None) ≡ open_lines p taken (cond calling (Some k.last) None)
 lines_by p taken true k = refl

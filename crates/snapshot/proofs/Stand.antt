@@ -2,18 +2,10 @@
 use Rattle.std.proofs.Common.{◌≡◌, ◌<◌, ℕ, nat_lt, Bool, true, cond, List, None, Some, ap, sym, ◌∙◌, arith}
 use Rattle.std.proofs.lemmas.Bool.Decides.{nat_tests}
 use Rattle.std.specs.Prelude.{OnOk, Result, Ok, Err}
-use Rattle.plain_store.specs.declared.setups.Setup.{Setup}
-use Rattle.record.specs.declared.history.Taken.{Taken}
-use Rattle.record.specs.Entries.{Past}
-use Rattle.record.specs.Histories.{history}
-use Rattle.record.specs.declared.events.Event.{Event}
-use Rattle.record.specs.Records.{entry_of, past_of}
-use Rattle.record.specs.Stages.{stage}
-use Rattle.world.specs.Cores.{CoreState}
-use Rattle.world.specs.Events.{stage_in}
-use Rattle.world.specs.Shows.{WorldState}
-use Rattle.snapshot.specs.Knowing.{CoreShows}
-use Rattle.snapshot.specs.States.{SnapshotState, Stands}
+use Rattle.plain_store.specs.{Setup}
+use Rattle.record.specs.{Event, Past, Taken, entry_of, history, past_of, stage}
+use Rattle.world.specs.{CoreState, WorldState, stage_in}
+use Rattle.snapshot.specs.{CoreShows, SnapshotState, Stands}
 
 -- the past, by the snapshot's setup
 pub past_is : (t : SnapshotState) (c : CoreState) (taken : List Taken) (past : Past) → (u : Stands t c taken past) → past_of t.setup u.events ≡ past

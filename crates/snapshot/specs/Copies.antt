@@ -3,22 +3,15 @@ use Rattle.std.specs.Prelude.{ℕ, Bool, true, false, not, List, [], ◌∷◌, 
 use Rattle.std.specs.Fmt.{decimal}
 use Rattle.std.specs.List.{list_all, list_any, range_with_len}
 use Rattle.std.specs.Str.{bytes_eq}
-use Rattle.plain_store.specs.declared.setups.Setup.{Setup}
-use Rattle.plain_store.specs.Setups.{callers_of}
-use Rattle.plain_store.specs.Store.{Contents}
-use Rattle.record.specs.store_image.Image.{image_of}
-use Rattle.record.specs.store_image.Reading.{store_in}
+use Rattle.plain_store.specs.{Contents, Setup, callers_of}
+use Rattle.record.specs.store_image.{image_of, store_in}
 use Rattle.record.specs.safe_bit.declared.Move.TheVariants.{BeginRead}
-use Rattle.record.specs.safe_number.Bytes.{number_of_bits}
-use Rattle.record.specs.declared.access.Access.{Access}
-use Rattle.record.specs.declared.access.Field.{Field}
+use Rattle.record.specs.safe_number.{number_of_bits}
+use Rattle.record.specs.{Access, Field, Past, bytes_of_bits, image_bytes, opening_bit, processes, width}
 use Rattle.record.specs.declared.access.Field.TheVariants.{Choosing, Ticket, Commit, Stamp0, Stamp1, Image0, Image1}
-use Rattle.record.specs.Entries.{Past}
-use Rattle.record.specs.Registers.{bytes_of_bits, image_bytes, opening_bit, processes, width}
-use Rattle.record_file.specs.Printing.{field_word}
-use Rattle.calls.specs.read_law.laws.Held.{cell_held}
-use Rattle.world.specs.process.registers.reader_copies.Seeing.{bit_seen}
-use Rattle.world.specs.process.registers.reader_copies.declared.bit_seen.BitSeen.{BitSeen}
+use Rattle.record_file.specs.{field_word}
+use Rattle.calls.specs.read_law.laws.{cell_held}
+use Rattle.world.specs.process.registers.reader_copies.{BitSeen, bit_seen}
 use Rattle.snapshot.specs.Stores.{number_word, store_text}
 
 -- Bits.

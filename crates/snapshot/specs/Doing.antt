@@ -1,30 +1,22 @@
 -- How far a process is: its ticket, for whom it waits, what it or its unit reads, writes or settles, and what is open.
 use Rattle.std.specs.Prelude.{ℕ, zero, suc, ◌+◌, ◌-◌, ◌*◌, ◌/◌, ◌%◌, ◌==◌, nat_lt, Bool, true, false, not, ◌&&◌, ◌||◌, List, [], ◌++◌, codes, cond, Option, None, Some}
 use Rattle.std.specs.Fmt.{decimal}
-use Rattle.plain_store.specs.declared.setups.Setup.{Setup}
-use Rattle.record.specs.safe_bit.declared.Move.{Move}
+use Rattle.plain_store.specs.{Setup}
+use Rattle.record.specs.safe_bit.{Move}
 use Rattle.record.specs.safe_bit.declared.Move.TheVariants.{BeginWrite, EndWrite, EndRead}
-use Rattle.record.specs.declared.access.Access.{Access}
-use Rattle.record.specs.declared.access.Field.{Field}
+use Rattle.record.specs.{Access, Entry, Field, Past, Stage, entry_of, width, with_event}
 use Rattle.record.specs.declared.access.Field.TheVariants.{Ticket}
 use Rattle.record.specs.declared.events.Event.TheVariants.{Step}
-use Rattle.record.specs.declared.stages.Stage.{Stage}
 use Rattle.record.specs.declared.stages.Stage.TheVariants.{Doorway, Waiting, Inside, Settling}
-use Rattle.record.specs.Entries.{Entry, Past}
-use Rattle.record.specs.Records.{entry_of, with_event}
-use Rattle.record.specs.Registers.{width}
-use Rattle.record_file.specs.Printing.{field_word}
-use Rattle.record_file.specs.scenario.Spelling.{bit_word}
-use Rattle.calls.specs.declared.called.Called.{Called}
+use Rattle.record_file.specs.{field_word}
+use Rattle.record_file.specs.scenario.{bit_word}
+use Rattle.calls.specs.{Called, holds_up, is_read_end, open_call}
 use Rattle.snapshot.specs.declared.kept.FinishedRead.{FinishedRead}
-use Rattle.calls.specs.Columns.{holds_up, is_read_end}
-use Rattle.calls.specs.Hearing.{open_call}
-use Rattle.calls.specs.read_law.laws.Doings.{Doing, doing}
-use Rattle.world.specs.process.Looks.{number_read, settling_of, ticket_known}
+use Rattle.calls.specs.read_law.laws.{Doing, doing}
+use Rattle.world.specs.process.{TicketKnown, number_read, settling_of, ticket_known}
 use Rattle.world.specs.process.declared.looks.Settling.{Settling as Torn}
-use Rattle.world.specs.process.declared.looks.TicketKnown.{TicketKnown}
 use Rattle.world.specs.process.declared.looks.TicketKnown.TheVariants.{Above, Is}
-use Rattle.world.specs.process.registers.reader_copies.declared.bit_seen.BitSeen.{BitSeen}
+use Rattle.world.specs.process.registers.reader_copies.{BitSeen}
 use Rattle.snapshot.specs.declared.kept.ProcessKept.{ProcessKept}
 use Rattle.snapshot.specs.Copies.{bit_at, copy_text, is_image}
 use Rattle.snapshot.specs.Keeping.{kept}

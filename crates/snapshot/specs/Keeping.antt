@@ -1,20 +1,12 @@
 -- What is kept of a process: found by looking back over its entries, and how it goes on with an entry.
 use Rattle.std.specs.Prelude.{◌≡◌, ℕ, zero, suc, ◌==◌, Bool, true, false, List, [], ◌∷◌, length, cond, Option, None, Some, is_some}
 use Rattle.std.specs.List.{list_any}
-use Rattle.plain_store.specs.declared.setups.Setup.{Setup}
-use Rattle.record.specs.declared.access.Access.{Access}
-use Rattle.record.specs.declared.marks.Mark.{Mark}
-use Rattle.record.specs.Calls.{called_in}
-use Rattle.record.specs.Doorways.{first_of}
-use Rattle.record.specs.Entries.{Entry, Past, has, is_failed}
-use Rattle.record.specs.Registers.{width}
-use Rattle.calls.specs.declared.called.Called.{Called}
+use Rattle.plain_store.specs.{Setup}
+use Rattle.record.specs.{Access, Entry, Mark, Past, called_in, first_of, has, is_failed, width}
+use Rattle.calls.specs.{CallStanding, Called, at_rest, begun, ends_number, marked_all, no_accesses, number_after, standing}
 use Rattle.snapshot.specs.declared.kept.FinishedRead.{FinishedRead}
-use Rattle.calls.specs.declared.standing.CallStanding.{CallStanding}
-use Rattle.calls.specs.Columns.{ends_number, number_after}
-use Rattle.calls.specs.Stepping.{at_rest, begun, marked_all, no_accesses, standing}
-use Rattle.calls.specs.read_law.laws.Doings.{doing}
-use Rattle.world.specs.process.Looks.{number_read}
+use Rattle.calls.specs.read_law.laws.{doing}
+use Rattle.world.specs.process.{number_read}
 use Rattle.snapshot.specs.declared.kept.ProcessKept.{ProcessKept}
 
 -- a call without what its accesses tell, but for the first of them

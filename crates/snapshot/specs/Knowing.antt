@@ -1,10 +1,7 @@
 -- What a core shows of a run.
 use Rattle.std.specs.Prelude.{◌≡◌, List}
-use Rattle.record.specs.declared.events.Event.{Event}
-use Rattle.record.specs.declared.history.Taken.{Taken}
-use Rattle.record.specs.Entries.{Past}
-use Rattle.record.specs.Records.{past_of}
-use Rattle.world.specs.Cores.{CoreState, with_history}
+use Rattle.record.specs.{Event, Past, Taken, past_of}
+use Rattle.world.specs.{CoreState, with_history}
 use Rattle.world.specs.Shows.{Shows}
 
 -- with some history it shows this past

@@ -1,11 +1,10 @@
 -- The lines of a process: what each begins with, and those of its call.
 use Rattle.std.specs.Prelude.{ℕ, List, [], ◌++◌, codes, slice_get, Option, None, Some}
 use Rattle.std.specs.Fmt.{decimal}
-use Rattle.plain_store.specs.Shown.{command_text, reply_text}
-use Rattle.record.specs.declared.history.Taken.{Taken}
-use Rattle.record.specs.declared.stages.Stage.{Stage}
+use Rattle.plain_store.specs.{command_text, reply_text}
+use Rattle.record.specs.{Stage, Taken}
 use Rattle.record.specs.declared.stages.Stage.TheVariants.{Idle, Doorway, Waiting, Inside, Leaving, Settling, Down}
-use Rattle.calls.specs.declared.called.Called.{Called}
+use Rattle.calls.specs.{Called}
 
 -- the word of a stage
 abbrev pub stage_word : Stage → List ℕ

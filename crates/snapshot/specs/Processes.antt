@@ -2,17 +2,12 @@
 use Rattle.std.specs.Prelude.{ℕ, ◌+◌, ◌==◌, Bool, true, false, List, [], ◌∷◌, ◌++◌, codes, cond, drop, length, Option, None, Some}
 use Rattle.std.specs.Fmt.{decimal}
 use Rattle.std.specs.Str.{bytes_eq}
-use Rattle.plain_store.specs.declared.setups.Setup.{Setup}
+use Rattle.plain_store.specs.{Setup}
 use Rattle.record.specs.declared.events.Event.TheVariants.{Step}
-use Rattle.record.specs.declared.stages.Stage.{Stage}
+use Rattle.record.specs.{Entry, Past, Stage, calls_in, entry_of, history, own, stage}
 use Rattle.record.specs.declared.stages.Stage.TheVariants.{Idle, Down}
-use Rattle.record.specs.Calls.{calls_in}
-use Rattle.record.specs.Entries.{Entry, Past, own}
-use Rattle.record.specs.Histories.{history}
-use Rattle.record.specs.Records.{entry_of}
-use Rattle.record.specs.Stages.{stage}
-use Rattle.record_file.specs.Printing.{entry_line}
-use Rattle.calls.specs.Hearing.{open_call}
+use Rattle.record_file.specs.{entry_line}
+use Rattle.calls.specs.{open_call}
 use Rattle.snapshot.specs.Doing.{doing_lines}
 use Rattle.snapshot.specs.Lines.{open_lines, process_line, stage_word}
 

@@ -1,14 +1,8 @@
 -- The state of a run: what a snapshot keeps, and what is written of it.
 use Rattle.std.specs.Prelude.{◌≡◌, ◌<◌, ℕ, List, ◌++◌, Ok, Some, flat_map, length, slice_get}
-use Rattle.plain_store.specs.declared.setups.Setup.{Setup}
-use Rattle.plain_store.specs.Setups.{checked}
-use Rattle.record.specs.declared.events.Event.{Event}
-use Rattle.record.specs.declared.history.Taken.{Taken}
-use Rattle.record.specs.Entries.{Past}
-use Rattle.record.specs.Histories.{history}
-use Rattle.record.specs.Records.{past_of}
-use Rattle.record.specs.Registers.{processes}
-use Rattle.world.specs.Cores.{CoreState, with_history}
+use Rattle.plain_store.specs.{Setup, checked}
+use Rattle.record.specs.{Event, Past, Taken, history, past_of, processes}
+use Rattle.world.specs.{CoreState, with_history}
 use Rattle.world.specs.Shows.{Shows}
 use Rattle.snapshot.specs.declared.kept.ProcessKept.{ProcessKept}
 use Rattle.snapshot.specs.Copies.{register_lines}

@@ -2,12 +2,8 @@
 use Rattle.std.specs.Prelude.{ℕ, ◌==◌, Bool, not, List, [], ◌++◌, codes, cond, flat_map, length, map}
 use Rattle.std.specs.Fmt.{decimal}
 use Rattle.std.specs.List.{list_any, range_with_len}
-use Rattle.plain_store.specs.declared.setups.Setup.{Setup}
-use Rattle.plain_store.specs.Setups.{callers_of}
-use Rattle.plain_store.specs.Store.{Contents, number_of}
-use Rattle.plain_store.specs.StoreLine.{store_words}
-use Rattle.record.specs.declared.history.Taken.{Taken}
-use Rattle.record.specs.Histories.{store_after}
+use Rattle.plain_store.specs.{Contents, Setup, callers_of, number_of, store_words}
+use Rattle.record.specs.{Taken, store_after}
 
 -- the numbers of so many callers
 abbrev pub numbers_of : ℕ → List ℕ → List ℕ

@@ -3,10 +3,9 @@ ghost use Rattle.std.specs.Prelude.{◌≡◌, ◌+◌, ◌++◌, codes, drop, f
 ghost use Rattle.record.specs.declared.Event.{Event as Happening};
 ghost use Rattle.record.specs.declared.Event.TheVariants.{Step};
 ghost use Rattle.record.specs.declared.history.Taken.{Taken as Seen};
-ghost use Rattle.record.specs.Entries.{Past};
-ghost use Rattle.record.specs.Records.{entry_of, past_of, with_event};
-ghost use Rattle.record_file.specs.Printing.{entry_line};
-ghost use Rattle.world.specs.Cores.{with_history};
+ghost use Rattle.record.specs.{Past, entry_of, past_of, with_event};
+ghost use Rattle.record_file.specs.{entry_line};
+ghost use Rattle.world.specs.{with_history};
 ghost use Rattle.world.specs.Shows.{Shows};
 ghost use Rattle.snapshot.specs.Doing.{ahead};
 ghost use Rattle.snapshot.specs.Processes.{behind_process, lines_of_two, next_line, words_added};

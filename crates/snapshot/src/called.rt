@@ -2,7 +2,7 @@
 ghost use Rattle.std.specs.Prelude.{◌≡◌, ◌++◌, IfOk, OnOk, Some, codes, option_map};
 ghost use Rattle.std.specs.Fmt.{decimal};
 ghost use Rattle.std.specs.String.{string_bytes};
-ghost use Rattle.plain_store.specs.Shown.{reply_text};
+ghost use Rattle.plain_store.specs.{reply_text};
 ghost use Rattle.snapshot.specs.Lines.{at_words, call_lines, call_words, line_if, open_lines, process_line, span_words, taken_words};
 
 use calls::Called;

@@ -2,14 +2,11 @@
 ghost use Rattle.std.specs.Prelude.{◌≡◌, ◌<◌, ◌≤◌, ◌*◌, ◌++◌, ◌∷◌, [], Bool, false, IfOk, List, Ok, OnOk, codes, is_none, length};
 ghost use Rattle.std.specs.Fmt.{decimal};
 ghost use Rattle.std.specs.List.{list_any};
-ghost use Rattle.plain_store.specs.Setups.{callers_of, checked};
-ghost use Rattle.plain_store.specs.Store.{empty_store};
-ghost use Rattle.record.specs.Entries.{Past};
-ghost use Rattle.record.specs.Registers.{bytes_of_bits, image_bytes, processes, width};
-ghost use Rattle.record.specs.store_image.Image.{IsStore};
-ghost use Rattle.safe_number.specs.Bytes.{IsBytesOf, number_of_bits};
-ghost use Rattle.safe_number.specs.Runs.{new_read};
-ghost use Rattle.calls.specs.read_law.laws.Held.{IsThere};
+ghost use Rattle.plain_store.specs.{callers_of, checked, empty_store};
+ghost use Rattle.record.specs.{Past, bytes_of_bits, image_bytes, processes, width};
+ghost use Rattle.record.specs.store_image.{IsStore};
+ghost use Rattle.safe_number.specs.{IsBytesOf, new_read, number_of_bits};
+ghost use Rattle.calls.specs.read_law.laws.{IsThere};
 ghost use Rattle.snapshot.specs.Knowing.{CoreShows};
 ghost use Rattle.snapshot.specs.Copies.{bit_at, bit_held, copy_of, copy_text, has_changed, held_in, have_one_text, image_text, is_copy_changed, is_one, shown};
 

@@ -1,8 +1,8 @@
 //! How far a process is: its ticket, for whom it waits, what it reads or writes, what its unit settles, and what is open.
 ghost use Rattle.std.specs.Prelude.{◌≡◌, ◌<◌, ◌≤◌, ◌^◌, IfOk, Ok, option_map};
 ghost use Rattle.std.specs.String.{string_bytes};
-ghost use Rattle.plain_store.specs.Setups.{checked};
-ghost use Rattle.record_file.specs.scenario.Spelling.{bit_word};
+ghost use Rattle.plain_store.specs.{checked};
+ghost use Rattle.record_file.specs.scenario.{bit_word};
 ghost use Rattle.snapshot.specs.Copies.{is_image};
 ghost use Rattle.snapshot.specs.Doing.{awaited, chosen_words, cut_access, cut_open, doorway_ticket, failed_words, is_cut_open, is_writing, one_if, open_by, opened_words, progress_words, read_word, reads_words, settles_words, so_far, ticket_at, ticket_words, torn_words, waiting_ticket, waits_at, waits_by, writes_before, writes_in_all, written_word};
 

@@ -1,8 +1,8 @@
 //! What is kept of a process, entry by entry.
 ghost use Rattle.std.specs.Prelude.{◌≡◌, ◌-◌, ◌<◌, ◌^◌, Ok, cond, None, Some};
 ghost use Rattle.std.specs.List.{list_any};
-ghost use Rattle.plain_store.specs.Setups.{checked};
-ghost use Rattle.record.specs.Entries.{is_failed};
+ghost use Rattle.plain_store.specs.{checked};
+ghost use Rattle.record.specs.{is_failed};
 ghost use Rattle.snapshot.specs.Keeping.{kept_marked, kept_stepped, nothing_kept, opened};
 
 use calls::{CallStanding, Called, called_in, ends_number, first_of, number_after};

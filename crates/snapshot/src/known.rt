@@ -1,10 +1,9 @@
 //! The lines that tell how far a process is.
 ghost use Rattle.std.specs.Prelude.{◌≡◌, ◌<◌, ◌++◌, IfOk, Ok, OnOk, codes, option_map};
 ghost use Rattle.std.specs.String.{string_bytes};
-ghost use Rattle.plain_store.specs.Setups.{checked};
-ghost use Rattle.record.specs.Entries.{Past};
-ghost use Rattle.calls.specs.read_law.laws.Held.{IsThere};
-ghost use Rattle.calls.specs.read_law.laws.Doings.{doing};
+ghost use Rattle.plain_store.specs.{checked};
+ghost use Rattle.record.specs.{Past};
+ghost use Rattle.calls.specs.read_law.laws.{IsThere, doing};
 ghost use Rattle.snapshot.specs.Doing.{busy_lines, doing_with, progress_words, settles_words, ticket_lines, torn_words, writes_words};
 ghost use Rattle.snapshot.specs.Keeping.{call_kept};
 ghost use Rattle.snapshot.specs.Knowing.{CoreShows};

@@ -2,9 +2,9 @@
 ghost use Rattle.std.specs.Prelude.{◌≡◌, ◌<◌, ◌≤◌, ◌++◌, [], IfOk, Ok, OnOk, codes, cond, flat_map};
 ghost use Rattle.std.specs.List.{list_all, list_any, range_with_len};
 ghost use Rattle.std.specs.String.{string_bytes};
-ghost use Rattle.plain_store.specs.Setups.{checked};
-ghost use Rattle.record.specs.Entries.{Past};
-ghost use Rattle.record_file.specs.Printing.{field_word};
+ghost use Rattle.plain_store.specs.{checked};
+ghost use Rattle.record.specs.{Past};
+ghost use Rattle.record_file.specs.{field_word};
 ghost use Rattle.snapshot.specs.Knowing.{CoreShows};
 ghost use Rattle.snapshot.specs.Copies.{copy_text, fields, have_one_text, line_of_first, lines_of_register, reader_if, register_lines, register_words};
 ghost use Rattle.snapshot.specs.Stores.{number_word};

@@ -1,9 +1,7 @@
 //! The state of a run.
 ghost use Rattle.std.specs.Prelude.{◌≡◌, ◌+◌, ◌-◌, ◌^◌, ◌<◌, ◌++◌, ◌∷◌, [], IfOk, List, Ok, OnOk, Some, false, flat_map, is_some, true, ℕ};
-ghost use Rattle.plain_store.specs.Setups.{checked};
-ghost use Rattle.record.specs.Entries.{Entry as Noted, Past};
-ghost use Rattle.record.specs.Records.{entry_of};
-ghost use Rattle.record.specs.Registers.{processes};
+ghost use Rattle.plain_store.specs.{checked};
+ghost use Rattle.record.specs.{Entry as Noted, Past, entry_of, processes};
 ghost use Rattle.record.specs.declared.Event.TheVariants.{Step};
 ghost use Rattle.record.specs.declared.history.Taken.{Taken as Seen};
 ghost use Rattle.snapshot.specs.Doing.{access_in, doing_lines};

@@ -1,8 +1,8 @@
 //! A store as text, and the lines of the history.
 ghost use Rattle.std.specs.Prelude.{◌≡◌, ◌++◌, flat_map, IfOk, Ok, OnOk};
 ghost use Rattle.std.specs.List.{list_any};
-ghost use Rattle.plain_store.specs.Setups.{checked};
-ghost use Rattle.record.specs.Histories.{store_after};
+ghost use Rattle.plain_store.specs.{checked};
+ghost use Rattle.record.specs.{store_after};
 ghost use Rattle.snapshot.specs.Stores.{history_lines, is_some_call, number_word, numbers_of, store_text};
 
 use plain_store::{Caller, NestedTypes, Setup, Store, opened, store_words};

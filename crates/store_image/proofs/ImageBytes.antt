@@ -7,12 +7,9 @@ use Rattle.std.proofs.lemmas.Bool.{and_parts, and_from}
 use Rattle.std.proofs.lemmas.List.{append-nil, take_at, drop_at, length-map, length-replicate, replicate-append-replicate, length-set}
 use Rattle.store_image.proofs.Rows.{AllWide, length-rows_flat, rows-flat, row_at, row_over}
 use Rattle.store_image.proofs.SlotBytes.{length-slot_of, length-unused_slot, length-number_bytes, number_in-number_bytes, pair_in-slot_of, is_used-slot_of}
-use Rattle.store_image.specs.Image.{places, image_of, number_bytes, number_in, is_number, IsStore, rows, store_read, used_read, slots_read, callers_read, IsKept}
-use Rattle.plain_store.specs.Padding.{padded}
-use Rattle.plain_store.specs.Pairs.{Pair, is_pair}
-use Rattle.store_image.specs.Slots.{slot_bytes, slot_of, unused_slot, pair_in, is_used}
+use Rattle.store_image.specs.{IsKept, IsStore, callers_read, image_of, is_number, is_used, number_bytes, number_in, pair_in, places, rows, slot_bytes, slot_of, slots_read, store_read, unused_slot, used_read}
+use Rattle.plain_store.specs.{Contents, Pair, are_pairs, empty_store, is_pair, names_differ, padded, value_at}
 use Rattle.plain_store.specs.declared.commands.Value.TheVariants.{Text}
-use Rattle.plain_store.specs.Store.{Contents, empty_store, names_differ, value_at, are_pairs}
 
 -- the parts of good pairs
 good_parts : (p : Pair) (ps : List Pair) → are_pairs (p ∷ ps) ≡ true → ((is_pair p ≡ true) × (list_all is_pair ps ≡ true)) × ((is_none (value_at ps p.0) ≡ true) × (names_differ ps ≡ true))

@@ -8,16 +8,9 @@ use Rattle.std.proofs.lemmas.List.{drop_more, drop_all, length-set}
 use Rattle.std.proofs.lemmas.Option.{get_or_from_slice_get, slice_get_within}
 use Rattle.std.proofs.lemmas.Slice.Eq.{bytes_eq-Decides}
 use Rattle.store_image.proofs.ImageBytes.{first_good, first_new, others_good, good_pairs, IsImage, slot_over, number_over}
-use Rattle.store_image.specs.Image.{is_number, number_bytes, places, IsStore}
-use Rattle.plain_store.specs.Pairs.{Pair, is_pair}
-use Rattle.store_image.specs.Placing.{place_of, place_for}
-use Rattle.store_image.specs.Slots.{slot_of}
-use Rattle.plain_store.specs.Store.{Contents, value_at, value_for, put, are_pairs}
-use Rattle.plain_store.specs.Commands.{name_of}
-use Rattle.plain_store.specs.Outcomes.{outcome, at_absent}
-use Rattle.plain_store.specs.declared.commands.Command.{Command}
+use Rattle.store_image.specs.{IsStore, is_number, number_bytes, place_for, place_of, places, slot_of}
+use Rattle.plain_store.specs.{Command, Contents, Pair, Value, are_pairs, at_absent, is_pair, name_of, outcome, put, value_at, value_for}
 use Rattle.plain_store.specs.declared.commands.Command.TheVariants.{Read, Write, Add, Cas, Ask}
-use Rattle.plain_store.specs.declared.commands.Value.{Value}
 
 -- a place is one of the pairs, or the next
 pub place_of-le : (pairs : List Pair) (name : List ℕ) → place_of pairs name ≤ length pairs

@@ -10,12 +10,8 @@ use Rattle.store_image.proofs.ImageBytes.{first_good, others_good}
 use Rattle.store_image.proofs.Puts.{are_pairs-put}
 use Rattle.store_image.proofs.Rows.{rows_more}
 use Rattle.store_image.proofs.SlotBytes.{is_unused-slot_of, is_unused-unused_slot, name_in-slot_of}
-use Rattle.store_image.specs.Image.{places, number_bytes, number_in, rows}
-use Rattle.plain_store.specs.Pairs.{Pair, is_pair}
-use Rattle.store_image.specs.Reading.{have_name, slot_in, follows_rules}
-use Rattle.store_image.specs.Slots.{slot_bytes, slot_of, unused_slot, name_in, pair_in, is_used, is_unused}
-use Rattle.plain_store.specs.Store.{put, are_pairs}
-use Rattle.plain_store.specs.declared.commands.Value.{Value}
+use Rattle.store_image.specs.{follows_rules, have_name, is_unused, is_used, name_in, number_bytes, number_in, pair_in, places, rows, slot_bytes, slot_in, slot_of, unused_slot}
+use Rattle.plain_store.specs.{Pair, Value, are_pairs, is_pair, put}
 
 or_parts : (a b : Bool) → (a || b) ≡ false → (a ≡ false) × (b ≡ false)
 or_parts false false same = (refl, refl)

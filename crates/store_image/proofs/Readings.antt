@@ -11,12 +11,8 @@ use Rattle.store_image.proofs.Puts.{other_way}
 use Rattle.store_image.proofs.ReadBytes.{IsReadTo, read_all, numbers_back, none_unused, front_small}
 use Rattle.store_image.proofs.Rows.{rows_joined, flat_rows, rows_front, row_at}
 use Rattle.store_image.proofs.SlotBytes.{is_used-slot_of, is_unused-slot_of, is_unused-unused_slot, name_in-slot_of, length-unused_slot, length-slot_of}
-use Rattle.store_image.specs.Image.{places, image_of, number_bytes, number_in, is_number, IsStore, rows, length-rows, store_read, used_read, slots_read, callers_read}
-use Rattle.plain_store.specs.Padding.{padded}
-use Rattle.plain_store.specs.Pairs.{Pair, is_pair}
-use Rattle.store_image.specs.Reading.{IsImageOf, slot_count, is_length, have_name, is_good_slot, slot_in, follows_rules, used_in, has_image, store_in}
-use Rattle.store_image.specs.Slots.{slot_bytes, slot_of, unused_slot, name_in, is_used, is_unused}
-use Rattle.plain_store.specs.Store.{Contents, empty_store, value_at, are_pairs}
+use Rattle.store_image.specs.{IsImageOf, IsStore, callers_read, follows_rules, has_image, have_name, image_of, is_good_slot, is_length, is_number, is_unused, is_used, length-rows, name_in, number_bytes, number_in, places, rows, slot_bytes, slot_count, slot_in, slot_of, slots_read, store_in, store_read, unused_slot, used_in, used_read}
+use Rattle.plain_store.specs.{Contents, Pair, are_pairs, empty_store, is_pair, padded, value_at}
 use Rattle.plain_store.specs.declared.commands.Value.TheVariants.{Text}
 
 -- numbers of two bytes are small

@@ -4,7 +4,7 @@ use Rattle.std.proofs.Math.Nat.{mul-suc}
 use Rattle.std.proofs.Math.Seq.{take-append-add, drop-append-add}
 use Rattle.std.proofs.lemmas.List.{take_at, drop_at, drop-drop, take-append-drop}
 use Rattle.std.specs.List.{flat_map}
-use Rattle.store_image.specs.Image.{rows}
+use Rattle.store_image.specs.{rows}
 
 -- each row has the width w
 abbrev pub AllWide : {X : Type 0} → ℕ → (X → List ℕ) → List X → Type 0

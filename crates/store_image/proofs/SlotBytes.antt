@@ -9,13 +9,8 @@ use Rattle.std.proofs.lemmas.Int.{to_z-of_z}
 use Rattle.std.proofs.lemmas.List.{take_at, get_or_at, length-replicate}
 use Rattle.std.proofs.lemmas.Nat.{from_be_bytes-to_be_bytes_2, from_be_bytes-to_be_bytes_8}
 use Rattle.std.proofs.lemmas.Slice.Eq.{bytes_eq-Decides}
-use Rattle.store_image.specs.Image.{number_bytes, number_in, is_number}
-use Rattle.plain_store.specs.Names.{is_name, is_text}
-use Rattle.plain_store.specs.Values.{fits_i64, is_value}
-use Rattle.plain_store.specs.Padding.{padded, take-padded}
-use Rattle.plain_store.specs.Pairs.{Pair, is_pair}
-use Rattle.store_image.specs.Slots.{count_bytes, count_in, value_bytes, slot_of, unused_slot, name_in, value_in, pair_in, is_unused, is_used}
-use Rattle.plain_store.specs.declared.commands.Value.{Value}
+use Rattle.store_image.specs.{count_bytes, count_in, is_number, is_unused, is_used, name_in, number_bytes, number_in, pair_in, slot_of, unused_slot, value_bytes, value_in}
+use Rattle.plain_store.specs.{Pair, Value, fits_i64, is_name, is_pair, is_text, is_value, padded, take-padded}
 use Rattle.plain_store.specs.declared.commands.Value.TheVariants.{Count, Text}
 
 pub length-count_bytes : (c : ℤ) → length (count_bytes c) ≡ 8

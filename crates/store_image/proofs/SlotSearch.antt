@@ -3,9 +3,7 @@ use Rattle.std.proofs.Common.{◌≡◌, ℕ, zero, suc, ◌+◌, ◌-◌, ◌*�
 use Rattle.std.specs.List.{list_any}
 use Rattle.std.specs.Str.{bytes_eq}
 use Rattle.std.proofs.lemmas.List.{drop-drop}
-use Rattle.store_image.specs.Image.{rows}
-use Rattle.store_image.specs.Reading.{have_name, slot_in, used_in}
-use Rattle.store_image.specs.Slots.{name_in, is_unused}
+use Rattle.store_image.specs.{have_name, is_unused, name_in, rows, slot_in, used_in}
 
 -- the slots from place k on
 abbrev pub rest_in : ℕ → List ℕ → ℕ → List (List ℕ)

@@ -4,9 +4,7 @@ use Rattle.std.proofs.Common.{refl, ap, ◌∙◌}
 use Rattle.std.proofs.lemmas.List.{length-map}
 use Rattle.std.specs.Int.{w16, to_be_bytes, from_be_bytes}
 use Rattle.std.specs.List.{flat_map, list_all}
-use Rattle.plain_store.specs.Padding.{padded}
-use Rattle.plain_store.specs.Pairs.{Pair}
-use Rattle.plain_store.specs.Store.{Contents, are_pairs}
+use Rattle.plain_store.specs.{Contents, Pair, are_pairs, padded}
 use Rattle.store_image.specs.Slots.{slot_bytes, pair_in}
 
 -- the pairs in order of first write, and then nothing, in as many places as there are slots

@@ -1,7 +1,7 @@
 -- Where a name stands among pairs.
 use Rattle.std.specs.Prelude.{ℕ, suc, if◌then◌else◌, List, [], ◌∷◌, length, Option, Some, None}
 use Rattle.std.specs.Str.{bytes_eq}
-use Rattle.plain_store.specs.Pairs.{Pair}
+use Rattle.plain_store.specs.{Pair}
 
 -- the place of the pair with the name, else the next free one
 abbrev pub place_of : List Pair → List ℕ → ℕ

@@ -5,7 +5,7 @@ use Rattle.std.specs.List.{list_all, list_any}
 use Rattle.std.specs.Str.{bytes_eq}
 use Rattle.store_image.specs.Image.{rows, image_of, store_read, is_number, IsStore}
 use Rattle.store_image.specs.Slots.{name_in, is_used, is_unused}
-use Rattle.plain_store.specs.Store.{Contents, empty_store, are_pairs}
+use Rattle.plain_store.specs.{Contents, empty_store, are_pairs}
 use Rattle.store_image.specs.declared.image.BadImage.{BadImage}
 use Rattle.store_image.specs.declared.image.BadImage.TheVariants.{Length, Slot}
 

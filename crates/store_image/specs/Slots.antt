@@ -2,9 +2,7 @@
 use Rattle.std.specs.Prelude.{ℕ, ℤ, ◌==◌, Bool, ◌&&◌, if◌then◌else◌, List, ◌∷◌, ◌++◌, length, min, take, drop, replicate, slice_index, Option, Some, None}
 use Rattle.std.specs.Int.{w64, to_be_bytes, from_be_bytes, cast_unsigned, cast_signed}
 use Rattle.std.specs.Str.{bytes_eq}
-use Rattle.plain_store.specs.Padding.{padded}
-use Rattle.plain_store.specs.Pairs.{Pair, is_pair}
-use Rattle.plain_store.specs.declared.commands.Value.{Value}
+use Rattle.plain_store.specs.{Pair, Value, is_pair, padded}
 use Rattle.plain_store.specs.declared.commands.Value.TheVariants.{Count, Text}
 
 -- the 8 bytes of a count: two's complement, the highest byte first

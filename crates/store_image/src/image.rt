@@ -3,12 +3,11 @@ ghost use Rattle.std.specs.Prelude.{◌≡◌, ◌≤◌, ◌<◌, nat_lt, lengt
 ghost use Rattle.std.specs.Cmp.{partial_equiv_from_equiv};
 ghost use Rattle.std.specs.Cmp.Lexicographic.{pointwise, on_texts_equal};
 ghost use Rattle.std.specs.Ordering.{on};
-ghost use Rattle.plain_store.specs.Commands.{name_of};
+ghost use Rattle.plain_store.specs.{Contents, after, empty_store, name_of, put, reply_to, value_for, with_number, with_written};
 ghost use Rattle.store_image.specs.Image.{image_of, IsStore, number_bytes, number_in};
 ghost use Rattle.store_image.specs.Placing.{place_of, place_for};
 ghost use Rattle.store_image.specs.Reading.{IsImageOf, IsFault, SaysNothing, store_in};
 ghost use Rattle.store_image.specs.Slots.{is_used, pair_in};
-ghost use Rattle.plain_store.specs.Store.{Contents, empty_store, put, value_for, with_number, with_written, reply_to, after};
 
 use crate::rules;
 use crate::slots::{self, SLOT_BYTES};
@@ -48,8 +47,7 @@ impl Model for Image {
     ghost use Rattle.std.specs.Prelude.{length};
     ghost use Rattle.std.proofs.Common.{sym};
     ghost use Rattle.store_image.specs.Image.{image_of, store_read, used_read, slots_read, callers_read, IsKept};
-    ghost use Rattle.plain_store.specs.Padding.{padded};
-    ghost use Rattle.plain_store.specs.Store.{Contents};
+    ghost use Rattle.plain_store.specs.{Contents, padded};
 
     ghost Value = { Contents };
 

@@ -1,11 +1,8 @@
 //! How a pair stands in the 23 bytes of a slot.
 ghost use Rattle.std.specs.Prelude.{◌≡◌, length, IsTrue, Some, None, if◌then◌else◌};
 ghost use Rattle.std.specs.Str.{bytes_eq};
-ghost use Rattle.plain_store.specs.Names.{is_name, is_text};
-ghost use Rattle.plain_store.specs.Values.{fits_i64, is_value};
+ghost use Rattle.plain_store.specs.{fits_i64, is_name, is_pair, is_text, is_value, padded};
 ghost use Rattle.store_image.specs.Slots.{count_bytes, count_in, kind_of, value_bytes, slot_of, name_in, text_in, value_in, is_unused, is_used, pair_in};
-ghost use Rattle.plain_store.specs.Pairs.{is_pair};
-ghost use Rattle.plain_store.specs.Padding.{padded};
 
 use plain_store::{Name, Text, Value, pad};
 

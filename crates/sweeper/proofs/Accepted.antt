@@ -3,14 +3,10 @@ use Rattle.std.proofs.Common.{◌≡◌, true, false, List, ◌∷◌, Option, N
 use Rattle.std.specs.Prelude.{is_none}
 use Rattle.std.proofs.lemmas.Bool.{and_from}
 use Rattle.std.specs.List.{list_all}
-use Rattle.plain_store.specs.declared.Setup.{Setup}
-use Rattle.record.specs.declared.events.Event.{Event}
-use Rattle.record.specs.declared.refusals.Refusal.{Refusal}
-use Rattle.record.specs.Entries.{Entry, Past}
-use Rattle.record.specs.Given.{is_event}
-use Rattle.record.specs.Records.{added, entry_of, past_of, refused}
+use Rattle.plain_store.specs.{Setup}
+use Rattle.record.specs.{Entry, Event, Past, Refusal, added, entry_of, is_event, past_of, refused}
 use Rattle.world.specs.Shows.{Shows, WorldState, world_of}
-use Rattle.sweeper.specs.Sweeps.{is_accepted}
+use Rattle.sweeper.specs.{is_accepted}
 
 -- an event that adds an entry is accepted
 pub adds_accepted : (s : Setup) (events : List Event) (event : Event) (e : Entry) → entry_of s (past_of s events) event ≡ Some e → is_accepted s events event ≡ true

@@ -4,20 +4,13 @@ use Rattle.std.specs.Prelude.{option_map}
 use Rattle.std.specs.List.{All}
 use Rattle.std.proofs.lemmas.List.{length-append, length_push, reverse-append, take_more}
 use Rattle.std.proofs.lemmas.List.Elements.{All-append, filter-append}
-use Rattle.plain_store.specs.declared.Command.{Command}
-use Rattle.plain_store.specs.declared.Setup.{Setup}
-use Rattle.record.specs.declared.events.Event.{Event}
+use Rattle.plain_store.specs.{Command, Setup}
+use Rattle.record.specs.{Event, KeepsHeadlineThroughout, past_of, process_of}
 use Rattle.record.specs.declared.events.Event.TheVariants.{Fail}
-use Rattle.record.specs.Headline.{KeepsHeadlineThroughout}
-use Rattle.record.specs.Records.{past_of, process_of}
-use Rattle.auditor.specs.Verdicts.{AllKeep}
+use Rattle.auditor.specs.{AllKeep}
 use Rattle.world.proofs.history_laws_proofs.Headlines.{throughout}
 use Rattle.auditor.proofs.Whole.{good_of}
-use Rattle.sweeper.specs.declared.swept.BadRun.{BadRun}
-use Rattle.sweeper.specs.declared.swept.Swept.{Swept}
-use Rattle.sweeper.specs.Runners.{Follows, IsRun, RunnerState, RunsOn}
-use Rattle.sweeper.specs.Sweeps.{Cut, cut, cut_off, cuts, is_accepted, is_cut, on_from}
-use Rattle.sweeper.specs.Tallies.{Counts, HasSwept, bad_run, counted}
+use Rattle.sweeper.specs.{BadRun, Counts, Cut, Follows, HasSwept, IsRun, RunnerState, RunsOn, Swept, bad_run, counted, cut, cut_off, cuts, is_accepted, is_cut, on_from}
 
 -- One run.
 

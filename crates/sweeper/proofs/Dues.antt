@@ -3,14 +3,9 @@ use Rattle.std.proofs.Common.{◌≡◌, ℕ, ◌+◌, ◌≤◌, Bool, true, fa
 use Rattle.std.proofs.lemmas.List.{length-map}
 use Rattle.std.proofs.lemmas.List.FromFn.{length-range_with_len}
 use Rattle.plain_store.proofs.GoodSetups.{few-processes}
-use Rattle.record.specs.declared.events.Event.{Event}
-use Rattle.record.specs.declared.history.Taken.{Taken}
-use Rattle.record.specs.Records.{is_call, past_of}
-use Rattle.record.specs.Registers.{processes}
-use Rattle.world.specs.process.declared.told.Effect.{Effect}
-use Rattle.world.specs.Changes.{pending_in}
-use Rattle.world.specs.Cores.{CoreState, taking, with_history}
-use Rattle.world.specs.Seats.{Seat, seat_of}
+use Rattle.record.specs.{Event, Taken, is_call, past_of, processes}
+use Rattle.world.specs.process.{Effect}
+use Rattle.world.specs.{CoreState, Seat, pending_in, seat_of, taking, with_history}
 use Rattle.world.specs.Shows.{Shows, WorldState}
 use Rattle.world.proofs.WorldPending.{pending-most}
 

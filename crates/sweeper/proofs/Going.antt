@@ -4,10 +4,9 @@ use Rattle.std.proofs.lemmas.List.Folds.{list_any-append, list_any_at}
 use Rattle.std.proofs.lemmas.List.FromFn.{get_or-range_with_len, length-range_with_len}
 use Rattle.std.proofs.lemmas.List.Sums.{fold-append}
 use Rattle.std.specs.List.{list_any, range_with_len}
-use Rattle.record.specs.declared.events.Event.{Event}
+use Rattle.record.specs.{Event}
 use Rattle.record.specs.declared.events.Event.TheVariants.{Step}
-use Rattle.sweeper.specs.Runners.{Follows, RunnerState, RunsOn}
-use Rattle.sweeper.specs.Sweeps.{as_long_as}
+use Rattle.sweeper.specs.{Follows, RunnerState, RunsOn, as_long_as}
 
 -- some of it is done: what is left makes of the present run what all makes of the first
 pub record Going (test : List Event → Bool) (on : List Event → List Event) (most : ℕ) (events : List Event) (r : RunnerState) (left : ℕ) : Type 0 where

@@ -2,18 +2,13 @@
 use Rattle.std.proofs.Common.{◌≡◌, suc, List, [], ◌∷◌, filter, length, map, reverse, None, Ok, refl, ap, sym, subst, ◌∙◌, arith}
 use Rattle.std.proofs.lemmas.List.{reverse-reverse}
 use Rattle.std.specs.List.{All, AllZip}
-use Rattle.plain_store.specs.declared.Setup.{Setup}
-use Rattle.plain_store.specs.Setups.{checked}
-use Rattle.record.specs.Given.{AreGiven}
-use Rattle.record.specs.Records.{past_of}
-use Rattle.auditor.specs.declared.verdicts.Verdict.{Verdict}
+use Rattle.plain_store.specs.{Setup, checked}
+use Rattle.record.specs.{AreGiven, past_of}
+use Rattle.auditor.specs.{AllKeep, IsVerdict, Verdict}
 use Rattle.auditor.specs.declared.verdicts.Verdict.TheVariants.{Good, Bad}
-use Rattle.auditor.specs.Verdicts.{AllKeep, IsVerdict}
 use Rattle.auditor.proofs.Unique.{not_bad}
 use Rattle.auditor.proofs.Whole.{good_of}
-use Rattle.sweeper.specs.Sweeps.{AreAllGood, Cut, IsFound, SweptRunsAreGood, all_good, cuts, first_bad_of, is_good, record_of_cut}
-use Rattle.sweeper.specs.declared.swept.Swept.{Swept}
-use Rattle.sweeper.specs.Tallies.{Counts}
+use Rattle.sweeper.specs.{AreAllGood, Counts, Cut, IsFound, Swept, SweptRunsAreGood, all_good, cuts, first_bad_of, is_good, record_of_cut}
 use Rattle.sweeper.proofs.Soundness.{given_cuts}
 
 -- in the run each entry keeps all laws

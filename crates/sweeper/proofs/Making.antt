@@ -1,31 +1,17 @@
 -- A runner makes an event, and its auditor hears the entry, which keeps all laws.
 use Rattle.std.proofs.Common.{◌≡◌, ℕ, ◌+◌, Bool, true, false, List, ◌∷◌, length, map, Option, None, Some, refl, ap, sym, subst, ◌∙◌}
 use Rattle.std.specs.Prelude.{is_none, is_some, not}
-use Rattle.record.specs.declared.access.Access.{Access}
-use Rattle.plain_store.specs.declared.Setup.{Setup}
-use Rattle.record.specs.declared.events.Event.{Event}
-use Rattle.record.specs.declared.history.Taken.{Taken}
-use Rattle.record.specs.declared.marks.Mark.{Mark}
-use Rattle.record.specs.declared.refusals.Refusal.{Refusal}
-use Rattle.record.specs.Entries.{Entry, Past}
-use Rattle.record.specs.Given.{AreGiven, is_event}
-use Rattle.record.specs.Histories.{history, reply_taken}
-use Rattle.record.specs.Records.{entry_of, past_of, placed, process_of}
-use Rattle.world.specs.process.declared.told.Effect.{Effect}
-use Rattle.world.specs.process.Telling.{act_of, marks_of}
-use Rattle.world.specs.Changes.{with_taken}
-use Rattle.world.specs.Cores.{CoreMakes, CoreRefuses, CoreState, call_in, taking, with_history}
-use Rattle.world.specs.Events.{Adds, entry_with}
+use Rattle.record.specs.{Access, AreGiven, Entry, Event, Mark, Past, Refusal, Taken, entry_of, history, is_event, past_of, placed, process_of, reply_taken}
+use Rattle.plain_store.specs.{Setup}
+use Rattle.world.specs.process.{Effect, act_of, marks_of}
+use Rattle.world.specs.{Adds, CoreMakes, CoreRefuses, CoreState, call_in, entry_with, taking, with_history, with_taken}
 use Rattle.world.specs.Shows.{Shows, WorldState}
 use Rattle.world.proofs.CoreKeeps.{taken_length}
 use Rattle.world.proofs.WorldShows.{past-after}
-use Rattle.auditor.specs.declared.verdicts.Law.{Law}
-use Rattle.auditor.specs.read_law.Entries.{entry_by}
-use Rattle.auditor.specs.Hearing.{AuditorState, HasHeard, IsHeard}
-use Rattle.auditor.specs.Verdicts.{KeepsAll}
+use Rattle.auditor.specs.{AuditorState, HasHeard, IsHeard, KeepsAll, Law}
+use Rattle.auditor.specs.read_law.{entry_by}
 use Rattle.auditor.proofs.Obeys.{obeys}
-use Rattle.sweeper.specs.Runners.{Follows, RunnerState}
-use Rattle.sweeper.specs.Sweeps.{is_accepted}
+use Rattle.sweeper.specs.{Follows, RunnerState, is_accepted}
 use Rattle.sweeper.proofs.Accepted.{adds_accepted, past_kept, refused_not, shows_refused}
 
 -- with a history the core shows events: so it is theirs

@@ -2,13 +2,10 @@
 use Rattle.std.proofs.Common.{◌≡◌, ℕ, ◌&&◌, nat_lt, Bool, true, false, cond, Option, None, Some, refl}
 use Rattle.std.specs.Prelude.{is_none}
 use Rattle.record.specs.declared.events.Event.TheVariants.{Step, Fail}
-use Rattle.record.specs.declared.refusals.Refusal.{Refusal}
+use Rattle.record.specs.{Refusal, Stage, past_of, refused_at, stage}
 use Rattle.record.specs.declared.refusals.Refusal.TheVariants.{CallsFull, NoProcess}
-use Rattle.record.specs.declared.stages.Stage.{Stage}
 use Rattle.record.specs.declared.stages.Stage.TheVariants as stages
-use Rattle.record.specs.Records.{past_of, refused_at}
-use Rattle.record.specs.Stages.{stage}
-use Rattle.sweeper.specs.Sweeps.{FailsAreOfWhomStands, StepsAreOfWhomMoves, moves, stands}
+use Rattle.sweeper.specs.{FailsAreOfWhomStands, StepsAreOfWhomMoves, moves, stands}
 
 -- an event that is no call is refused by the stage of its process alone
 by_stage : Bool → Option Refusal → Bool

@@ -2,12 +2,10 @@
 use Rattle.std.proofs.Common.{◌≡◌, ℕ, ◌+◌, ◌<◌, ◌||◌, Bool, true, false, cond, List, [], ◌∷◌, fold, length, take, get_or, refl, ap, sym, subst, ◌∙◌}
 use Rattle.std.proofs.lemmas.List.{take_more}
 use Rattle.std.proofs.lemmas.List.Sums.{fold-append}
-use Rattle.plain_store.specs.declared.Command.{Command}
-use Rattle.plain_store.specs.declared.Setup.{Setup}
-use Rattle.record.specs.declared.events.Event.{Event}
+use Rattle.plain_store.specs.{Command, Setup}
+use Rattle.record.specs.{Event}
 use Rattle.record.specs.declared.events.Event.TheVariants.{Call, Step, Fail, Restart}
-use Rattle.sweeper.specs.Runners.{Follows, IsRun, RunnerState, RunsOn}
-use Rattle.sweeper.specs.Sweeps.{Run, cut_off, goes, is_accepted, most, on_from, rounds, steps_of, with_call, with_calls}
+use Rattle.sweeper.specs.{Follows, IsRun, Run, RunnerState, RunsOn, cut_off, goes, is_accepted, most, on_from, rounds, steps_of, with_call, with_calls}
 
 or_false : (b : Bool) → (b || false) ≡ b
 or_false true = refl

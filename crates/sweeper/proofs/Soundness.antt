@@ -3,15 +3,10 @@ use Rattle.std.proofs.Common.{◌≡◌, ℕ, zero, suc, ◌&&◌, ◌||◌, Boo
 use Rattle.std.proofs.lemmas.Bool.{and_from}
 use Rattle.std.proofs.lemmas.List.Elements.{All-append, All-nil}
 use Rattle.std.specs.List.{All, list_all}
-use Rattle.plain_store.specs.declared.Command.{Command}
-use Rattle.plain_store.specs.declared.Setup.{Setup}
-use Rattle.plain_store.specs.Commands.{is_command}
-use Rattle.record.specs.declared.events.Event.{Event}
+use Rattle.plain_store.specs.{Command, Setup, is_command}
+use Rattle.record.specs.{AreGiven, Event, is_event, process_of, processes}
 use Rattle.record.specs.declared.events.Event.TheVariants.{Call, Step, Fail, Restart}
-use Rattle.record.specs.Given.{AreGiven, is_event}
-use Rattle.record.specs.Records.{process_of}
-use Rattle.record.specs.Registers.{processes}
-use Rattle.sweeper.specs.Sweeps.{Cut, Run, as_long_as, cut, cut_off, cuts, goes, is_accepted, is_cut, most, on_from, round, rounds, steps_of, with_call, with_calls}
+use Rattle.sweeper.specs.{Cut, Run, as_long_as, cut, cut_off, cuts, goes, is_accepted, is_cut, most, on_from, round, rounds, steps_of, with_call, with_calls}
 
 -- of a list of calls
 abbrev pub are_commands : List (ℕ × Command) → Bool

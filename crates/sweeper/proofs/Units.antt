@@ -1,19 +1,13 @@
 -- The memory unit of a run has made its steps when its process is restarted.
 use Rattle.std.proofs.Common.{◌≡◌, ℕ, zero, suc, ◌+◌, ◌≤◌, ◌&&◌, nat_lt, Bool, true, false, cond, List, [], ◌∷◌, length, Option, None, Some, Ok, refl, ap, sym, ◌∙◌, arith, inl, inr, eq-eqb}
 use Rattle.std.specs.Prelude.{is_none}
-use Rattle.plain_store.specs.declared.Setup.{Setup}
-use Rattle.plain_store.specs.Setups.{checked}
-use Rattle.record.specs.declared.events.Event.{Event}
+use Rattle.plain_store.specs.{Setup, checked}
+use Rattle.record.specs.{Entry, Event, Past, Refusal, Stage, added, is_failed, own, past_of, process_of, refused, since, stage}
 use Rattle.record.specs.declared.events.Event.TheVariants.{Step, Fail}
 use Rattle.record.specs.declared.marks.Mark.TheVariants.{Failed}
-use Rattle.record.specs.declared.refusals.Refusal.{Refusal}
-use Rattle.record.specs.declared.stages.Stage.{Stage}
 use Rattle.record.specs.declared.stages.Stage.TheVariants as stages
-use Rattle.record.specs.Entries.{Entry, Past, is_failed, own, since}
-use Rattle.record.specs.Records.{added, past_of, process_of, refused}
-use Rattle.record.specs.Stages.{stage}
 use Rattle.auditor.proofs.laws.UnitSteps.{GoesOn, few_accesses, unit_goes_on}
-use Rattle.sweeper.specs.Sweeps.{AreDownInTime, UnitsAreDownInTime, is_accepted, most, moves, stands, steps_of}
+use Rattle.sweeper.specs.{AreDownInTime, UnitsAreDownInTime, is_accepted, most, moves, stands, steps_of}
 use Rattle.sweeper.proofs.Going.{ended}
 use Rattle.sweeper.proofs.Movers.{fails_of_standing, steps_of_movers}
 

@@ -1,14 +1,10 @@
 -- A run that is audited while it is made.
 use Rattle.std.specs.Prelude.{◌≡◌, ℕ, ◌+◌, ◌||◌, Bool, List, length, Option, None}
-use Rattle.plain_store.specs.declared.Command.{Command}
-use Rattle.plain_store.specs.declared.Setup.{Setup}
-use Rattle.record.specs.declared.events.Event.{Event}
-use Rattle.record.specs.Histories.{history}
-use Rattle.record.specs.Records.{past_of}
-use Rattle.world.specs.Changes.{pending_in}
-use Rattle.world.specs.Cores.{CoreState, with_history}
+use Rattle.plain_store.specs.{Command, Setup}
+use Rattle.record.specs.{Event, history, past_of}
+use Rattle.world.specs.{CoreState, pending_in, with_history}
 use Rattle.world.specs.Shows.{Shows}
-use Rattle.auditor.specs.Hearing.{AuditorState, HasHeard}
+use Rattle.auditor.specs.{AuditorState, HasHeard}
 use Rattle.sweeper.specs.declared.runner.BadEntry.{BadEntry}
 use Rattle.sweeper.specs.Sweeps.{Run, cut_off, is_accepted, on_from, with_call, with_calls}
 

@@ -1,23 +1,12 @@
 -- The runs of a sweep, and what is found in their records. In each run a process fails after one event of a list; then its memory unit settles, it is restarted, everybody goes on, and calls follow. Lists of events have the newest first here, and an event that is refused adds nothing to the record.
 use Rattle.std.specs.Prelude.{◌≡◌, ℕ, zero, suc, Bool, true, false, ◌&&◌, ◌||◌, List, [], ◌∷◌, ◌++◌, length, map, filter, fold, reverse, Option, None, Some, Ok, is_none, nat_lt, cond}
 use Rattle.std.specs.List.{All, list_all, list_any, AllZip}
-use Rattle.plain_store.specs.declared.Command.{Command}
-use Rattle.plain_store.specs.declared.Setup.{Setup}
-use Rattle.plain_store.specs.Commands.{is_command}
-use Rattle.plain_store.specs.Setups.{checked}
-use Rattle.record.specs.declared.events.Event.{Event}
+use Rattle.plain_store.specs.{Command, Setup, checked, is_command}
+use Rattle.record.specs.{AreGiven, Entry, Event, KeepsHeadlineThroughout, Stage, past_of, process_of, processes, refused, stage}
 use Rattle.record.specs.declared.events.Event.TheVariants.{Call, Step, Fail, Restart}
-use Rattle.record.specs.declared.stages.Stage.{Stage}
 use Rattle.record.specs.declared.stages.Stage.TheVariants.{Idle, Settling, Down}
-use Rattle.record.specs.Entries.{Entry}
-use Rattle.record.specs.Given.{AreGiven}
-use Rattle.record.specs.Headline.{KeepsHeadlineThroughout}
-use Rattle.record.specs.Records.{past_of, process_of, refused}
-use Rattle.record.specs.Registers.{processes}
-use Rattle.record.specs.Stages.{stage}
-use Rattle.auditor.specs.declared.verdicts.Verdict.{Verdict}
+use Rattle.auditor.specs.{IsVerdict, Verdict}
 use Rattle.auditor.specs.declared.verdicts.Verdict.TheVariants.{Good, Bad}
-use Rattle.auditor.specs.Verdicts.{IsVerdict}
 use Rattle.sweeper.specs.declared.swept.BadRun.{BadRun}
 use Rattle.sweeper.specs.declared.swept.Swept.{Swept}
 

@@ -1,11 +1,9 @@
 -- What has been counted so far, and what a sweep keeps between two events.
 use Rattle.std.specs.Prelude.{◌≡◌, ℕ, ◌+◌, ◌≤◌, Bool, List, [], ◌∷◌, ◌++◌, length, filter, Option, None, Some, cond, is_none, option_map}
 use Rattle.std.specs.List.{All}
-use Rattle.plain_store.specs.declared.Command.{Command}
-use Rattle.plain_store.specs.declared.Setup.{Setup}
-use Rattle.record.specs.declared.events.Event.{Event}
-use Rattle.record.specs.Records.{past_of, process_of}
-use Rattle.auditor.specs.Verdicts.{AllKeep}
+use Rattle.plain_store.specs.{Command, Setup}
+use Rattle.record.specs.{Event, past_of, process_of}
+use Rattle.auditor.specs.{AllKeep}
 use Rattle.sweeper.specs.declared.runner.BadEntry.{BadEntry}
 use Rattle.sweeper.specs.declared.swept.BadRun.{BadRun}
 use Rattle.sweeper.specs.declared.swept.Swept.{Swept}

@@ -1,11 +1,10 @@
 //! A run that is audited while it is made.
 ghost use Rattle.std.specs.Prelude.{◌≡◌, ◌+◌, ◌^◌, ◌<◌, ◌≤◌, ◌∷◌, [], true, false, cond, IfOk, None, Ok};
-ghost use Rattle.plain_store.specs.Setups.{checked};
+ghost use Rattle.plain_store.specs.{checked};
 ghost use Rattle.record.specs.declared.Event.TheVariants.{Step};
-ghost use Rattle.record.specs.Given.{is_event};
-ghost use Rattle.record.specs.Records.{is_call};
-ghost use Rattle.world.specs.Cores.{taking};
-ghost use Rattle.auditor.specs.Hearing.{Hears, step_told};
+ghost use Rattle.record.specs.{is_call, is_event};
+ghost use Rattle.world.specs.{taking};
+ghost use Rattle.auditor.specs.{Hears, step_told};
 ghost use Rattle.sweeper.specs.Runners.{Accepts, Follows, RunsOn, due};
 
 use auditor::{Auditor, Law};

@@ -1,6 +1,6 @@
 //! A sweep: a runner goes along the events, and after each that is accepted another one goes on from there twice.
 ghost use Rattle.std.specs.Prelude.{◌≡◌, ◌+◌, ◌*◌, ◌^◌, ◌<◌, ◌≤◌, ℕ, length, reverse, IfOk, Ok};
-ghost use Rattle.plain_store.specs.Setups.{checked};
+ghost use Rattle.plain_store.specs.{checked};
 ghost use Rattle.sweeper.specs.Runners.{due};
 ghost use Rattle.sweeper.specs.Sweeps.{AreAllGood, AreDownInTime, IsSwept, SweptKeepHeadline};
 ghost use Rattle.sweeper.specs.Tallies.{AreFew, CountsRun, SweepsNone, SweepsOn};

@@ -1,23 +1,16 @@
 -- Who stands inside is there alone.
 use Rattle.std.proofs.Common.{◌≡◌, ℕ, Bool, true, false, List, Some, Ok, refl, sym, ◌∙◌}
 use Rattle.std.specs.Prelude.{IsTrue, nat_lt, cond, Option}
-use Rattle.plain_store.specs.declared.Setup.{Setup}
-use Rattle.plain_store.specs.Setups.{checked}
-use Rattle.record.specs.declared.events.Event.{Event}
-use Rattle.record.specs.declared.stages.Stage.{Stage}
+use Rattle.plain_store.specs.{Setup, checked}
+use Rattle.record.specs.{Asks, AsksCommit, AsksImage, AsksStamp, Clears, Event, MutualExclusion, Over, Part, Raises, Refuses, Stage, TakesTicket, Waits, WritesCommit, WritesImage, WritesStamp, inside, is_fresh, past_of, stage, stage_of}
 use Rattle.record.specs.declared.stages.Stage.TheVariants as stages
 use Rattle.record.specs.Closings.{Withdraws, Settles, Frees, Lowers, Quit, Ended}
-use Rattle.record.specs.Headline.{MutualExclusion}
-use Rattle.record.specs.Parts.{Part, Raises, Asks, TakesTicket, Refuses, Waits, AsksCommit, AsksStamp, AsksImage, WritesImage, WritesStamp, WritesCommit, Clears, Over, stage_of}
 use Rattle.record.specs.Parts as part
-use Rattle.record.specs.Records.{past_of}
-use Rattle.record.specs.Stages.{inside, stage}
 use Rattle.record.proofs.Width.{is_good}
-use Rattle.record.specs.Places.{is_fresh}
-use Rattle.world.specs.laws.Doings.{Doing, Rests, Lies, Runs, Closes, doing, is_inside, is_inside_at}
+use Rattle.world.specs.laws.{Doing, Rests, Lies, Runs, Closes, doing, is_inside, is_inside_at}
 use Rattle.board.proofs.laws.Doings as doings
 use Rattle.board.proofs.laws.FrameInside.{inside-is, stage-is}
-use Rattle.world.specs.Events.{stage_in}
+use Rattle.world.specs.{stage_in}
 use Rattle.world.specs.Shows.{Shows, WorldState}
 
 -- the stage of a part is inside only where its process is

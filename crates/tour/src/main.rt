@@ -3,15 +3,12 @@
 #![tactic(auto)]
 
 ghost use Rattle.std.specs.Prelude.{◌≡◌, ℕ, IfOk, IsTrue, List, Ok, OnOk, Some};
-ghost use Rattle.board.specs.Boards.{IsOf};
-ghost use Rattle.board.specs.Closings.{AreFirstPortsOf};
-ghost use Rattle.board.specs.Ports.{SamePort};
-ghost use Rattle.plain_store.specs.Setups.{checked};
+ghost use Rattle.board.specs.{AreFirstPortsOf, IsOf, SamePort};
+ghost use Rattle.plain_store.specs.{checked};
 ghost use Rattle.record.specs.declared.Event.{Event as Happening};
 ghost use Rattle.record.specs.declared.Stage.TheVariants.{Inside};
-ghost use Rattle.record.specs.Records.{past_of, process_of};
-ghost use Rattle.record.specs.Stages.{inside};
-ghost use Rattle.world.specs.Events.{KeepsTheHeadline, stage_in};
+ghost use Rattle.record.specs.{inside, past_of, process_of};
+ghost use Rattle.world.specs.{KeepsTheHeadline, stage_in};
 ghost use Rattle.world.specs.Shows.{Shows};
 
 use anyhow::{Result, bail};

@@ -2,8 +2,7 @@
 use Rattle.std.proofs.Common.{◌≡◌, ◌<◌, ℕ, List, Some, length, get_or, ap, sym, ◌∙◌}
 use Rattle.std.specs.Prelude.{slice_get}
 use Rattle.std.proofs.lemmas.Option.{slice_get-get_or}
-use Rattle.board_runs.specs.board.Boards.{ArePortsOf, BoardState, IsOf}
-use Rattle.board_runs.specs.board.Ports.{PortState}
+use Rattle.board_runs.specs.board.{ArePortsOf, BoardState, IsOf, PortState}
 
 -- each is of the board
 pub each_is_of : (board : BoardState) (ports : List PortState) → ArePortsOf board ports → (k : ℕ) (port : PortState) → slice_get ports k ≡ Some port → IsOf board port

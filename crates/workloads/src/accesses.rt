@@ -1,8 +1,7 @@
 //! How long a step of a register takes, of 1728 bits and with 16 readers.
 ghost use Rattle.std.specs.Prelude.{ℕ, Bool, ◌≤◌, OnSome};
-ghost use Rattle.record.specs.reader_copies.Row.{IsRow};
-ghost use Rattle.record.specs.reader_copies.Written.{IsWritten};
-ghost use Rattle.register_drive.specs.Idle.{IsIdle};
+ghost use Rattle.record.specs.reader_copies.{IsRow, IsWritten};
+ghost use Rattle.register_drive.specs.{IsIdle};
 
 use anyhow::{Result, bail};
 use register_drive::{ReadRun, Register, read_all, write_all};

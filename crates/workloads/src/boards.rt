@@ -1,8 +1,7 @@
 //! How long a word step takes, of a port on one thread, and of two ports on two threads; and how long the largest board takes
 //! to be made.
 ghost use Rattle.std.specs.Prelude.{◌≡◌, ℕ, Some, slice_get};
-ghost use Rattle.board_runs.specs.board.Boards.{IsOf};
-ghost use Rattle.board_runs.specs.board.Ports.{PortState};
+ghost use Rattle.board_runs.specs.board.{IsOf, PortState};
 
 mod calls;
 

@@ -1,6 +1,6 @@
 //! Stores with one counter.
 ghost use Rattle.std.specs.Prelude.{◌≡◌, Ok, IfOk};
-ghost use Rattle.plain_store.specs.Setups.{checked};
+ghost use Rattle.plain_store.specs.{checked};
 
 use anyhow::Result;
 use plain_store::{Name, Setup, Value};

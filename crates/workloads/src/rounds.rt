@@ -1,7 +1,7 @@
 //! Rounds of boards whose ports are cut by failures, on threads or by turns: what each leaves, to be judged by
 //! `tests/gate/boards.py` and `tests/byhand/soak_boards.py`.
 ghost use Rattle.std.specs.Prelude.{◌≡◌, Ok};
-ghost use Rattle.plain_store.specs.Setups.{checked};
+ghost use Rattle.plain_store.specs.{checked};
 
 use crate::word;
 use anyhow::{Result, bail};

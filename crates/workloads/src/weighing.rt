@@ -1,8 +1,8 @@
 //! How long weighing takes, of the largest lists of finished calls.
 ghost use Rattle.std.specs.Prelude.{◌≡◌, ◌≤◌, All, IfOk, IsTrue, List, Ok, length};
-ghost use Rattle.plain_store.specs.Setups.{checked};
+ghost use Rattle.plain_store.specs.{checked};
 ghost use Rattle.record.specs.declared.calls.Placed.{Placed as Finished};
-ghost use Rattle.record.specs.CallLists.{lists_of};
+ghost use Rattle.record.specs.{lists_of};
 
 mod histories;
 

@@ -2,32 +2,22 @@
 use Rattle.std.proofs.Common.{◌≡◌, ℕ, zero, suc, ◌+◌, ◌<◌, ◌≤◌, ◌&&◌, Bool, true, false, List, None, Some, length, map, refl, sym, ap, subst, ◌∙◌, arith, eq-eqb}
 use Rattle.std.proofs.lemmas.Bool.Decides.{nat_tests}
 use Rattle.std.specs.Prelude.{nat_le, slice_get, slice_index_or, slice_set}
-use Rattle.plain_store.specs.declared.Command.{Command}
+use Rattle.plain_store.specs.{Command}
 use Rattle.record.specs.safe_bit.Cell.{Cell}
-use Rattle.record.specs.declared.access.Access.{Access}
-use Rattle.record.specs.declared.events.Event.{Event}
+use Rattle.record.specs.{Access, Event, Stage, is_waiting_stage, past_of, process_of, refused_at, value_of}
 use Rattle.record.specs.declared.events.Event.TheVariants as event
-use Rattle.record.specs.declared.stages.Stage.{Stage}
 use Rattle.record.specs.declared.stages.Stage.TheVariants as stages
 use Rattle.record.specs.Closings.{Closing, Withdraws, Settles, Frees, Lowers, Quit, Ended, closing_stage}
-use Rattle.record.specs.Doorways.{is_waiting_stage}
-use Rattle.record.specs.Places.{value_of}
-use Rattle.record.specs.Records.{past_of, process_of, refused_at}
 use Rattle.record.proofs.World.{refused-idle}
-use Rattle.laws.specs.Steps.{cut_of}
+use Rattle.laws.specs.{cut_of}
 use Rattle.laws.proofs.FrameEvents.{is-waiting}
 use Rattle.process.specs.declared.told.Effect.TheVariants.{Steps}
 use Rattle.process.specs.declared.told.StepTold.TheVariants.{Nothing}
-use Rattle.process.specs.Places.{is_full, left_at, may_fail, may_step, stage_doing}
-use Rattle.world.specs.Changes.{told}
-use Rattle.world.specs.Cores.{CoreState, CoreWalks, KeepsCore}
-use Rattle.world.specs.Going.{CoreGoes, core_after, registers_after, seat_after}
-use Rattle.world.specs.Seats.{Seat, is_waiting, seat_stepped}
-use Rattle.world.specs.Walks.{HasOneFewer, KeepOthers, left_in}
+use Rattle.process.specs.{answered_at, is_full, left_at, may_fail, may_step, overlapped_steps, stage_doing, steps_of}
+use Rattle.world.specs.{CoreGoes, CoreState, CoreWalks, HasOneFewer, KeepOthers, KeepsCore, Seat, core_after, is_waiting, left_in, registers_after, seat_after, seat_stepped, told}
 use Rattle.world.proofs.CoreKeeps.{IsNext, next-keeps}
 use Rattle.world.proofs.CoreRefused.{full-is, stage-told}
-use Rattle.flicks.specs.Flicks.{FlickState}
-use Rattle.process.specs.Serving.{answered_at, overlapped_steps, steps_of}
+use Rattle.flicks.specs.{FlickState}
 use Rattle.world.proofs.CoreWalks.{core_ran, has-run, left-core, next-others, told-same, within-after, within-fewer, within-goes, within-next}
 use Rattle.process.proofs.Left.{left-stays}
 use Rattle.world.proofs.WorldOpen.{IsSeated, is-allowed, is-seated, seat-below, seat-indexed, seat-left, seat-there}

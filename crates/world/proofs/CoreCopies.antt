@@ -1,13 +1,9 @@
 -- The registers and the seats of two cores of one setup are of one shape.
 use Rattle.std.proofs.Common.{◌≡◌, ℕ, List, [], ◌∷◌, map, refl, sym, ap, subst, ◌∙◌}
-use Rattle.plain_store.specs.declared.Setup.{Setup}
-use Rattle.record.specs.Entries.{Past}
-use Rattle.record.specs.Records.{past_of}
-use Rattle.record.specs.Registers.{processes}
-use Rattle.process.specs.registers.Openings.{AreOf}
-use Rattle.world.specs.Cores.{CoreState, KeepsCore}
-use Rattle.world.specs.Seats.{seat_of, setups_in}
-use Rattle.world.specs.Shows.{WorldState}
+use Rattle.plain_store.specs.{Setup}
+use Rattle.record.specs.{Past, past_of, processes}
+use Rattle.process.specs.registers.{AreOf}
+use Rattle.world.specs.{CoreState, KeepsCore, WorldState, seat_of, setups_in}
 use Rattle.world.proofs.WorldRegisters.{are_of}
 
 -- the registers are those of its setup

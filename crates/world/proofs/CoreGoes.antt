@@ -2,30 +2,16 @@
 use Rattle.std.proofs.Common.{◌≡◌, ℕ, suc, ◌+◌, ◌==◌, Bool, true, false, cond, List, ◌∷◌, Option, Some, None, Ok, length, map, refl, sym, ap, ◌∙◌, arith, eq-eqb}
 use Rattle.std.specs.Prelude.{fold, nat_lt, slice_set, unwrap_or}
 use Rattle.std.specs.List.{range_with_len}
-use Rattle.plain_store.specs.declared.Setup.{Setup}
-use Rattle.plain_store.specs.Setups.{checked}
-use Rattle.record.specs.declared.access.Access.{Access}
+use Rattle.plain_store.specs.{Setup, checked}
+use Rattle.record.specs.{Access, Entry, Event, Past, Raises, added, call_number, calls_in, enter, entry_of, has, history, is_called, is_waiting_stage, last_command, own, past_of, placed, process_of, processes, refused, stage, stage_after, value_of, valued}
 use Rattle.record.specs.declared.access.Field.TheVariants.{Choosing}
-use Rattle.record.specs.declared.events.Event.{Event}
 use Rattle.record.specs.declared.events.Event.TheVariants as event
 use Rattle.record.specs.safe_bit.declared.moves.Move.TheVariants.{BeginRead}
-use Rattle.record.specs.Calls.{last_command, call_number, calls_in}
-use Rattle.record.specs.Doorways.{is_waiting_stage}
-use Rattle.record.specs.Entries.{Entry, Past, own, has, is_called}
-use Rattle.record.specs.Histories.{history}
-use Rattle.record.specs.Moves.{valued}
-use Rattle.record.specs.Parts.{Raises}
-use Rattle.record.specs.Places.{enter, value_of}
-use Rattle.record.specs.Records.{added, entry_of, past_of, placed, process_of, refused}
-use Rattle.record.specs.Registers.{processes}
-use Rattle.record.specs.Stages.{stage, stage_after}
 use Rattle.record.proofs.Accepted.{accepted_adds}
 use Rattle.record.proofs.Staging.{no_called}
 use Rattle.record.proofs.Width.{IsGood, is_good}
 use Rattle.record.proofs.World.{refused-idle}
-use Rattle.laws.specs.Doings.{Runs, call, doing}
-use Rattle.laws.specs.Held.{IsThere}
-use Rattle.laws.specs.Steps.{does_then, marks_with, next_of}
+use Rattle.laws.specs.{IsThere, Runs, call, does_then, doing, marks_with, next_of}
 use Rattle.laws.proofs.Cuts.{cut_is}
 use Rattle.laws.proofs.Doings.{stage_of}
 use Rattle.laws.proofs.Frame.{doing-goes, own-own}
@@ -34,13 +20,9 @@ use Rattle.laws.proofs.FrameSteps.{doing-above}
 use Rattle.laws.proofs.HeldThere.{access_there}
 use Rattle.laws.proofs.Steps.{StepIs, step_is}
 use Rattle.laws.proofs.Theorems.{less, not_less}
-use Rattle.process.specs.Places.{ProcessState, next_number, process_after, stage_doing}
-use Rattle.process.specs.Serving.{answered_at}
-use Rattle.process.specs.registers.Accesses.{answered}
-use Rattle.world.specs.Changes.{told, waiting_in, waits_in}
-use Rattle.world.specs.Cores.{CoreState}
-use Rattle.world.specs.Going.{access_made, core_after, marks_made, registers_after, seat_after}
-use Rattle.world.specs.Seats.{Seat, is_waiting, seat_of}
+use Rattle.process.specs.{ProcessState, answered_at, next_number, process_after, stage_doing}
+use Rattle.process.specs.registers.{answered}
+use Rattle.world.specs.{CoreState, Seat, access_made, core_after, is_waiting, marks_made, registers_after, seat_after, seat_of, told, waiting_in, waits_in}
 use Rattle.world.proofs.QueueAfter.{before-called}
 use Rattle.world.proofs.QueueBegun.{begun-after}
 use Rattle.world.proofs.WorldLists.{get-beyond, get-mapped}

@@ -2,26 +2,11 @@
 use Rattle.std.proofs.Common.{◌≡◌, ℕ, zero, suc, ◌+◌, ◌<◌, ◌≤◌, Bool, true, false, cond, List, [], ◌∷◌, Option, None, Some, length, map, refl, sym, ap, subst, ◌∙◌, arith}
 use Rattle.std.specs.Prelude.{slice_get, slice_index_or, slice_set}
 use Rattle.std.proofs.lemmas.List.{length-map, length-set, length_push}
-use Rattle.plain_store.specs.declared.Command.{Command}
-use Rattle.plain_store.specs.declared.Reply.{Reply}
-use Rattle.plain_store.specs.declared.Setup.{Setup}
-use Rattle.record.specs.declared.access.Access.{Access}
-use Rattle.record.specs.declared.events.Event.{Event}
+use Rattle.plain_store.specs.{Command, Reply, Setup}
+use Rattle.record.specs.{Access, Entry, Event, Past, Taken, call_number, entry_of, history, is_call, is_event, last_command, own, past_of, placed, process_of, refused, reply_taken, value_of}
 use Rattle.record.specs.declared.events.Event.TheVariants as event
-use Rattle.record.specs.declared.history.Taken.{Taken}
-use Rattle.record.specs.Calls.{call_number, last_command}
-use Rattle.record.specs.Entries.{Entry, Past, own}
-use Rattle.record.specs.Given.{is_event}
-use Rattle.record.specs.Histories.{history, reply_taken}
-use Rattle.record.specs.Places.{value_of}
-use Rattle.record.specs.Records.{entry_of, is_call, past_of, placed, process_of, refused}
-use Rattle.process.specs.declared.told.Effect.{Effect}
-use Rattle.process.specs.Serving.{answered_at}
-use Rattle.process.specs.Telling.{marks_of}
-use Rattle.world.specs.Changes.{is_pending, pending, pending_in, told, with_taken}
-use Rattle.world.specs.Cores.{CoreRefuses, CoreState, KeepsCore, call_in, history_with, with_history}
-use Rattle.world.specs.Going.{CoreGoes, access_made, core_after, marks_made, seat_after}
-use Rattle.world.specs.Seats.{Seat, is_waiting, seat_of}
+use Rattle.process.specs.{Effect, answered_at, marks_of}
+use Rattle.world.specs.{CoreGoes, CoreRefuses, CoreState, KeepsCore, Seat, access_made, call_in, core_after, history_with, is_pending, is_waiting, marks_made, pending, pending_in, seat_after, seat_of, told, with_history, with_taken}
 use Rattle.world.specs.Shows.{Shows}
 use Rattle.world.proofs.CoreGoes.{core-goes, entry_made, entry_told, made}
 use Rattle.world.proofs.WorldOpen.{core-shown, core_of, history-shown, is-allowed, many-seats, seat-below, seat-indexed, seat-shown}

@@ -1,19 +1,14 @@
 -- What a core is looked at for: a process, and a bit.
 use Rattle.std.proofs.Common.{◌≡◌, ℕ, ◌≤◌, length, ap, arith, refl, ◌∙◌}
 use Rattle.std.specs.Prelude.{slice_get, Some}
-use Rattle.record.specs.declared.access.Access.{Access}
-use Rattle.record.specs.Records.{past_of}
+use Rattle.record.specs.{Access, past_of}
 use Rattle.record.proofs.Width.{is_good}
-use Rattle.laws.specs.Doings.{Rests, doing}
-use Rattle.laws.specs.Held.{IsThere, cell_held}
+use Rattle.laws.specs.{IsThere, Rests, cell_held, doing}
 use Rattle.laws.proofs.FrameSteps.{doing-above}
-use Rattle.process.specs.registers.Accesses.{lane_of_access}
-use Rattle.process.specs.registers.Memory.{cell_at}
-use Rattle.process.specs.Places.{process_after}
+use Rattle.process.specs.registers.{cell_at, lane_of_access}
+use Rattle.process.specs.{process_after}
 use Rattle.process.proofs.Memories.{with-cell}
-use Rattle.world.specs.Cores.{CoreState, InEachCorePast, with_history}
-use Rattle.world.specs.Seats.{Seat}
-use Rattle.world.specs.Shows.{WorldState}
+use Rattle.world.specs.{CoreState, InEachCorePast, Seat, WorldState, with_history}
 use Rattle.world.proofs.WorldOpen.{many-seats, seat-shown}
 
 -- a process is that of the past

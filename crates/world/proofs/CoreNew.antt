@@ -1,13 +1,10 @@
 -- A new core shows no events.
 use Rattle.std.proofs.Common.{◌≡◌, true, List, [], Ok, map, refl}
-use Rattle.plain_store.specs.declared.Setup.{Setup}
-use Rattle.plain_store.specs.Store.{are_pairs}
-use Rattle.plain_store.specs.Setups.{checked}
+use Rattle.plain_store.specs.{Setup, are_pairs, checked}
 use Rattle.record.specs.safe_bit.Cell.{Cell}
-use Rattle.record.specs.Registers.{processes}
-use Rattle.process.specs.Memories.{cells_opening, memory_with}
-use Rattle.world.specs.Cores.{CoreState, with_history}
-use Rattle.world.specs.Seats.{Seat, seat_of}
+use Rattle.record.specs.{processes}
+use Rattle.process.specs.{cells_opening, memory_with}
+use Rattle.world.specs.{CoreState, Seat, seat_of, with_history}
 use Rattle.world.specs.Shows.{Shows}
 
 pub new-shows : (s : Setup) → checked s ≡ Ok tt → are_pairs s.opening ≡ true → (registers : List (List Cell)) (seats : List Seat) →

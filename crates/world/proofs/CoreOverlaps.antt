@@ -1,22 +1,17 @@
 -- Whether a step ends a read that a write overlapped: so the registers of a core say, and so the past.
 use Rattle.std.proofs.Common.{◌≡◌, ℕ, Bool, List, Some, refl, ap, ◌∙◌}
-use Rattle.plain_store.specs.declared.Setup.{Setup}
-use Rattle.record.specs.safe_bit.declared.Move.{Move}
+use Rattle.plain_store.specs.{Setup}
+use Rattle.record.specs.safe_bit.{Move}
 use Rattle.record.specs.safe_bit.declared.Move.TheVariants.{BeginWrite, EndWrite, BeginRead, EndRead, Settle}
-use Rattle.record.specs.declared.access.Access.{Access}
-use Rattle.record.specs.declared.events.Event.{Event}
+use Rattle.record.specs.{Access, Event, moves_of, past_of}
 use Rattle.record.specs.declared.events.Event.TheVariants.{Step}
-use Rattle.record.specs.Moves.{moves_of}
-use Rattle.record.specs.Records.{past_of}
 use Rattle.record.proofs.Width.{IsGood, is_good}
-use Rattle.laws.specs.Held.{IsThere, cell_held}
+use Rattle.laws.specs.{IsThere, cell_held}
 use Rattle.laws.proofs.HeldCells.{held_shows}
 use Rattle.laws.proofs.HeldThere.{access_there}
-use Rattle.process.specs.declared.told.Effect.{Effect}
+use Rattle.process.specs.{Effect}
 use Rattle.process.specs.registers.Accesses as registers
-use Rattle.world.specs.Cores.{CoreAdds, CoreState, CoreTellsOverlapped, with_history}
-use Rattle.world.specs.Events.{act_next, entry_with}
-use Rattle.world.specs.Walks.{ends_overlapped}
+use Rattle.world.specs.{CoreAdds, CoreState, CoreTellsOverlapped, act_next, ends_overlapped, entry_with, with_history}
 use Rattle.world.proofs.CoreLooks.{cell-shown}
 
 -- the cell that is held tells it as the moves of its bit do

@@ -2,20 +2,13 @@
 use Rattle.std.proofs.Common.{◌≡◌, ℕ, ◌<◌, ◌≤◌, ◌==◌, ◌&&◌, Bool, true, false, cond, List, Option, Some, None, length, refl, sym, ap, subst, ◌∙◌, arith}
 use Rattle.std.proofs.lemmas.Bool.Decides.{nat_tests}
 use Rattle.std.specs.Prelude.{nat_le, nat_lt, slice_get}
-use Rattle.plain_store.specs.declared.Setup.{Setup}
-use Rattle.record.specs.declared.events.Event.{Event}
+use Rattle.plain_store.specs.{Setup}
+use Rattle.record.specs.{Event, Past, Refusal, Taken, calls_full, calls_in, is_call, own, past_of, process_of, refused, refused_at, stage}
 use Rattle.record.specs.declared.events.Event.TheVariants.{Step}
-use Rattle.record.specs.declared.history.Taken.{Taken}
-use Rattle.record.specs.declared.refusals.Refusal.{Refusal}
 use Rattle.record.specs.declared.refusals.Refusal.TheVariants.{NoProcess, NotRunning, CallsFull}
-use Rattle.record.specs.Calls.{calls_in}
-use Rattle.record.specs.Entries.{Past, own}
-use Rattle.record.specs.Records.{calls_full, is_call, past_of, process_of, refused, refused_at}
-use Rattle.record.specs.Stages.{stage}
 use Rattle.record.proofs.Width.{is_good}
-use Rattle.process.specs.Places.{is_full, left_at, may_step, refusal_of, stage_doing}
-use Rattle.world.specs.Cores.{CoreRefuses, CoreState, with_history}
-use Rattle.world.specs.Seats.{Seat, seat_of}
+use Rattle.process.specs.{is_full, left_at, may_step, refusal_of, stage_doing}
+use Rattle.world.specs.{CoreRefuses, CoreState, Seat, seat_of, with_history}
 use Rattle.world.specs.Shows.{Shows}
 use Rattle.world.proofs.WorldOpen.{many-seats, seat-below, seat-shown}
 use Rattle.world.proofs.WorldStages.{left-may, stage-process, step-refused}

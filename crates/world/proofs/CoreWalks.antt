@@ -3,21 +3,14 @@ use Rattle.std.proofs.Common.{◌≡◌, ℕ, zero, suc, ◌+◌, ◌<◌, ◌�
 use Rattle.std.specs.Prelude.{slice_get, slice_set}
 use Rattle.std.proofs.lemmas.List.{set-set}
 use Rattle.record.specs.safe_bit.Cell.{Cell}
-use Rattle.record.specs.declared.access.Access.{Access}
+use Rattle.record.specs.{Access, is_queued, value_of}
 use Rattle.record.specs.declared.events.Event.TheVariants.{Step}
-use Rattle.record.specs.Doorways.{is_queued}
-use Rattle.record.specs.Places.{value_of}
-use Rattle.flicks.specs.Flicks.{FlickState, flick_of}
+use Rattle.flicks.specs.{FlickState, flick_of}
 use Rattle.process.specs.declared.told.Effect.TheVariants.{Steps}
 use Rattle.process.specs.declared.told.StepTold.TheVariants.{Nothing}
-use Rattle.process.specs.Places.{ProcessState, left_at, stage_doing}
-use Rattle.process.specs.Serving.{answered_at, overlapped_steps, overlaps_step, step_by, steps_of}
-use Rattle.process.specs.registers.Accesses.{ends_overlapped}
-use Rattle.world.specs.Changes.{pending_in, told}
-use Rattle.world.specs.Cores.{CoreState, CoreStepsQuietly, CoreTellsOverlapped, CoreWalks, KeepsCore, with_history}
-use Rattle.world.specs.Going.{CoreGoes, core_after}
-use Rattle.world.specs.Seats.{Seat, is_at_door, is_waiting, seat_stepped}
-use Rattle.world.specs.Walks.{KeepOthers, left_in}
+use Rattle.process.specs.{ProcessState, answered_at, left_at, overlapped_steps, overlaps_step, stage_doing, step_by, steps_of}
+use Rattle.process.specs.registers.{ends_overlapped}
+use Rattle.world.specs.{CoreGoes, CoreState, CoreStepsQuietly, CoreTellsOverlapped, CoreWalks, KeepOthers, KeepsCore, Seat, core_after, is_at_door, is_waiting, left_in, pending_in, seat_stepped, told, with_history}
 use Rattle.world.proofs.CoreKeeps.{IsNext, next-goes, next-keeps}
 use Rattle.world.proofs.CoreOverlaps.{tells-overlapped}
 use Rattle.world.proofs.CoreRefused.{step-within}

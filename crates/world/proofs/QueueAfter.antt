@@ -3,28 +3,19 @@ use Rattle.std.proofs.Common.{◌≡◌, ◌≢◌, ℕ, suc, ◌<◌, ◌==◌,
 use Rattle.std.proofs.lemmas.Bool.{eqb-false}
 use Rattle.std.proofs.lemmas.Bool.Decides.{nat_tests}
 use Rattle.std.specs.List.{list_any, range_with_len}
-use Rattle.record.specs.declared.access.Access.{Access}
-use Rattle.plain_store.specs.declared.Command.{Command}
-use Rattle.plain_store.specs.declared.Setup.{Setup}
-use Rattle.record.specs.declared.events.Event.{Event}
-use Rattle.record.specs.declared.marks.Mark.{Mark}
+use Rattle.record.specs.{Access, Entry, Event, Mark, Past, Place, Stage, begins_doorway, doorway_begin, doorway_end, entry_of, first_of, has, is_ahead, is_before, is_called, is_fresh, is_waiting, is_waiting_stage, number_in_call, past_of, stage, stage_after}
+use Rattle.plain_store.specs.{Command, Setup}
 use Rattle.record.specs.declared.marks.Mark.TheVariants.{Called, Waiting, Entered, Taken, Left, Answered, Failed, Settled, Down, Withdrew, Restarted}
-use Rattle.record.specs.declared.stages.Stage.{Stage}
 use Rattle.record.specs.declared.stages.Stage.TheVariants as stages
-use Rattle.record.specs.Doorways.{begins_doorway, doorway_begin, doorway_end, first_of, number_in_call, is_before, is_waiting_stage, is_ahead}
-use Rattle.record.specs.Entries.{Entry, Past, has, is_called, is_waiting}
-use Rattle.record.specs.Places.{Place, is_fresh}
 use Rattle.record.specs.Parts.{Part, Lowers}
-use Rattle.record.specs.Records.{entry_of, past_of}
-use Rattle.record.specs.Stages.{stage, stage_after}
 use Rattle.record.proofs.Width.{IsGood}
-use Rattle.laws.specs.Doings.{Doing, Rests, Lies, Runs, Closes, doing}
+use Rattle.laws.specs.{Doing, Rests, Lies, Runs, Closes, doing}
 use Rattle.laws.proofs.AtPlaces.{AtPlace}
 use Rattle.laws.proofs.DoorwayParts.{has_begun, has_finished, both}
 use Rattle.laws.proofs.FrameMarks.{at_access, ends_doorway, is_lowering, is_resting, waiting-is}
 use Rattle.laws.proofs.Numbers.{NumbersAt, numbers, number-own}
 use Rattle.laws.proofs.Theorems.{waiter, waiter-numbers, not_ahead_of_itself}
-use Rattle.world.specs.Seats.{waiting_before}
+use Rattle.world.specs.{waiting_before}
 use Rattle.world.proofs.QueueBegun.{number-other, not-called}
 use Rattle.world.proofs.QueueLists.{set-range, same-range}
 

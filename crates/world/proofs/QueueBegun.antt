@@ -1,26 +1,15 @@
 -- Whether the doorway of a process's last call has begun: what an entry makes of it.
 use Rattle.std.proofs.Common.{◌≡◌, ◌≢◌, ℕ, ◌==◌, ◌&&◌, ◌||◌, Bool, true, false, cond, not, List, [], ◌∷◌, Option, Some, None, is_some, length, refl, sym, ap, subst, ◌∙◌, true≢false, eqb-true, eq-eqb, ne_eqb}
-use Rattle.record.specs.safe_bit.declared.Move.{Move}
-use Rattle.record.specs.declared.access.Access.{Access}
-use Rattle.record.specs.declared.access.Field.{Field}
+use Rattle.record.specs.safe_bit.{Move}
+use Rattle.record.specs.{Access, Asks, AsksCommit, AsksImage, AsksStamp, Call, Clears, Closing, Ended, Entry, Event, Field, Frees, Over, Part, Past, Place, Quit, Raises, Refuses, Settles, TakesTicket, Waits, Withdraws, WritesCommit, WritesImage, WritesStamp, begins_doorway, closing_after, doorway_begin, entry_of, first_of, freeing, has, is_called, is_fresh, is_last_settled, is_last_written, is_over, is_queued, no_ticket, number_in_call, past-induction, past_of, place_after, raises, value_of, write_moved}
 use Rattle.record.specs.declared.access.Field.TheVariants.{Choosing, Ticket, Commit, Stamp0, Stamp1, Image0, Image1}
-use Rattle.record.specs.safe_number.Runs.{new_write}
-use Rattle.plain_store.specs.declared.Command.{Command}
-use Rattle.plain_store.specs.declared.Setup.{Setup}
-use Rattle.record.specs.declared.events.Event.{Event}
-use Rattle.record.specs.Closings.{Closing, Withdraws, Settles, Frees, Quit, Ended, no_ticket, is_last_written, is_last_settled, freeing, closing_after}
+use Rattle.record.specs.safe_number.{new_write}
+use Rattle.plain_store.specs.{Command, Setup}
 use Rattle.record.specs.Closings as closing
-use Rattle.record.specs.Doorways.{begins_doorway, doorway_begin, first_of, is_queued, number_in_call, raises}
-use Rattle.record.specs.Entries.{Entry, Past, has, is_called}
-use Rattle.record.specs.Induction.{past-induction}
-use Rattle.record.specs.Parts.{Part, Raises, Asks, TakesTicket, Refuses, Waits, AsksCommit, AsksStamp, AsksImage, WritesImage, WritesStamp, WritesCommit, Clears, Over, is_over}
 use Rattle.record.specs.Parts as part
-use Rattle.record.specs.Places.{Place, is_fresh, place_after, value_of, write_moved}
-use Rattle.record.specs.Records.{entry_of, past_of}
-use Rattle.record.specs.Scripts.{Call}
 use Rattle.record.proofs.Width.{IsGood}
 use Rattle.record.specs.reader_copies.Runs as copies
-use Rattle.laws.specs.Doings.{Doing, Rests, Runs, Closes, call, runs, closes, doing, is_inside_at}
+use Rattle.laws.specs.{Doing, Rests, Runs, Closes, call, runs, closes, doing, is_inside_at}
 use Rattle.laws.proofs.AtPlaces.{AtPlace}
 use Rattle.laws.proofs.Doings.{IsCut, Step, at_rest, between, within, leaving, clearing, calls, withdraws, fails, restarts, steps, closes_on}
 use Rattle.laws.proofs.DoorwayParts.{has_begun}
@@ -30,7 +19,7 @@ use Rattle.laws.proofs.FrameEvents.{accepted}
 use Rattle.laws.proofs.FrameMarks.{is_raising, is_resting, is_running, called-is}
 use Rattle.laws.proofs.FrameSteps.{step_of}
 use Rattle.laws.proofs.Numbers.{NumbersAt, numbers, number-own}
-use Rattle.process.specs.Places.{stage_doing}
+use Rattle.process.specs.{stage_doing}
 
 -- Looking up.
 

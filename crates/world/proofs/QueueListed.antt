@@ -1,19 +1,13 @@
 -- The list of those ahead is read off what is kept of a process.
 use Rattle.std.proofs.Common.{◌≡◌, ℕ, ◌≤◌, ◌&&◌, true, false, List, [], Ok, sym, ap, ◌∙◌, arith}
-use Rattle.plain_store.specs.declared.Setup.{Setup}
-use Rattle.plain_store.specs.Setups.{checked}
+use Rattle.plain_store.specs.{Setup, checked}
 use Rattle.plain_store.proofs.GoodSetups.{few-processes}
-use Rattle.record.specs.declared.events.Event.{Event}
-use Rattle.record.specs.Doorways.{doorway_begin, doorway_end, is_before, is_queued, is_waiting_stage, is_ahead, ahead}
-use Rattle.record.specs.Entries.{Past}
-use Rattle.record.specs.Records.{past_of}
-use Rattle.record.specs.Stages.{stage}
+use Rattle.record.specs.{Event, Past, ahead, doorway_begin, doorway_end, is_ahead, is_before, is_queued, is_waiting_stage, past_of, stage}
 use Rattle.record.proofs.Width.{IsGood, is_good}
 use Rattle.laws.proofs.Doings.{stage_of}
 use Rattle.laws.proofs.FrameInside.{stage-is}
 use Rattle.laws.proofs.FrameSteps.{doing-above}
-use Rattle.world.specs.Queue.{listed}
-use Rattle.world.specs.Seats.{waiting_before}
+use Rattle.world.specs.{listed, waiting_before}
 use Rattle.world.proofs.QueueLists.{listed-range, longer-range}
 
 -- who is not there waits for nobody

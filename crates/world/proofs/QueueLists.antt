@@ -4,7 +4,7 @@ use Rattle.std.proofs.lemmas.Bool.{eqb-false}
 use Rattle.std.proofs.lemmas.List.{length-set, get_or-set_same, get_or-set_other, ext_get_or}
 use Rattle.std.proofs.lemmas.List.FromFn.{length-map-range_with_len, get_or-map-range_with_len}
 use Rattle.std.specs.List.{range_with_len}
-use Rattle.world.specs.Queue.{listed_from}
+use Rattle.world.specs.{listed_from}
 
 -- functions that agree everywhere make one list
 pub same-range : (f g : ℕ → Bool) (n : ℕ) → ((j : ℕ) → g j ≡ f j) → map g (range_with_len 0 n) ≡ map f (range_with_len 0 n)

@@ -1,17 +1,13 @@
 -- The stage of a process that is within a number access.
 use Rattle.std.proofs.Common.{◌≡◌, ℕ, ◌<◌, Bool, true, false, List, refl, ap, ◌∙◌, arith}
-use Rattle.record.specs.declared.events.Event.{Event}
+use Rattle.record.specs.{Event, is_fresh, past_of, stage}
 use Rattle.record.specs.declared.stages.Stage.TheVariants as stages
 use Rattle.record.specs.Parts.{Part, Raises, Asks, TakesTicket, Lowers, Refuses, Waits, AsksCommit, AsksStamp, AsksImage, WritesImage, WritesStamp, WritesCommit, Clears, Over, stage_of}
-use Rattle.record.specs.Places.{is_fresh}
-use Rattle.record.specs.Records.{past_of}
-use Rattle.record.specs.Stages.{stage}
 use Rattle.record.proofs.Width.{is_good}
-use Rattle.laws.specs.Doings.{Doing, Rests, Lies, Runs, Closes}
-use Rattle.process.specs.Places.{ProcessState, left_at, stage_doing}
-use Rattle.world.specs.Seats.{Seat}
+use Rattle.laws.specs.{Doing, Rests, Lies, Runs, Closes}
+use Rattle.process.specs.{ProcessState, left_at, stage_doing}
+use Rattle.world.specs.{Seat, left_in}
 use Rattle.world.specs.Shows.{Shows, WorldState}
-use Rattle.world.specs.Walks.{left_in}
 use Rattle.world.proofs.WorldOpen.{seat-shown, seat-there}
 use Rattle.world.proofs.WorldStages.{stage-process}
 

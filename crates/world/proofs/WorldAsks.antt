@@ -1,21 +1,16 @@
 -- What a core is asked: the stage of a process, and who is ahead of it, by its seat.
 use Rattle.std.proofs.Common.{◌≡◌, ℕ, ◌≤◌, Bool, true, false, cond, List, [], Some, None, length, sym, ap, ◌∙◌, arith}
 use Rattle.std.specs.Prelude.{slice_get}
-use Rattle.plain_store.specs.declared.Setup.{Setup}
+use Rattle.plain_store.specs.{Setup}
 use Rattle.record.specs.declared.events.Event.TheVariants as event
-use Rattle.record.specs.Doorways.{ahead, is_queued}
-use Rattle.record.specs.Records.{past_of}
-use Rattle.record.specs.Stages.{stage}
+use Rattle.record.specs.{ahead, is_queued, past_of, stage}
 use Rattle.record.proofs.Width.{is_good}
 use Rattle.laws.proofs.AheadLists.{queued-only}
 use Rattle.laws.proofs.Doings.{stage_of}
 use Rattle.laws.proofs.FrameInside.{stage-is}
 use Rattle.laws.proofs.FrameSteps.{doing-above}
-use Rattle.process.specs.Places.{stage_doing}
-use Rattle.world.specs.Cores.{CoreState, InEachCorePast, with_history}
-use Rattle.world.specs.Events.{stage_in}
-use Rattle.world.specs.Queue.{listed}
-use Rattle.world.specs.Seats.{Seat, is_at_door}
+use Rattle.process.specs.{stage_doing}
+use Rattle.world.specs.{CoreState, InEachCorePast, Seat, is_at_door, listed, stage_in, with_history}
 use Rattle.world.proofs.CoreRefused.{below-is, is-above, stage-told}
 use Rattle.world.proofs.QueueListed.{ahead-listed}
 use Rattle.world.proofs.WorldOpen.{many-seats, seat-shown}

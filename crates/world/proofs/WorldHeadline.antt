@@ -1,12 +1,9 @@
 -- The headline of the entry that an event adds, in each record that the world showed.
 use Rattle.std.proofs.Common.{◌≡◌, ℕ, ◌∷◌, subst}
-use Rattle.plain_store.specs.declared.Setup.{Setup}
-use Rattle.record.specs.declared.events.Event.{Event}
-use Rattle.record.specs.Acts.{Act}
-use Rattle.record.specs.Given.{AreGiven}
+use Rattle.plain_store.specs.{Setup}
+use Rattle.record.specs.{Act, AreGiven, Event}
 use Rattle.history_laws.proofs.Headlines.{the_headline}
-use Rattle.world.specs.Events.{Adds, GoesOn, KeepsTheHeadline, entry_with}
-use Rattle.world.specs.Shows.{WorldState}
+use Rattle.world.specs.{Adds, GoesOn, KeepsTheHeadline, WorldState, entry_with}
 
 pub keeps_headline : (old new : WorldState) (event : Event) (p : ℕ) (act : Act) → Adds old event p act → GoesOn old event new → new.setup ≡ old.setup → KeepsTheHeadline old p act
 keeps_headline old new event p act adds goes same events shows =

@@ -1,21 +1,13 @@
 -- A world is a core and a history: what it keeps after what its core does.
 use Rattle.std.proofs.Common.{◌≡◌, ℕ, zero, suc, ◌+◌, ◌≤◌, Bool, true, false, List, [], ◌∷◌, length, map, refl, sym, ap, subst, ◌∙◌, arith}
 use Rattle.std.specs.List.{range_with_len}
-use Rattle.plain_store.specs.declared.Setup.{Setup}
-use Rattle.record.specs.declared.events.Event.{Event}
+use Rattle.plain_store.specs.{Setup}
+use Rattle.record.specs.{Event, Taken, is_call, process_of, reply_taken}
 use Rattle.record.specs.declared.events.Event.TheVariants.{Step}
-use Rattle.record.specs.declared.history.Taken.{Taken}
-use Rattle.record.specs.Records.{is_call, process_of}
-use Rattle.record.specs.Histories.{reply_taken}
-use Rattle.process.specs.declared.told.Effect.{Effect}
+use Rattle.process.specs.{Effect, StepTold, marks_of, marks_told}
 use Rattle.process.specs.declared.told.Effect.TheVariants.{Steps}
-use Rattle.process.specs.declared.told.StepTold.{StepTold}
-use Rattle.process.specs.Telling.{marks_of, marks_told}
-use Rattle.world.specs.Changes.{pending_in, with_taken}
-use Rattle.world.specs.Cores.{CoreMakes, CoreState, CoreSteps, CoreStepsQuietly, CoreWalks, call_in, taking, with_history}
-use Rattle.world.specs.Events.{KeepsWorld}
-use Rattle.flicks.specs.Flicks.{FlickState, flick_of}
-use Rattle.world.specs.Seats.{seat_of}
+use Rattle.world.specs.{CoreMakes, CoreState, CoreSteps, CoreStepsQuietly, CoreWalks, KeepsWorld, call_in, pending_in, seat_of, taking, with_history, with_taken}
+use Rattle.flicks.specs.{FlickState, flick_of}
 use Rattle.world.specs.Shows.{Shows, WorldState}
 use Rattle.world.specs.Walks.{Walks}
 use Rattle.world.proofs.CoreKeeps.{taken_length}

@@ -3,30 +3,19 @@ use Rattle.std.proofs.Common.{◌≡◌, ◌||◌, Bool, true, false, cond, List
 use Rattle.std.specs.Prelude.{Ok}
 use Rattle.std.specs.List.{list_any}
 use Rattle.plain_store.specs.declared.Command.TheVariants.{Ask}
-use Rattle.plain_store.specs.declared.Setup.{Setup}
-use Rattle.plain_store.specs.Setups.{callers_of, checked}
-use Rattle.plain_store.specs.Store.{Contents}
-use Rattle.record.specs.store_image.Image.{image_of}
-use Rattle.record.specs.store_image.Reading.{store_in}
-use Rattle.record.specs.declared.events.Event.{Event}
-use Rattle.record.specs.Entries.{Past}
-use Rattle.record.specs.Given.{AreGiven}
-use Rattle.record.specs.Histories.{history, store_after}
-use Rattle.record.specs.Newest.{is_somebody_inside, newest}
-use Rattle.record.specs.Records.{past_of}
-use Rattle.record.specs.Registers.{processes}
-use Rattle.record.specs.Stages.{inside}
+use Rattle.plain_store.specs.{Contents, Setup, callers_of, checked}
+use Rattle.record.specs.store_image.{image_of, store_in}
+use Rattle.record.specs.{AreGiven, Event, Past, history, inside, is_somebody_inside, newest, past_of, processes, store_after}
 use Rattle.record.proofs.Width.{is_good}
-use Rattle.laws.specs.Doings.{call, is_inside}
+use Rattle.laws.specs.{call, is_inside}
 use Rattle.laws.proofs.FrameInside.{inside-is}
 use Rattle.history_laws.proofs.Codec.{bytes_read, store_is_read}
 use Rattle.history_laws.proofs.DataAlways.{data_of}
 use Rattle.history_laws.proofs.DataHeadline as headline
 use Rattle.history_laws.proofs.Sound.{IsStoreOf}
-use Rattle.process.specs.Newest.{newest_store}
+use Rattle.process.specs.{newest_store}
 use Rattle.process.proofs.NewestWith.{newest-with}
-use Rattle.world.specs.Cores.{CoreState, InEachCorePast, with_history}
-use Rattle.world.specs.Seats.{Seat, seat_of}
+use Rattle.world.specs.{CoreState, InEachCorePast, Seat, seat_of, with_history}
 use Rattle.world.specs.Shows.{Shows, WorldState}
 use Rattle.world.proofs.WorldOpen.{core-shown}
 use Rattle.world.proofs.WorldRegisters.{registers_at}

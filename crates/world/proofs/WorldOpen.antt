@@ -2,24 +2,15 @@
 use Rattle.std.proofs.Common.{◌≡◌, ℕ, zero, suc, ◌<◌, Bool, true, false, cond, List, [], ◌∷◌, Option, Some, None, length, map, refl, sym, ap, subst, ◌∙◌, arith}
 use Rattle.std.specs.Prelude.{nat_lt, slice_get, slice_index_or}
 use Rattle.std.proofs.lemmas.List.FromFn.{length-map-range_with_len}
-use Rattle.plain_store.specs.declared.Setup.{Setup}
+use Rattle.plain_store.specs.{Setup}
 use Rattle.plain_store.proofs.GoodSetups.{few-processes}
-use Rattle.record.specs.declared.events.Event.{Event}
-use Rattle.record.specs.declared.history.Taken.{Taken}
-use Rattle.record.specs.declared.refusals.Refusal.{Refusal}
+use Rattle.record.specs.{Event, Past, Refusal, Taken, calls_full, history, past_of, process_of, processes, refused, refused_at, stage}
 use Rattle.record.specs.declared.refusals.Refusal.TheVariants.{NoProcess, CallsFull}
-use Rattle.record.specs.Entries.{Past}
-use Rattle.record.specs.Histories.{history}
-use Rattle.record.specs.Records.{calls_full, past_of, process_of, refused, refused_at}
-use Rattle.record.specs.Registers.{processes}
-use Rattle.record.specs.Stages.{stage}
 use Rattle.laws.proofs.Theorems.{less}
-use Rattle.process.specs.Places.{left_at}
-use Rattle.process.specs.registers.Openings.{AreOf}
-use Rattle.world.specs.Cores.{CoreState, with_history}
-use Rattle.world.specs.Seats.{Seat, seat_of}
+use Rattle.process.specs.{left_at}
+use Rattle.process.specs.registers.{AreOf}
+use Rattle.world.specs.{CoreState, Seat, left_in, seat_of, with_history}
 use Rattle.world.specs.Shows.{Shows, WorldState}
-use Rattle.world.specs.Walks.{left_in}
 use Rattle.world.proofs.WorldLists.{get-mapped}
 use Rattle.world.proofs.WorldRegisters.{are_of, registers_at}
 

@@ -1,31 +1,16 @@
 -- Which calls may still be taken: what is taken was pending, and is no more; and only a call makes another one pending.
 use Rattle.std.proofs.Common.{◌≡◌, ℕ, zero, suc, ◌+◌, ◌≤◌, ◌==◌, ◌&&◌, Bool, true, false, cond, List, [], ◌∷◌, ◌++◌, Option, Some, None, length, map, refl, sym, ap, ◌∙◌, arith}
 use Rattle.std.specs.Prelude.{is_some, slice_get, slice_set}
-use Rattle.record.specs.declared.access.Field.{Field}
-use Rattle.record.specs.declared.access.TornBit.{TornBit}
+use Rattle.record.specs.{Call, Change, Field, Mark, Part, Place, TornBit, begun_at, begun_closing, bits_with, cut, enter, entered_if_none, first_marks, is_commit, is_fresh, is_last, is_over, last_marks, lets_by, max_of, newest_stamp, part_after, pending_at, place_after, reply, reply_taken, run_after, store_read, taken_with, torn_at, torn_closing, waits_of, write_moved}
 use Rattle.plain_store.specs.declared.Answer.TheVariants as answer
-use Rattle.plain_store.specs.declared.Command.{Command}
-use Rattle.plain_store.specs.declared.Reply.{Reply}
-use Rattle.plain_store.specs.declared.Setup.{Setup}
-use Rattle.plain_store.specs.Store.{changes}
-use Rattle.record.specs.declared.marks.Mark.{Mark}
+use Rattle.plain_store.specs.{Command, Reply, Setup, changes}
 use Rattle.record.specs.declared.marks.Mark.TheVariants.{Taken, Left, Answered, Settled, Down}
 use Rattle.record.specs.Closings.{Closing, Withdraws, Settles, Frees, Lowers, Quit, Ended, no_ticket, is_unwritten, is_last_written, is_last_settled, settled_marks, freeing, closing_after}
-use Rattle.record.specs.Cuts.{Change, pending_at, torn_at, torn_closing}
-use Rattle.record.specs.Failures.{cut, begun_at, begun_closing, taken_with}
-use Rattle.record.specs.Histories.{reply_taken}
 use Rattle.record.specs.Parts as part
-use Rattle.record.specs.Parts.{Part, is_over, first_marks, last_marks, part_after}
-use Rattle.record.specs.Places.{Place, enter, is_fresh, is_last, bits_with, run_after, place_after, write_moved}
-use Rattle.record.specs.Program.{entered_if_none, lets_by, max_of, newest_stamp, reply, store_read, waits_of}
-use Rattle.record.specs.Scripts.{Call}
-use Rattle.record.specs.Unit.{is_commit}
 use Rattle.record.specs.reader_copies.Runs as copies
-use Rattle.record.specs.safe_number.Runs.{new_write}
-use Rattle.laws.specs.Doings.{Doing, Rests, Lies, Runs, Closes, call, runs, closes, is_inside}
-use Rattle.laws.specs.Steps.{cut_of, does_then, marks_with}
-use Rattle.world.specs.Changes.{is_open_part, is_pending, pending, pending_in, told}
-use Rattle.world.specs.Seats.{Seat}
+use Rattle.record.specs.safe_number.{new_write}
+use Rattle.laws.specs.{Closes, Doing, Lies, Rests, Runs, call, closes, cut_of, does_then, is_inside, marks_with, runs}
+use Rattle.world.specs.{Seat, is_open_part, is_pending, pending, pending_in, told}
 use Rattle.history_laws.proofs.Outside.{entered-none}
 
 -- a call that is over is not pending

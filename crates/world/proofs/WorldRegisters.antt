@@ -3,22 +3,10 @@ use Rattle.std.proofs.Common.{◌≡◌, ◌≢◌, ℕ, ◌<◌, ◌==◌, ◌&
 use Rattle.std.proofs.lemmas.Bool.{eqb-false}
 use Rattle.record.specs.safe_bit.Cell.{Cell, read_answer}
 use Rattle.record.specs.safe_bit.Cell as cell
-use Rattle.record.specs.declared.access.Access.{Access}
-use Rattle.record.specs.declared.access.Field.{Field}
-use Rattle.plain_store.specs.Setups.{checked}
-use Rattle.plain_store.specs.declared.Command.{Command}
-use Rattle.plain_store.specs.declared.Setup.{Setup}
-use Rattle.record.specs.declared.events.Event.{Event}
-use Rattle.record.specs.Entries.{Entry, Past, own}
-use Rattle.record.specs.Moves.{ended_with, field_number, valued}
-use Rattle.record.specs.Parts.{Part, read_at}
-use Rattle.record.specs.Places.{Run, Writing, Reading, access_at}
-use Rattle.record.specs.Records.{entry_of, past_of}
-use Rattle.record.specs.Scripts.{Call}
+use Rattle.record.specs.{Access, Call, Entry, Event, Field, Part, Past, Reading, Run, Writing, access_at, ended_with, entry_of, field_number, own, past_of, read_at, valued}
+use Rattle.plain_store.specs.{Command, Setup, checked}
 use Rattle.record.proofs.Width.{IsGood, is_good}
-use Rattle.laws.specs.Doings.{Doing, Rests, Lies, Runs, Closes, call, doing}
-use Rattle.laws.specs.Held.{IsThere, cell_held, drops}
-use Rattle.laws.specs.Steps.{reads_of}
+use Rattle.laws.specs.{Closes, Doing, IsThere, Lies, Rests, Runs, call, cell_held, doing, drops, reads_of}
 use Rattle.laws.proofs.AtPlaces.{AtPlace}
 use Rattle.laws.proofs.FrameCells.{OnCopy, on-copy}
 use Rattle.laws.proofs.FrameCuts.{LeftIn, LeftRun, left}
@@ -27,13 +15,8 @@ use Rattle.laws.proofs.FrameSteps.{left-is}
 use Rattle.laws.proofs.HeldCells.{held-entry, held-marks, held_answers}
 use Rattle.laws.proofs.HeldOwners.{OwnersAt, owner-there, owners_there}
 use Rattle.laws.proofs.HeldReads.{open_read, reads_are, reads_now}
-use Rattle.process.specs.registers.Accesses.{answered, applied}
-use Rattle.process.specs.registers.Cursors.{lane_number}
-use Rattle.process.specs.registers.Memory.{without_reads}
-use Rattle.process.specs.registers.Openings.{AreOf}
-use Rattle.process.specs.Memories.{cells_after, cells_dropped, memory_with}
-use Rattle.process.specs.Places.{process_after}
-use Rattle.process.specs.Serving.{dropped}
+use Rattle.process.specs.registers.{AreOf, answered, applied, lane_number, without_reads}
+use Rattle.process.specs.{cells_after, cells_dropped, dropped, memory_with, process_after}
 use Rattle.process.proofs.Memories.{with-are, with-cell, with-same}
 use Rattle.process.proofs.MemoriesMoved.{with-applied, with-dropped}
 

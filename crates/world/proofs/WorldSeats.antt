@@ -4,27 +4,17 @@ use Rattle.std.specs.Prelude.{is_some, slice_set, slice_index_or, Ok}
 use Rattle.std.proofs.lemmas.List.{get_or-set_same}
 use Rattle.std.proofs.lemmas.List.FromFn.{length-map-range_with_len, get_or-map-range_with_len}
 use Rattle.std.specs.List.{list_any}
-use Rattle.plain_store.specs.declared.Command.{Command}
-use Rattle.plain_store.specs.declared.Setup.{Setup}
-use Rattle.record.specs.declared.events.Event.{Event}
-use Rattle.record.specs.declared.marks.Mark.{Mark}
+use Rattle.plain_store.specs.{Command, Setup, checked}
+use Rattle.record.specs.{Entry, Event, Mark, Past, call_number, called_in, calls_in, doorway_begin, entry_of, has, is_ahead, is_called, is_queued, is_waiting_stage, last_command, own, past_of, processes, stage}
 use Rattle.record.specs.declared.marks.Mark.TheVariants.{Called}
-use Rattle.record.specs.Calls.{called_in, last_command, call_number, calls_in}
-use Rattle.record.specs.Doorways.{doorway_begin, is_ahead, is_queued, is_waiting_stage}
-use Rattle.record.specs.Entries.{Entry, Past, own, has, is_called}
-use Rattle.record.specs.Records.{entry_of, past_of}
-use Rattle.record.specs.Registers.{processes}
-use Rattle.record.specs.Stages.{stage}
-use Rattle.plain_store.specs.Setups.{checked}
 use Rattle.record.proofs.Width.{IsGood, is_good}
-use Rattle.laws.specs.Doings.{Doing, doing}
+use Rattle.laws.specs.{Doing, doing}
 use Rattle.laws.proofs.Frame.{own-other, own-own, doing-other}
 use Rattle.laws.proofs.FrameEvents.{accepted}
 use Rattle.laws.proofs.Theorems.{not_ahead_of_itself}
 use Rattle.plain_store.proofs.GoodSetups.{few-processes}
-use Rattle.process.specs.Places.{ProcessState, process_after, stage_doing}
-use Rattle.world.specs.Seats.{Seat, seat_of, waiting_before}
-use Rattle.world.specs.Changes.{told, before_told}
+use Rattle.process.specs.{ProcessState, process_after, stage_doing}
+use Rattle.world.specs.{Seat, before_told, seat_of, told, waiting_before}
 use Rattle.world.proofs.WorldLists.{map-changed}
 use Rattle.world.proofs.QueueAfter.{before-done, before-waits, before-kept}
 use Rattle.world.proofs.QueueBegun.{begun-after, begun-others}

@@ -1,19 +1,10 @@
 -- A world that keeps what the past with one more entry says shows the event that adds it.
 use Rattle.std.proofs.Common.{◌≡◌, ℕ, ◌&&◌, true, List, [], ◌∷◌, ◌++◌, Option, Some, None, map, refl, sym, ap, subst}
 use Rattle.std.specs.Prelude.{Ok}
-use Rattle.plain_store.specs.declared.Reply.{Reply}
-use Rattle.plain_store.specs.declared.Setup.{Setup}
-use Rattle.plain_store.specs.Setups.{checked}
-use Rattle.record.specs.declared.events.Event.{Event}
-use Rattle.record.specs.declared.history.Taken.{Taken}
-use Rattle.record.specs.declared.marks.Mark.{Mark}
+use Rattle.plain_store.specs.{Reply, Setup, checked}
+use Rattle.record.specs.{AreGiven, Entry, Event, Mark, Past, Taken, call_number, entry_of, history, is_event, last_call, last_command, own, past_of, placed, reply_taken}
 use Rattle.record.specs.declared.marks.Mark.TheVariants as mark
-use Rattle.record.specs.Calls.{last_call, last_command, call_number}
-use Rattle.record.specs.Entries.{Entry, Past, own}
-use Rattle.record.specs.Given.{AreGiven, is_event}
-use Rattle.record.specs.Histories.{history, reply_taken}
-use Rattle.record.specs.Records.{entry_of, past_of, placed}
-use Rattle.world.specs.Changes.{with_taken}
+use Rattle.world.specs.{with_taken}
 use Rattle.world.specs.Shows.{Shows, WorldState, world_of}
 
 -- the past once an event has added its entry

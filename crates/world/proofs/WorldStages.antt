@@ -1,22 +1,17 @@
 -- What a process does tells its stage, and whether it may step or fail.
 use Rattle.std.proofs.Common.{◌≡◌, ℕ, ◌<◌, Bool, true, false, cond, List, None, Some, refl, sym, ap, ◌∙◌, arith}
-use Rattle.plain_store.specs.declared.Setup.{Setup}
-use Rattle.record.specs.declared.events.Event.{Event}
+use Rattle.plain_store.specs.{Setup}
+use Rattle.record.specs.{Event, Past, Stage, is_running, own, past_of, refused_at, stage}
 use Rattle.record.specs.declared.events.Event.TheVariants as event
 use Rattle.record.specs.declared.Refusal.TheVariants.{NotRunning}
-use Rattle.record.specs.declared.stages.Stage.{Stage}
 use Rattle.record.specs.declared.stages.Stage.TheVariants as stages
-use Rattle.record.specs.Entries.{Past, own}
-use Rattle.record.specs.Places.{is_running}
-use Rattle.record.specs.Records.{past_of, refused_at}
-use Rattle.record.specs.Stages.{stage}
 use Rattle.record.proofs.Width.{IsGood}
-use Rattle.laws.specs.Doings.{Doing, Rests, Lies, Runs, Closes, doing}
+use Rattle.laws.specs.{Doing, Rests, Lies, Runs, Closes, doing}
 use Rattle.laws.proofs.Doings.{stage_of}
 use Rattle.laws.proofs.Frame.{Does, at_rest, lying, running, leaving, settling}
 use Rattle.laws.proofs.FrameEvents.{does_all}
 use Rattle.laws.proofs.FrameInside.{stage-is}
-use Rattle.process.specs.Places.{ProcessState, left_at, may_fail, may_step, stage_doing}
+use Rattle.process.specs.{ProcessState, left_at, may_fail, may_step, stage_doing}
 
 -- the stage of what is done
 stage-doing : (d : Doing) → stage_doing d ≡ stage_of d

@@ -1,8 +1,7 @@
 -- Lists that are changed from the front on, and what is read of them.
 use Rattle.std.proofs.Common.{◌≡◌, ℕ, zero, suc, ◌+◌, ◌<◌, ◌≤◌, List, [], ◌∷◌, ◌++◌, length, map, take, drop, slice_set, slice_index_or, Bool, true, false, not, refl, sym, ap, ◌∙◌, arith}
 use Rattle.std.proofs.lemmas.List.{length-map}
-use Rattle.world.specs.Changes.{told, waits_in}
-use Rattle.world.specs.Seats.{Seat, is_waiting}
+use Rattle.world.specs.{Seat, is_waiting, told, waits_in}
 use Rattle.world.proofs.WorldLists.{map-same}
 use mathlib.Core.Bool.{beq}
 

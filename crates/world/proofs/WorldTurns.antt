@@ -1,25 +1,17 @@
 -- Within a number access begins and ends take turns, and are of one kind: so what holds of each begin with its end, and of each end with a begin of that kind, holds of an access and the next one.
 use Rattle.std.proofs.Common.{◌≡◌, ℕ, ◌+◌, ◌*◌, ◌%◌, ◌<◌, ◌==◌, Bool, true, false, if◌then◌else◌, List, ◌∷◌, None, Some, refl, ap, sym, subst, ◌∙◌, arith, eq-eqb, ne_eqb}
 use Rattle.std.proofs.lemmas.Bool.{eqb-false, eqb-true}
-use Rattle.plain_store.specs.declared.Setup.{Setup}
+use Rattle.plain_store.specs.{Setup}
 use Rattle.record.specs.reader_copies.Runs as copies
-use Rattle.record.specs.safe_bit.declared.Move.{Move}
+use Rattle.record.specs.safe_bit.{Move}
 use Rattle.record.specs.safe_bit.declared.Move.TheVariants.{BeginWrite, EndWrite, BeginRead, EndRead}
-use Rattle.record.specs.safe_number.Runs.{NumberWrite}
-use Rattle.record.specs.declared.access.Access.{Access}
-use Rattle.record.specs.declared.events.Event.{Event}
+use Rattle.record.specs.safe_number.{NumberWrite}
+use Rattle.record.specs.{Access, Call, Entry, Event, Part, Past, Place, Reading, Run, Writing, access_at, bit_written, ended, entry_of, is_over, past_of, run_after, value_of, valued, written_at}
 use Rattle.record.specs.declared.events.Event.TheVariants.{Step}
-use Rattle.record.specs.Entries.{Entry, Past}
-use Rattle.record.specs.Moves.{ended, valued}
-use Rattle.record.specs.Parts.{Part, is_over, written_at}
-use Rattle.record.specs.Places.{Place, Run, Reading, Writing, access_at, bit_written, run_after, value_of}
-use Rattle.record.specs.Records.{entry_of, past_of}
-use Rattle.record.specs.Scripts.{Call}
 use Rattle.record.proofs.Width.{IsGood}
-use Rattle.laws.specs.Doings.{Doing, Rests, Lies, Runs, Closes, call, doing}
-use Rattle.laws.specs.Steps.{does_then, next_of}
+use Rattle.laws.specs.{Closes, Doing, Lies, Rests, Runs, call, does_then, doing, next_of}
 use Rattle.laws.proofs.Steps.{StepIs, step_is}
-use Rattle.process.specs.Places.{ProcessState, left_at, left_of, process_after}
+use Rattle.process.specs.{ProcessState, left_at, left_of, process_after}
 use Rattle.process.proofs.Left.{left-runs, live-by}
 use Rattle.world.proofs.WorldShows.{past-after}
 

@@ -1,27 +1,17 @@
 -- A process within a number access of its call: how many accesses are left after a step, and that none of them ends a number that is read.
 use Rattle.std.proofs.Common.{◌≡◌, ℕ, ◌+◌, ◌<◌, Bool, true, false, if◌then◌else◌, List, [], ◌∷◌, Option, None, Some, refl, ap, sym, subst, ◌∙◌, arith}
-use Rattle.plain_store.specs.declared.Setup.{Setup}
-use Rattle.record.specs.safe_bit.declared.Move.{Move}
+use Rattle.plain_store.specs.{Setup}
+use Rattle.record.specs.safe_bit.{Move}
 use Rattle.record.specs.safe_bit.declared.Move.TheVariants.{BeginWrite, EndWrite, BeginRead, EndRead, Settle}
-use Rattle.record.specs.declared.access.Access.{Access}
-use Rattle.record.specs.declared.events.Event.{Event}
+use Rattle.record.specs.{Access, Call, Entry, Event, Part, Past, Reading, Run, Writing, access_at, ended, entry_of, is_over, past_of, value_of, valued, width}
 use Rattle.record.specs.declared.events.Event.TheVariants.{Step}
-use Rattle.record.specs.Entries.{Entry, Past}
-use Rattle.record.specs.Moves.{ended, valued}
-use Rattle.record.specs.Parts.{Part, is_over}
-use Rattle.record.specs.Places.{Run, Reading, Writing, access_at, value_of}
-use Rattle.record.specs.Records.{entry_of, past_of}
-use Rattle.record.specs.Registers.{width}
-use Rattle.record.specs.Scripts.{Call}
 use Rattle.record.proofs.Width.{IsGood, is_good}
-use Rattle.laws.specs.Doings.{Doing, Rests, Lies, Runs, Closes, call, doing}
-use Rattle.laws.specs.Steps.{next_of}
+use Rattle.laws.specs.{Closes, Doing, Lies, Rests, Runs, call, doing, next_of}
 use Rattle.laws.proofs.Steps.{StepIs, step_is}
-use Rattle.process.specs.Places.{ProcessState, left_at, left_of, process_after, rest_of}
+use Rattle.process.specs.{ProcessState, left_at, left_of, process_after, rest_of}
 use Rattle.process.proofs.Left.{left-fewer, left-some, live-by}
-use Rattle.world.specs.Seats.{Seat, seat_of}
+use Rattle.world.specs.{Seat, StepsQuietly, left_in, seat_of}
 use Rattle.world.specs.Shows.{Shows, WorldState}
-use Rattle.world.specs.Walks.{StepsQuietly, left_in}
 use Rattle.world.proofs.WorldLists.{get-mapped}
 use Rattle.world.proofs.WorldOpen.{many-seats, seat-below, seat-left, seat-shown, seat-there}
 use Rattle.world.proofs.WorldShows.{past-after}

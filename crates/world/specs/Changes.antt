@@ -1,12 +1,9 @@
 -- What an event changes of what a world keeps, beside the process whose event it is.
 use Rattle.std.specs.Prelude.{ℕ, ◌+◌, [], ◌∷◌, ◌++◌, Bool, true, false, not, cond, List, map, Option, None, Some, is_some, slice_get, slice_set}
 use Rattle.std.specs.List.{range_with_len}
-use Rattle.plain_store.specs.declared.Command.{Command}
-use Rattle.plain_store.specs.declared.Reply.{Reply}
-use Rattle.record.specs.declared.history.Taken.{Taken}
-use Rattle.record.specs.Closings.{Settles}
-use Rattle.record.specs.Parts.{Part, Clears, Over}
-use Rattle.laws.specs.Doings.{Doing, Runs, Closes}
+use Rattle.plain_store.specs.{Command, Reply}
+use Rattle.record.specs.{Clears, Over, Part, Settles, Taken}
+use Rattle.laws.specs.{Doing, Runs, Closes}
 use Rattle.world.specs.Seats.{Seat, is_waiting}
 
 -- which processes are before a process, once p goes on to wait or not to wait; begun: the doorway of the process has begun

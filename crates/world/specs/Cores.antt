@@ -2,26 +2,16 @@
 use Rattle.std.specs.Prelude.{◌≡◌, ℕ, ◌+◌, ◌<◌, ◌≤◌, Bool, true, false, List, Option, None, Some, length, slice_get}
 use Rattle.std.specs.Global.{Vec}
 use Rattle.std.specs.Vec.{vec_capacity, vec_len}
-use Rattle.plain_store.specs.declared.Command.{Command}
+use Rattle.plain_store.specs.{Command, Reply, Setup}
 use Rattle.plain_store.specs.declared.Command.TheVariants.{Ask}
-use Rattle.plain_store.specs.declared.Reply.{Reply}
-use Rattle.plain_store.specs.declared.Setup.{Setup}
-use Rattle.record.specs.declared.access.Access.{Access}
-use Rattle.record.specs.declared.events.Event.{Event}
+use Rattle.record.specs.{Access, Event, Past, Refusal, Taken, is_call, process_of, reply_taken}
 use Rattle.record.specs.declared.events.Event.TheVariants.{Step}
-use Rattle.record.specs.declared.history.Taken.{Taken}
-use Rattle.record.specs.declared.refusals.Refusal.{Refusal}
-use Rattle.record.specs.Entries.{Past}
-use Rattle.record.specs.Histories.{reply_taken}
-use Rattle.record.specs.Records.{is_call, process_of}
-use Rattle.process.specs.declared.told.Effect.{Effect}
+use Rattle.process.specs.{Effect, StepTold, marks_of}
 use Rattle.process.specs.declared.told.Effect.TheVariants.{Steps}
-use Rattle.process.specs.declared.told.StepTold.{StepTold}
 use Rattle.record.specs.safe_bit.Cell.{Cell}
-use Rattle.process.specs.Telling.{marks_of}
 use Rattle.world.specs.Changes.{pending_in, with_taken}
 use Rattle.world.specs.Events.{AddsEvent, GoesOn, InEachPast, IsRefused, IsTurnedAway, UnlessRefused}
-use Rattle.flicks.specs.Flicks.{FlickState}
+use Rattle.flicks.specs.{FlickState}
 use Rattle.world.specs.Seats.{Seat}
 use Rattle.world.specs.Shows.{Shows, WorldState}
 use Rattle.world.specs.Walks.{AddsQuietly, StepsQuietly, TellsOverlapped, Walks}

@@ -1,21 +1,11 @@
 -- What an accepted event makes of a world, in every record that it shows.
 use Rattle.std.specs.Prelude.{◌≡◌, ◌⊎◌, ℕ, ◌+◌, ◌≤◌, Bool, true, cond, nat_lt, List, ◌∷◌, length, Option, None, Some}
-use Rattle.record.specs.declared.events.Event.{Event}
+use Rattle.record.specs.{Access, Act, Entry, Event, KeepsHeadline, Past, Refusal, Stage, entry_of, is_call, past_of, process_of, refused, stage}
 use Rattle.record.specs.declared.events.Event.TheVariants.{Step}
-use Rattle.record.specs.declared.refusals.Refusal.{Refusal}
 use Rattle.record.specs.declared.refusals.Refusal.TheVariants.{Memory}
-use Rattle.record.specs.declared.access.Access.{Access}
-use Rattle.record.specs.Acts.{Act}
-use Rattle.record.specs.Entries.{Entry, Past}
-use Rattle.record.specs.Headline.{KeepsHeadline}
-use Rattle.record.specs.Records.{entry_of, is_call, past_of, process_of, refused}
-use Rattle.process.specs.declared.told.Effect.{Effect}
+use Rattle.process.specs.{Effect, StepTold, act_of}
 use Rattle.process.specs.declared.told.Effect.TheVariants.{Steps}
-use Rattle.process.specs.declared.told.StepTold.{StepTold}
-use Rattle.process.specs.Telling.{act_of}
-use Rattle.plain_store.specs.declared.Setup.{Setup}
-use Rattle.record.specs.declared.stages.Stage.{Stage}
-use Rattle.record.specs.Stages.{stage}
+use Rattle.plain_store.specs.{Setup}
 use Rattle.world.specs.Changes.{pending_in}
 use Rattle.world.specs.Shows.{Shows, WorldState}
 

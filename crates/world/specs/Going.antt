@@ -1,16 +1,10 @@
 -- A core once a process has made an event of its own, by the seat of that process.
 use Rattle.std.specs.Prelude.{◌≡◌, ℕ, ◌≤◌, List, [], ◌∷◌, Option, None, Some, length, map, slice_set}
 use Rattle.record.specs.safe_bit.Cell.{Cell}
-use Rattle.record.specs.declared.access.Access.{Access}
-use Rattle.record.specs.declared.events.Event.{Event}
+use Rattle.record.specs.{Access, Event, Mark, process_of, value_of}
 use Rattle.record.specs.declared.events.Event.TheVariants.{Call, Step, Fail, Withdraw, Restart}
-use Rattle.record.specs.declared.marks.Mark.{Mark}
 use Rattle.record.specs.declared.marks.Mark.TheVariants.{Called, Failed, Withdrew, Restarted}
-use Rattle.record.specs.Places.{value_of}
-use Rattle.record.specs.Records.{process_of}
-use Rattle.process.specs.declared.told.Effect.{Effect}
-use Rattle.process.specs.Places.{failed, marks_on, next_number, restarted, withdrawn}
-use Rattle.process.specs.Serving.{answered_at, dropped, step_by}
+use Rattle.process.specs.{Effect, answered_at, dropped, failed, marks_on, next_number, restarted, step_by, withdrawn}
 use Rattle.world.specs.Changes.{told, waiting_in}
 use Rattle.world.specs.Cores.{CoreAdds, CoreMakes, CoreState, PendedUnlessCall, pending_with}
 use Rattle.world.specs.Seats.{Seat, is_waiting, seat_called, seat_stepped, seat_with}

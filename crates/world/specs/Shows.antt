@@ -1,17 +1,10 @@
 -- What a world keeps, and the records that it shows.
 use Rattle.std.specs.Prelude.{◌≡◌, List, map, Ok}
 use Rattle.record.specs.safe_bit.Cell.{Cell}
-use Rattle.plain_store.specs.declared.Setup.{Setup}
-use Rattle.plain_store.specs.Setups.{checked}
-use Rattle.record.specs.declared.events.Event.{Event}
-use Rattle.record.specs.declared.history.Taken.{Taken}
-use Rattle.record.specs.Entries.{Past}
-use Rattle.record.specs.Given.{AreGiven}
-use Rattle.record.specs.Histories.{history}
-use Rattle.record.specs.Records.{past_of}
-use Rattle.record.specs.Registers.{processes}
-use Rattle.laws.specs.Held.{cell_held}
-use Rattle.process.specs.Memories.{memory_with}
+use Rattle.plain_store.specs.{Setup, checked}
+use Rattle.record.specs.{AreGiven, Event, Past, Taken, history, past_of, processes}
+use Rattle.laws.specs.{cell_held}
+use Rattle.process.specs.{memory_with}
 use Rattle.world.specs.Seats.{Seat, seat_of}
 
 -- what a world keeps: the registers, what it keeps of each process, and the history

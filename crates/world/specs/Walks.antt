@@ -1,17 +1,14 @@
 -- Steps of a process without a mark, one after another.
 use Rattle.std.specs.Prelude.{◌≡◌, ℕ, zero, suc, ◌+◌, Bool, false, if◌then◌else◌, List, [], None, Some, slice_get}
-use Rattle.record.specs.safe_bit.declared.Move.{Move}
+use Rattle.record.specs.safe_bit.{Move, is_overlapped}
 use Rattle.record.specs.safe_bit.declared.Move.TheVariants.{EndRead}
-use Rattle.record.specs.safe_bit.SafeRule.{is_overlapped}
-use Rattle.record.specs.Entries.{Entry, Past}
-use Rattle.record.specs.Moves.{moves_of}
-use Rattle.record.specs.declared.access.Access.{Access}
+use Rattle.record.specs.{Access, Entry, Past, moves_of}
 use Rattle.record.specs.declared.events.Event.TheVariants.{Step}
 use Rattle.world.specs.Events.{Adds, GoesOn, InEachPast, KeepsTheHeadline}
-use Rattle.flicks.specs.Flicks.{FlickState, after_flick, flick_of}
+use Rattle.flicks.specs.{FlickState, after_flick, flick_of}
 use Rattle.world.specs.Seats.{Seat}
 use Rattle.world.specs.Shows.{WorldState}
-use Rattle.process.specs.Places.{left_at}
+use Rattle.process.specs.{left_at}
 
 -- the move ends a read that a write overlapped: one was open as the read that began last began, or has begun since
 abbrev pub ends_overlapped : List Move → Move → Bool

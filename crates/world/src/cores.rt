@@ -1,13 +1,11 @@
 //! N processes over one set of registers, without a history.
 ghost use Rattle.std.specs.Prelude.{◌≡◌, ◌<◌, ◌≤◌, Bool, length, true, None, Some, IfOk, IfErr, IfSome, IsOk, OnErr, OnOk, Ok, [], option_map};
-ghost use Rattle.plain_store.specs.Setups.{checked};
-ghost use Rattle.plain_store.specs.Commands.{is_command};
-ghost use Rattle.record.specs.store_image.Image.{image_of};
+ghost use Rattle.plain_store.specs.{checked, is_command};
+ghost use Rattle.record.specs.store_image.{image_of};
 ghost use Rattle.record.specs.declared.Event.TheVariants.{Call, Step, Fail, Withdraw, Restart};
-ghost use Rattle.record.specs.Doorways.{ahead};
-ghost use Rattle.record.specs.Newest.{newest};
+ghost use Rattle.record.specs.{ahead, newest};
 ghost use Rattle.process.specs.declared.told.Effect.TheVariants.{Calls, Fails, Restarts, Steps, Withdraws};
-ghost use Rattle.process.specs.Places.{WantsNoMemory};
+ghost use Rattle.process.specs.{WantsNoMemory};
 ghost use Rattle.world.specs.Cores.{CoreAdds, CoreAddsQuietly, CoreAddsStep, CoreMakes, CoreRefuses, CoreRefusesStep, CoreSteps, CoreStepsQuietly, CoreTellsOverlapped, CoreWalks, InEachCorePast, PendedBefore, PendedUnlessCall, UnlessCoreRefuses, pending_with, taken_by, with_history};
 ghost use Rattle.world.specs.Events.{stage_in};
 ghost use Rattle.world.specs.Going.{CoreGoes};

@@ -1,13 +1,10 @@
 //! What a world keeps of one process.
 ghost use Rattle.std.specs.Prelude.{◌≡◌, ◌<◌, ◌≤◌, true, [], Ok};
-ghost use Rattle.plain_store.specs.Setups.{checked};
-ghost use Rattle.record.specs.Places.{value_of};
+ghost use Rattle.plain_store.specs.{checked};
+ghost use Rattle.record.specs.{value_of};
 ghost use Rattle.record.specs.declared.Stage.TheVariants.{Waiting};
-ghost use Rattle.process.specs.registers.Accesses.{applied, ends_overlapped};
-ghost use Rattle.process.specs.registers.Openings.{AreOf};
-ghost use Rattle.process.specs.Places.{failed, left_at, marks_on, may_fail, may_step, restarted, stage_doing, stepped, withdrawn};
-ghost use Rattle.process.specs.Serving.{answered_at, dropped, overlapped_steps, step_by, steps_of};
-ghost use Rattle.process.specs.Telling.{marks_told};
+ghost use Rattle.process.specs.registers.{AreOf, applied, ends_overlapped};
+ghost use Rattle.process.specs.{answered_at, dropped, failed, left_at, marks_on, marks_told, may_fail, may_step, overlapped_steps, restarted, stage_doing, step_by, stepped, steps_of, withdrawn};
 ghost use Rattle.world.specs.Changes.{told};
 ghost use Rattle.world.specs.Seats.{is_at_door, is_waiting, seat_called, seat_of, seat_stepped, seat_with};
 

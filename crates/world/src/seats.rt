@@ -1,7 +1,7 @@
 //! What is asked of the seats of a world, and told to them.
 ghost use Rattle.std.specs.Prelude.{◌≡◌, ◌<◌, map};
 ghost use Rattle.std.specs.List.{list_any};
-ghost use Rattle.laws.specs.Doings.{is_inside};
+ghost use Rattle.laws.specs.{is_inside};
 ghost use Rattle.world.specs.Changes.{told, waiting_in, waits_in};
 
 use crate::seat::Seat;

@@ -1,8 +1,8 @@
 //! The lines that make Steps. A Step without a mark leaves every process where it is, so that only after one with
 //! marks a line has to look again who is where.
 ghost use Rattle.std.specs.Prelude.{◌≡◌, ◌<◌, ◌≤◌, ℕ, length, slice_index, IfErr, IfOk, None, Ok};
-ghost use Rattle.world.specs.flicks.Flicks.{after_flick, after_pick, flick_of, pick_of};
-ghost use Rattle.record.specs.Stages.{stage};
+ghost use Rattle.world.specs.flicks.{after_flick, after_pick, flick_of, pick_of};
+ghost use Rattle.record.specs.{stage};
 ghost use Rattle.record.specs.declared.Event.TheVariants.{Step};
 ghost use Rattle.scenario.specs.declared.lines.Line.TheVariants.{Go as GoLine, Wander as WanderLine};
 ghost use Rattle.course.specs.Listening.{Comes, InItsRun, LeavesRoom, RunsAlone, StopsAlone, StopsAmid, room_wanted};

@@ -1,7 +1,7 @@
 //! Steps of a run: they pass a listener by, are heard by it, or are told.
 ghost use Rattle.std.specs.Prelude.{◌≡◌, ◌+◌, ◌<◌, ◌≤◌, IfErr, IfOk, IfSome, None, Ok, OnOk, true};
 ghost use Rattle.record.specs.declared.Event.TheVariants.{Step};
-ghost use Rattle.world.specs.Walks.{KeepOthers, left_in};
+ghost use Rattle.world.specs.{KeepOthers, left_in};
 ghost use Rattle.world.specs.process.declared.told.StepTold.TheVariants.{Nothing};
 ghost use Rattle.world.specs.process.registers.declared.access_made.AccessMade.{AccessMade as MadeSeen};
 ghost use Rattle.course.specs.Courses.{course};

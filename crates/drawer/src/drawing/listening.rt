@@ -1,8 +1,7 @@
 //! A listener that draws a run as it hears it.
 ghost use Rattle.std.specs.Prelude.{◌≡◌, ◌+◌, ◌-◌, ◌^◌, ◌<◌, ℕ, Err, IfErr, OnOk, is_some, refl, ⊤};
 ghost use Rattle.std.proofs.Common.{add-zero, ap, sym, ◌∙◌};
-ghost use Rattle.course.specs.Summaries.{CanCount, can_count_less};
-ghost use Rattle.course.specs.Writing.{IsWriteFault, failed_write};
+ghost use Rattle.course.specs.{CanCount, IsWriteFault, can_count_less, failed_write};
 ghost use Rattle.drawer.specs.Drawings.{DrawsLine, GoesOnDrawing};
 
 use super::Drawing;

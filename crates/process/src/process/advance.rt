@@ -1,8 +1,8 @@
 //! The next access of a process, and how it goes on by it.
 ghost use Rattle.std.specs.Prelude.{◌≡◌, ◌&&◌, ◌∷◌, [], ℕ, Bool, IfSome, None, Some, cond, true};
 ghost use Rattle.record.specs.declared.marks.Mark.TheVariants.{Left};
-ghost use Rattle.record.specs.Closings.{settled_marks};
-ghost use Rattle.laws.specs.Held.{IsThere};
+ghost use Rattle.record.specs.{settled_marks};
+ghost use Rattle.laws.specs.{IsThere};
 ghost use Rattle.process.specs.Alone.{IsOfRegister};
 ghost use Rattle.process.specs.Places.{changes_at, changes_read, marks_on, may_step, stepped};
 ghost use Rattle.process.specs.Serving.{next_at};

@@ -1,6 +1,6 @@
 //! Parts of a process's work that stand alone, and what those who drive them want to know of it.
 ghost use Rattle.std.specs.Prelude.{◌≡◌, IfSome};
-ghost use Rattle.record.specs.Cuts.{IsTornOf};
+ghost use Rattle.record.specs.{IsTornOf};
 ghost use Rattle.process.specs.Alone.{answer_of, called_inside, change_of, full_of, settles, settling_with, ticket_of, torn_of};
 ghost use Rattle.process.specs.Places.{changes_read, withdrawn};
 

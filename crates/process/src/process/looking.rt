@@ -1,10 +1,9 @@
 //! What is known of a process. It is looked at, and stays as it is.
 ghost use Rattle.std.specs.Prelude.{◌≡◌, ◌<◌, ◌≤◌, Bool, Option, length, true};
 ghost use Rattle.plain_store.specs.declared.Reply.{Reply as Replied};
-ghost use Rattle.record.specs.Parts.{read_at};
-ghost use Rattle.record.specs.Registers.{width};
-ghost use Rattle.record.specs.safe_number.Bytes.{bit_in};
-ghost use Rattle.registers.specs.AtParts.{IsAtPart, place_at};
+ghost use Rattle.record.specs.{read_at, width};
+ghost use Rattle.record.specs.safe_number.{bit_in};
+ghost use Rattle.registers.specs.{IsAtPart, place_at};
 ghost use Rattle.process.specs.Looks.{number_at, number_read, reads_number, settling_in, settling_of, ticket_known};
 ghost use Rattle.process.specs.Working.{settling_at};
 

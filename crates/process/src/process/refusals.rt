@@ -1,6 +1,6 @@
 //! Why an event is refused, by its process alone.
 ghost use Rattle.std.specs.Prelude.{◌≡◌, ◌<◌, IfSome};
-ghost use Rattle.record.specs.Records.{refused_at};
+ghost use Rattle.record.specs.{refused_at};
 ghost use Rattle.process.specs.Places.{WantsNoMemory, is_full, next_number, refusal_of};
 
 use super::Process;

@@ -1,10 +1,8 @@
 //! A process that is served by a memory.
 ghost use Rattle.std.specs.Prelude.{◌≡◌, ◌<◌, ◌≤◌, IfSome, true};
-ghost use Rattle.record.specs.Places.{value_of};
+ghost use Rattle.record.specs.{value_of};
 ghost use Rattle.record.specs.declared.stages.Stage.TheVariants.{Waiting};
-ghost use Rattle.registers.specs.Accesses.{applied, ends_overlapped};
-ghost use Rattle.registers.specs.AtParts.{IsAtPart, run_at};
-ghost use Rattle.registers.specs.Openings.{AreOf};
+ghost use Rattle.registers.specs.{AreOf, IsAtPart, applied, ends_overlapped, run_at};
 ghost use Rattle.process.specs.Places.{changes_read, failed, left_at, left_of, marks_on, may_fail, may_step, stage_doing, stepped, withdrawn};
 ghost use Rattle.process.specs.Serving.{answered_at, dropped, overlapped_steps, step_by, steps_of};
 ghost use Rattle.process.specs.Telling.{changes_told, marks_told};

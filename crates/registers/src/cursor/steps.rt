@@ -2,7 +2,7 @@
 ghost use Rattle.std.specs.Prelude.{◌≡◌, ℕ, ◌<◌, ◌≤◌, ◌+◌, ◌*◌, ◌/◌, ◌%◌, true, false, slice_index_or};
 ghost use Rattle.registers.specs.Accesses.{access_with, read_after, read_move, write_after, write_move};
 ghost use Rattle.registers.specs.Cursors.{IsAtCopy, first_lane};
-ghost use Rattle.reader_copies.specs.Flags.{flag_in};
+ghost use Rattle.reader_copies.specs.{flag_in};
 ghost use Rattle.registers.specs.Wordwise.{more_bits};
 
 use super::{Cursor, NumberRun, word_at};

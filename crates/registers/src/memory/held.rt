@@ -1,11 +1,11 @@
 //! What a register holds, by reader 0's copies. It is read off them, and no access is made.
 ghost use Rattle.std.specs.Prelude.{◌≡◌, ℕ, ◌<◌, ◌≤◌, Ok, false, slice_index_or};
-ghost use Rattle.plain_store.specs.Setups.{checked};
-ghost use Rattle.record.specs.Registers.{width};
-ghost use Rattle.safe_number.specs.Bytes.{bit_in, number_of_bits};
+ghost use Rattle.plain_store.specs.{checked};
+ghost use Rattle.record.specs.{width};
+ghost use Rattle.safe_number.specs.{bit_in, number_of_bits};
 ghost use Rattle.registers.specs.Openings.{AreOf};
 ghost use Rattle.registers.specs.Rows.{values_held};
-ghost use Rattle.reader_copies.specs.Words.{bits_of_words};
+ghost use Rattle.reader_copies.specs.{bits_of_words};
 
 use super::BitMemory;
 use crate::cursor::{lane_number, low_bits};

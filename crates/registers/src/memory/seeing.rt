@@ -1,11 +1,11 @@
 //! What a copy of a bit is. It is looked at, and no access is made.
 ghost use Rattle.std.specs.Prelude.{◌≡◌, ◌<◌, Ok};
-ghost use Rattle.plain_store.specs.Setups.{checked};
-ghost use Rattle.record.specs.Registers.{width};
+ghost use Rattle.plain_store.specs.{checked};
+ghost use Rattle.record.specs.{width};
 ghost use Rattle.registers.specs.Accesses.{lane_of_access};
 ghost use Rattle.registers.specs.Memory.{cell_at};
 ghost use Rattle.registers.specs.Openings.{AreOf};
-ghost use Rattle.reader_copies.specs.Seeing.{bit_seen};
+ghost use Rattle.reader_copies.specs.{bit_seen};
 
 use super::BitMemory;
 use crate::cursor::lane_number;

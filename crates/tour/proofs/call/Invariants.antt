@@ -1,5 +1,4 @@
-use Rattle.board.specs.Boards.{IsOf}
-use Rattle.board.specs.Ports.{SamePort}
+use Rattle.board.specs.{IsOf, SamePort}
 use Rattle.tour.proofs.call.Given as goal
 
 abbrev pub invariant-loop : goal.invariant-loop

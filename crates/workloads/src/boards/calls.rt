@@ -1,7 +1,6 @@
 //! Calls of one port, and what ports do on threads.
 ghost use Rattle.std.specs.Prelude.{◌≡◌, ℕ, Some, slice_get};
-ghost use Rattle.board_runs.specs.board.Boards.{IsOf};
-ghost use Rattle.board_runs.specs.board.Ports.{PortState, SamePort};
+ghost use Rattle.board_runs.specs.board.{IsOf, PortState, SamePort};
 
 use board_runs::{Board, Driven, Port};
 use flicks::Flicks;

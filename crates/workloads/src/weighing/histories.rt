@@ -1,6 +1,6 @@
 //! Histories of one thread, in which processes call in turn.
 ghost use Rattle.std.specs.Prelude.{◌≡◌, Ok};
-ghost use Rattle.plain_store.specs.Setups.{checked};
+ghost use Rattle.plain_store.specs.{checked};
 
 use crate::counters::counter;
 use call_check::Image;

@@ -1,11 +1,9 @@
 //! What a core keeps of a process and of a bit. It is looked at, and stays as it is.
 ghost use Rattle.std.specs.Prelude.{◌≡◌, ◌<◌};
-ghost use Rattle.record.specs.Registers.{width};
-ghost use Rattle.laws.specs.Doings.{doing};
-ghost use Rattle.laws.specs.Held.{cell_held};
-ghost use Rattle.process.specs.Looks.{number_read};
-ghost use Rattle.process.specs.Places.{process_after};
-ghost use Rattle.process.specs.registers.reader_copies.Seeing.{bit_seen};
+ghost use Rattle.record.specs.{width};
+ghost use Rattle.laws.specs.{cell_held, doing};
+ghost use Rattle.process.specs.{number_read, process_after};
+ghost use Rattle.process.specs.registers.reader_copies.{bit_seen};
 ghost use Rattle.world.specs.Cores.{InEachCorePast};
 
 use super::Core;

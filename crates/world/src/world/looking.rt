@@ -1,7 +1,7 @@
 //! What a process has read, as a world is asked.
 ghost use Rattle.std.specs.Prelude.{◌≡◌};
-ghost use Rattle.laws.specs.Doings.{doing};
-ghost use Rattle.process.specs.Looks.{number_read};
+ghost use Rattle.laws.specs.{doing};
+ghost use Rattle.process.specs.{number_read};
 ghost use Rattle.world.specs.Events.{InEachPast};
 
 use super::World;

@@ -1,5 +1,5 @@
 use Rattle.std.proofs.Common.{◌≡◌, ◌++◌, map, drop}
-use Rattle.any_lock.specs.Changes.{mark_with}
+use Rattle.any_lock.specs.{mark_with}
 use Rattle.any_lock.proofs.changes.changed_marks.Given as goal
 
 -- those so far, and those that are left

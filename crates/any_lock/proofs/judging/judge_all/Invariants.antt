@@ -1,5 +1,5 @@
 use Rattle.std.proofs.Common.{◌≡◌, take}
-use Rattle.any_lock.specs.Judging.{HasJudged}
+use Rattle.any_lock.specs.{HasJudged}
 use Rattle.any_lock.proofs.judging.judge_all.Given as goal
 
 -- the entries before the present one were judged

@@ -1,5 +1,5 @@
 use Rattle.std.proofs.Common.{sym}
-use Rattle.record.specs.Doorways.{is_before}
+use Rattle.record.specs.{is_before}
 use Rattle.any_lock.proofs.kept.is_before.Goals as goal
 
 pub returns-in-Some-None : goal.returns-in-Some-None

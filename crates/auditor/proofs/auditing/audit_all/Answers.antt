@@ -1,9 +1,8 @@
 use Rattle.std.proofs.Common.{◌≡◌, ◌∷◌, ◌+◌, List, refl, reverse, take, sym, subst, ◌∙◌}
 use Rattle.std.proofs.lemmas.List.{take_all}
-use Rattle.plain_store.specs.declared.Setup.{Setup}
-use Rattle.record.specs.Entries.{Entry, Past}
-use Rattle.auditor.specs.Hearing.{BreaksNext, HasHeard}
-use Rattle.auditor.specs.Verdicts.{AllKeep, KeepsAll}
+use Rattle.plain_store.specs.{Setup}
+use Rattle.record.specs.{Entry, Past}
+use Rattle.auditor.specs.{AllKeep, BreaksNext, HasHeard, KeepsAll}
 use Rattle.read_law.proofs.Entries.{entries_more}
 use Rattle.auditor.proofs.Firsts.{is_bad_at}
 use Rattle.auditor.proofs.Whole.{good_of_events, true_record}

@@ -1,6 +1,5 @@
 use Rattle.std.proofs.Common.{◌≡◌, ℕ, ◌<◌, slice_index_or}
-use Rattle.record.specs.declared.marks.Mark.{Mark}
-use Rattle.record.specs.Records.{placed}
+use Rattle.record.specs.{Mark, placed}
 use Rattle.auditor.proofs.matching.are_alike.Given as goal
 
 -- the marks before the present one are the same

@@ -1,6 +1,6 @@
 use Rattle.std.proofs.Common.{suc, ◌++◌, ◌∷◌, [], take, drop, sym, ap, subst, ◌∙◌, true≢false, refl}
 use Rattle.std.proofs.lemmas.List.{take_all}
-use Rattle.auditor.specs.Hearing.{AreAt}
+use Rattle.auditor.specs.{AreAt}
 use Rattle.auditor.proofs.Alike.{at-more, at-part, at-plain, at-taken, split-here, takes-nothing, upto-here}
 use Rattle.auditor.proofs.matching.are_at.Goals as goal
 use Rattle.auditor.proofs.matching.are_at.Goals.{in-Taken+else-not-is_count, in_default}

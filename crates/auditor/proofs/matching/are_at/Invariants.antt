@@ -1,5 +1,5 @@
 use Rattle.std.proofs.Common.{ℕ, take}
-use Rattle.auditor.specs.Hearing.{AreAt, IsCount}
+use Rattle.auditor.specs.{AreAt, IsCount}
 use Rattle.auditor.proofs.matching.are_at.Given as goal
 
 -- the marks before the present one have their place

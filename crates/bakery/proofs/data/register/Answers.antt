@@ -1,5 +1,5 @@
 use Rattle.std.proofs.Common.{◌∙◌, ap}
-use Rattle.reader_copies.specs.Row.{new_row}
+use Rattle.reader_copies.specs.{new_row}
 use Rattle.bakery.proofs.Opening.{zero-register}
 use Rattle.bakery.proofs.data.register.Goals as goal
 

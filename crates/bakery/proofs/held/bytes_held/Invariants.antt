@@ -1,6 +1,6 @@
 use Rattle.std.proofs.Common.{◌≡◌, length, take}
-use Rattle.record.specs.Registers.{bytes_of_bits}
-use Rattle.bakery.specs.Newest.{values_of}
+use Rattle.record.specs.{bytes_of_bits}
+use Rattle.bakery.specs.{values_of}
 use Rattle.bakery.proofs.held.bytes_held.Given as goal
 
 abbrev pub invariant-loop-k : goal.invariant-loop-k

@@ -1,6 +1,6 @@
 use Rattle.std.proofs.Common.{◌≡◌, ℕ, ◌+◌, ◌-◌, Bool, List, take, drop, if◌then◌else◌, ap, ◌∙◌, pow_mono, arith}
-use Rattle.safe_number.specs.Bytes.{number_of_bits}
-use Rattle.bakery.specs.Newest.{values_of}
+use Rattle.safe_number.specs.{number_of_bits}
+use Rattle.bakery.specs.{values_of}
 use Rattle.bakery.proofs.Holdings.{number-more, number-below, byte-is, byte-below}
 use Rattle.bakery.proofs.held.number_held.Goals as goal
 

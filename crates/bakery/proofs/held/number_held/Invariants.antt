@@ -1,6 +1,6 @@
 use Rattle.std.proofs.Common.{◌≡◌, ◌+◌, ◌-◌, take, drop}
-use Rattle.safe_number.specs.Bytes.{number_of_bits}
-use Rattle.bakery.specs.Newest.{values_of}
+use Rattle.safe_number.specs.{number_of_bits}
+use Rattle.bakery.specs.{values_of}
 use Rattle.bakery.proofs.held.number_held.Given as goal
 
 abbrev pub invariant-loop-done : goal.invariant-loop-done

@@ -1,7 +1,6 @@
 use Rattle.std.proofs.Common.{◌≡◌, ◌<◌, List, length, get_or, refl, sym, ap, subst, ◌∙◌, arith}
 use Rattle.std.proofs.lemmas.Option.{slice_get_read, slice_get_within}
-use Rattle.board.specs.Closings.{IsStill}
-use Rattle.board.specs.Ports.{PortState}
+use Rattle.board.specs.{IsStill, PortState}
 use Rattle.board.proofs.PortLists.{below_next}
 use Rattle.board.proofs.closing.are_quiet.Goals as goal
 

@@ -1,7 +1,6 @@
 use Rattle.std.proofs.Common.{◌≡◌, ◌<◌, ℕ, Some}
 use Rattle.std.specs.Prelude.{slice_get}
-use Rattle.board.specs.Closings.{IsStill}
-use Rattle.board.specs.Ports.{PortState}
+use Rattle.board.specs.{IsStill, PortState}
 use Rattle.board.proofs.closing.are_quiet.Given as goal
 
 abbrev pub invariant-loop-port : goal.invariant-loop-port

@@ -4,13 +4,9 @@ use Rattle.std.proofs.lemmas.List.{append-nil, append_assoc, length-map, map-app
 use Rattle.std.specs.Global.{Vec}
 use mathlib.Core.Logic.{dite}
 use native.Mathlib.Decide.{ℕ_discrete}
-use Rattle.plain_store.specs.declared.Setup.{Setup}
-use Rattle.board.specs.Agreement.{IsIn}
-use Rattle.board.specs.Closings.{IsStill, StandsInRecord, done_calls}
-use Rattle.board.specs.Ports.{PortState}
-use Rattle.board.specs.Views.{OwnView, ViewState, with_joined}
-use Rattle.record.specs.declared.calls.Placed.{Placed}
-use Rattle.record.specs.CallLists.{lists_of}
+use Rattle.plain_store.specs.{Setup}
+use Rattle.board.specs.{IsIn, IsStill, OwnView, PortState, StandsInRecord, ViewState, done_calls, with_joined}
+use Rattle.record.specs.{Placed, lists_of}
 use Rattle.board.proofs.Closings.{joins_still}
 use Rattle.board.proofs.PortLists.{all_push, first_and_rest, item_at, rest_of}
 use Rattle.board.proofs.closing.join_all.Goals as goal

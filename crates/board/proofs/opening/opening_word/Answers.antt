@@ -1,13 +1,13 @@
 use Rattle.std.proofs.Common.{◌≡◌, ◌<◌, ◌≤◌, false, sym, ap, ◌∙◌, subst}
 use Rattle.std.specs.Prelude.{slice_index_or}
-use Rattle.record.specs.safe_number.Bytes.{bit_in}
+use Rattle.record.specs.safe_number.{bit_in}
 use Rattle.record.specs.declared.access.Field.TheVariants.{Image0}
 use Rattle.record.proofs.safe_number.Numbers.{get-bits}
-use Rattle.plain_store.specs.Setups.{opening_store}
-use Rattle.store_image.specs.Image.{image_of}
-use Rattle.record.specs.Registers.{opening_bit, opening_bits, width}
+use Rattle.plain_store.specs.{opening_store}
+use Rattle.store_image.specs.{image_of}
+use Rattle.record.specs.{opening_bit, opening_bits, width}
 use Rattle.board.proofs.Seats.{some_processes}
-use Rattle.board.specs.Words.{bit_of, closed_word}
+use Rattle.board.specs.{bit_of, closed_word}
 use Rattle.board.proofs.WordNumbers.{bit_there, byte_word, opens_late, opens_low}
 use Rattle.board.proofs.opening.opening_word.Goals as goal
 

@@ -1,5 +1,5 @@
 use Rattle.std.proofs.Common.{◌≡◌, ◌+◌, sym, ap, ◌∙◌, arith}
-use Rattle.board.specs.Words.{words_in}
+use Rattle.board.specs.{words_in}
 use Rattle.board.proofs.WordNumbers.{opening_more}
 use Rattle.board.proofs.opening.opening_words.Goals as goal
 

@@ -1,6 +1,6 @@
 use Rattle.std.proofs.Common.{◌≡◌, ◌*◌, ◌<◌, ℕ, vec_len, vec_capacity}
 use Rattle.std.specs.Prelude.{slice_index}
-use Rattle.board.specs.Words.{opening_word, row_bits}
+use Rattle.board.specs.{opening_word, row_bits}
 use Rattle.board.proofs.opening.opening_words.Given as goal
 
 abbrev pub invariant-loop-word : goal.invariant-loop-word

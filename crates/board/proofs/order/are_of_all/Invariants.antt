@@ -1,5 +1,5 @@
 use Rattle.std.proofs.Common.{◌<◌, ℕ}
-use Rattle.board.specs.Closings.{IsPlaceOf}
+use Rattle.board.specs.{IsPlaceOf}
 use Rattle.board.proofs.order.are_of_all.Given as goal
 
 -- the ports of the processes before the present one are there

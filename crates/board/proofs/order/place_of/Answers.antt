@@ -1,6 +1,6 @@
 use Rattle.std.proofs.Common.{◌≡◌, ◌<◌, List, length, get_or, subst, sym, arith}
 use Rattle.std.proofs.lemmas.Option.{slice_get_within}
-use Rattle.board.specs.Ports.{PortState}
+use Rattle.board.specs.{PortState}
 use Rattle.board.proofs.Orders.{not_here}
 use Rattle.board.proofs.order.place_of.Goals as goal
 

@@ -1,5 +1,5 @@
 use Rattle.std.proofs.Common.{◌<◌, ℕ}
-use Rattle.board.specs.Closings.{IsPlaceOf}
+use Rattle.board.specs.{IsPlaceOf}
 use Rattle.board.proofs.order.place_of.Given as goal
 
 -- it stands at no place before this one

@@ -2,7 +2,7 @@ use Rattle.std.proofs.Common.{◌≡◌, ◌<◌, ℕ, List, length, sym, ◌∙
 use Rattle.std.specs.List.{SwappedAt}
 use Rattle.std.proofs.lemmas.List.Sorted.{IsPermutation-swap, IsPermutation-trans, length_permutation}
 use Rattle.std.proofs.lemmas.Option.{slice_get_within}
-use Rattle.board.specs.Ports.{PortState}
+use Rattle.board.specs.{PortState}
 use Rattle.board.proofs.Orders.{all_placed, found_is, place_then, placed_more, some_place}
 use Rattle.board.proofs.order.put_in_order.Goals as goal
 

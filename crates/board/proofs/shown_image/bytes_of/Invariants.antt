@@ -1,6 +1,6 @@
 use Rattle.std.proofs.Common.{◌≡◌, length, take}
-use Rattle.record.specs.Registers.{bytes_of_bits}
-use Rattle.board.specs.Closings.{bits_shown}
+use Rattle.record.specs.{bytes_of_bits}
+use Rattle.board.specs.{bits_shown}
 use Rattle.board.proofs.shown_image.bytes_of.Given as goal
 
 abbrev pub invariant-loop-k : goal.invariant-loop-k

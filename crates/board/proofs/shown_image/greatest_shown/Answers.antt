@@ -1,8 +1,8 @@
 use Rattle.std.proofs.Common.{◌≡◌, List, ap, map, max, arith, rules}
 use Rattle.std.specs.List.{range_with_len}
 use Rattle.std.specs.Ordering.{nat_cmp, ord_max}
-use Rattle.record.specs.Program.{Version, newest_stamp}
-use Rattle.board.specs.Closings.{version_shown}
+use Rattle.record.specs.{Version, newest_stamp}
+use Rattle.board.specs.{version_shown}
 use Rattle.board.proofs.ShownBits.{stamp-more, versions-more}
 use Rattle.board.proofs.shown_image.greatest_shown.Goals as goal
 

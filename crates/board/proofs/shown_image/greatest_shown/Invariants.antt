@@ -1,7 +1,7 @@
 use Rattle.std.proofs.Common.{◌≡◌, map}
 use Rattle.std.specs.List.{range_with_len}
-use Rattle.record.specs.Program.{newest_stamp}
-use Rattle.board.specs.Closings.{version_shown}
+use Rattle.record.specs.{newest_stamp}
+use Rattle.board.specs.{version_shown}
 use Rattle.board.proofs.shown_image.greatest_shown.Given as goal
 
 abbrev pub invariant-loop-process : goal.invariant-loop-process

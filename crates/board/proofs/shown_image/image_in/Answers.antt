@@ -1,5 +1,5 @@
 use Rattle.std.proofs.Common.{◌≡◌, length, ◌∙◌, ap, arith}
-use Rattle.store_image.specs.Reading.{store_in}
+use Rattle.store_image.specs.{store_in}
 use Rattle.store_image.proofs.ImageBytes.{length-image_of}
 use Rattle.board.proofs.shown_image.image_in.Goals as goal
 

@@ -1,6 +1,6 @@
 use Rattle.std.proofs.Common.{ℕ, Bool, false, List, map, ap, sym, ◌∙◌, arith}
-use Rattle.record.specs.Program.{Version}
-use Rattle.board.specs.Closings.{versions_shown}
+use Rattle.record.specs.{Version}
+use Rattle.board.specs.{versions_shown}
 use Rattle.board.proofs.Seats.{some_processes}
 use Rattle.board.proofs.ShownBits.{many-stamps, newest-below, place-here, place-later, version-at}
 use Rattle.board.proofs.shown_image.newest_shown.Goals as goal

@@ -1,6 +1,6 @@
 use Rattle.std.proofs.Common.{◌≡◌, ◌+◌, drop, map}
-use Rattle.record.specs.Program.{Version, newest_process, newest_stamp, index_of}
-use Rattle.board.specs.Closings.{versions_shown}
+use Rattle.record.specs.{Version, newest_process, newest_stamp, index_of}
+use Rattle.board.specs.{versions_shown}
 use Rattle.board.proofs.shown_image.newest_shown.Given as goal
 
 abbrev pub invariant-loop-process : goal.invariant-loop-process

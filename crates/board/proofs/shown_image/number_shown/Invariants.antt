@@ -1,6 +1,6 @@
 use Rattle.std.proofs.Common.{◌≡◌, ◌+◌, ◌-◌, take, drop}
-use Rattle.record.specs.safe_number.Bytes.{number_of_bits}
-use Rattle.board.specs.Closings.{bits_shown}
+use Rattle.record.specs.safe_number.{number_of_bits}
+use Rattle.board.specs.{bits_shown}
 use Rattle.board.proofs.shown_image.number_shown.Given as goal
 
 abbrev pub invariant-loop-done : goal.invariant-loop-done

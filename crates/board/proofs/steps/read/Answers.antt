@@ -1,9 +1,7 @@
 use Rattle.std.proofs.Common.{◌≡◌, inl, subst, sym}
-use Rattle.process.specs.Places.{marks_on, stepped}
-use Rattle.process.specs.Telling.{marks_told}
+use Rattle.process.specs.{marks_on, marks_told, stepped}
 use Rattle.board.specs.Listing.{Lists}
-use Rattle.board.specs.Ports.{with_pending}
-use Rattle.board.specs.WordSteps.{LeadsTo}
+use Rattle.board.specs.{LeadsTo, with_pending}
 use Rattle.board.proofs.Listings.{lists_loaded}
 use Rattle.board.proofs.Ties.{begins, leads_loaded, may_load, tied_loaded}
 use Rattle.board.proofs.steps.read.Goals as goal

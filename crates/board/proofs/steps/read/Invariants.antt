@@ -1,4 +1,4 @@
-use Rattle.board.specs.Ports.{with_pending}
+use Rattle.board.specs.{with_pending}
 use Rattle.board.proofs.steps.read.Given as goal
 
 abbrev pub ghosts-load : goal.ghosts-load

@@ -1,7 +1,5 @@
 use Rattle.std.proofs.Common.{ap, sym, subst, ◌∙◌, arith}
-use Rattle.board.specs.Pending.{nothing}
-use Rattle.board.specs.Ports.{IsNext, IsTied}
-use Rattle.board.specs.Words.{word_of, words_in}
+use Rattle.board.specs.{IsNext, IsTied, nothing, word_of, words_in}
 use Rattle.board.proofs.Ties.{is_next, is_written, no_end, there_at}
 use Rattle.board.proofs.WordNumbers.{word_below}
 use Rattle.board.proofs.steps.word_step.Goals as goal

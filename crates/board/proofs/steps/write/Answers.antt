@@ -1,7 +1,6 @@
 use Rattle.std.proofs.Common.{inr, ap, subst, sym}
 use Rattle.board.specs.Listing.{Lists}
-use Rattle.board.specs.Ports.{with_pending}
-use Rattle.board.specs.WordSteps.{LeadsTo, value_after}
+use Rattle.board.specs.{LeadsTo, value_after, with_pending}
 use Rattle.board.proofs.Listings.{lists_stored}
 use Rattle.board.proofs.Ties.{leads_stored, may_store, tied_stored}
 use Rattle.board.proofs.steps.write.Goals as goal

@@ -1,4 +1,4 @@
-use Rattle.board.specs.Ports.{with_pending}
+use Rattle.board.specs.{with_pending}
 use Rattle.board.proofs.steps.write.Given as goal
 
 abbrev pub ghosts-store : goal.ghosts-store

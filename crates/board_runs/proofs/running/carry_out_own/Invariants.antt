@@ -1,5 +1,4 @@
-use Rattle.board.specs.Boards.{IsOf}
-use Rattle.board.specs.Ports.{SamePort}
+use Rattle.board.specs.{IsOf, SamePort}
 use Rattle.board_runs.proofs.running.carry_out_own.Given as goal
 
 abbrev pub invariant-loop-line : goal.invariant-loop-line

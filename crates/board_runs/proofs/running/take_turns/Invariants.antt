@@ -1,4 +1,4 @@
-use Rattle.board.specs.Closings.{AreFirstPortsOf}
+use Rattle.board.specs.{AreFirstPortsOf}
 use Rattle.board_runs.proofs.running.take_turns.Given as goal
 
 abbrev pub invariant-loop-line : goal.invariant-loop-line

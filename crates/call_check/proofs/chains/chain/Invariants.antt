@@ -1,7 +1,6 @@
 use Rattle.std.proofs.Common.{length, take}
-use Rattle.call_check.specs.Following.{AreChains}
-use Rattle.record.specs.CallLists.{lists_of}
-use Rattle.call_check.specs.Weighing.{all_calls}
+use Rattle.call_check.specs.{AreChains, all_calls}
+use Rattle.record.specs.{lists_of}
 use Rattle.call_check.proofs.chains.chain.Given as goal
 
 -- the calls of the lists before the present one are chained

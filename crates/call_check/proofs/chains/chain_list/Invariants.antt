@@ -1,7 +1,5 @@
 use Rattle.std.proofs.Common.{ℕ, List, ◌++◌, take}
-use Rattle.call_check.specs.declared.calls.Call.{Call}
-use Rattle.call_check.specs.Following.{AreChains}
-use Rattle.call_check.specs.Weighing.{calls_from}
+use Rattle.call_check.specs.{AreChains, Call, calls_from}
 use Rattle.call_check.proofs.chains.chain_list.Given as goal
 
 -- the calls before the present one are chained

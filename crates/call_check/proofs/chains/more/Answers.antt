@@ -1,6 +1,6 @@
 use Rattle.std.proofs.Common.{length, sym, ap, subst, ◌∙◌, arith}
 use Rattle.std.proofs.lemmas.List.{length_push}
-use Rattle.call_check.specs.Following.{AreNothing}
+use Rattle.call_check.specs.{AreNothing}
 use Rattle.call_check.proofs.Linking.{nothing_more}
 use Rattle.call_check.proofs.chains.more.Goals as goal
 

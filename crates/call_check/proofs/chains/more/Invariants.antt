@@ -1,5 +1,5 @@
 use Rattle.std.proofs.Common.{◌≡◌, ◌+◌, length}
-use Rattle.call_check.specs.Following.{AreNothing}
+use Rattle.call_check.specs.{AreNothing}
 use Rattle.call_check.proofs.chains.more.Given as goal
 
 -- so many places have come, with no call

@@ -1,10 +1,8 @@
 use Rattle.std.proofs.Common.{ℕ, ◌≡◌, ◌+◌, ◌++◌, List, length, take, ap, ◌∙◌, arith, length-append}
 use Rattle.std.specs.Global.{Vec}
 use Rattle.std.proofs.lemmas.List.{take_all}
-use Rattle.call_check.specs.declared.calls.Call.{Call}
-use Rattle.record.specs.declared.calls.Placed.{Placed}
-use Rattle.record.specs.CallLists.{lists_of}
-use Rattle.call_check.specs.Weighing.{all_calls, calls_from}
+use Rattle.call_check.specs.{Call, all_calls, calls_from}
+use Rattle.record.specs.{Placed, lists_of}
 use Rattle.call_check.proofs.AllCalls.{all_more, length-calls_from}
 use Rattle.call_check.proofs.chains.nothing.Goals as goal
 

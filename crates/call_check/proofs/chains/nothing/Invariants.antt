@@ -1,7 +1,6 @@
 use Rattle.std.proofs.Common.{◌≡◌, length, take}
-use Rattle.call_check.specs.Following.{AreNothing}
-use Rattle.record.specs.CallLists.{lists_of}
-use Rattle.call_check.specs.Weighing.{all_calls}
+use Rattle.call_check.specs.{AreNothing, all_calls}
+use Rattle.record.specs.{lists_of}
 use Rattle.call_check.proofs.chains.nothing.Given as goal
 
 -- there is a place for each call of the lists before the present one

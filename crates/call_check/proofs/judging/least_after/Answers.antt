@@ -1,7 +1,7 @@
 use Rattle.std.proofs.Common.{◌+◌, ◌||◌, ◌&&◌, max, Bool, Option, ℕ, ap, sym, ◌∙◌}
 use Rattle.std.proofs.Math.Bool.{or-false}
 use Rattle.std.specs.Prelude.{nat_le, nat_lt}
-use Rattle.call_check.specs.Weighing.{is_past}
+use Rattle.call_check.specs.{is_past}
 use Rattle.call_check.proofs.Judged.{least_is_above, least_with}
 use Rattle.call_check.proofs.judging.least_after.Goals as goal
 

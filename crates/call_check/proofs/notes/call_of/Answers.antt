@@ -2,10 +2,8 @@ use Rattle.std.proofs.Common.{◌≡◌, ◌<◌, ℕ, List, Some, get_or, lengt
 use Rattle.std.specs.Global.{Vec}
 use Rattle.std.proofs.lemmas.Option.{get_or_from_slice_get, slice_get_within}
 use Rattle.std.specs.List.{slice_get}
-use Rattle.record.specs.declared.calls.Placed.{Placed}
-use Rattle.call_check.specs.declared.calls.Call.{Call}
-use Rattle.call_check.specs.declared.chains.Link.{Link}
-use Rattle.call_check.specs.Following.{IsOf}
+use Rattle.record.specs.{Placed}
+use Rattle.call_check.specs.{Call, IsOf, Link}
 use Rattle.call_check.proofs.notes.call_of.Goals as goal
 
 -- the list of the link is that of the call

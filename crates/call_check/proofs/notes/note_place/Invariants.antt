@@ -1,11 +1,8 @@
 use Rattle.std.proofs.Common.{◌≡◌, ℕ, suc, ◌≤◌, Some, drop, filter, length}
 use Rattle.std.specs.List.{slice_get}
-use Rattle.plain_store.specs.Setups.{callers_of}
-use Rattle.plain_store.specs.Store.{changes}
-use Rattle.call_check.specs.declared.calls.Call.{Call}
-use Rattle.call_check.specs.Following.{AreFew, AreNotedFrom, changes_of}
-use Rattle.record.specs.CallLists.{lists_of}
-use Rattle.call_check.specs.Weighing.{all_calls, calls_at}
+use Rattle.plain_store.specs.{callers_of, changes}
+use Rattle.call_check.specs.{AreFew, AreNotedFrom, Call, all_calls, calls_at, changes_of}
+use Rattle.record.specs.{lists_of}
 use Rattle.call_check.proofs.notes.note_place.Given as goal
 
 -- the calls with the place are noted from the present one on

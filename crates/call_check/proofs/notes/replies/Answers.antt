@@ -1,6 +1,6 @@
 use Rattle.std.proofs.Common.{◌≡◌, sym, ◌∙◌}
-use Rattle.plain_store.specs.Store.{reply_to}
-use Rattle.call_check.specs.Weighing.{caller_of}
+use Rattle.plain_store.specs.{reply_to}
+use Rattle.call_check.specs.{caller_of}
 use Rattle.call_check.proofs.notes.replies.Goals as goal
 
 pub returns-in-Ok : goal.returns-in-Ok

@@ -1,10 +1,7 @@
 use Rattle.std.proofs.Common.{◌<◌, ◌≤◌, ◌+◌, ℕ, List, length, sym, subst, ◌∙◌, arith, true≢false}
-use Rattle.call_check.specs.declared.calls.Call.{Call}
-use Rattle.record.specs.declared.calls.Placed.{Placed}
+use Rattle.call_check.specs.{ArePart, Call, IsBadIn, all_calls}
+use Rattle.record.specs.{Placed, lists_of}
 use Rattle.call_check.specs.declared.verdicts.Weighed.TheVariants.{Good, Bad, BadEnd}
-use Rattle.call_check.specs.Following.{ArePart}
-use Rattle.record.specs.CallLists.{lists_of}
-use Rattle.call_check.specs.Weighing.{IsBadIn, all_calls}
 use Rattle.call_check.proofs.AllCalls.{before_more, before_within, part_there}
 use Rattle.call_check.proofs.Finding.{few_all, lowest_bad, none_at_all, none_more, weighed}
 use Rattle.call_check.proofs.weighing.weigh.Goals as goal

@@ -1,6 +1,6 @@
 use Rattle.std.proofs.Common.{◌≡◌, ℕ, ◌<◌, length, take}
-use Rattle.record.specs.CallLists.{lists_of}
-use Rattle.call_check.specs.Weighing.{IsBadAt, all_calls}
+use Rattle.record.specs.{lists_of}
+use Rattle.call_check.specs.{IsBadAt, all_calls}
 use Rattle.call_check.proofs.weighing.weigh.Given as goal
 
 -- so many calls stand in the lists before the present one, and none of them is bad

@@ -1,5 +1,5 @@
 use Rattle.std.proofs.Common.{ap, sym}
-use Rattle.calls.specs.Columns.{holds_up}
+use Rattle.calls.specs.{holds_up}
 use Rattle.calls.proofs.accesses.holds_up.Goals as goal
 
 pub returns-in-Choosing : goal.returns-in-Choosing

@@ -1,5 +1,5 @@
 use Rattle.std.proofs.Common.{◌++◌, flat_map, ap, ◌∙◌}
-use Rattle.calls.specs.Lines.{answer_field, call_head, number_field}
+use Rattle.calls.specs.{answer_field, call_head, number_field}
 use Rattle.calls.proofs.Loops.{line_is}
 use Rattle.calls.proofs.printed.print_call.Goals as goal
 

@@ -1,5 +1,5 @@
 use Rattle.std.proofs.Common.{◌++◌, flat_map}
-use Rattle.calls.specs.Lines.{doubled}
+use Rattle.calls.specs.{doubled}
 use Rattle.calls.proofs.Loops.{written_all, written_more}
 use Rattle.calls.proofs.printed.push_doubled.Goals as goal
 

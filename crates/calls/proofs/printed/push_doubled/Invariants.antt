@@ -1,5 +1,5 @@
 use Rattle.std.proofs.Common.{◌≡◌, ◌++◌, drop, flat_map}
-use Rattle.calls.specs.Lines.{doubled}
+use Rattle.calls.specs.{doubled}
 use Rattle.calls.proofs.printed.push_doubled.Given as goal
 
 -- the bytes so far and those to come are the whole text

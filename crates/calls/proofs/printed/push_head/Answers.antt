@@ -1,7 +1,7 @@
 use Rattle.std.proofs.Common.{ap}
 use Rattle.std.specs.Fmt.{decimal}
-use Rattle.plain_store.specs.Shown.{command_text}
-use Rattle.calls.specs.Lines.{field}
+use Rattle.plain_store.specs.{command_text}
+use Rattle.calls.specs.{field}
 use Rattle.calls.proofs.Loops.{head_is}
 use Rattle.calls.proofs.printed.push_head.Goals as goal
 

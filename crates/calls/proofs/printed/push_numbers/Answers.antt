@@ -1,5 +1,5 @@
 use Rattle.std.proofs.Common.{None, ◌++◌, flat_map}
-use Rattle.calls.specs.Lines.{number_field}
+use Rattle.calls.specs.{number_field}
 use Rattle.calls.proofs.Loops.{written_all, written_more}
 use Rattle.calls.proofs.printed.push_numbers.Goals as goal
 

@@ -1,5 +1,5 @@
 use Rattle.std.proofs.Common.{◌≡◌, ◌++◌, drop, flat_map}
-use Rattle.calls.specs.Lines.{number_field}
+use Rattle.calls.specs.{number_field}
 use Rattle.calls.proofs.printed.push_numbers.Given as goal
 
 -- the numbers so far and those to come are all

@@ -1,5 +1,5 @@
 use Rattle.std.proofs.Common.{◌≡◌, drop, map, max}
-use Rattle.columns.specs.Columns.{longest_row, wording}
+use Rattle.columns.specs.{longest_row, wording}
 use Rattle.columns.proofs.columns.longest.Given as goal
 
 -- the longest of the rows is the longest before the present one, or one from there on

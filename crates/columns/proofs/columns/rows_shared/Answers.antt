@@ -1,6 +1,6 @@
 use Rattle.std.proofs.Common.{◌++◌, ◌∙◌, arith, ap, filter_map, map, sym, option_to_list}
 use Rattle.std.proofs.lemmas.List.{take_all}
-use Rattle.columns.specs.Columns.{row_shared, wording}
+use Rattle.columns.specs.{row_shared, wording}
 use Rattle.columns.proofs.Lists.{shared_more}
 use Rattle.columns.proofs.columns.rows_shared.Goals as goal
 

@@ -1,5 +1,5 @@
 use Rattle.std.proofs.Common.{◌≡◌, filter_map, map, take}
-use Rattle.columns.specs.Columns.{row_shared, wording}
+use Rattle.columns.specs.{row_shared, wording}
 use Rattle.columns.proofs.columns.rows_shared.Given as goal
 
 -- the rows of the lines before the present one

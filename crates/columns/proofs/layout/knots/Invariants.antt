@@ -1,6 +1,5 @@
 use Rattle.std.proofs.Common.{◌≡◌, None, drop, map}
-use Rattle.columns.specs.Columns.{seen}
-use Rattle.columns.specs.Layouts.{knots_from}
+use Rattle.columns.specs.{knots_from, seen}
 use Rattle.columns.proofs.layout.knots.Given as goal
 
 -- the knots before the present column, and those from there on

@@ -1,6 +1,5 @@
 use Rattle.std.proofs.Common.{◌≡◌, length, map, take}
-use Rattle.columns.specs.Columns.{seen}
-use Rattle.columns.specs.Layouts.{first_lanes}
+use Rattle.columns.specs.{first_lanes, seen}
 use Rattle.columns.proofs.layout.lanes.Given as goal
 
 -- the lanes of the processes before the present one

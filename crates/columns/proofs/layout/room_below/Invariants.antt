@@ -1,6 +1,5 @@
 use Rattle.std.proofs.Common.{◌≡◌, ◌≤◌, drop, map}
-use Rattle.columns.specs.Columns.{seen}
-use Rattle.columns.specs.Layouts.{room_below_of}
+use Rattle.columns.specs.{room_below_of, seen}
 use Rattle.columns.proofs.Lists.{room_left}
 use Rattle.columns.proofs.layout.room_below.Given as goal
 

@@ -1,6 +1,5 @@
 use Rattle.std.proofs.Common.{◌≡◌, drop, map}
-use Rattle.columns.specs.Columns.{seen}
-use Rattle.columns.specs.Layouts.{has_column}
+use Rattle.columns.specs.{has_column, seen}
 use Rattle.columns.proofs.layout.stands_in_lane.Given as goal
 
 -- none of the columns before the present one stands there

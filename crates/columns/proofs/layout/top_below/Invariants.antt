@@ -1,6 +1,5 @@
 use Rattle.std.proofs.Common.{◌≡◌, ◌+◌, ◌*◌, ◌≤◌, map}
-use Rattle.columns.specs.Columns.{seen}
-use Rattle.columns.specs.Layouts.{top_of}
+use Rattle.columns.specs.{seen, top_of}
 use Rattle.columns.proofs.layout.top_below.Given as goal
 
 -- the lanes of the processes before the present one lie above this

@@ -1,6 +1,5 @@
 use Rattle.std.proofs.Common.{◌∙◌, arith, map, refl}
-use Rattle.columns.specs.Columns.{seen}
-use Rattle.columns.specs.Placings.{drawn_apart}
+use Rattle.columns.specs.{drawn_apart, seen}
 use Rattle.columns.proofs.Lists.{drawn_more, first_mapped_done, mapped_length, set_told}
 use Rattle.columns.proofs.placing.draw_apart.Goals as goal
 

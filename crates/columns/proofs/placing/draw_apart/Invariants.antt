@@ -1,7 +1,5 @@
 use Rattle.std.proofs.Common.{◌≡◌, flat_map, map}
-use Rattle.columns.specs.Columns.{seen}
-use Rattle.columns.specs.Placings.{drawn_apart}
-use Rattle.columns.specs.Told.{told_in}
+use Rattle.columns.specs.{drawn_apart, seen, told_in}
 use Rattle.columns.proofs.Lists.{first_mapped}
 use Rattle.columns.proofs.placing.draw_apart.Given as goal
 

@@ -1,6 +1,5 @@
 use Rattle.std.proofs.Common.{◌≡◌, drop, map}
-use Rattle.columns.specs.Columns.{seen}
-use Rattle.columns.specs.Placings.{event_stands}
+use Rattle.columns.specs.{event_stands, seen}
 use Rattle.columns.proofs.placing.event_place.Given as goal
 
 -- the event stands behind the column before the present one

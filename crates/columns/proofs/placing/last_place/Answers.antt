@@ -1,5 +1,5 @@
 use Rattle.std.proofs.Common.{◌∙◌, arith, sym, ap}
-use Rattle.columns.specs.declared.columns.Column.{Column}
+use Rattle.columns.specs.{Column}
 use Rattle.columns.proofs.Lists.{last_more}
 use Rattle.columns.proofs.placing.last_place.Goals as goal
 

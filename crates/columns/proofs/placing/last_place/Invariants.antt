@@ -1,6 +1,5 @@
 use Rattle.std.proofs.Common.{◌≡◌, map, take}
-use Rattle.columns.specs.Columns.{seen}
-use Rattle.columns.specs.Placings.{last_of}
+use Rattle.columns.specs.{last_of, seen}
 use Rattle.columns.proofs.placing.last_place.Given as goal
 
 -- where the column before the present one stands

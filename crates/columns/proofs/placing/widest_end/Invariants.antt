@@ -1,6 +1,5 @@
 use Rattle.std.proofs.Common.{◌≡◌, drop, map, max}
-use Rattle.columns.specs.Columns.{seen}
-use Rattle.columns.specs.Placings.{end_of_words}
+use Rattle.columns.specs.{end_of_words, seen}
 use Rattle.columns.proofs.placing.widest_end.Given as goal
 
 -- the last words end with the columns before the present one, or with those from there on

@@ -1,5 +1,5 @@
 use Rattle.std.proofs.Common.{arith}
-use Rattle.columns.specs.States.{not_awaiting}
+use Rattle.columns.specs.{not_awaiting}
 use Rattle.columns.proofs.Lists.{first_mapped_done, first_mapped_put}
 use Rattle.columns.proofs.seats.forget.Goals as goal
 

@@ -1,5 +1,5 @@
 use Rattle.std.proofs.Common.{◌≡◌}
-use Rattle.columns.specs.States.{not_awaiting}
+use Rattle.columns.specs.{not_awaiting}
 use Rattle.columns.proofs.Lists.{first_mapped}
 use Rattle.columns.proofs.seats.forget.Given as goal
 

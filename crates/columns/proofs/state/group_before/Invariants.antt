@@ -1,5 +1,5 @@
 use Rattle.std.proofs.Common.{◌≡◌, ◌++◌, drop, take}
-use Rattle.columns.specs.States.{before_in, group_of}
+use Rattle.columns.specs.{before_in, group_of}
 use Rattle.columns.proofs.state.group_before.Given as goal
 
 -- those before the present one stand before the process

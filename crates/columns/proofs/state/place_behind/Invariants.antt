@@ -1,5 +1,5 @@
 use Rattle.std.proofs.Common.{◌≡◌, drop}
-use Rattle.columns.specs.States.{behind_in}
+use Rattle.columns.specs.{behind_in}
 use Rattle.columns.proofs.state.place_behind.Given as goal
 
 -- the process stands at the present place or behind it

@@ -1,5 +1,5 @@
 use Rattle.std.proofs.Common.{◌∙◌, ap, arith, false, take}
-use Rattle.columns.specs.States.{group_of, places_from}
+use Rattle.columns.specs.{group_of, places_from}
 use Rattle.columns.proofs.Lines.{said_more}
 use Rattle.columns.proofs.state.places_said.Goals as goal
 

@@ -1,5 +1,5 @@
 use Rattle.std.proofs.Common.{◌≡◌, take}
-use Rattle.columns.specs.States.{group_of, places_from}
+use Rattle.columns.specs.{group_of, places_from}
 use Rattle.columns.proofs.state.places_said.Given as goal
 
 -- those before the present one of which it is said

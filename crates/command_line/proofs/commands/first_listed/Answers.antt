@@ -1,6 +1,6 @@
 use Rattle.std.proofs.Common.{◌∙◌, ap, option_map}
 use Rattle.std.specs.Str.{bytes_eq}
-use Rattle.command_line.specs.Meaning.{listed}
+use Rattle.command_line.specs.{listed}
 use Rattle.command_line.proofs.Tables.{find_map, map_lent}
 use Rattle.command_line.proofs.commands.first_listed.Goals as goal
 

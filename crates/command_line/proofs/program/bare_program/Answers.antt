@@ -2,7 +2,7 @@ use Rattle.std.proofs.Common.{ap, ◌∙◌, ◌||◌, codes}
 use Rattle.std.proofs.lemmas.Result.{IfOk-weaker}
 use Rattle.clap.specs.Words.{App, Rule, app_of, with_rule}
 use Rattle.clap.specs.declared.builder.command.Command.TheViews.{out-Command}
-use Rattle.command_line.specs.Meaning.{with_flag}
+use Rattle.command_line.specs.{with_flag}
 use Rattle.command_line.proofs.Added.{settled}
 use Rattle.command_line.proofs.program.bare_program.Goals as goal
 

@@ -2,7 +2,7 @@ use Rattle.std.proofs.Common.{◌∙◌, ap, sym, fold, Bor}
 use Rattle.std.proofs.lemmas.Result.{IfOk-weaker}
 use Rattle.std.proofs.lemmas.List.Folds.{fold-map}
 use Rattle.clap.specs.Words.{App, Text}
-use Rattle.command_line.specs.Meaning.{plain_app, with_option}
+use Rattle.command_line.specs.{plain_app, with_option}
 use Rattle.command_line.proofs.program.file_command.Goals as goal
 
 pub returns-clause-shape : goal.returns-clause-shape

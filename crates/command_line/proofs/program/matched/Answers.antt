@@ -2,7 +2,7 @@ use Rattle.std.proofs.Common.{◌∙◌, ap, map}
 use Rattle.std.proofs.lemmas.Result.{IfErr-weaker}
 use Rattle.std.specs.String.{string_bytes}
 use Rattle.clap.specs.Words.{App, app_of, takes}
-use Rattle.command_line.specs.Meaning.{bakery}
+use Rattle.command_line.specs.{bakery}
 use Rattle.command_line.proofs.Parsed.{parsed_command, parsed_faultless, parsed_kinds, parsed_rows}
 use Rattle.command_line.proofs.Simple.{bakery_is_free, bakery_is_simple}
 use Rattle.command_line.proofs.program.matched.Goals as goal

@@ -1,7 +1,7 @@
 use Rattle.std.proofs.Common.{ap, ◌∙◌, ◌≡◌, codes, rules}
 use Rattle.std.proofs.lemmas.Result.{IfOk-weaker}
 use Rattle.clap.specs.Words.{App, Rule, new_app, rule_of, with_rule}
-use Rattle.command_line.specs.Meaning.{file_rule, with_flag}
+use Rattle.command_line.specs.{file_rule, with_flag}
 use Rattle.command_line.proofs.program.plain_command.Goals as goal
 
 pub returns : goal.returns

@@ -2,7 +2,7 @@ use Rattle.std.proofs.Common.{◌∙◌, ap, fold, sym, List}
 use Rattle.std.proofs.lemmas.Result.{IfOk-weaker}
 use Rattle.std.proofs.lemmas.List.Folds.{fold-map}
 use Rattle.clap.specs.Words.{App, with_subcommand}
-use Rattle.command_line.specs.Meaning.{Listed, bare_app, help_app, listed, with_command, with_row}
+use Rattle.command_line.specs.{Listed, bare_app, help_app, listed, with_command, with_row}
 use Rattle.command_line.proofs.program.program.Goals as goal
 
 pub returns : goal.returns

@@ -1,5 +1,5 @@
 use Rattle.clap.specs.Words.{app_of}
-use Rattle.command_line.specs.Meaning.{with_row}
+use Rattle.command_line.specs.{with_row}
 use Rattle.command_line.proofs.Added.{fold_on}
 use Rattle.command_line.proofs.program.with_commands.Goals as goal
 

@@ -1,6 +1,6 @@
 use Rattle.std.specs.Prelude.{◌≡◌, fold, take}
 use Rattle.clap.specs.Words.{app_of}
-use Rattle.command_line.specs.Meaning.{with_row}
+use Rattle.command_line.specs.{with_row}
 use Rattle.command_line.proofs.program.with_commands.Given as goal
 
 -- the commands that the loop has passed are there

@@ -1,4 +1,4 @@
-use Rattle.command_line.specs.Meaning.{help_app}
+use Rattle.command_line.specs.{help_app}
 use Rattle.command_line.proofs.Added.{added}
 use Rattle.command_line.proofs.program.with_help.Goals as goal
 

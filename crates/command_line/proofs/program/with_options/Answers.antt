@@ -1,6 +1,6 @@
 use Rattle.std.proofs.Common.{ap, ◌∙◌, ◌||◌, Bor}
 use Rattle.clap.specs.Words.{Text, app_of, with_rule}
-use Rattle.command_line.specs.Meaning.{with_option}
+use Rattle.command_line.specs.{with_option}
 use Rattle.command_line.proofs.Added.{fold_on}
 use Rattle.command_line.proofs.program.with_options.Goals as goal
 

@@ -1,7 +1,7 @@
 use Rattle.std.specs.Prelude.{◌≡◌, fold, take, false}
 use Rattle.clap.specs.Words.{app_of}
 use Rattle.clap.specs.declared.builder.command.Command.TheViews.{out-Command}
-use Rattle.command_line.specs.Meaning.{with_option}
+use Rattle.command_line.specs.{with_option}
 use Rattle.command_line.proofs.program.with_options.Given as goal
 
 -- the options that the loop has passed are there, and none is global

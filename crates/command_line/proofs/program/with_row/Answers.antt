@@ -1,6 +1,6 @@
 use Rattle.std.proofs.Common.{◌≡◌, IfOk, subst}
 use Rattle.clap.specs.Words.{app_of, with_subcommand}
-use Rattle.command_line.specs.Meaning.{Listed, command_app, says}
+use Rattle.command_line.specs.{Listed, command_app, says}
 use Rattle.command_line.proofs.Added.{added}
 use Rattle.command_line.proofs.program.with_row.Goals as goal
 

@@ -1,5 +1,5 @@
 use Rattle.std.proofs.Common.{◌∷◌, ◌++◌, sym, subst}
-use Rattle.companions.specs.Overlaps.{Overhears, overlapped_by}
+use Rattle.companions.specs.{Overhears, overlapped_by}
 use Rattle.std.proofs.lemmas.Result.{on_ok_weaker}
 use Rattle.companions.proofs.Overhearing.{overhears_nothing, overhears_on}
 use Rattle.companions.proofs.overlaps.hear.Goals as goal

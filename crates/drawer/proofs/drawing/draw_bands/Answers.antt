@@ -1,5 +1,5 @@
 use Rattle.std.proofs.lemmas.Result.{IfOk-weaker}
-use Rattle.drawer.specs.Pictures.{plan_of}
+use Rattle.drawer.specs.{plan_of}
 use Rattle.drawer.proofs.drawing.draw_bands.Goals as goal
 
 pub returns : goal.returns

@@ -1,24 +1,15 @@
 use Rattle.std.proofs.Common.{◌≡◌, ◌∙◌, ◌+◌, ◌-◌, ◌*◌, ◌^◌, ◌<◌, ℕ, List, [], ◌∷◌, Some, ap, drop, length, arith, refl, subst, sym}
 use Rattle.std.proofs.lemmas.List.{drop_all}
-use Rattle.plain_store.specs.declared.setups.Setup.{Setup}
-use Rattle.drawer.specs.Drawings.{kept}
-use Rattle.scenario.specs.Reads.{script}
-use Rattle.scenario.specs.declared.lines.Line.{Line}
+use Rattle.plain_store.specs.{Setup}
+use Rattle.drawer.specs.{Drawing, DrawsRest, SaysEnd, kept, lines_given, reads_since}
+use Rattle.scenario.specs.{Line, script}
 use Rattle.scenario.proofs.Places.{drop_in}
-use Rattle.course.specs.Runs.{happenings}
-use Rattle.course.specs.Summaries.{summary_of}
-use Rattle.course.specs.Texts.{end_line}
-use Rattle.course.specs.Writing.{IsWriteFault}
-use Rattle.course.specs.declared.summaries.Summary.{Summary}
+use Rattle.course.specs.{IsWriteFault, Summary, end_line, happenings, past_after, summary_of}
 use Rattle.course.proofs.Onwards.{onward_numbers}
 use Rattle.course.proofs.Played.{on_fault}
 use Rattle.course.proofs.Written.{failed_same}
-use Rattle.drawer.specs.Drawings.{DrawsRest}
-use Rattle.drawer.specs.Items.{SaysEnd, lines_given, reads_since}
-use Rattle.course.specs.Happenings.{past_after}
-use Rattle.companions.specs.picture.Bandings.{Plan}
+use Rattle.companions.specs.picture.{Plan}
 use Rattle.companions.specs.picture.declared.reads.Reads.{Reads as Mode}
-use Rattle.drawer.specs.declared.drawing.Drawing.{Drawing}
 use Rattle.drawer.proofs.Drawn.{rest_at}
 use Rattle.drawer.proofs.Giving.{number_of_first}
 use Rattle.drawer.proofs.Drawings.{Drawn, drawn_end, drawn_on, drawn_start}

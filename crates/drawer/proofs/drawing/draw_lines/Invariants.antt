@@ -1,9 +1,8 @@
 use Rattle.std.proofs.Common.{◌≡◌, [], ◌+◌, ◌-◌, ◌*◌, ◌^◌, drop, length}
-use Rattle.course.specs.Summaries.{CanCount}
-use Rattle.companions.specs.picture.Bandings.{Plan}
-use Rattle.companions.specs.picture.Pages.{page_of, seen_page}
+use Rattle.course.specs.{CanCount}
+use Rattle.companions.specs.picture.{Plan, page_of, seen_page}
 use Rattle.companions.specs.picture.declared.reads.Reads.{Reads as Mode}
-use Rattle.drawer.specs.Drawings.{Recalls, kept}
+use Rattle.drawer.specs.{Recalls, kept}
 use Rattle.drawer.proofs.Drawings.{Drawn}
 use Rattle.drawer.proofs.drawing.draw_lines.Given as goal
 

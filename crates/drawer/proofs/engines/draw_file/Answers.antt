@@ -2,10 +2,8 @@ use Rattle.std.proofs.Common.{◌≡◌}
 use Rattle.files.proofs.EngineEnds.{kept, ran_to_line}
 use Rattle.files.specs.declared.faults.Fault.TheVariants.{Line}
 use Rattle.scenario.proofs.CutTexts.{scenario_tells_at_limit}
-use Rattle.scenario.specs.Reading.{scenario_of}
-use Rattle.scenario.specs.Reads.{script}
-use Rattle.course.specs.Replays.{ended}
-use Rattle.course.specs.Texts.{replayed}
+use Rattle.scenario.specs.{scenario_of, script}
+use Rattle.course.specs.{ended, replayed}
 use Rattle.course.proofs.ReplayEnds.{ended_err, replay_numbers}
 use Rattle.drawer.proofs.Ends.{drew_all, drew_line}
 use Rattle.drawer.proofs.engines.draw_file.Goals as goal

@@ -1,9 +1,9 @@
 use Rattle.std.proofs.Common.{refl}
-use Rattle.plain_store.specs.Setups.{opening_store}
-use Rattle.companions.specs.picture.Pages.{page_names}
+use Rattle.plain_store.specs.{opening_store}
+use Rattle.companions.specs.picture.{page_names}
 use Rattle.companions.specs.picture.declared.page.Form.TheVariants as form
-use Rattle.scenario.specs.Reads.{script}
-use Rattle.companions.specs.StoreChanges.{store_words}
+use Rattle.scenario.specs.{script}
+use Rattle.companions.specs.{store_words}
 use Rattle.course.proofs.Written.{ok_then}
 use Rattle.drawer.proofs.Drawn.{draws_framed}
 use Rattle.drawer.proofs.Pictured.{is_page}

@@ -1,6 +1,6 @@
-use Rattle.companions.specs.picture.Pages.{picture_names}
+use Rattle.companions.specs.picture.{picture_names}
 use Rattle.companions.specs.picture.declared.page.Form.TheVariants as form
-use Rattle.scenario.specs.Reads.{script}
+use Rattle.scenario.specs.{script}
 use Rattle.course.proofs.Written.{ok_then}
 use Rattle.drawer.proofs.Drawn.{draws_framed}
 use Rattle.drawer.proofs.Pictured.{is_picture}

@@ -1,14 +1,10 @@
 use Rattle.std.proofs.Common.{◌≡◌, ◌+◌, ◌-◌, ◌*◌, ◌^◌, ◌<◌, ℕ, List, [], ◌∷◌, length, drop, arith, ap, subst}
 use Rattle.std.proofs.lemmas.List.{drop_all}
-use Rattle.plain_store.specs.declared.setups.Setup.{Setup}
-use Rattle.scenario.specs.Reads.{script}
-use Rattle.scenario.specs.declared.lines.Line.{Line}
+use Rattle.plain_store.specs.{Setup}
+use Rattle.scenario.specs.{Line, script}
 use Rattle.scenario.proofs.Places.{drop_in}
-use Rattle.course.specs.Happenings.{Happening, past_after}
-use Rattle.course.specs.Judging.{Audits}
+use Rattle.course.specs.{Audit, Audits, Happening, Summary, past_after}
 use Rattle.course.specs.Writing.{Counts}
-use Rattle.course.specs.declared.judging.Audit.{Audit}
-use Rattle.course.specs.declared.summaries.Summary.{Summary}
 use Rattle.course.proofs.Listeners.{run_is_good}
 use Rattle.course.proofs.Played.{Between, between_all, between_good, between_on, between_start}
 use Rattle.engines.proofs.auditing.audit_lines.Goals as goal

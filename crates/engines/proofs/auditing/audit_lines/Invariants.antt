@@ -1,7 +1,5 @@
 use Rattle.std.proofs.Common.{◌-◌, ◌*◌, ◌^◌, drop}
-use Rattle.course.specs.Happenings.{past_after}
-use Rattle.course.specs.Judging.{Audits}
-use Rattle.course.specs.Summaries.{CanCount}
+use Rattle.course.specs.{Audits, CanCount, past_after}
 use Rattle.course.specs.Writing.{Counts}
 use Rattle.course.proofs.Played.{Between}
 use Rattle.engines.proofs.auditing.audit_lines.Given as goal

@@ -1,8 +1,8 @@
 use Rattle.std.proofs.Common.{◌∙◌, sym, subst}
-use Rattle.scenario.specs.Reads.{script}
-use Rattle.judge.specs.auditor.declared.verdicts.Verdict.{Verdict}
+use Rattle.scenario.specs.{script}
+use Rattle.judge.specs.auditor.{Verdict}
 use Rattle.course.proofs.Listeners.{run_length}
-use Rattle.engines.specs.Audits.{IsRunVerdict}
+use Rattle.engines.specs.{IsRunVerdict}
 use Rattle.engines.proofs.auditing.audit_run.Goals as goal
 
 pub returns : goal.returns

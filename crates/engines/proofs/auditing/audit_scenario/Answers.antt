@@ -1,9 +1,9 @@
 use Rattle.std.proofs.Common.{◌≡◌, ap}
 use Rattle.std.specs.String.{string_bytes}
-use Rattle.scenario.specs.Reads.{script}
-use Rattle.judge.specs.Judgements.{verdict_line}
+use Rattle.scenario.specs.{script}
+use Rattle.judge.specs.{verdict_line}
 use Rattle.course.proofs.Written.{front_all, line_front, line_whole, ok_along}
-use Rattle.engines.specs.Audits.{audited, run_length}
+use Rattle.engines.specs.{audited, run_length}
 use Rattle.engines.proofs.auditing.audit_scenario.Goals as goal
 
 pub returns-in_err-write_line-clause-front : goal.returns-in_err-write_line-clause-front

@@ -1,6 +1,6 @@
 use Rattle.std.proofs.Common.{◌≡◌, ◌∙◌, ap, refl}
 use Rattle.scenario.proofs.files.CutTexts.{tells_at_limit}
-use Rattle.scenario.specs.BitFiles.{bits_grammar, bits_of}
+use Rattle.scenario.specs.{bits_grammar, bits_of}
 use Rattle.scenario.proofs.files.EngineEnds.{kept, ran_to_line, ran_to_end}
 use Rattle.engines.specs.Bits.{bits_printed, bits_text}
 use Rattle.engines.proofs.Lists.{unwritten}

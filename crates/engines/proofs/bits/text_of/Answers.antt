@@ -2,8 +2,8 @@ use Rattle.std.proofs.Common.{◌++◌, ℕ, List, append-nil, ap, arith, sym, �
 use Rattle.std.proofs.lemmas.List.{drop_all}
 use Rattle.std.specs.String.{string_bytes}
 use Rattle.safe_bit.specs.Cell.{Cell}
-use Rattle.scenario.specs.declared.bit_files.BitLine.{BitLine}
-use Rattle.engines.specs.BitCells.{cell_text_from}
+use Rattle.scenario.specs.{BitLine}
+use Rattle.engines.specs.{cell_text_from}
 use Rattle.engines.proofs.BitRule.{printed_by_rule}
 use Rattle.engines.proofs.bits.text_of.Goals as goal
 

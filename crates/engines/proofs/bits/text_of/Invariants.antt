@@ -1,6 +1,6 @@
 use Rattle.std.proofs.Common.{◌≡◌, ◌++◌, drop}
 use Rattle.std.specs.String.{string_bytes}
-use Rattle.engines.specs.BitCells.{cell_text_from}
+use Rattle.engines.specs.{cell_text_from}
 use Rattle.engines.specs.Bits.{bits_printed}
 use Rattle.engines.proofs.bits.text_of.Given as goal
 

@@ -1,10 +1,9 @@
 use Rattle.std.proofs.Common.{◌≡◌, ◌+◌, ℕ, List, ◌∷◌, drop, arith, subst}
 use Rattle.std.proofs.lemmas.List.{drop_all}
-use Rattle.plain_store.specs.declared.setups.Setup.{Setup}
-use Rattle.scenario.specs.declared.lines.Line.{Line}
+use Rattle.plain_store.specs.{Setup}
+use Rattle.scenario.specs.{Line}
 use Rattle.scenario.proofs.Places.{drop_in}
-use Rattle.course.specs.Happenings.{Happening}
-use Rattle.course.specs.RunRecords.{listed}
+use Rattle.course.specs.{Happening, listed}
 use Rattle.course.proofs.Played.{Between, between_all, between_on, between_start}
 use Rattle.engines.proofs.listing.events_of.Goals as goal
 

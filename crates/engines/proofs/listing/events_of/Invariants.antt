@@ -1,5 +1,5 @@
 use Rattle.std.proofs.Common.{◌≡◌, drop}
-use Rattle.course.specs.RunRecords.{listed}
+use Rattle.course.specs.{listed}
 use Rattle.course.proofs.Played.{Between}
 use Rattle.engines.proofs.listing.events_of.Given as goal
 

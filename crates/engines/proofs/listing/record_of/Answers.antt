@@ -1,12 +1,10 @@
 use Rattle.std.proofs.Common.{◌≡◌, ◌∷◌, ◌+◌, ℕ, List, reverse, take, ap, sym, subst, ◌∙◌, arith}
 use Rattle.std.proofs.lemmas.List.{reverse-reverse}
-use Rattle.plain_store.specs.declared.setups.Setup.{Setup}
-use Rattle.course.specs.«record».declared.events.Event.{Event}
-use Rattle.course.specs.«record».Headline.{KeepsHeadlineThroughout}
-use Rattle.course.specs.«record».Records.{past_of}
+use Rattle.plain_store.specs.{Setup}
+use Rattle.course.specs.«record».{Event, KeepsHeadlineThroughout, past_of}
 use Rattle.course.proofs.history_laws.Headlines.{throughout}
 use Rattle.course.specs.world.Shows.{Shows}
-use Rattle.engines.specs.Listings.{Records}
+use Rattle.engines.specs.{Records}
 use Rattle.engines.proofs.FitRecords.{given_again}
 use Rattle.engines.proofs.Recorded.{all_recorded, events_more}
 use Rattle.engines.proofs.listing.record_of.Goals as goal

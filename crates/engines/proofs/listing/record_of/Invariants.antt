@@ -1,5 +1,5 @@
 use Rattle.std.proofs.Common.{◌≡◌, reverse, take}
-use Rattle.course.specs.«record».Records.{past_of}
+use Rattle.course.specs.«record».{past_of}
 use Rattle.course.specs.world.Shows.{Shows}
 use Rattle.engines.proofs.listing.record_of.Given as goal
 

@@ -1,7 +1,6 @@
 use Rattle.std.proofs.Common.{◌≡◌, ◌∙◌, refl}
 use Rattle.scenario.proofs.CutTexts.{scenario_tells_at_limit}
-use Rattle.scenario.specs.Reading.{scenario_of}
-use Rattle.scenario.specs.Reads.{script}
+use Rattle.scenario.specs.{scenario_of, script}
 use Rattle.scenario.proofs.files.EngineEnds.{kept, ran_to_line, ran_to_end}
 use Rattle.engines.specs.Plain.{plain_text, printed}
 use Rattle.engines.proofs.Lists.{unwritten}

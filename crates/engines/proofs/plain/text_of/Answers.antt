@@ -1,7 +1,7 @@
 use Rattle.std.proofs.Common.{◌≡◌, ◌<◌, ◌++◌, ◌+◌, ℕ, List, append-nil, ap, ◌∙◌, drop, rules, arith, length, sym}
 use Rattle.std.proofs.lemmas.List.{drop_all, length-replicate}
 use Rattle.std.specs.String.{string_bytes}
-use Rattle.scenario.specs.declared.lines.Line.{Line}
+use Rattle.scenario.specs.{Line}
 use Rattle.engines.specs.Plain.{text_from, line_text, run_after, Run}
 use Rattle.engines.proofs.Lists.{text_more, counts_kept, place_next}
 use Rattle.engines.proofs.plain.text_of.Goals as goal

@@ -1,9 +1,8 @@
 use Rattle.std.proofs.Common.{◌∙◌, ap, subst, sym}
 use Rattle.course.proofs.Endings.{failures_by, if_err, on_err_if}
 use Rattle.course.proofs.Written.{ok_then}
-use Rattle.course.specs.Runs.{run_after}
-use Rattle.course.specs.Writing.{Writes, WritesPart}
-use Rattle.engines.specs.Recordings.{entries_text}
+use Rattle.course.specs.{Writes, WritesPart, run_after}
+use Rattle.engines.specs.{entries_text}
 use Rattle.engines.proofs.recording.record_line.Goals as goal
 
 pub returns-clause-ok : goal.returns-clause-ok

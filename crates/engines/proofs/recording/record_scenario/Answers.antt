@@ -1,7 +1,7 @@
 use Rattle.std.proofs.Common.{◌≡◌, ◌+◌, ℕ, List, ◌∷◌, drop, arith, subst, vec_items}
 use Rattle.std.proofs.lemmas.List.{drop_all}
-use Rattle.plain_store.specs.declared.setups.Setup.{Setup}
-use Rattle.scenario.specs.declared.lines.Line.{Line}
+use Rattle.plain_store.specs.{Setup}
+use Rattle.scenario.specs.{Line}
 use Rattle.scenario.proofs.Places.{drop_in}
 use Rattle.engines.proofs.Recordings.{Copied, copied_all, copied_on, copied_start, copied_torn, head_text, head_torn}
 use Rattle.course.proofs.Written.{front_all, line_front, line_whole}

@@ -1,11 +1,9 @@
 use Rattle.std.proofs.Common.{◌≡◌}
 use Rattle.scenario.proofs.CutTexts.{scenario_tells_at_limit}
 use Rattle.scenario.proofs.files.EngineEnds.{kept, ran_to_line}
-use Rattle.scenario.specs.Reading.{scenario_of}
-use Rattle.scenario.specs.Reads.{script}
+use Rattle.scenario.specs.{scenario_of, script}
 use Rattle.scenario.specs.files.declared.faults.Fault.TheVariants.{Line}
-use Rattle.course.specs.Replays.{ended}
-use Rattle.course.specs.Texts.{replayed}
+use Rattle.course.specs.{ended, replayed}
 use Rattle.course.proofs.ReplayEnds.{ended_err, engine_ran, replay_headline, replay_numbers}
 use Rattle.engines.proofs.replaying.replay.Goals as goal
 

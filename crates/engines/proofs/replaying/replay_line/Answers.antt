@@ -1,8 +1,5 @@
 use Rattle.std.proofs.Common.{◌+◌, ◌∙◌, add-zero, ap, subst, sym}
-use Rattle.course.specs.Replays.{CutsLine}
-use Rattle.course.specs.Runs.{run_after}
-use Rattle.course.specs.Texts.{text_of}
-use Rattle.course.specs.Writing.{IsWriteFault, Writes, WritesPart}
+use Rattle.course.specs.{CutsLine, IsWriteFault, Writes, WritesPart, run_after, text_of}
 use Rattle.course.proofs.Played.{on_fault}
 use Rattle.course.proofs.Written.{failed_same, on_err}
 use Rattle.engines.proofs.replaying.replay_line.Goals as goal

@@ -1,18 +1,12 @@
 use Rattle.std.proofs.Common.{◌≡◌, ◌+◌, ◌-◌, ◌*◌, ◌^◌, ◌<◌, ℕ, List, [], ◌∷◌, length, drop, arith, ap, refl, subst}
 use Rattle.std.proofs.lemmas.List.{drop_all}
 use Rattle.std.specs.Io.KnownBytes.{Appends}
-use Rattle.scenario.specs.Reads.{script}
-use Rattle.scenario.specs.files.Streams.{WritesFront}
-use Rattle.scenario.specs.files.declared.faults.Fault.{Fault}
-use Rattle.scenario.specs.declared.lines.Line.{Line}
+use Rattle.scenario.specs.{Line, script}
+use Rattle.scenario.specs.files.{Fault, WritesFront}
 use Rattle.scenario.proofs.Places.{drop_in}
-use Rattle.plain_store.specs.declared.setups.Setup.{Setup}
-use Rattle.course.specs.Texts.{end_line}
-use Rattle.course.specs.Summaries.{summary_of}
-use Rattle.course.specs.Runs.{happenings}
-use Rattle.course.specs.declared.summaries.Summary.{Summary}
+use Rattle.plain_store.specs.{Setup}
+use Rattle.course.specs.{IsWriteFault, Summary, end_line, happenings, summary_of}
 use Rattle.course.proofs.Onwards.{Onward, onward_end, onward_end_torn, onward_headline, onward_numbers, onward_on, onward_start, onward_torn}
-use Rattle.course.specs.Writing.{IsWriteFault}
 use Rattle.course.proofs.Played.{no_value, not_ok, on_fault}
 use Rattle.course.proofs.Written.{failed_same, front_all}
 use Rattle.engines.proofs.replaying.replay_lines.Goals as goal

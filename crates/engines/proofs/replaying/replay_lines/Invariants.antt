@@ -1,5 +1,5 @@
 use Rattle.std.proofs.Common.{◌≡◌, ◌-◌, ◌*◌, ◌^◌, drop}
-use Rattle.course.specs.Summaries.{CanCount}
+use Rattle.course.specs.{CanCount}
 use Rattle.course.proofs.Onwards.{Onward}
 use Rattle.engines.proofs.replaying.replay_lines.Given as goal
 

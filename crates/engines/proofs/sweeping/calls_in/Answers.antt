@@ -1,5 +1,5 @@
 use Rattle.std.proofs.Common.{◌++◌, ap, arith, sym, ◌∙◌}
-use Rattle.engines.specs.Sweepings.{call_of}
+use Rattle.engines.specs.{call_of}
 use Rattle.engines.proofs.Sweepings.{calls_all, calls_more}
 use Rattle.engines.proofs.sweeping.calls_in.Goals as goal
 

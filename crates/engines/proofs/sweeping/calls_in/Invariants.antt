@@ -1,5 +1,5 @@
 use Rattle.std.proofs.Common.{◌≡◌, take}
-use Rattle.engines.specs.Sweepings.{calls_in}
+use Rattle.engines.specs.{calls_in}
 use Rattle.engines.proofs.sweeping.calls_in.Given as goal
 
 -- the calls among the events before the present one

@@ -1,11 +1,10 @@
 use Rattle.std.proofs.Common.{◌≡◌}
 use Rattle.scenario.proofs.CutTexts.{scenario_tells_at_limit}
 use Rattle.scenario.proofs.files.EngineEnds.{kept, ran_to_line}
-use Rattle.scenario.specs.Reading.{scenario_of}
-use Rattle.scenario.specs.Reads.{script}
+use Rattle.scenario.specs.{scenario_of, script}
 use Rattle.scenario.specs.files.declared.faults.Fault.TheVariants.{Line}
-use Rattle.engines.specs.Sweepings.{TellsSweep, swept}
-use Rattle.course.specs.Replays.{ended}
+use Rattle.engines.specs.{TellsSweep, swept}
+use Rattle.course.specs.{ended}
 use Rattle.course.proofs.ReplayEnds.{ended_err, engine_ran, input_answer}
 use Rattle.engines.proofs.sweeping.run_sweep.Goals as goal
 

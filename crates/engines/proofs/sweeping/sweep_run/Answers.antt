@@ -1,9 +1,9 @@
 use Rattle.std.proofs.Common.{◌≡◌, ap, ◌∙◌}
-use Rattle.scenario.specs.Reads.{script}
-use Rattle.engines.specs.Sweepings.{accepted_calls, calls_in}
+use Rattle.scenario.specs.{script}
+use Rattle.engines.specs.{accepted_calls, calls_in}
 use Rattle.engines.proofs.Sweepings.{found_is}
 use Rattle.engines.proofs.sweeping.sweep_run.Goals as goal
-use Rattle.course.specs.RunRecords.{accepted_events}
+use Rattle.course.specs.{accepted_events}
 
 pub returns-clause-is : goal.returns-clause-is
 returns-clause-is g c =

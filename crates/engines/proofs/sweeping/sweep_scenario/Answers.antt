@@ -1,7 +1,7 @@
 use Rattle.std.proofs.Common.{ap}
 use Rattle.std.specs.String.{string_bytes}
-use Rattle.scenario.specs.Reads.{script}
-use Rattle.engines.specs.Sweepings.{swept, swept_lines}
+use Rattle.scenario.specs.{script}
+use Rattle.engines.specs.{swept, swept_lines}
 use Rattle.course.proofs.Written.{front_all, line_front, line_whole, ok_along}
 use Rattle.engines.proofs.sweeping.sweep_scenario.Goals as goal
 

@@ -1,5 +1,5 @@
 use Rattle.std.proofs.Common.{ap, option_map, ◌∙◌}
-use Rattle.files.specs.KeyWords.{KeyWord}
+use Rattle.files.specs.{KeyWord}
 use Rattle.files.proofs.KeyWords.{by_row}
 use Rattle.files.proofs.key_words.meaning_of.Goals as goal
 

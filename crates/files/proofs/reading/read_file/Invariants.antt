@@ -1,6 +1,5 @@
 use Rattle.std.proofs.Common.{◌≡◌, ◌+◌, ◌≤◌, length, None}
-use Rattle.files.specs.Files.{lines_read}
-use Rattle.files.specs.Words.{lines}
+use Rattle.files.specs.{lines, lines_read}
 use Rattle.files.proofs.reading.read_file.Given as goal
 
 -- reading what is left goes on to what reading all gives

@@ -1,6 +1,5 @@
 use Rattle.std.proofs.Common.{ap, if◌then◌else◌, Err}
-use Rattle.files.specs.Files.{words_read}
-use Rattle.files.specs.Words.{words_of}
+use Rattle.files.specs.{words_of, words_read}
 use Rattle.files.specs.declared.faults.FaultKind.TheVariants.{TooLong}
 use Rattle.files.proofs.reading.read_line.Goals as goal
 

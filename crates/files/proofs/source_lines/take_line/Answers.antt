@@ -1,8 +1,7 @@
 use Rattle.std.proofs.Common.{◌≡◌, ℕ, List, [], not, ap, arith, refl, subst, sym, ◌∙◌}
 use Rattle.std.specs.Io.KnownBytes.{Consumes}
 use Rattle.std.specs.List.{list_all}
-use Rattle.files.specs.Lines.{TakesLine, is_inner}
-use Rattle.files.specs.SourceLines.{Told, coming}
+use Rattle.files.specs.{TakesLine, Told, coming, is_inner}
 use Rattle.files.specs.declared.faults.Fault.TheVariants.{Memory}
 use Rattle.files.proofs.CallEnds.{counts_fault, no_value, tells_fault}
 use Rattle.files.proofs.FirstLines.{all_inner, cut_long, ended, fed, fed_all, fed_long, none_came, none_taken}

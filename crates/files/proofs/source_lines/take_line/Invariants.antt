@@ -1,8 +1,7 @@
 use Rattle.std.proofs.Common.{◌≡◌, ◌-◌, true, length}
 use Rattle.std.specs.Io.KnownBytes.{Consumes}
 use Rattle.std.specs.List.{list_all}
-use Rattle.files.specs.Lines.{is_inner}
-use Rattle.files.specs.SourceLines.{KeepsEnd, coming}
+use Rattle.files.specs.{KeepsEnd, coming, is_inner}
 use Rattle.files.proofs.source_lines.take_line.Given as goal
 
 -- the bytes so far came from the front, there is no 0x0A among them, a source that has told its end is at it and was left

@@ -1,7 +1,7 @@
 use Rattle.std.proofs.Common.{◌≡◌, ℕ, ◌+◌, ◌<◌, ◌≤◌, List, [], ◌∷◌, ◌++◌, length, ap, arith, refl, subst, sym, ◌∙◌}
 use Rattle.std.proofs.lemmas.List.{length-append}
 use Rattle.std.specs.Io.KnownBytes.{Consumes}
-use Rattle.files.specs.Cuts.{input_limit}
+use Rattle.files.specs.{input_limit}
 use Rattle.files.proofs.Appending.{front_held, front_more, front_read, front_still, pushed}
 use Rattle.files.proofs.FirstLines.{none_taken}
 use Rattle.files.proofs.streams.read_input.Goals as goal

@@ -1,6 +1,6 @@
 use Rattle.std.proofs.Common.{◌≡◌, ◌-◌, ◌≤◌, length}
 use Rattle.std.specs.Io.KnownBytes.{Consumes}
-use Rattle.files.specs.Cuts.{input_limit}
+use Rattle.files.specs.{input_limit}
 use Rattle.files.proofs.streams.read_input.Given as goal
 
 -- the bytes so far came from the front, and no call has failed

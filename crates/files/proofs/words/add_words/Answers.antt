@@ -1,5 +1,5 @@
 use Rattle.std.proofs.Common.{ℕ, List, [], ◌∷◌, ◌++◌, Bor, not, ap, sym, ◌∙◌}
-use Rattle.files.specs.Words.{texts, words_of}
+use Rattle.files.specs.{texts, words_of}
 use Rattle.files.proofs.FoundWords.{fewer_left, none_more, one_more}
 use Rattle.files.proofs.words.add_words.Goals as goal
 

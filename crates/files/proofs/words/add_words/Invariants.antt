@@ -1,5 +1,5 @@
 use Rattle.std.proofs.Common.{◌≡◌, ◌++◌, length}
-use Rattle.files.specs.Words.{texts, words_of}
+use Rattle.files.specs.{texts, words_of}
 use Rattle.files.proofs.words.add_words.Given as goal
 
 -- the words so far, and those of the bytes that are left

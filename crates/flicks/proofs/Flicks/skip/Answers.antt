@@ -1,7 +1,6 @@
 use Rattle.std.proofs.Common.{◌≡◌, sym, ◌∙◌, ap}
 use Rattle.rand_pcg.specs.Lcg.{Lcg}
-use Rattle.flicks.specs.Flicks.{FlickState, flicks_after}
-use Rattle.flicks.specs.declared.Mode.{Mode}
+use Rattle.flicks.specs.{FlickState, Mode, flicks_after}
 use Rattle.flicks.specs.declared.Mode.TheVariants.{Constant, Generator}
 use Rattle.flicks.proofs.Skips.{constant, generated, state}
 use Rattle.flicks.proofs.Flicks.skip.Goals as goal

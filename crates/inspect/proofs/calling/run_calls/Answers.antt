@@ -1,12 +1,11 @@
 use Rattle.scenario.proofs.CutTexts.{scenario_tells_at_limit}
 use Rattle.scenario.proofs.files.EngineEnds.{kept, ran_to_line}
-use Rattle.scenario.specs.Reading.{scenario_of}
-use Rattle.scenario.specs.Reads.{script}
+use Rattle.scenario.specs.{scenario_of, script}
 use Rattle.scenario.specs.files.declared.faults.Fault.TheVariants.{Line}
 use Rattle.std.proofs.Common.{◌≡◌}
-use Rattle.course.specs.Replays.{ended}
+use Rattle.course.specs.{ended}
 use Rattle.course.proofs.ReplayEnds.{ended_err, engine_ran}
-use Rattle.inspect.specs.Tables.{tabled}
+use Rattle.inspect.specs.{tabled}
 use Rattle.inspect.proofs.calling.run_calls.Goals as goal
 
 pub returns-in_err-scenario-clause-ran : goal.returns-in_err-scenario-clause-ran

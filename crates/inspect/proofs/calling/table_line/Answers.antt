@@ -1,10 +1,9 @@
 use Rattle.std.proofs.Common.{◌-◌, ◌^◌, ◌∙◌, ap, arith, subst, sym}
-use Rattle.snapshot.specs.calls.Hearing.{TableState}
+use Rattle.snapshot.specs.calls.{TableState}
 use Rattle.course.proofs.Endings.{failures_by, if_err, ok_with, on_err_if}
 use Rattle.course.proofs.Written.{ok_then}
-use Rattle.course.specs.Runs.{run_after}
-use Rattle.course.specs.Writing.{Writes, WritesPart}
-use Rattle.inspect.specs.Tables.{HasTabled, lines_after}
+use Rattle.course.specs.{Writes, WritesPart, run_after}
+use Rattle.inspect.specs.{HasTabled, lines_after}
 use Rattle.inspect.proofs.calling.table_line.Goals as goal
 
 pub play-requires : goal.play-requires

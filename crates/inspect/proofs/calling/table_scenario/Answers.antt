@@ -1,7 +1,7 @@
 use Rattle.std.proofs.Common.{◌≡◌, ◌+◌, ℕ, List, [], ◌∷◌, drop, arith, subst}
 use Rattle.std.proofs.lemmas.List.{drop_all}
-use Rattle.plain_store.specs.declared.setups.Setup.{Setup}
-use Rattle.scenario.specs.declared.lines.Line.{Line}
+use Rattle.plain_store.specs.{Setup}
+use Rattle.scenario.specs.{Line}
 use Rattle.scenario.proofs.Places.{drop_in}
 use Rattle.course.proofs.Played.{Between, between_start}
 use Rattle.course.proofs.Written.{ok_then}

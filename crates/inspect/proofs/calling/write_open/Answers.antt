@@ -1,10 +1,9 @@
 use Rattle.std.proofs.Common.{◌≡◌, ◌+◌, ◌-◌, ◌<◌, ℕ, List, ◌++◌, flat_map, length, refl, sym, ap, subst, ◌∙◌, arith}
 use Rattle.std.specs.Io.KnownBytes.{Appends}
 use Rattle.std.specs.List.{range_with_len}
-use Rattle.plain_store.specs.declared.setups.Setup.{Setup}
-use Rattle.scenario.specs.files.Streams.{WritesFront}
-use Rattle.snapshot.specs.calls.Hearing.{open_call}
-use Rattle.snapshot.specs.calls.Lines.{line_of, open_lines}
+use Rattle.plain_store.specs.{Setup}
+use Rattle.scenario.specs.files.{WritesFront}
+use Rattle.snapshot.specs.calls.{line_of, open_call, open_lines}
 use Rattle.course.proofs.Written.{appends_both, appends_none, failed_same, front_after, front_all, front_longer}
 use Rattle.inspect.proofs.Ranges.{lines_front}
 use Rattle.snapshot.proofs.Ranges.{lines_more}

@@ -1,9 +1,8 @@
 use Rattle.std.proofs.Common.{◌≡◌, ◌-◌, flat_map, length}
 use Rattle.std.specs.Io.KnownBytes.{Appends}
 use Rattle.std.specs.List.{range_with_len}
-use Rattle.record.specs.Entries.{Past}
-use Rattle.snapshot.specs.calls.Hearing.{HasHeard, open_call}
-use Rattle.snapshot.specs.calls.Lines.{line_of}
+use Rattle.record.specs.{Past}
+use Rattle.snapshot.specs.calls.{HasHeard, line_of, open_call}
 use Rattle.inspect.proofs.calling.write_open.Given as goal
 
 -- the lines of the calls of those below the present process were written

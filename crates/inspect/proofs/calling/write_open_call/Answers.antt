@@ -1,8 +1,7 @@
 use Rattle.std.proofs.Common.{◌≡◌, ◌-◌, length, subst, ap, ◌∙◌}
 use Rattle.std.specs.Io.KnownBytes.{Appends}
-use Rattle.scenario.specs.files.Streams.{WritesFront}
-use Rattle.snapshot.specs.calls.Hearing.{open_call}
-use Rattle.snapshot.specs.calls.Lines.{line_of}
+use Rattle.scenario.specs.files.{WritesFront}
+use Rattle.snapshot.specs.calls.{line_of, open_call}
 use Rattle.course.proofs.Written.{ok_then}
 use Rattle.inspect.proofs.calling.write_open_call.Goals as goal
 

@@ -1,7 +1,7 @@
 use Rattle.std.proofs.Common.{subst, ◌∙◌}
 use Rattle.std.specs.Io.KnownBytes.{Appends}
-use Rattle.scenario.specs.files.Streams.{WritesFront}
-use Rattle.snapshot.specs.calls.Lines.{line_of}
+use Rattle.scenario.specs.files.{WritesFront}
+use Rattle.snapshot.specs.calls.{line_of}
 use Rattle.course.proofs.Written.{ok_then}
 use Rattle.inspect.proofs.hearing.hear.Goals as goal
 

@@ -1,9 +1,8 @@
 use Rattle.std.proofs.Common.{refl, sym, subst, ◌∙◌}
-use Rattle.record.specs.Entries.{Entry}
-use Rattle.course.specs.Telling.{entry_made}
-use Rattle.course.specs.declared.told.Told.{Told}
+use Rattle.record.specs.{Entry}
+use Rattle.course.specs.{Told, entry_made}
 use Rattle.course.proofs.Written.{appends_none, ok_then, on_err}
-use Rattle.inspect.specs.Tables.{CutsTold, Tells}
+use Rattle.inspect.specs.{CutsTold, Tells}
 use Rattle.inspect.proofs.hearing.hear_told.Goals as goal
 
 pub returns-in-Accepted-clause-ok : goal.returns-in-Accepted-clause-ok

@@ -1,11 +1,10 @@
 use Rattle.std.proofs.Common.{◌≡◌, ◌+◌, ◌<◌, ℕ, List, [], ◌∷◌, drop, length, inr, refl, arith, ap, sym, subst, ◌∙◌}
 use Rattle.std.proofs.lemmas.List.{drop_all}
-use Rattle.plain_store.specs.declared.setups.Setup.{Setup}
-use Rattle.scenario.specs.declared.lines.Line.{Line}
+use Rattle.plain_store.specs.{Setup}
+use Rattle.scenario.specs.{Line}
 use Rattle.scenario.proofs.Places.{drop_in}
-use Rattle.course.specs.Happenings.{past_after}
-use Rattle.course.specs.Runs.{run_after, run_at_start, runs}
-use Rattle.inspect.specs.States.{ComesAlong, first_of}
+use Rattle.course.specs.{past_after, run_after, run_at_start, runs}
+use Rattle.inspect.specs.{ComesAlong, first_of}
 use Rattle.inspect.proofs.Along.{along_all}
 use Rattle.inspect.proofs.stating.run_part.Goals as goal
 

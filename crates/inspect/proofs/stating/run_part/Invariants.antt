@@ -1,6 +1,6 @@
 use Rattle.std.proofs.Common.{◌≡◌, ◌*◌, ◌^◌, ◌≤◌, drop}
-use Rattle.course.specs.Runs.{Run, run_at_start, runs}
-use Rattle.inspect.specs.States.{ComesAlong}
+use Rattle.course.specs.{Run, run_at_start, runs}
+use Rattle.inspect.specs.{ComesAlong}
 use Rattle.inspect.proofs.stating.run_part.Given as goal
 
 -- it has come along the lines so far

@@ -1,9 +1,8 @@
 use Rattle.std.proofs.Common.{rules, ◌≡◌, ◌∙◌, ℕ, List, [], refl}
 use Rattle.scenario.proofs.CutTexts.{scenario_tells_at_limit}
 use Rattle.scenario.proofs.files.EngineEnds.{kept, ran_to_end, ran_to_line}
-use Rattle.scenario.specs.Reading.{scenario_of}
-use Rattle.scenario.specs.Reads.{script}
-use Rattle.inspect.specs.States.{state_text, stated}
+use Rattle.scenario.specs.{scenario_of, script}
+use Rattle.inspect.specs.{state_text, stated}
 use Rattle.inspect.proofs.Fronts.{memory_ran}
 use Rattle.inspect.proofs.stating.run_state.Goals as goal
 

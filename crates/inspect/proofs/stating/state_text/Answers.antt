@@ -1,5 +1,5 @@
 use Rattle.std.proofs.Common.{Result, Ok, Err, IfOk}
-use Rattle.scenario.specs.Reads.{script}
+use Rattle.scenario.specs.{script}
 use Rattle.inspect.proofs.stating.state_text.Goals as goal
 
 -- what follows for what is there

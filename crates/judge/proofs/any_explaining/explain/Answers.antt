@@ -1,6 +1,5 @@
 use Rattle.std.proofs.Common.{Option, subst}
-use Rattle.any_lock.specs.Judging.{AreReasonsOf}
-use Rattle.any_lock.specs.Verdicts.{verdict_of}
+use Rattle.any_lock.specs.{AreReasonsOf, verdict_of}
 use Rattle.any_lock.specs.declared.reasons.Reasons.{Reasons}
 use Rattle.judge.proofs.AnyExplained.{explains_some}
 use Rattle.judge.proofs.LinesAt.{ok_then}

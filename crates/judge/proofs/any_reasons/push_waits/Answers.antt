@@ -1,6 +1,6 @@
 use Rattle.std.proofs.Common.{◌≡◌, ◌+◌, ℕ, List, Option, None, ◌∷◌, ◌++◌, drop, drop-cons, get_or, ap, sym, ◌∙◌, append_assoc, append-nil, add-one, arith}
 use Rattle.any_lock.proofs.Loops.{dropped_all}
-use Rattle.judge.specs.AnyReasons.{wait_line, waits_from}
+use Rattle.judge.specs.{wait_line, waits_from}
 use Rattle.judge.proofs.any_reasons.push_waits.Goals as goal
 
 pub waits-preserved : goal.waits-preserved

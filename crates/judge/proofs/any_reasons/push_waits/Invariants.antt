@@ -1,5 +1,5 @@
 use Rattle.std.proofs.Common.{◌≡◌, ◌++◌, drop}
-use Rattle.judge.specs.AnyReasons.{waits_from}
+use Rattle.judge.specs.{waits_from}
 use Rattle.judge.proofs.any_reasons.push_waits.Given as goal
 
 -- what is written, and the lines of those that are left

@@ -1,9 +1,7 @@
 use Rattle.std.proofs.Common.{◌≡◌, ℕ, Bool, List, Option, Ok, Err, sym, subst, arith}
-use Rattle.files.specs.Reads.{UnlessMemory}
-use Rattle.files.specs.declared.faults.Fault.{Fault}
-use Rattle.record_file.specs.RecordFiles.{line_read}
-use Rattle.files.specs.SourceLines.{GoesToNext, coming}
-use Rattle.judge.specs.Ends.{IsInputFault}
+use Rattle.files.specs.{Fault, GoesToNext, UnlessMemory, coming}
+use Rattle.record_file.specs.{line_read}
+use Rattle.judge.specs.{IsInputFault}
 use Rattle.judge.specs.Trials.{GoesOn, IsHeard}
 use Rattle.judge.proofs.Ends.{if_err, next_fault, onwards_all, onwards_fault, onwards_on}
 use Rattle.judge.proofs.engine.hear_file.Goals as goal

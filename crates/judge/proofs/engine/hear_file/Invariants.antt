@@ -1,5 +1,5 @@
 use Rattle.std.proofs.Common.{◌≡◌, ◌-◌, ◌^◌}
-use Rattle.files.specs.SourceLines.{EndHolds, coming}
+use Rattle.files.specs.{EndHolds, coming}
 use Rattle.judge.proofs.Ends.{Onwards}
 use Rattle.judge.proofs.engine.hear_file.Given as goal
 

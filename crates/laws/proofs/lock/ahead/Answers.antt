@@ -1,5 +1,5 @@
 -- Who is ahead.
-use Rattle.record.specs.Records.{past_of}
+use Rattle.record.specs.{past_of}
 use Rattle.record.proofs.Width.{is_good}
 use Rattle.laws.proofs.AheadLists.{ahead_are, ascends, queued-only, not_itself, all_waiters, nobody_ahead}
 use Rattle.laws.proofs.Always.{inv_of}

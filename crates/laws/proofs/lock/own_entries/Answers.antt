@@ -1,10 +1,7 @@
 -- An accepted event adds one entry, of its own process.
 use Rattle.std.proofs.Common.{◌≡◌, ◌≢◌, ℕ, List, ◌∷◌, Option, Some, None, refl, sym, ap, ◌∙◌}
-use Rattle.plain_store.specs.declared.Setup.{Setup}
-use Rattle.record.specs.declared.events.Event.{Event}
-use Rattle.record.specs.declared.refusals.Refusal.{Refusal}
-use Rattle.record.specs.Entries.{Entry, Past, own}
-use Rattle.record.specs.Records.{added, entry_of, past_of, process_of, refused}
+use Rattle.plain_store.specs.{Setup}
+use Rattle.record.specs.{Entry, Event, Past, Refusal, added, entry_of, own, past_of, process_of, refused}
 use Rattle.record.proofs.Accepted.{accepted_adds}
 use Rattle.record.proofs.Width.{IsGood, is_good}
 use Rattle.laws.proofs.Frame.{own-other}

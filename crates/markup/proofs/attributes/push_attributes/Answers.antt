@@ -1,5 +1,5 @@
 use Rattle.std.proofs.Common.{◌++◌, flat_map}
-use Rattle.markup.specs.Markup.{attribute_text}
+use Rattle.markup.specs.{attribute_text}
 use Rattle.markup.proofs.Runs.{written_all, written_more}
 use Rattle.markup.proofs.attributes.push_attributes.Goals as goal
 

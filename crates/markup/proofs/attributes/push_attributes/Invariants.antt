@@ -1,5 +1,5 @@
 use Rattle.std.proofs.Common.{◌≡◌, ◌++◌, drop, flat_map}
-use Rattle.markup.specs.Markup.{attribute_text}
+use Rattle.markup.specs.{attribute_text}
 use Rattle.markup.proofs.attributes.push_attributes.Given as goal
 
 -- the attributes so far and those to come are all

@@ -1,5 +1,5 @@
 use Rattle.std.proofs.Common.{◌++◌}
-use Rattle.markup.specs.Escaping.{escaped, escaped_by, names}
+use Rattle.markup.specs.{escaped, escaped_by, names}
 use Rattle.markup.proofs.Runs.{written_all, written_more}
 use Rattle.markup.proofs.escaping.push_escaped.Goals as goal
 

@@ -1,5 +1,5 @@
 use Rattle.std.proofs.Common.{◌≡◌, ◌++◌, drop}
-use Rattle.markup.specs.Escaping.{escaped}
+use Rattle.markup.specs.{escaped}
 use Rattle.markup.proofs.escaping.push_escaped.Given as goal
 
 -- the bytes so far and those to come are the whole text

@@ -1,9 +1,7 @@
 use Rattle.std.proofs.Common.{◌≡◌, [], ◌∷◌, ◌∙◌, ap}
-use Rattle.markup.specs.Figures.{Mark, drawings}
-use Rattle.markup.specs.Readings.{reading, with_mark}
-use Rattle.columns.specs.Told.{text_of}
-use Rattle.picture.specs.Drawings.{mark_said}
-use Rattle.picture.specs.Words.{queue_text}
+use Rattle.markup.specs.{Mark, drawings, reading, with_mark}
+use Rattle.columns.specs.{text_of}
+use Rattle.picture.specs.{mark_said, queue_text}
 use Rattle.picture.proofs.Sheetings.{adds_other}
 use Rattle.picture.proofs.Tellings.{then_same}
 use Rattle.picture.proofs.marks.begin_mark.Goals as goal

@@ -1,8 +1,7 @@
 use Rattle.std.proofs.Common.{◌≡◌, ◌++◌, drop, map}
-use Rattle.markup.specs.Figures.{drawings}
-use Rattle.markup.specs.Readings.{reading}
-use Rattle.columns.specs.Columns.{wording}
-use Rattle.picture.specs.Drawings.{rows_shapes}
+use Rattle.markup.specs.{drawings, reading}
+use Rattle.columns.specs.{wording}
+use Rattle.picture.specs.{rows_shapes}
 use Rattle.picture.proofs.marks.draw_rows.Given as goal
 
 -- no line more, and what is drawn so far and what is drawn of those to come is all that is drawn

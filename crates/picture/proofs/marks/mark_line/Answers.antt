@@ -1,11 +1,10 @@
 use Rattle.std.proofs.Common.{List, None, Some, true, false, [], ◌∷◌, ◌++◌, ◌∙◌, ap, refl, sym}
 use Rattle.std.specs.Fmt.{decimal}
 use Rattle.std.specs.Option.{option_copied}
-use Rattle.markup.specs.Markup.{said_text}
-use Rattle.markup.specs.declared.attributes.Attribute.{Attribute}
+use Rattle.markup.specs.{Attribute, said_text}
 use Rattle.markup.specs.declared.names.Key.TheVariants as key
-use Rattle.columns.specs.Told.{change_told}
-use Rattle.picture.specs.Drawings.{mark_said}
+use Rattle.columns.specs.{change_told}
+use Rattle.picture.specs.{mark_said}
 use Rattle.picture.proofs.Beginnings.{attributes_said, mark_drawn}
 use Rattle.picture.proofs.marks.mark_line.Goals as goal
 

@@ -1,9 +1,9 @@
 use Rattle.std.proofs.Common.{◌++◌, ap, codes, ◌∙◌}
 use Rattle.std.specs.Fmt.{decimal}
-use Rattle.markup.specs.Markup.{entering_by, said_text}
+use Rattle.markup.specs.{entering_by, said_text}
 use Rattle.markup.specs.declared.names.Key.TheVariants as key
 use Rattle.markup.specs.declared.names.Tag.TheVariants as tag
-use Rattle.picture.specs.Sheets.{view_of}
+use Rattle.picture.specs.{view_of}
 use Rattle.picture.proofs.Sheetings.{adds_other, four_said}
 use Rattle.picture.proofs.page.enter_band.Goals as goal
 

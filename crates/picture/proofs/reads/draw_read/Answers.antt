@@ -1,5 +1,5 @@
 use Rattle.std.proofs.Common.{◌∙◌, ap}
-use Rattle.markup.specs.Readings.{group, with_ended}
+use Rattle.markup.specs.{group, with_ended}
 use Rattle.picture.proofs.Tellings.{group_ended, then_same}
 use Rattle.picture.proofs.reads.draw_read.Goals as goal
 

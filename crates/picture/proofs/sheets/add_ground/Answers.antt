@@ -1,5 +1,5 @@
 use Rattle.std.proofs.Common.{[], ◌++◌, ◌∙◌, ap}
-use Rattle.markup.specs.Markup.{standing_by, telling_by}
+use Rattle.markup.specs.{standing_by, telling_by}
 use Rattle.markup.specs.declared.names.Tag.TheVariants as tag
 use Rattle.picture.proofs.Sheetings.{adds_last, adds_on}
 use Rattle.picture.proofs.sheets.add_ground.Goals as goal

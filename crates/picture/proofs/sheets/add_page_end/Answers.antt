@@ -1,6 +1,5 @@
 use Rattle.std.proofs.Common.{◌∙◌, ap, refl}
-use Rattle.markup.specs.Elements.{opens_in}
-use Rattle.markup.specs.Readings.{reading, with_tags}
+use Rattle.markup.specs.{opens_in, reading, with_tags}
 use Rattle.picture.specs.declared.constants.TheConstants.{SCRIPT}
 use Rattle.picture.proofs.Framing.{on_ok, page_end_read, script_text}
 use Rattle.picture.proofs.Sheetings.{adds}

@@ -1,5 +1,5 @@
 use Rattle.std.proofs.Common.{◌++◌, ◌∙◌, ap}
-use Rattle.picture.specs.Sheets.{body_front, page_begun}
+use Rattle.picture.specs.{body_front, page_begun}
 use Rattle.picture.proofs.Framing.{on_ok}
 use Rattle.picture.proofs.sheets.add_page_front.Goals as goal
 

@@ -1,7 +1,6 @@
 use Rattle.std.proofs.Common.{ℕ, ◌+◌, ◌≡◌, ◌∙◌, ap}
-use Rattle.markup.specs.Elements.{opens_in}
-use Rattle.markup.specs.Readings.{reading, with_tags}
-use Rattle.picture.specs.Sheets.{ground_of, held_in_64, picture_height, svg_front, titles_of}
+use Rattle.markup.specs.{opens_in, reading, with_tags}
+use Rattle.picture.specs.{ground_of, held_in_64, picture_height, svg_front, titles_of}
 use Rattle.picture.proofs.Sheetings.{adds, adds_same}
 use Rattle.picture.proofs.Framing.{on_ok, picture_head_read, style_text, style_end_text}
 use Rattle.picture.proofs.sheets.add_picture_front.Goals as goal

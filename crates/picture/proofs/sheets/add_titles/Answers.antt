@@ -1,5 +1,5 @@
 use Rattle.std.proofs.Common.{[], ◌++◌, ◌∙◌, ap}
-use Rattle.markup.specs.Markup.{telling_by}
+use Rattle.markup.specs.{telling_by}
 use Rattle.markup.specs.declared.names.Tag.TheVariants as tag
 use Rattle.picture.specs.declared.sheets.TheConstants.{DESCRIPTION}
 use Rattle.picture.proofs.Sheetings.{adds_last, adds_on, adds_other}

@@ -1,6 +1,5 @@
 use Rattle.std.proofs.Common.{◌∙◌, ap, codes}
-use Rattle.markup.specs.Elements.{opens_in}
-use Rattle.markup.specs.Readings.{reading, with_begun, with_tags}
+use Rattle.markup.specs.{opens_in, reading, with_begun, with_tags}
 use Rattle.picture.proofs.Framing.{body_elements, body_lines, list_end_text, on_ok}
 use Rattle.picture.proofs.Sheetings.{adds_last, adds_on}
 use Rattle.picture.proofs.sheets.begin_body.Goals as goal

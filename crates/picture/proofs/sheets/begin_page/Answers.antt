@@ -1,6 +1,5 @@
 use Rattle.std.proofs.Common.{◌∙◌, ap}
-use Rattle.markup.specs.Elements.{opens_in}
-use Rattle.markup.specs.Readings.{reading, with_tags}
+use Rattle.markup.specs.{opens_in, reading, with_tags}
 use Rattle.picture.proofs.Framing.{page_begun_read, body_text, on_ok, style_text}
 use Rattle.picture.proofs.Sheetings.{adds}
 use Rattle.picture.proofs.sheets.begin_page.Goals as goal

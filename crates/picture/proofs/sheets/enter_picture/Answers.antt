@@ -1,5 +1,5 @@
 use Rattle.std.proofs.Common.{[], ◌++◌, ◌∙◌, ap}
-use Rattle.markup.specs.Markup.{entering_by, said_text}
+use Rattle.markup.specs.{entering_by, said_text}
 use Rattle.markup.specs.declared.names.Key.TheVariants as key
 use Rattle.markup.specs.declared.names.Tag.TheVariants as tag
 use Rattle.picture.proofs.Sheetings.{adds_other}

@@ -1,7 +1,7 @@
 use Rattle.std.proofs.Common.{◌≡◌, ◌++◌, flat_map, map}
 use Rattle.bstr.specs.Text.{lines_of, without_terminator}
-use Rattle.markup.specs.Readings.{reading}
-use Rattle.picture.specs.Sheets.{item_of}
+use Rattle.markup.specs.{reading}
+use Rattle.picture.specs.{item_of}
 use Rattle.picture.proofs.sheets.list_lines.Given as goal
 
 -- what is listed and the lines to come are all; and no line of a run more

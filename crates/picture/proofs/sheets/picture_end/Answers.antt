@@ -1,7 +1,5 @@
 use Rattle.std.proofs.Common.{◌∙◌, ap}
-use Rattle.markup.specs.Elements.{opens_in}
-use Rattle.markup.specs.Readings.{reading, with_tags}
-use Rattle.markup.specs.Markup.{lowering}
+use Rattle.markup.specs.{lowering, opens_in, reading, with_tags}
 use Rattle.picture.proofs.Sheetings.{adds, adds_same}
 use Rattle.picture.proofs.Framing.{picture_end_read, picture_end_text}
 use Rattle.picture.proofs.sheets.picture_end.Goals as goal

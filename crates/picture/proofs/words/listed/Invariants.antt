@@ -1,5 +1,5 @@
 use Rattle.std.proofs.Common.{◌≡◌, string_bytes, take}
-use Rattle.picture.specs.Words.{listed_with}
+use Rattle.picture.specs.{listed_with}
 use Rattle.picture.proofs.words.listed.Given as goal
 
 -- the numbers before the present one

@@ -1,5 +1,5 @@
 use Rattle.std.proofs.Common.{◌≡◌, ◌≤◌, drop, max}
-use Rattle.picture.specs.Words.{lines_reach}
+use Rattle.picture.specs.{lines_reach}
 use Rattle.picture.proofs.words.right_reach.Given as goal
 
 -- the signs before the present line reach farthest, or those from there on

@@ -1,6 +1,5 @@
 use Rattle.std.proofs.Common.{◌≡◌, drop}
-use Rattle.plain_store.specs.Pairs.{pairs_in}
-use Rattle.plain_store.specs.Store.{value_at}
+use Rattle.plain_store.specs.{pairs_in, value_at}
 use Rattle.plain_store.proofs.openings.is_among.Given as goal
 
 -- the name has among the places to come what it has among all

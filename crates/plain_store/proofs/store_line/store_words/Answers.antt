@@ -1,5 +1,5 @@
 use Rattle.std.proofs.Common.{◌++◌, ◌+◌, ap, ◌∙◌, sym, drop, flat_map, arith}
-use Rattle.plain_store.specs.StoreLine.{next_pair}
+use Rattle.plain_store.specs.{next_pair}
 use Rattle.plain_store.proofs.StoreLines.{all_told, first_pair, no_pairs, pairs_more}
 use Rattle.plain_store.proofs.store_line.store_words.Goals as goal
 

@@ -1,6 +1,6 @@
 use Rattle.std.proofs.Common.{◌≡◌, ◌++◌, drop, flat_map}
 use Rattle.std.specs.String.{string_bytes}
-use Rattle.plain_store.specs.StoreLine.{next_pair, store_words}
+use Rattle.plain_store.specs.{next_pair, store_words}
 use Rattle.plain_store.proofs.store_line.store_words.Given as goal
 
 -- the words so far and the pairs to come are the whole store

@@ -1,6 +1,5 @@
 use Rattle.std.proofs.Common.{sym, ap, ◌∙◌}
-use Rattle.plain_store.specs.Setups.{callers_of}
-use Rattle.plain_store.specs.Store.{Contents, after}
+use Rattle.plain_store.specs.{Contents, after, callers_of}
 use Rattle.plain_store.specs.declared.commands.Command.TheVariants.{Write}
 use Rattle.plain_store.proofs.GoodSetups.{few-opening}
 use Rattle.plain_store.proofs.OpeningPairs.{opened_more}

@@ -1,5 +1,5 @@
 use Rattle.std.proofs.Common.{◌≡◌, take, replicate}
-use Rattle.plain_store.specs.Setups.{callers_of}
+use Rattle.plain_store.specs.{callers_of}
 use Rattle.plain_store.proofs.stores.opened.Given as goal
 
 -- the pairs before the place are written

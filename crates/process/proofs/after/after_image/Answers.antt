@@ -1,7 +1,7 @@
 use Rattle.std.proofs.Common.{◌≡◌, take, true, sym, ap, ◌∙◌}
-use Rattle.plain_store.specs.Store.{changes}
-use Rattle.record.specs.Program.{greatest}
-use Rattle.process.specs.Seen.{call_of, versions_seen}
+use Rattle.plain_store.specs.{changes}
+use Rattle.record.specs.{greatest}
+use Rattle.process.specs.{call_of, versions_seen}
 use Rattle.process.proofs.AfterParts.{g-full, g-writes}
 use Rattle.process.proofs.VersionsSeen.{newest-stamp}
 use Rattle.process.proofs.after.after_image.Goals as goal

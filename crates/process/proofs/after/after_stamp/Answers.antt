@@ -1,6 +1,6 @@
 use Rattle.std.proofs.Common.{◌+◌, ◌++◌, ◌∷◌, [], sym, ap, ◌∙◌, subst, arith}
-use Rattle.record.specs.Parts.{to_e}
-use Rattle.process.specs.Seen.{Fit, all_from, call_of, versions_seen}
+use Rattle.record.specs.{to_e}
+use Rattle.process.specs.{Fit, all_from, call_of, versions_seen}
 use Rattle.process.specs.declared.seen.Seen.{Seen}
 use Rattle.process.proofs.SeenMore.{version-fits, version-room}
 use Rattle.process.proofs.VersionsSeen.{versions-more, with_version}

@@ -1,7 +1,6 @@
 use Rattle.std.proofs.Common.{◌≡◌, ◌-◌, take, sym, ap, ◌∙◌, arith}
-use Rattle.record.specs.Parts.{to_c}
-use Rattle.process.specs.Others.{others_below}
-use Rattle.process.specs.Seen.{call_of, tickets_seen}
+use Rattle.record.specs.{to_c}
+use Rattle.process.specs.{call_of, others_below, tickets_seen}
 use Rattle.process.proofs.AfterParts.{asks-none, asks-some}
 use Rattle.process.proofs.OthersFrom.{below-none}
 use Rattle.process.proofs.after.ask_from.Goals as goal

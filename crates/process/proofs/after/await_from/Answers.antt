@@ -1,5 +1,5 @@
 use Rattle.std.proofs.Common.{sym, arith, rules}
-use Rattle.process.specs.Seen.{call_of}
+use Rattle.process.specs.{call_of}
 use Rattle.process.proofs.AfterParts.{awaits-none, awaits-some}
 use Rattle.process.proofs.after.await_from.Goals as goal
 

@@ -1,8 +1,6 @@
 use Rattle.std.proofs.Common.{◌≡◌, ◌+◌, sym, ap, ◌∙◌, arith}
-use Rattle.record.specs.Parts.{Refuses, TakesTicket}
-use Rattle.record.specs.Program.{greatest, max_of, index_of}
-use Rattle.process.specs.Others.{other_numbered}
-use Rattle.process.specs.Seen.{call_of}
+use Rattle.record.specs.{Refuses, TakesTicket, greatest, index_of, max_of}
+use Rattle.process.specs.{call_of, other_numbered}
 use Rattle.process.proofs.AfterParts.{chosen-full, refuses, takes}
 use Rattle.process.proofs.after.choose.Goals as goal
 

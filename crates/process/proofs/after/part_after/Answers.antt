@@ -1,7 +1,6 @@
 use Rattle.std.proofs.Common.{◌≤◌, refl, sym, ap, ◌∙◌, subst}
-use Rattle.record.specs.Program.{max_of}
-use Rattle.process.specs.CallParts.{IsOutcome}
-use Rattle.process.specs.Seen.{call_of, part_at}
+use Rattle.record.specs.{max_of}
+use Rattle.process.specs.{IsOutcome, call_of, part_at}
 use Rattle.process.specs.declared.part.ProcessPart.TheVariants as at
 use Rattle.process.proofs.AfterParts.{keeps-then, part-then}
 use Rattle.process.proofs.Outcomes.{outcome-fits, width-stamp}

@@ -1,5 +1,5 @@
 use Rattle.std.proofs.Common.{arith}
-use Rattle.process.specs.Seen.{call_of}
+use Rattle.process.specs.{call_of}
 use Rattle.process.proofs.AfterParts.{version-some}
 use Rattle.process.proofs.after.version_from.Goals as goal
 

@@ -2,15 +2,11 @@ use Rattle.std.proofs.Common.{◌≡◌, ◌<◌, ◌+◌, ◌*◌, ◌++◌, �
 use Rattle.std.specs.List.{range_with_len}
 use Rattle.std.proofs.lemmas.List.{length-set}
 use Rattle.std.proofs.lemmas.List.FromFn.{map-range_with_len_more}
-use Rattle.plain_store.specs.Setups.{callers_of}
+use Rattle.plain_store.specs.{callers_of}
 use Rattle.plain_store.proofs.GoodSetups.{few-processes}
-use Rattle.record.specs.declared.access.Field.{Field}
-use Rattle.record.specs.Program.{Version, image_field, newest_process, version_of}
-use Rattle.record.specs.Registers.{bytes_of_bits, image_bytes, width}
-use Rattle.store_image.specs.Reading.{store_in}
-use Rattle.process.specs.Newest.{register_held, version_in, versions_in}
-use Rattle.process.specs.Seen.{versions_seen}
-use Rattle.process.specs.declared.part.ProcessCall.{ProcessCall}
+use Rattle.record.specs.{Field, Version, bytes_of_bits, image_bytes, image_field, newest_process, version_of, width}
+use Rattle.store_image.specs.{store_in}
+use Rattle.process.specs.{ProcessCall, register_held, version_in, versions_in, versions_seen}
 use Rattle.process.specs.declared.seen.Seen.{Seen}
 use Rattle.process.proofs.HeldBits.{held-wide}
 use Rattle.process.proofs.PartOver.{width-image}

@@ -1,7 +1,6 @@
 use Rattle.std.proofs.Common.{◌≡◌, map}
 use Rattle.std.specs.List.{range_with_len}
-use Rattle.process.specs.Newest.{version_in}
-use Rattle.process.specs.Seen.{HasRoom, versions_seen}
+use Rattle.process.specs.{HasRoom, version_in, versions_seen}
 use Rattle.process.proofs.committed.newest.Given as goal
 
 abbrev pub invariant-loop-process : goal.invariant-loop-process

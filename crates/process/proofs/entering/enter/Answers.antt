@@ -1,14 +1,10 @@
 use Rattle.std.proofs.Common.{◌≡◌, ◌<◌, ◌≤◌, ◌-◌, ℕ, List, length, sym, ap, ◌∙◌, subst}
-use Rattle.plain_store.specs.Padding.{padded}
-use Rattle.plain_store.specs.declared.Setup.{Setup}
-use Rattle.store_image.specs.Image.{image_of}
-use Rattle.record.specs.declared.access.Field.{Field}
+use Rattle.plain_store.specs.{Setup, padded}
+use Rattle.store_image.specs.{image_of}
+use Rattle.record.specs.{Field, width, written_at}
 use Rattle.record.specs.declared.access.Field.TheVariants.{Image0}
-use Rattle.record.specs.Parts.{written_at}
-use Rattle.record.specs.Registers.{width}
-use Rattle.record.specs.safe_number.Bytes.{bits_in, bits_of_number}
-use Rattle.registers.specs.Begins.{reading, writing}
-use Rattle.registers.specs.Cursors.{CursorState}
+use Rattle.record.specs.safe_number.{bits_in, bits_of_number}
+use Rattle.registers.specs.{CursorState, reading, writing}
 use Rattle.process.proofs.PartOver.{bits-padded, entered-read, entered-write, image-written}
 use Rattle.process.proofs.entering.enter.Goals as goal
 

@@ -1,6 +1,6 @@
 use Rattle.std.proofs.Common.{ap, ◌∙◌}
-use Rattle.record.specs.Parts.{Part}
-use Rattle.process.specs.CallParts.{PartState}
+use Rattle.record.specs.{Part}
+use Rattle.process.specs.{PartState}
 use Rattle.process.proofs.PartOver.{after-same, bits_read, marks-same, narrow-read, outcome-of}
 use Rattle.process.proofs.entering.part_over.Goals as goal
 

@@ -1,7 +1,7 @@
 use Rattle.std.proofs.Common.{◌≡◌, ℕ, length, sym, ap, ◌∙◌, arith}
 use Rattle.std.proofs.lemmas.List.{length-replicate}
-use Rattle.plain_store.specs.Store.{Contents}
-use Rattle.store_image.specs.Reading.{store_in}
+use Rattle.plain_store.specs.{Contents}
+use Rattle.store_image.specs.{store_in}
 use Rattle.store_image.proofs.ImageBytes.{length-image_of}
 use Rattle.process.proofs.GoodRanges.{few-callers, few-slots, some-slots}
 use Rattle.process.proofs.image.image_in.Goals as goal

@@ -3,10 +3,10 @@ use Rattle.std.specs.Int.{bit_at}
 use Rattle.std.proofs.lemmas.Bool.{cases_lt}
 use Rattle.std.proofs.lemmas.List.{get_or-take, get_or_past, length-take-le}
 use Rattle.std.proofs.lemmas.Nat.Bits.{bit_at-zero}
-use Rattle.plain_store.specs.Setups.{callers_of}
-use Rattle.record.specs.Registers.{image_bytes}
-use Rattle.record.specs.safe_number.Bytes.{IsBytesOf, bit_in}
-use Rattle.store_image.specs.Reading.{store_in}
+use Rattle.plain_store.specs.{callers_of}
+use Rattle.record.specs.{image_bytes}
+use Rattle.record.specs.safe_number.{IsBytesOf, bit_in}
+use Rattle.store_image.specs.{store_in}
 use Rattle.process.proofs.image.image_read.Goals as goal
 
 -- the first n bytes have these bits, and 0 after them

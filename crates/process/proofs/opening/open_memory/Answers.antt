@@ -1,15 +1,14 @@
 use Rattle.std.proofs.Common.{◌≡◌, ◌-◌, ◌≤◌, ℕ, List, length, ap, ◌∙◌, arith, rules}
 use Rattle.std.proofs.lemmas.Result.{IfOk-weaker}
-use Rattle.plain_store.specs.declared.Setup.{Setup}
-use Rattle.plain_store.specs.Setups.{opening_store}
+use Rattle.plain_store.specs.{Setup, opening_store}
 use Rattle.record.specs.declared.access.Field.TheVariants.{Image0}
-use Rattle.record.specs.Registers.{width}
-use Rattle.record.specs.safe_number.Bytes.{bits_in}
-use Rattle.store_image.specs.Image.{image_of}
+use Rattle.record.specs.{width}
+use Rattle.record.specs.safe_number.{bits_in}
+use Rattle.store_image.specs.{image_of}
 use Rattle.registers.proofs.WordBytes.{bits-as-bytes}
-use Rattle.registers.specs.Openings.{opening_memory}
-use Rattle.registers.specs.reader_copies.Words.{bits_of_words}
-use Rattle.process.specs.Memories.{cells_opening, memory_with}
+use Rattle.registers.specs.{opening_memory}
+use Rattle.registers.specs.reader_copies.{bits_of_words}
+use Rattle.process.specs.{cells_opening, memory_with}
 use Rattle.process.proofs.MemoriesOpening.{opening-with}
 use Rattle.process.proofs.PartOver.{bits-padded}
 use Rattle.process.proofs.opening.open_memory.Goals as goal

@@ -1,10 +1,8 @@
 use Rattle.std.proofs.Common.{◌≡◌}
 use Rattle.std.proofs.lemmas.Result.{IfOk-at_ok}
-use Rattle.plain_store.specs.declared.Reply.{Reply}
-use Rattle.plain_store.specs.Store.{after}
-use Rattle.record.specs.Program.{reply}
-use Rattle.record.specs.Scripts.{caller}
-use Rattle.process.specs.Seen.{call_of}
+use Rattle.plain_store.specs.{Reply, after}
+use Rattle.record.specs.{caller, reply}
+use Rattle.process.specs.{call_of}
 use Rattle.process.proofs.store.applied.Goals as goal
 
 pub returns : goal.returns

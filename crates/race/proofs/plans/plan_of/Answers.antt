@@ -1,5 +1,5 @@
 use Rattle.std.proofs.Common.{◌++◌, ap, sym, ◌∙◌}
-use Rattle.race.specs.Texts.{called_of}
+use Rattle.race.specs.{called_of}
 use Rattle.race.proofs.Parts.{items_all, items_more}
 use Rattle.race.proofs.plans.plan_of.Goals as goal
 

@@ -1,5 +1,5 @@
 use Rattle.std.proofs.Common.{◌≡◌, take}
-use Rattle.race.specs.Texts.{plan_in}
+use Rattle.race.specs.{plan_in}
 use Rattle.race.proofs.plans.plan_of.Given as goal
 
 -- the commands of the lines before the present one

@@ -1,8 +1,7 @@
 use Rattle.std.proofs.Common.{◌≡◌, ℕ, List, map, ap, ◌∙◌, arith}
 use Rattle.std.specs.List.{range_with_len}
-use Rattle.race.specs.Races.{plans_of}
-use Rattle.scenario.specs.declared.lines.Line.{Line}
-use Rattle.race.specs.Texts.{plan_in}
+use Rattle.race.specs.{plan_in, plans_of}
+use Rattle.scenario.specs.{Line}
 use Rattle.race.proofs.PlanLists.{plans_more}
 use Rattle.race.proofs.plans.plans_of.Goals as goal
 

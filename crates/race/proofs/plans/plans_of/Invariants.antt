@@ -1,7 +1,6 @@
 use Rattle.std.proofs.Common.{◌≡◌, map}
 use Rattle.std.specs.List.{range_with_len}
-use Rattle.race.specs.Races.{plans_of}
-use Rattle.race.specs.Texts.{plan_in}
+use Rattle.race.specs.{plan_in, plans_of}
 use Rattle.race.proofs.plans.plans_of.Given as goal
 
 -- the plans of the processes before the present one

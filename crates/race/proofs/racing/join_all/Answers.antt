@@ -1,8 +1,8 @@
 use Rattle.std.proofs.Common.{◌≡◌, ◌∙◌, suc, sym, ap, subst, Some, drop, length, arith}
 use Rattle.std.specs.Prelude.{slice_get}
 use Rattle.std.specs.Vec.Iter.{into_iter_items}
-use Rattle.board.specs.Ports.{PortState}
-use Rattle.race.specs.Races.{HasMade}
+use Rattle.board.specs.{PortState}
+use Rattle.race.specs.{HasMade}
 use Rattle.race.proofs.Lists.{drop_more}
 use Rattle.race.proofs.Threads.{left_more, made_one_more, told_more}
 use Rattle.race.proofs.racing.join_all.Goals as goal

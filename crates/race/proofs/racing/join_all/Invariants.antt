@@ -1,9 +1,8 @@
 use Rattle.std.proofs.Common.{◌≡◌, ◌≤◌, ◌+◌, ℕ, Some, None, drop, length, vec_capacity}
 use Rattle.std.specs.Prelude.{IfSome, slice_get}
 use Rattle.std.specs.Vec.Iter.{into_iter_items, into_iter_len}
-use Rattle.board.specs.Ports.{PortState}
-use Rattle.race.specs.Faults.{IsFaultOf}
-use Rattle.race.specs.Races.{HasMade}
+use Rattle.board.specs.{PortState}
+use Rattle.race.specs.{HasMade, IsFaultOf}
 use Rattle.race.proofs.racing.join_all.Given as goal
 
 abbrev pub invariant-loop-thread : goal.invariant-loop-thread

@@ -1,7 +1,7 @@
 use Rattle.std.proofs.Common.{arith, rules, ◌≡◌, ◌≤◌, ◌∙◌, ℕ, sym, Some, length, vec_len}
 use Rattle.std.specs.Prelude.{slice_get}
-use Rattle.board.specs.Ports.{PortState}
-use Rattle.race.specs.Races.{AllHaveMade, HasMade, plans_of}
+use Rattle.board.specs.{PortState}
+use Rattle.race.specs.{AllHaveMade, HasMade, plans_of}
 use Rattle.race.proofs.Threads.{all_made, ends_among, if_both}
 use Rattle.race.proofs.racing.run_in.Goals as goal
 

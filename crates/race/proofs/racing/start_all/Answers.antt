@@ -2,8 +2,8 @@ use Rattle.std.proofs.Common.{◌≡◌, ◌≤◌, ◌+◌, ◌∙◌, ℕ, ◌
 use Rattle.std.specs.Prelude.{slice_get}
 use Rattle.std.proofs.lemmas.Option.{slice_get_within}
 use Rattle.board.proofs.PortLists.{all_push, item_at}
-use Rattle.board.specs.Views.{new_own}
-use Rattle.race.specs.Races.{IsFor, plans_of}
+use Rattle.board.specs.{new_own}
+use Rattle.race.specs.{IsFor, plans_of}
 use Rattle.race.proofs.Lists.{at_drop, at_mapped, drop_more}
 use Rattle.race.proofs.racing.start_all.Goals as goal
 

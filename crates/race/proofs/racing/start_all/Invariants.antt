@@ -1,6 +1,6 @@
 use Rattle.std.proofs.Common.{◌≡◌, ◌≤◌, ℕ, Some, drop, length, vec_capacity}
 use Rattle.std.specs.Prelude.{slice_get}
-use Rattle.race.specs.Races.{IsFor, plans_of}
+use Rattle.race.specs.{IsFor, plans_of}
 use Rattle.race.proofs.racing.start_all.Given as goal
 
 abbrev pub invariant-loop-number : goal.invariant-loop-number

@@ -1,12 +1,9 @@
 use Rattle.std.proofs.Common.{◌≡◌, List, length, ap, refl, sym, ◌∙◌, subst, arith}
 use Rattle.std.proofs.lemmas.List.{length-map}
 use Rattle.std.specs.Global.{Vec}
-use Rattle.race.specs.Races.{IsRaced, plans_of}
-use Rattle.scenario.specs.Reading.{Script}
-use Rattle.scenario.specs.Reads.{script}
-use Rattle.record.specs.declared.calls.Placed.{Placed}
-use Rattle.record.specs.CallLists.{lists_of}
-use Rattle.race.specs.Texts.{plans_in}
+use Rattle.race.specs.{IsRaced, plans_in, plans_of}
+use Rattle.scenario.specs.{Script, script}
+use Rattle.record.specs.{Placed, lists_of}
 use Rattle.race.proofs.PlanLists.{plans_each, raced_lists_short, raced_plans_short}
 use Rattle.race.proofs.running.race_scenario.Goals as goal
 

@@ -1,6 +1,6 @@
 use Rattle.std.specs.String.{string_bytes}
 use Rattle.scenario.proofs.files.EngineEnds.{kept}
-use Rattle.scenario.specs.Reads.{script}
+use Rattle.scenario.specs.{script}
 use Rattle.race.proofs.RaceEnds.{ran_to_cut, ran_to_end, ran_to_fault, ran_to_no_text}
 use Rattle.race.proofs.running.run_race.Goals as goal
 

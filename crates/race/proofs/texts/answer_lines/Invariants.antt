@@ -1,7 +1,7 @@
 use Rattle.std.proofs.Common.{◌≡◌, take}
 use Rattle.std.specs.String.{string_bytes}
-use Rattle.record.specs.CallLists.{lists_of}
-use Rattle.race.specs.Texts.{answers_from}
+use Rattle.record.specs.{lists_of}
+use Rattle.race.specs.{answers_from}
 use Rattle.race.proofs.texts.answer_lines.Given as goal
 
 -- the answers of the lists before the present one

@@ -1,6 +1,6 @@
 use Rattle.std.proofs.Common.{◌++◌, ap, sym, ◌∙◌}
 use Rattle.std.specs.String.{string_bytes}
-use Rattle.race.specs.Texts.{call_text}
+use Rattle.race.specs.{call_text}
 use Rattle.race.proofs.Parts.{items_all, items_more, pushed}
 use Rattle.race.proofs.texts.list_lines.Goals as goal
 

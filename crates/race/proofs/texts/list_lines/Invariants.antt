@@ -1,6 +1,6 @@
 use Rattle.std.proofs.Common.{◌≡◌, take}
 use Rattle.std.specs.String.{string_bytes}
-use Rattle.race.specs.Texts.{list_text}
+use Rattle.race.specs.{list_text}
 use Rattle.race.proofs.texts.list_lines.Given as goal
 
 -- what is printed for the calls before the present one

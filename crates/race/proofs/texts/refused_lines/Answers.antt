@@ -1,6 +1,6 @@
 use Rattle.std.proofs.Common.{◌++◌, ap, sym, ◌∙◌}
 use Rattle.std.specs.String.{string_bytes}
-use Rattle.race.specs.Texts.{refused_text}
+use Rattle.race.specs.{refused_text}
 use Rattle.race.proofs.Parts.{items_all, items_more, pushed}
 use Rattle.race.proofs.texts.refused_lines.Goals as goal
 

@@ -1,6 +1,6 @@
 use Rattle.std.proofs.Common.{◌≡◌, take}
 use Rattle.std.specs.String.{string_bytes}
-use Rattle.race.specs.Texts.{refused_lines}
+use Rattle.race.specs.{refused_lines}
 use Rattle.race.proofs.texts.refused_lines.Given as goal
 
 -- what is printed for the lines before the present one

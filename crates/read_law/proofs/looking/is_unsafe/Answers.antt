@@ -1,8 +1,6 @@
 use Rattle.std.proofs.Common.{◌≡◌, ◌∙◌, Some, sym, ap, refl, reverse}
-use Rattle.record.specs.Entries.{Entry, Past}
-use Rattle.record.specs.Moves.{moves_of}
-use Rattle.read_law.specs.Looks.{look_of}
-use Rattle.read_law.specs.Safe.{KeepsSafe}
+use Rattle.record.specs.{Entry, Past, moves_of}
+use Rattle.read_law.specs.{KeepsSafe, look_of}
 use Rattle.read_law.proofs.Calm.{turned}
 use Rattle.read_law.proofs.looking.is_unsafe.Goals as goal
 

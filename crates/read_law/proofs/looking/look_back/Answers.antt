@@ -1,7 +1,6 @@
 use Rattle.std.proofs.Common.{◌∙◌, reverse, take, sym, ap}
-use Rattle.record.specs.Entries.{Past}
-use Rattle.record.specs.Moves.{moves_of}
-use Rattle.read_law.specs.Looks.{look_of}
+use Rattle.record.specs.{Past, moves_of}
+use Rattle.read_law.specs.{look_of}
 use Rattle.read_law.proofs.Entries.{entries_more}
 use Rattle.read_law.proofs.looking.look_back.Goals as goal
 

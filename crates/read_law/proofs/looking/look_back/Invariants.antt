@@ -1,6 +1,6 @@
 use Rattle.std.proofs.Common.{◌≡◌, reverse, take}
-use Rattle.record.specs.Moves.{moves_of}
-use Rattle.read_law.specs.Looks.{look_of}
+use Rattle.record.specs.{moves_of}
+use Rattle.read_law.specs.{look_of}
 use Rattle.read_law.proofs.looking.look_back.Given as goal
 
 -- what the entries before the present one leave

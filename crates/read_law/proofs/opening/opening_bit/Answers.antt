@@ -1,5 +1,5 @@
 use Rattle.std.proofs.Common.{ap, ◌∙◌}
-use Rattle.record.specs.safe_number.Bytes.{bit_in}
+use Rattle.record.specs.safe_number.{bit_in}
 use Rattle.read_law.proofs.Openings.{opening_bit_is}
 use Rattle.read_law.proofs.opening.opening_bit.Goals as goal
 

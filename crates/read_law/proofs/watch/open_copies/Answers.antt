@@ -1,6 +1,5 @@
 use Rattle.std.proofs.Common.{◌<◌, List, [], ◌∙◌, length, length-set, ap, arith}
-use Rattle.read_law.specs.declared.look.Look.{Look}
-use Rattle.read_law.specs.Looks.{look_of}
+use Rattle.read_law.specs.{Look, look_of}
 use Rattle.read_law.proofs.Opened.{copies_more}
 use Rattle.read_law.proofs.watch.open_copies.Goals as goal
 

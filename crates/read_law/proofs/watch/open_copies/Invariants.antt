@@ -1,6 +1,6 @@
 use Rattle.std.proofs.Common.{◌≡◌, ℕ, ◌<◌, ◌%◌, [], false, length, slice_index_or}
-use Rattle.record.specs.safe_number.Bytes.{bit_in}
-use Rattle.read_law.specs.Looks.{look_of}
+use Rattle.record.specs.safe_number.{bit_in}
+use Rattle.read_law.specs.{look_of}
 use Rattle.read_law.proofs.watch.open_copies.Given as goal
 
 -- the copies before the present one open as in the bytes

@@ -1,7 +1,6 @@
 use Rattle.std.proofs.Common.{◌*◌, ◌∙◌, List, [], false, ap, length, replicate}
 use Rattle.std.proofs.lemmas.List.{length-replicate}
-use Rattle.read_law.specs.Looks.{look_of}
-use Rattle.read_law.specs.declared.look.Look.{Look}
+use Rattle.read_law.specs.{Look, look_of}
 use Rattle.read_law.proofs.Opened.{opened_bits, opened_image, opened_low}
 use Rattle.read_law.proofs.watch.opening_looks.Goals as goal
 

@@ -1,5 +1,5 @@
 use Rattle.std.proofs.Common.{◌∙◌, ap, ◌+◌, ◌-◌, ◌%◌}
-use Rattle.reader_copies.specs.Flags.{flag_in}
+use Rattle.reader_copies.specs.{flag_in}
 use Rattle.reader_copies.proofs.Flags.{flag-all}
 use Rattle.reader_copies.proofs.flag_words.all_flags.Goals as goal
 

@@ -1,5 +1,5 @@
 use Rattle.std.proofs.Common.{ℕ, sym, subst}
-use Rattle.reader_copies.specs.Flags.{IsMask}
+use Rattle.reader_copies.specs.{IsMask}
 use Rattle.reader_copies.proofs.Masks.{mask-of, mask-word}
 use Rattle.reader_copies.proofs.flag_words.mask.Goals as goal
 

@@ -1,9 +1,7 @@
 -- The cells of a record answer the safe rule.
-use Rattle.safe_bit.specs.Cell.{cell_of}
+use Rattle.safe_bit.specs.{cell_of}
 use Rattle.safe_bit.proofs.Showing.{shows_moves, answer-shows}
-use Rattle.record.specs.Moves.{moves_of}
-use Rattle.record.specs.Records.{past_of}
-use Rattle.record.specs.Registers.{opening_bit}
+use Rattle.record.specs.{moves_of, opening_bit, past_of}
 use Rattle.record.proofs.TurnRecords.{turns_all}
 use Rattle.record.proofs.Width.{is_good}
 use Rattle.record.proofs.laws.cells_answer_the_safe_rule.Goals as goal

@@ -1,11 +1,8 @@
 -- What an event adds.
 use Rattle.std.specs.Prelude.{◌≡◌, ◌≢◌, refl, ℕ, List, ◌∷◌, Option, None, Some, cond, ◌==◌}
 use Rattle.std.proofs.Common.{sym, ◌∙◌, ap, ne_eqb}
-use Rattle.plain_store.specs.declared.Setup.{Setup}
-use Rattle.record.specs.declared.events.Event.{Event}
-use Rattle.record.specs.declared.refusals.Refusal.{Refusal}
-use Rattle.record.specs.Entries.{Entry, Past, own}
-use Rattle.record.specs.Records.{added, entry_of, past_of, process_of, refused}
+use Rattle.plain_store.specs.{Setup}
+use Rattle.record.specs.{Entry, Event, Past, Refusal, added, entry_of, own, past_of, process_of, refused}
 use Rattle.record.proofs.Accepted.{accepted_adds}
 use Rattle.record.proofs.Width.{IsGood, is_good}
 use Rattle.record.proofs.World.{entry-accepted, entry_view, view}

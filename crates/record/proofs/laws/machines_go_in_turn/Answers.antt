@@ -1,5 +1,5 @@
 -- The machines write in their turn.
-use Rattle.record.specs.Parts.{Raises}
+use Rattle.record.specs.{Raises}
 use Rattle.record.proofs.PlaceTurns.{enter-closed, followed-leads, withdrawal-leads, unit-leads}
 use Rattle.record.proofs.Width.{is_good}
 use Rattle.record.proofs.laws.machines_go_in_turn.Goals as goal

@@ -1,6 +1,6 @@
 -- Who writes a bit owns it.
 use Rattle.std.proofs.Common.{sym, ◌∙◌}
-use Rattle.record.specs.Records.{past_of, process_of}
+use Rattle.record.specs.{past_of, process_of}
 use Rattle.record.proofs.Singles.{is_write-true}
 use Rattle.record.proofs.Width.{is_good}
 use Rattle.record.proofs.World.{entry-accepted, entry_view, view}

@@ -1,8 +1,7 @@
 use Rattle.std.proofs.Common.{IfOk, IfSome, subst}
-use Rattle.companions.specs.picture.declared.page.Form.{Form}
+use Rattle.companions.specs.picture.{Form}
 use Rattle.companions.specs.picture.declared.reads.Reads.{Reads as Mode}
-use Rattle.record_drawer.specs.Sheets.{DrawsAllBands}
-use Rattle.record_drawer.specs.declared.sheet.DrawnEntry.{DrawnEntry}
+use Rattle.record_drawer.specs.{DrawnEntry, DrawsAllBands}
 use Rattle.record_drawer.proofs.engines.draw_bands.Goals as goal
 
 pub returns : goal.returns

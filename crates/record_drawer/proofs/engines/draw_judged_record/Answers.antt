@@ -1,5 +1,5 @@
 use Rattle.companions.specs.picture.declared.page.Form.TheVariants as form
-use Rattle.record_drawer.specs.Sheets.{DrawsBandsOf, DrawsSaid}
+use Rattle.record_drawer.specs.{DrawsBandsOf, DrawsSaid}
 use Rattle.record_drawer.proofs.Whole.{judged_all}
 use Rattle.record_drawer.proofs.engines.draw_judged_record.Goals as goal
 

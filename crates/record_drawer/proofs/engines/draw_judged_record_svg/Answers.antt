@@ -1,7 +1,7 @@
 use Rattle.std.proofs.Common.{List, ℕ, [], Some, IfSome, subst, sym}
-use Rattle.judge.specs.Ends.{IsOfRecord}
+use Rattle.judge.specs.{IsOfRecord}
 use Rattle.companions.specs.picture.declared.page.Form.TheVariants as form
-use Rattle.record_drawer.specs.Sheets.{DrawsBandsOf, DrawsSaid, IsJudged}
+use Rattle.record_drawer.specs.{DrawsBandsOf, DrawsSaid, IsJudged}
 use Rattle.record_drawer.proofs.Whole.{judged_all}
 use Rattle.record_drawer.proofs.engines.draw_judged_record_svg.Goals as goal
 

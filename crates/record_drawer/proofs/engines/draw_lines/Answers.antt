@@ -1,17 +1,13 @@
 use Rattle.std.proofs.Common.{◌≡◌, ℕ, ◌+◌, Bool, List, [], Option, Some, Ok, Err, IfSome, IsSome, refl, sym, subst, ap, ◌∙◌, arith}
-use Rattle.files.specs.declared.faults.Fault.{Fault}
+use Rattle.files.specs.{Fault, GoesToNext, coming, failed_reading}
 use Rattle.files.specs.declared.faults.Fault.TheVariants.{Line}
 use Rattle.files.specs.declared.faults.FaultKind.TheVariants.{NotFirst}
-use Rattle.plain_store.specs.Setups.{checked}
-use Rattle.files.specs.SourceLines.{GoesToNext, coming}
-use Rattle.files.specs.Streams.{failed_reading}
-use Rattle.companions.specs.picture.declared.page.Form.{Form}
+use Rattle.plain_store.specs.{checked}
+use Rattle.companions.specs.picture.{Form}
 use Rattle.companions.specs.picture.declared.reads.Reads.{Reads as Mode}
-use Rattle.record.specs.Entries.{Past}
-use Rattle.record_file.specs.RecordFiles.{Progress, line_read}
-use Rattle.record_drawer.specs.Sheets.{DrawsAllBands, EndsAt, IsDrawFault, Stands}
-use Rattle.record_drawer.specs.Writing.{failed_write}
-use Rattle.record_drawer.specs.declared.sheet.DrawnEntry.{DrawnEntry}
+use Rattle.record.specs.{Past}
+use Rattle.record_file.specs.{Progress, line_read}
+use Rattle.record_drawer.specs.{DrawnEntry, DrawsAllBands, EndsAt, IsDrawFault, Stands, failed_write}
 use Rattle.judge.proofs.Ends.{if_err, none_told}
 use Rattle.record_drawer.proofs.Ends.{drawing_read, next_wrote, no_value, onwards_drawn, onwards_fault, onwards_none, onwards_on, onwards_start, onwards_stop, reading_same, read_some}
 use Rattle.record_drawer.proofs.Written.{failed_same}

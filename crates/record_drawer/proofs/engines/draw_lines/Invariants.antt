@@ -1,5 +1,5 @@
 use Rattle.std.proofs.Common.{◌≡◌, ◌-◌, ◌^◌}
-use Rattle.files.specs.SourceLines.{EndHolds, coming}
+use Rattle.files.specs.{EndHolds, coming}
 use Rattle.record_drawer.proofs.Ends.{Onwards}
 use Rattle.record_drawer.proofs.engines.draw_lines.Given as goal
 

@@ -1,11 +1,9 @@
 use Rattle.std.proofs.Common.{◌≡◌, ℕ, List, Option, Some, IfSome, subst, sym}
-use Rattle.files.specs.declared.faults.Fault.{Fault}
-use Rattle.record.specs.Entries.{Past}
-use Rattle.record_file.specs.RecordFiles.{Progress}
-use Rattle.judge.specs.declared.hearers.Telling.{Telling}
-use Rattle.record_drawer.specs.Judgings.{TellsOfLines}
-use Rattle.record_drawer.specs.Sheets.{EndsAt, IsDrawFault, Stands}
-use Rattle.record_drawer.specs.declared.sheet.DrawnEntry.{DrawnEntry}
+use Rattle.files.specs.{Fault}
+use Rattle.record.specs.{Past}
+use Rattle.record_file.specs.{Progress}
+use Rattle.judge.specs.{Telling}
+use Rattle.record_drawer.specs.{DrawnEntry, EndsAt, IsDrawFault, Stands, TellsOfLines}
 use Rattle.record_drawer.proofs.JudgedFile.{read_judged, read_none, read_some}
 use Rattle.record_drawer.proofs.engines.end_judged.Goals as goal
 

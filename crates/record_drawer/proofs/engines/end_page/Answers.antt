@@ -1,5 +1,5 @@
 use Rattle.std.proofs.Common.{ap, ◌∙◌}
-use Rattle.companions.specs.StoreChanges.{store_words}
+use Rattle.companions.specs.{store_words}
 use Rattle.record_drawer.proofs.Whole.{page_drawn}
 use Rattle.record_drawer.proofs.Written.{ok_then}
 use Rattle.record_drawer.proofs.engines.end_page.Goals as goal

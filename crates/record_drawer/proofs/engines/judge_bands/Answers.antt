@@ -1,9 +1,8 @@
 use Rattle.std.proofs.Common.{ℕ, IfOk, IfSome, subst}
-use Rattle.companions.specs.picture.declared.page.Form.{Form}
+use Rattle.companions.specs.picture.{Form}
 use Rattle.companions.specs.picture.declared.reads.Reads.{Reads as Mode}
-use Rattle.judge.specs.Ends.{IsOfRecord}
-use Rattle.record_drawer.specs.Sheets.{DrawsBandsOf, IsJudged}
-use Rattle.record_drawer.specs.declared.sheet.DrawnEntry.{DrawnEntry}
+use Rattle.judge.specs.{IsOfRecord}
+use Rattle.record_drawer.specs.{DrawnEntry, DrawsBandsOf, IsJudged}
 use Rattle.record_drawer.proofs.engines.judge_bands.Goals as goal
 
 pub returns : goal.returns

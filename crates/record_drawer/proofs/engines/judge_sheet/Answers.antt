@@ -1,11 +1,10 @@
 use Rattle.std.proofs.Common.{ℕ, IfSome, arith, subst}
-use Rattle.files.specs.declared.faults.Fault.{Fault}
-use Rattle.companions.specs.picture.declared.page.Form.{Form}
+use Rattle.files.specs.{Fault}
+use Rattle.companions.specs.picture.{Form}
 use Rattle.companions.specs.picture.declared.reads.Reads.{Reads as Mode}
-use Rattle.judge.specs.Ends.{IsOfRecord}
+use Rattle.judge.specs.{IsOfRecord}
 use Rattle.judge.proofs.Ends.{if_err}
-use Rattle.record_drawer.specs.Sheets.{DrawsBandsOf, IsDrawFault, IsJudged}
-use Rattle.record_drawer.specs.declared.sheet.DrawnEntry.{DrawnEntry}
+use Rattle.record_drawer.specs.{DrawnEntry, DrawsBandsOf, IsDrawFault, IsJudged}
 use Rattle.record_drawer.proofs.Ends.{no_value, reading_same}
 use Rattle.record_drawer.proofs.Written.{failed_same, if_err_then, if_ok_then}
 use Rattle.record_drawer.proofs.engines.judge_sheet.Goals as goal

@@ -1,5 +1,5 @@
 use Rattle.std.proofs.Common.{◌≡◌}
-use Rattle.record_drawer.specs.Judged.{bad_process, told_lines}
+use Rattle.record_drawer.specs.{bad_process, told_lines}
 use Rattle.record_drawer.proofs.judged.bad_process.Given as goal
 
 -- the lines to come spell what all lines do

@@ -1,5 +1,5 @@
 use Rattle.std.proofs.Common.{◌≡◌, drop}
-use Rattle.record_drawer.specs.Judged.{number_from}
+use Rattle.record_drawer.specs.{number_from}
 use Rattle.record_drawer.proofs.judged.number_at.Given as goal
 
 -- the digits to come go on to the whole number

@@ -1,8 +1,7 @@
 use Rattle.std.proofs.Common.{ap, refl, filter, map, ◌∙◌}
-use Rattle.files.specs.Limits.{is_said}
-use Rattle.files.specs.Words.{words_of}
+use Rattle.files.specs.{is_said, words_of}
 use Rattle.files.proofs.Ends.{lines_agree}
-use Rattle.record_drawer.specs.Openings.{record_opened}
+use Rattle.record_drawer.specs.{record_opened}
 use Rattle.record_drawer.proofs.opened.record_opened.Goals as goal
 
 pub loop-line-init : goal.loop-line-init

@@ -1,7 +1,6 @@
 use Rattle.std.proofs.Common.{◌≡◌, filter, map, None}
-use Rattle.files.specs.Limits.{is_said, said_words}
-use Rattle.files.specs.Words.{words_of}
-use Rattle.record_drawer.specs.Openings.{record_opened}
+use Rattle.files.specs.{is_said, said_words, words_of}
+use Rattle.record_drawer.specs.{record_opened}
 use Rattle.record_drawer.proofs.opened.record_opened.Given as goal
 
 -- all lines so far were skipped, so those to come tell what all do

@@ -1,9 +1,8 @@
 use Rattle.std.proofs.Common.{ap, false, take, ◌∙◌}
 use Rattle.std.proofs.lemmas.List.{take_min}
 use Rattle.std.specs.Option.{unwrap_or}
-use Rattle.files.specs.Cuts.{input_limit}
-use Rattle.files.specs.Limits.{said_words}
-use Rattle.record_drawer.specs.Openings.{record_opened}
+use Rattle.files.specs.{input_limit, said_words}
+use Rattle.record_drawer.specs.{record_opened}
 use Rattle.record_drawer.proofs.opened.takes_for_record.Goals as goal
 
 pub returns-clause-value : goal.returns-clause-value

@@ -1,6 +1,6 @@
 use Rattle.std.specs.Prelude.{◌≡◌, ◌+◌, ◌≤◌, ℕ, length, IfOk, Option, Some, None, List, [], Ok}
 use Rattle.std.specs.Borrow.{Bor}
-use Rattle.record_file.specs.Reading.{marks_read, parts_behind}
+use Rattle.record_file.specs.{marks_read, parts_behind}
 use Rattle.record_file.proofs.entries.marks.Given as goal
 
 -- how many words are left behind the sign, and one more for the sign

@@ -1,7 +1,7 @@
 use Rattle.std.proofs.Common.{◌≡◌, flat_map, arith}
 use Rattle.std.proofs.lemmas.Grind.{common_steps}
-use Rattle.scenario.specs.Printing.{printed_line}
-use Rattle.record_file.specs.Printing.{head_words}
+use Rattle.scenario.specs.{printed_line}
+use Rattle.record_file.specs.{head_words}
 use Rattle.record_file.proofs.RecordsAgain.{head_begins}
 use Rattle.record_file.proofs.printing.print_setup.Goals as goal
 

@@ -1,5 +1,5 @@
 use Rattle.std.proofs.Common.{◌≡◌, ◌++◌, drop, flat_map}
-use Rattle.record_file.specs.Printing.{behind_spaces, signed_words}
+use Rattle.record_file.specs.{behind_spaces, signed_words}
 use Rattle.record_file.proofs.printing.push_marks.Given as goal
 
 -- the line so far and the marks to come are all marks

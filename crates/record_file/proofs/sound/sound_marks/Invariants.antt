@@ -1,6 +1,6 @@
 use Rattle.std.proofs.Common.{◌≡◌, take, true}
 use Rattle.std.specs.List.{list_all}
-use Rattle.record_file.specs.Given.{is_mark}
+use Rattle.record_file.specs.{is_mark}
 use Rattle.record_file.proofs.sound.sound_marks.Given as goal
 
 -- the marks so far are sound

@@ -1,6 +1,5 @@
 use Rattle.std.proofs.Common.{◌≡◌, ◌≢◌, ◌<◌, ◌∙◌, ap, Bool, false, length, arith}
-use Rattle.safe_number.specs.Runs.{NumberRead}
-use Rattle.safe_number.specs.Written.{first_bits, loaded}
+use Rattle.safe_number.specs.{NumberRead, first_bits, loaded}
 use Rattle.register_drive.proofs.Steps.{read_on_so, read_bits, step_length, end_of, not_end_of}
 use Rattle.register_drive.proofs.drive.read_all.Goals as goal
 

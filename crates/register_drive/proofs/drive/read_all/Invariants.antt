@@ -1,5 +1,5 @@
 use Rattle.std.proofs.Common.{◌≡◌}
-use Rattle.register_drive.specs.Reads.{ReadsAlong}
+use Rattle.register_drive.specs.{ReadsAlong}
 use Rattle.register_drive.proofs.drive.read_all.Given as goal
 
 abbrev pub invariant-loop-k : goal.invariant-loop-k

@@ -1,6 +1,5 @@
 use Rattle.std.proofs.Common.{◌≢◌, ◌≤◌, ◌∙◌, ap, arith}
-use Rattle.safe_number.specs.Runs.{NumberWrite}
-use Rattle.safe_number.specs.Written.{IsWriting}
+use Rattle.safe_number.specs.{IsWriting, NumberWrite}
 use Rattle.safe_number.proofs.WrittenSteps.{writing-end, width-write_after}
 use Rattle.register_drive.proofs.Steps.{step_on, step_idle, step_length, end_of, not_end_of}
 use Rattle.register_drive.proofs.drive.write_all.Goals as goal

@@ -1,10 +1,7 @@
 use Rattle.std.proofs.Common.{◌≡◌, ◌<◌, ◌∙◌, ℕ, List, Bool, ap, sym, subst, arith}
 use Rattle.reader_copies.specs.safe_bit.Cell.{Cell}
-use Rattle.reader_copies.specs.Row.{IsRow}
-use Rattle.reader_copies.specs.Written.{IsWritten, cut_values, with_value}
-use Rattle.safe_number.specs.Bytes.{bit_in}
-use Rattle.safe_number.specs.Runs.{NumberWrite, new_write}
-use Rattle.safe_number.specs.Written.{IsWriting}
+use Rattle.reader_copies.specs.{IsRow, IsWritten, cut_values, with_value}
+use Rattle.safe_number.specs.{IsWriting, NumberWrite, bit_in, new_write}
 use Rattle.safe_number.proofs.IntervalSteps.{cut-between, settling-start, torn-inside}
 use Rattle.safe_number.proofs.WrittenSteps.{writing-start}
 use Rattle.register_drive.proofs.torn.cut_and_settle.Goals as goal

@@ -1,5 +1,5 @@
 use Rattle.std.proofs.Common.{◌≡◌, ◌≢◌, ◌∙◌, sym, length, arith}
-use Rattle.reader_copies.specs.Runs.{Settling, settled_at}
+use Rattle.reader_copies.specs.{Settling, settled_at}
 use Rattle.safe_number.proofs.IntervalSteps.{settling-end}
 use Rattle.register_drive.proofs.Steps.{settle_on_so, settle_shape, settle_idle, settled_value, settled_reader, step_length, end_of, not_end_of}
 use Rattle.register_drive.proofs.torn.settle_all.Goals as goal

@@ -1,8 +1,7 @@
 use Rattle.std.proofs.Common.{◌≡◌, ℕ, ◌<◌, Bool, length}
-use Rattle.reader_copies.specs.Row.{IsRow}
-use Rattle.reader_copies.specs.Runs.{settled_at}
-use Rattle.safe_number.specs.Written.{IsSettling}
-use Rattle.register_drive.specs.Idle.{IsIdle}
+use Rattle.reader_copies.specs.{IsRow, settled_at}
+use Rattle.safe_number.specs.{IsSettling}
+use Rattle.register_drive.specs.{IsIdle}
 use Rattle.register_drive.proofs.torn.settle_all.Given as goal
 
 abbrev pub invariant-loop-k : goal.invariant-loop-k

@@ -1,6 +1,5 @@
 use Rattle.std.proofs.Common.{◌≢◌, ◌≤◌, ◌∙◌, ap, arith}
-use Rattle.safe_number.specs.Runs.{NumberWrite}
-use Rattle.safe_number.specs.Written.{IsWriting}
+use Rattle.safe_number.specs.{IsWriting, NumberWrite}
 use Rattle.safe_number.proofs.WrittenSteps.{width-write_after}
 use Rattle.register_drive.proofs.Steps.{step_on, step_idle, step_length, not_end_of}
 use Rattle.register_drive.proofs.torn.write_some.Goals as goal

@@ -1,6 +1,6 @@
 use Rattle.std.proofs.Common.{◌≡◌, ℕ, ◌<◌, Bool, length}
-use Rattle.safe_number.specs.Written.{IsWriting}
-use Rattle.register_drive.specs.Idle.{IsIdle}
+use Rattle.safe_number.specs.{IsWriting}
+use Rattle.register_drive.specs.{IsIdle}
 use Rattle.register_drive.proofs.torn.write_some.Given as goal
 
 abbrev pub invariant-loop : goal.invariant-loop

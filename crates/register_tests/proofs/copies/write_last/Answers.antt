@@ -1,9 +1,7 @@
 use Rattle.std.proofs.Common.{◌≡◌, ℕ, true, false, List, length, ap, ◌∙◌}
 use Rattle.reader_copies.specs.safe_bit.Cell.{Cell}
-use Rattle.reader_copies.specs.declared.runs.Made.{Made}
-use Rattle.reader_copies.specs.Row.{row_after}
-use Rattle.reader_copies.specs.Runs.{Writing, next_write, write_after}
-use Rattle.register_tests.specs.Copies.{open_row, first_made, second_made, third_made, last_made}
+use Rattle.reader_copies.specs.{Made, Writing, next_write, row_after, write_after}
+use Rattle.register_tests.specs.{open_row, first_made, second_made, third_made, last_made}
 use Rattle.register_tests.proofs.copies.write_last.Goals as goal
 
 -- a write of 1 of which so many accesses are made

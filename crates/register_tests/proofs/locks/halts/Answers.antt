@@ -1,10 +1,10 @@
 use Rattle.std.proofs.Common.{Bool, true, List, [], sym, ap, subst, refl, ◌∙◌, arith}
 use Rattle.plain_store.specs.declared.Command.TheVariants.{Ask}
-use Rattle.plain_store.specs.declared.Setup.{Setup}
-use Rattle.record.specs.Places.{value_of}
+use Rattle.plain_store.specs.{Setup}
+use Rattle.record.specs.{value_of}
 use Rattle.bakery.specs.Doors.{IsInTurn, MayDrop}
 use Rattle.bakery.specs.Locks.{LockRows, new_locks}
-use Rattle.bakery.specs.process.Places.{ProcessState, called, process_after, stepped}
+use Rattle.bakery.specs.process.{ProcessState, called, process_after, stepped}
 use Rattle.register_tests.proofs.locks.halts.Goals as goal
 
 -- a door of process 0 that has started

@@ -1,11 +1,9 @@
 use Rattle.std.proofs.Common.{true, None, List, [], sym, ap, ◌∙◌, subst, refl, arith}
-use Rattle.plain_store.specs.declared.Setup.{Setup}
+use Rattle.plain_store.specs.{Setup}
 use Rattle.bakery.specs.Locks.{LockRows, lock_of, new_locks}
 use Rattle.bakery.specs.Registers.{Data}
 use Rattle.bakery.specs.Memory.{CanAccess}
-use Rattle.bakery.specs.process.Alone.{settling_with}
-use Rattle.bakery.specs.process.Places.{ProcessState, process_after}
-use Rattle.bakery.specs.process.Serving.{next_at}
+use Rattle.bakery.specs.process.{ProcessState, next_at, process_after, settling_with}
 use Rattle.register_tests.proofs.units.first_step.Goals as goal
 
 -- the first access of a unit that has nothing to settle may be made on new locks

@@ -1,5 +1,5 @@
 use Rattle.std.proofs.Common.{◌≡◌, ℕ, ◌/◌, ◌%◌, ◌<◌, get_or, length}
-use Rattle.registers.specs.Words.{byte_of_word}
+use Rattle.registers.specs.{byte_of_word}
 use Rattle.registers.proofs.word_bytes.bytes_of.Given as goal
 
 abbrev pub invariant-loop-place : goal.invariant-loop-place

@@ -1,6 +1,6 @@
 use Rattle.std.proofs.Common.{◌+◌, ◌-◌, ◌*◌, ℕ, set, ap, ◌∙◌, arith}
 use Rattle.std.proofs.lemmas.List.{length-set}
-use Rattle.reader_copies.specs.Words.{bit_of_words}
+use Rattle.reader_copies.specs.{bit_of_words}
 use Rattle.registers.proofs.WordBytes.{word-put}
 use Rattle.registers.proofs.word_bytes.words_of.Goals as goal
 

@@ -1,6 +1,6 @@
 use Rattle.std.proofs.Common.{◌≡◌, ℕ, ◌*◌, ◌<◌, length}
-use Rattle.safe_number.specs.Bytes.{bit_in}
-use Rattle.reader_copies.specs.Words.{bit_of_words}
+use Rattle.safe_number.specs.{bit_in}
+use Rattle.reader_copies.specs.{bit_of_words}
 use Rattle.registers.proofs.word_bytes.words_of.Given as goal
 
 abbrev pub invariant-loop-place : goal.invariant-loop-place

@@ -1,8 +1,7 @@
 use Rattle.std.proofs.Common.{◌≡◌, ◌++◌, drop, take, flat_map, map, true}
 use Rattle.std.specs.List.{list_all}
 use Rattle.std.specs.String.{string_bytes}
-use Rattle.scenario.specs.Printing.{line_words, printed_line}
-use Rattle.scenario.specs.Scripts.{is_line}
+use Rattle.scenario.specs.{is_line, line_words, printed_line}
 use Rattle.scenario.proofs.printing.print_lines.Given as goal
 
 -- the text so far and the lines to come are all lines

@@ -1,6 +1,6 @@
 use Rattle.std.proofs.Common.{◌≡◌, ◌++◌, ◌+◌, ap, ◌∙◌, sym, drop, flat_map, map, rules}
 use Rattle.std.specs.String.{string_bytes}
-use Rattle.scenario.specs.Printing.{open_words, printed_line}
+use Rattle.scenario.specs.{open_words, printed_line}
 use Rattle.scenario.proofs.Printed.{opening_more}
 use Rattle.scenario.proofs.printing.print_opening.Goals as goal
 

@@ -1,6 +1,6 @@
 use Rattle.std.proofs.Common.{◌≡◌, ◌++◌, drop, flat_map, map}
 use Rattle.std.specs.String.{string_bytes}
-use Rattle.scenario.specs.Printing.{open_words, printed_line}
+use Rattle.scenario.specs.{open_words, printed_line}
 use Rattle.scenario.proofs.printing.print_opening.Given as goal
 
 -- the text so far and the pairs to come are all pairs

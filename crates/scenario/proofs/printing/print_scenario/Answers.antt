@@ -2,11 +2,8 @@ use Rattle.std.proofs.Common.{◌≡◌, ap, ◌∙◌, arith}
 use Rattle.std.proofs.lemmas.Grind.{common_steps}
 use Rattle.std.proofs.lemmas.Bool.{and_parts}
 use Rattle.std.specs.List.{list_all}
-use Rattle.plain_store.specs.Pairs.{is_pair}
-use Rattle.plain_store.specs.Store.{names_differ}
-use Rattle.scenario.specs.Printing.{scenario_text}
-use Rattle.scenario.specs.Reading.{scenario_of}
-use Rattle.scenario.specs.Reads.{script}
+use Rattle.plain_store.specs.{is_pair, names_differ}
+use Rattle.scenario.specs.{scenario_of, scenario_text, script}
 use Rattle.scenario.proofs.Printout.{script_again}
 use Rattle.scenario.proofs.printing.print_scenario.Goals as goal
 

@@ -1,12 +1,8 @@
 use Rattle.std.proofs.Common.{List, Option, None, Some, map, ap, sym, subst, ◌∙◌}
-use Rattle.record.specs.declared.events.Event.{Event}
+use Rattle.record.specs.{Entry, Event, Mark, Refusal, added, entry_of, past_of, placed}
 use Rattle.record.specs.declared.events.Event.TheVariants.{Step}
-use Rattle.record.specs.declared.marks.Mark.{Mark}
-use Rattle.record.specs.declared.refusals.Refusal.{Refusal}
-use Rattle.record.specs.Entries.{Entry}
-use Rattle.record.specs.Records.{added, entry_of, past_of, placed}
-use Rattle.world.specs.process.Telling.{marks_of}
-use Rattle.world.specs.Cores.{CoreState, with_history}
+use Rattle.world.specs.process.{marks_of}
+use Rattle.world.specs.{CoreState, with_history}
 use Rattle.world.specs.Shows.{Shows}
 use Rattle.snapshot.proofs.ahead.next_entry.Goals as goal
 

@@ -1,9 +1,8 @@
 use Rattle.std.proofs.Common.{◌≡◌, false, sym, ap, subst, ◌∙◌, arith, add-one}
 use Rattle.record.specs.declared.events.Event.TheVariants.{Step}
-use Rattle.record.specs.Records.{with_event}
-use Rattle.world.specs.Cores.{CoreState}
-use Rattle.snapshot.specs.Doing.{ahead}
-use Rattle.snapshot.specs.Knowing.{CoreShows}
+use Rattle.record.specs.{with_event}
+use Rattle.world.specs.{CoreState}
+use Rattle.snapshot.specs.{CoreShows, ahead}
 use Rattle.snapshot.proofs.ahead.step_ahead.Goals as goal
 
 pub loop-step-init : goal.loop-step-init

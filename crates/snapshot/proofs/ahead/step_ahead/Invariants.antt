@@ -1,7 +1,6 @@
 use Rattle.std.proofs.Common.{◌≡◌}
-use Rattle.record.specs.Entries.{Past}
-use Rattle.snapshot.specs.Doing.{ahead}
-use Rattle.snapshot.specs.Knowing.{CoreShows}
+use Rattle.record.specs.{Past}
+use Rattle.snapshot.specs.{CoreShows, ahead}
 use Rattle.snapshot.proofs.ahead.step_ahead.Given as goal
 
 -- so many Steps were made

@@ -1,17 +1,12 @@
 use Rattle.std.proofs.Common.{◌≡◌, ℕ, false, ◌∷◌, Option, None, Some, IfErr, OnErr, OnOk, Result, Ok, Err, sym, ap, subst, ◌∙◌}
 use Rattle.record.specs.declared.events.Event.TheVariants.{Step}
-use Rattle.record.specs.declared.refusals.Refusal.{Refusal}
-use Rattle.record.specs.Entries.{Entry, Past}
-use Rattle.record.specs.Histories.{reply_taken}
-use Rattle.record.specs.Records.{added, past_of, with_event}
-use Rattle.plain_store.specs.declared.setups.Setup.{Setup}
-use Rattle.world.specs.process.Telling.{marks_of}
+use Rattle.record.specs.{Entry, Past, Refusal, added, past_of, reply_taken, with_event}
+use Rattle.plain_store.specs.{Setup}
+use Rattle.world.specs.process.{StepTold, marks_of}
 use Rattle.world.specs.process.declared.told.Effect.TheVariants.{Steps}
-use Rattle.world.specs.process.declared.told.StepTold.{StepTold}
-use Rattle.world.specs.Changes.{with_taken}
-use Rattle.world.specs.Cores.{CoreRefusesStep, CoreState, CoreSteps, call_in, with_history}
+use Rattle.world.specs.{CoreRefusesStep, CoreState, CoreSteps, call_in, with_history, with_taken}
 use Rattle.world.specs.Shows.{Shows}
-use Rattle.snapshot.specs.Knowing.{CoreShows}
+use Rattle.snapshot.specs.{CoreShows}
 use Rattle.snapshot.proofs.ahead.step_on.Goals as goal
 
 setup_by : {A : Type 0} (old new : CoreState) (r : Result A Refusal) → OnOk r (new.setup ≡ old.setup) → OnErr r (new ≡ old) → new.setup ≡ old.setup

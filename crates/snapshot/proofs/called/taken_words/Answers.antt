@@ -3,9 +3,9 @@ use Rattle.std.proofs.lemmas.Bool.Decides.{nat_tests}
 use Rattle.std.proofs.lemmas.Option.{slice_get-get_or, slice_get_past}
 use Rattle.std.specs.Fmt.{decimal}
 use Rattle.std.specs.Prelude.{codes}
-use Rattle.plain_store.specs.Shown.{reply_text}
-use Rattle.record.specs.declared.history.Taken.{Taken}
-use Rattle.snapshot.specs.Lines.{taken_words}
+use Rattle.plain_store.specs.{reply_text}
+use Rattle.record.specs.{Taken}
+use Rattle.snapshot.specs.{taken_words}
 use Rattle.snapshot.proofs.called.taken_words.Goals as goal
 
 -- the words, by what is found at the place

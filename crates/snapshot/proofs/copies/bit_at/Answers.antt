@@ -1,5 +1,5 @@
 use Rattle.std.proofs.Common.{◌∙◌}
-use Rattle.snapshot.specs.Copies.{bit_at}
+use Rattle.snapshot.specs.{bit_at}
 use Rattle.snapshot.proofs.copies.bit_at.Goals as goal
 
 pub returns : goal.returns

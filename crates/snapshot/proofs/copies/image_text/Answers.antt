@@ -1,6 +1,6 @@
 use Rattle.std.proofs.Common.{◌++◌, ℕ, List, sym, ap, subst, ◌∙◌, true≢false}
 use Rattle.std.specs.Prelude.{IsOk, codes}
-use Rattle.snapshot.specs.Stores.{store_text}
+use Rattle.snapshot.specs.{store_text}
 use Rattle.snapshot.proofs.Images.{image_ok, no_image}
 use Rattle.snapshot.proofs.copies.image_text.Goals.{in-Ok+in_ok-push_store-in-Ok, in-Err+in_ok-push_no_image-in-Err}
 use Rattle.snapshot.proofs.copies.image_text.Goals as goal

@@ -1,6 +1,6 @@
 use Rattle.std.proofs.Common.{◌≡◌, ◌||◌, sym, ap, ◌∙◌, arith}
 use Rattle.std.specs.List.{list_any, range_with_len}
-use Rattle.snapshot.specs.Copies.{copy_text, have_one_text}
+use Rattle.snapshot.specs.{copy_text, have_one_text}
 use Rattle.snapshot.proofs.Ranges.{any_next}
 use Rattle.snapshot.proofs.register_lines.has_earlier.Goals as goal
 

@@ -1,8 +1,7 @@
 use Rattle.std.proofs.Common.{◌≡◌}
 use Rattle.std.specs.List.{list_any, range_with_len}
-use Rattle.record.specs.Entries.{Past}
-use Rattle.snapshot.specs.Knowing.{CoreShows}
-use Rattle.snapshot.specs.Copies.{copy_text, have_one_text}
+use Rattle.record.specs.{Past}
+use Rattle.snapshot.specs.{CoreShows, copy_text, have_one_text}
 use Rattle.snapshot.proofs.register_lines.has_earlier.Given as goal
 
 -- one of those below has

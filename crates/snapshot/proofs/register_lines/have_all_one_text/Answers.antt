@@ -1,6 +1,6 @@
 use Rattle.std.proofs.Common.{◌≡◌, ◌&&◌, sym, ap, ◌∙◌, arith}
 use Rattle.std.specs.List.{list_all, range_with_len}
-use Rattle.snapshot.specs.Copies.{copy_text, have_one_text}
+use Rattle.snapshot.specs.{copy_text, have_one_text}
 use Rattle.snapshot.proofs.Ranges.{all_next}
 use Rattle.snapshot.proofs.register_lines.have_all_one_text.Goals as goal
 

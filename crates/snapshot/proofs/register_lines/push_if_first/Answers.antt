@@ -1,7 +1,7 @@
 use Rattle.std.proofs.Common.{◌≡◌, ◌++◌, ◌∙◌, true, false, [], ap, sym, cond, flat_map, append-nil, append_assoc}
 use Rattle.std.specs.Prelude.{codes}
 use Rattle.std.specs.List.{list_any, range_with_len}
-use Rattle.snapshot.specs.Copies.{copies_line, copy_text, have_one_text, reader_if}
+use Rattle.snapshot.specs.{copies_line, copy_text, have_one_text, reader_if}
 use Rattle.snapshot.proofs.Stand.{ok_then}
 use Rattle.snapshot.proofs.register_lines.push_if_first.Goals as goal
 

@@ -1,6 +1,6 @@
 use Rattle.std.proofs.Common.{◌++◌, ap, ◌∙◌, append_assoc}
 use Rattle.std.specs.Prelude.{codes}
-use Rattle.snapshot.specs.Copies.{copy_text}
+use Rattle.snapshot.specs.{copy_text}
 use Rattle.snapshot.proofs.Stand.{ok_then}
 use Rattle.snapshot.proofs.register_lines.push_one_text.Goals as goal
 

@@ -1,8 +1,8 @@
 use Rattle.std.proofs.Common.{◌++◌, ◌∙◌, List, ap, flat_map}
 use Rattle.std.proofs.lemmas.List.{take_all}
-use Rattle.record.specs.declared.access.Field.{Field}
+use Rattle.record.specs.{Field}
 use Rattle.record.specs.declared.access.Field.TheVariants.{Choosing}
-use Rattle.snapshot.specs.Copies.{fields, lines_of_register}
+use Rattle.snapshot.specs.{fields, lines_of_register}
 use Rattle.snapshot.proofs.Ranges.{list_more}
 use Rattle.snapshot.proofs.register_lines.push_owned.Goals as goal
 

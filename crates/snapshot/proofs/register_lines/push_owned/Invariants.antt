@@ -1,7 +1,6 @@
 use Rattle.std.proofs.Common.{◌≡◌, ◌++◌, flat_map, take}
-use Rattle.record.specs.Entries.{Past}
-use Rattle.snapshot.specs.Knowing.{CoreShows}
-use Rattle.snapshot.specs.Copies.{fields, lines_of_register}
+use Rattle.record.specs.{Past}
+use Rattle.snapshot.specs.{CoreShows, fields, lines_of_register}
 use Rattle.snapshot.proofs.register_lines.push_owned.Given as goal
 
 -- those of the first kinds were written

@@ -1,7 +1,6 @@
 use Rattle.std.proofs.Common.{◌≡◌, ◌++◌, ◌∙◌, [], flat_map, ap, sym, cond, arith, append-nil}
 use Rattle.std.specs.List.{range_with_len}
-use Rattle.snapshot.specs.Copies.{copy_text, reader_if}
-use Rattle.snapshot.specs.Stores.{number_word}
+use Rattle.snapshot.specs.{copy_text, number_word, reader_if}
 use Rattle.snapshot.proofs.Ranges.{text_more}
 use Rattle.snapshot.proofs.register_lines.push_readers.Goals as goal
 

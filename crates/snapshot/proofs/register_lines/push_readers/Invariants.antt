@@ -1,8 +1,7 @@
 use Rattle.std.proofs.Common.{◌≡◌, ◌++◌, flat_map}
 use Rattle.std.specs.List.{range_with_len}
-use Rattle.record.specs.Entries.{Past}
-use Rattle.snapshot.specs.Knowing.{CoreShows}
-use Rattle.snapshot.specs.Copies.{copy_text, reader_if}
+use Rattle.record.specs.{Past}
+use Rattle.snapshot.specs.{CoreShows, copy_text, reader_if}
 use Rattle.snapshot.proofs.register_lines.push_readers.Given as goal
 
 -- those below were written

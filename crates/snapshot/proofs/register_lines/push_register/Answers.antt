@@ -1,8 +1,8 @@
 use Rattle.std.proofs.Common.{◌≡◌, ◌++◌, ◌∙◌, ℕ, true, false, List, [], ap, sym, cond, flat_map}
 use Rattle.std.specs.Prelude.{codes}
 use Rattle.std.specs.List.{list_all, list_any, range_with_len}
-use Rattle.record.specs.Registers.{processes}
-use Rattle.snapshot.specs.Copies.{copies_lines, copy_text, have_one_text, is_copy_changed, line_of_first, register_words}
+use Rattle.record.specs.{processes}
+use Rattle.snapshot.specs.{copies_lines, copy_text, have_one_text, is_copy_changed, line_of_first, register_words}
 use Rattle.snapshot.proofs.Stand.{ok_then}
 use Rattle.snapshot.proofs.register_lines.push_register.Goals as goal
 

@@ -1,8 +1,7 @@
 use Rattle.std.proofs.Common.{◌≡◌, ◌++◌, flat_map}
 use Rattle.std.specs.List.{range_with_len}
-use Rattle.record.specs.Entries.{Past}
-use Rattle.snapshot.specs.Knowing.{CoreShows}
-use Rattle.snapshot.specs.Copies.{fields, lines_of_register}
+use Rattle.record.specs.{Past}
+use Rattle.snapshot.specs.{CoreShows, fields, lines_of_register}
 use Rattle.snapshot.proofs.register_lines.push_registers.Given as goal
 
 -- those of the processes below were written

@@ -1,6 +1,6 @@
 use Rattle.std.proofs.Common.{◌≡◌, ◌++◌, flat_map, ap, sym, ◌∙◌, arith, append-nil}
 use Rattle.std.specs.List.{range_with_len}
-use Rattle.snapshot.specs.Copies.{copy_text, line_of_first}
+use Rattle.snapshot.specs.{copy_text, line_of_first}
 use Rattle.snapshot.proofs.Ranges.{text_more}
 use Rattle.snapshot.proofs.register_lines.push_texts.Goals as goal
 

@@ -1,7 +1,7 @@
 use Rattle.std.proofs.Common.{◌≡◌, map}
 use Rattle.std.specs.List.{list_any, range_with_len}
-use Rattle.plain_store.specs.Store.{number_of}
-use Rattle.snapshot.specs.Stores.{is_some_call}
+use Rattle.plain_store.specs.{number_of}
+use Rattle.snapshot.specs.{is_some_call}
 use Rattle.snapshot.proofs.stores.has_numbers.Given as goal
 
 -- one of those below has one

@@ -1,5 +1,5 @@
 use Rattle.std.proofs.Common.{◌++◌, codes, ap, ◌∙◌}
-use Rattle.snapshot.specs.Stores.{store_text}
+use Rattle.snapshot.specs.{store_text}
 use Rattle.snapshot.proofs.Ranges.{three_written}
 use Rattle.snapshot.proofs.stores.push_history.Goals as goal
 

@@ -1,6 +1,6 @@
 use Rattle.std.proofs.Common.{◌≡◌, ◌++◌, ℕ, List, ap, sym, ◌∙◌}
-use Rattle.plain_store.specs.Store.{number_of}
-use Rattle.snapshot.specs.Stores.{number_word}
+use Rattle.plain_store.specs.{number_of}
+use Rattle.snapshot.specs.{number_word}
 use Rattle.snapshot.proofs.Ranges.{words_more}
 use Rattle.snapshot.proofs.stores.push_numbers.Goals as goal
 

@@ -1,7 +1,7 @@
 use Rattle.std.proofs.Common.{◌≡◌, ◌++◌, flat_map, map}
 use Rattle.std.specs.List.{range_with_len}
-use Rattle.plain_store.specs.Store.{number_of}
-use Rattle.snapshot.specs.Stores.{number_word}
+use Rattle.plain_store.specs.{number_of}
+use Rattle.snapshot.specs.{number_word}
 use Rattle.snapshot.proofs.stores.push_numbers.Given as goal
 
 -- the numbers of those below were written

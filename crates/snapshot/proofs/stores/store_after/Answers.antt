@@ -1,10 +1,8 @@
 use Rattle.std.proofs.Common.{ap, sym, ◌∙◌}
 use Rattle.std.proofs.lemmas.List.{take_all}
 use Rattle.std.proofs.lemmas.List.Sums.{fold_more}
-use Rattle.plain_store.specs.Setups.{opening_store}
-use Rattle.plain_store.specs.Store.{Contents, after}
-use Rattle.record.specs.Histories.{store_after}
-use Rattle.record.specs.declared.history.Taken.{Taken}
+use Rattle.plain_store.specs.{Contents, after, opening_store}
+use Rattle.record.specs.{Taken, store_after}
 use Rattle.snapshot.proofs.stores.store_after.Goals as goal
 
 pub loop-taken-preserved : goal.loop-taken-preserved

@@ -1,5 +1,5 @@
 use Rattle.std.proofs.Common.{◌≡◌, ◌<◌, ℕ, true}
-use Rattle.store_image.specs.Reading.{follows_rules}
+use Rattle.store_image.specs.{follows_rules}
 use Rattle.store_image.proofs.rules.first_bad.Given as goal
 
 -- the slots passed follow the rules

@@ -1,7 +1,7 @@
 use Rattle.std.proofs.Common.{◌∙◌, ap, sym}
 use Rattle.std.specs.Str.{bytes_eq}
 use Rattle.store_image.proofs.SlotSearch.{name_found, name_passed}
-use Rattle.store_image.specs.Slots.{name_in}
+use Rattle.store_image.specs.{name_in}
 use Rattle.store_image.proofs.rules.have_name.Goals as goal
 
 pub returns-then-has_name : goal.returns-then-has_name

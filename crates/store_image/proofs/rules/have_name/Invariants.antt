@@ -1,7 +1,6 @@
 use Rattle.std.proofs.Common.{◌≡◌}
 use Rattle.store_image.proofs.SlotSearch.{rest_in}
-use Rattle.store_image.specs.Image.{rows}
-use Rattle.store_image.specs.Reading.{have_name}
+use Rattle.store_image.specs.{have_name, rows}
 use Rattle.store_image.proofs.rules.have_name.Given as goal
 
 -- the slots to come have the name exactly if all have it

@@ -1,6 +1,6 @@
 use Rattle.std.proofs.Common.{◌∙◌, ap, sym}
 use Rattle.store_image.proofs.SlotSearch.{unused_found, used_passed}
-use Rattle.store_image.specs.Slots.{is_unused}
+use Rattle.store_image.specs.{is_unused}
 use Rattle.store_image.proofs.rules.used_slots.Goals as goal
 
 pub returns-then-is_unused : goal.returns-then-is_unused

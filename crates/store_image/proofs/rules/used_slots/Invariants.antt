@@ -1,6 +1,6 @@
 use Rattle.std.proofs.Common.{◌≡◌, ◌+◌}
 use Rattle.store_image.proofs.SlotSearch.{used_from}
-use Rattle.store_image.specs.Reading.{used_in}
+use Rattle.store_image.specs.{used_in}
 use Rattle.store_image.proofs.rules.used_slots.Given as goal
 
 -- the used slots passed, and those to come

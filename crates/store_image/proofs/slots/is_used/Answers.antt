@@ -1,7 +1,7 @@
 use Rattle.std.proofs.Common.{◌≡◌, Bool, true, false, if◌then◌else◌, None, Some, refl, ap, ◌∙◌}
 use Rattle.std.specs.Option.{is_some}
-use Rattle.plain_store.specs.Pairs.{Pair}
-use Rattle.store_image.specs.Slots.{is_used, pair_in}
+use Rattle.plain_store.specs.{Pair}
+use Rattle.store_image.specs.{is_used, pair_in}
 use Rattle.store_image.proofs.slots.is_used.Goals as goal
 
 some_if : (b : Bool) (pair : Pair) → is_some (if b then Some pair else None) ≡ b

@@ -1,8 +1,8 @@
 use Rattle.std.proofs.Common.{Some, true≢false, ap, sym, subst, ◌∙◌}
-use Rattle.record.specs.Entries.{Entry}
-use Rattle.world.specs.process.declared.told.StepTold.{StepTold}
-use Rattle.auditor.specs.read_law.Entries.{entry_by}
-use Rattle.auditor.specs.Hearing.{Hears, step_told}
+use Rattle.record.specs.{Entry}
+use Rattle.world.specs.process.{StepTold}
+use Rattle.auditor.specs.read_law.{entry_by}
+use Rattle.auditor.specs.{Hears, step_told}
 use Rattle.sweeper.proofs.runner.hear_step.Goals as goal
 use Rattle.sweeper.proofs.runner.hear_step.Goals.{in-Nothing, in_default}
 

@@ -1,5 +1,5 @@
 use Rattle.std.proofs.Common.{refl}
-use Rattle.sweeper.specs.Sweeps.{most}
+use Rattle.sweeper.specs.{most}
 use Rattle.sweeper.proofs.runs.limit.Goals as goal
 
 pub returns : goal.returns

@@ -1,8 +1,7 @@
 use Rattle.std.proofs.Common.{◌≡◌, ℕ, ◌+◌, ◌*◌, List, ◌∷◌, reverse, take, sym, subst, arith}
 use Rattle.std.proofs.lemmas.List.{take_all}
-use Rattle.record.specs.declared.events.Event.{Event}
-use Rattle.sweeper.specs.Sweeps.{SweptKeepHeadline, cuts}
-use Rattle.sweeper.specs.Tallies.{AreFew, Counts, HasSwept}
+use Rattle.record.specs.{Event}
+use Rattle.sweeper.specs.{AreFew, Counts, HasSwept, SweptKeepHeadline, cuts}
 use Rattle.sweeper.proofs.Counting.{events_more}
 use Rattle.sweeper.proofs.Goods.{is_found}
 use Rattle.sweeper.proofs.Units.{all_down}

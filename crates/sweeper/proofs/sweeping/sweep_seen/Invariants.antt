@@ -1,6 +1,5 @@
 use Rattle.std.proofs.Common.{◌≤◌, ◌+◌, ◌*◌, reverse, take}
-use Rattle.sweeper.specs.Runners.{due}
-use Rattle.sweeper.specs.Tallies.{AreFew, HasSwept}
+use Rattle.sweeper.specs.{AreFew, HasSwept, due}
 use Rattle.sweeper.proofs.sweeping.sweep_seen.Given as goal
 
 -- the runs of the events before the present one are counted

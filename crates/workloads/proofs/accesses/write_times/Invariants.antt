@@ -1,7 +1,6 @@
 use Rattle.std.proofs.Common.{ℕ, Bool}
-use Rattle.record.specs.reader_copies.Row.{IsRow}
-use Rattle.record.specs.reader_copies.Written.{IsWritten}
-use Rattle.register_drive.specs.Idle.{IsIdle}
+use Rattle.record.specs.reader_copies.{IsRow, IsWritten}
+use Rattle.register_drive.specs.{IsIdle}
 use Rattle.workloads.proofs.accesses.write_times.Given as goal
 
 abbrev pub invariant-loop : goal.invariant-loop

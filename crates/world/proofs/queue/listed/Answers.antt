@@ -1,6 +1,6 @@
 use Rattle.std.proofs.Common.{◌++◌, sym, ap, ◌∙◌, arith}
 use Rattle.std.proofs.lemmas.List.{append-nil, at_drop_all}
-use Rattle.world.specs.Queue.{listed_from}
+use Rattle.world.specs.{listed_from}
 use Rattle.world.proofs.queue.listed.Goals as goal
 
 pub returns : goal.returns

@@ -1,5 +1,5 @@
 use Rattle.std.proofs.Common.{◌≡◌, ◌≤◌, ◌++◌, length, drop}
-use Rattle.world.specs.Queue.{listed_from, listed}
+use Rattle.world.specs.{listed_from, listed}
 use Rattle.world.proofs.queue.listed.Given as goal
 
 abbrev pub invariant-loop-process : goal.invariant-loop-process

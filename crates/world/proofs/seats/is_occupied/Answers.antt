@@ -1,8 +1,8 @@
 use Rattle.std.proofs.Common.{rules, tests}
 use Rattle.std.proofs.lemmas.Iterator.{YieldsList-from_slice}
 use Rattle.std.proofs.lemmas.Iterator.Search.{any_from_yields_List}
-use Rattle.laws.specs.Doings.{is_inside}
-use Rattle.world.specs.Seats.{Seat}
+use Rattle.laws.specs.{is_inside}
+use Rattle.world.specs.{Seat}
 use Rattle.world.proofs.seats.is_occupied.Goals as goal
 
 pub returns : goal.returns

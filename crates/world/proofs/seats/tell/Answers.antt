@@ -1,5 +1,5 @@
 use Rattle.std.proofs.Common.{sym, ap, ◌∙◌, arith}
-use Rattle.world.specs.Changes.{told}
+use Rattle.world.specs.{told}
 use Rattle.world.proofs.WorldTelling.{told-more, told-none}
 use Rattle.world.proofs.seats.tell.Goals as goal
 

@@ -1,5 +1,5 @@
 use Rattle.std.proofs.Common.{◌≡◌, ◌++◌, map, take, drop}
-use Rattle.world.specs.Changes.{told}
+use Rattle.world.specs.{told}
 use Rattle.world.proofs.seats.tell.Given as goal
 
 abbrev pub invariant-loop-seat : goal.invariant-loop-seat

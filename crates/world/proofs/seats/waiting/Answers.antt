@@ -2,7 +2,7 @@ use Rattle.std.proofs.Common.{◌≡◌, ◌∷◌, ◌++◌, [], map, sym, ap, 
 use Rattle.std.proofs.lemmas.List.{length-set, take_all, take_more_set}
 use Rattle.std.proofs.lemmas.List.FromFn.{map-range_with_len_more}
 use Rattle.std.specs.List.{range_with_len}
-use Rattle.world.specs.Changes.{waits_in}
+use Rattle.world.specs.{waits_in}
 use Rattle.world.proofs.seats.waiting.Goals as goal
 
 pub loop-process-preserved : goal.loop-process-preserved

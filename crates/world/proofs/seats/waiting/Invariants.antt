@@ -1,6 +1,6 @@
 use Rattle.std.proofs.Common.{◌≡◌, length, map, take}
 use Rattle.std.specs.List.{range_with_len}
-use Rattle.world.specs.Changes.{waits_in}
+use Rattle.world.specs.{waits_in}
 use Rattle.world.proofs.seats.waiting.Given as goal
 
 abbrev pub invariant-loop-process : goal.invariant-loop-process

@@ -1,6 +1,6 @@
 use Rattle.std.proofs.Common.{None, ap, subst, refl, inl, inr}
-use Rattle.record.specs.Records.{is_call}
-use Rattle.world.specs.Cores.{CoreRefuses}
+use Rattle.record.specs.{is_call}
+use Rattle.world.specs.{CoreRefuses}
 use Rattle.world.proofs.world.reserve.Goals as goal
 use Rattle.world.proofs.world.reserve.Goals.{in-Call, in_default}
 

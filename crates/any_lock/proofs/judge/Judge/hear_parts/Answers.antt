@@ -1,7 +1,7 @@
 use Rattle.std.proofs.Common.{rules, ◌≡◌, ◌+◌, [], ◌∷◌, ◌++◌, sym, ap, subst}
-use Rattle.record.specs.Entries.{Entry}
+use Rattle.record.specs.{Entry}
 use Rattle.any_lock.specs.declared.verdicts.AnyLockVerdict.TheVariants.{Good}
-use Rattle.any_lock.specs.Judging.{HasJudged, JudgeState}
+use Rattle.any_lock.specs.{HasJudged, JudgeState}
 use Rattle.any_lock.proofs.Told.{hears_bad, hears_on, with_entries}
 use Rattle.any_lock.proofs.judge.Judge.hear_parts.Goals as goal
 

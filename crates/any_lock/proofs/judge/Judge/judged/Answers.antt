@@ -1,5 +1,5 @@
 use Rattle.std.proofs.Common.{sym, ap, ◌∙◌}
-use Rattle.any_lock.specs.Judging.{JudgeState}
+use Rattle.any_lock.specs.{JudgeState}
 use Rattle.any_lock.proofs.Headlines.{good_says}
 use Rattle.any_lock.proofs.judge.Judge.judged.Goals as goal
 

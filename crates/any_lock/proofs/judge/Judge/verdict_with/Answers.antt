@@ -1,11 +1,8 @@
 use Rattle.std.proofs.Common.{◌≡◌, ◌∷◌, Option, refl, sym, ap, subst, ◌∙◌}
-use Rattle.plain_store.specs.declared.Setup.{Setup}
-use Rattle.record.specs.Entries.{Entry, Past}
-use Rattle.any_lock.specs.declared.verdicts.AnyLockLaw.{AnyLockLaw}
+use Rattle.plain_store.specs.{Setup}
+use Rattle.record.specs.{Entry, Past}
+use Rattle.any_lock.specs.{AnyLockLaw, AreReasonsIf, BothHeard, JudgeState, first_broken, verdict_with}
 use Rattle.any_lock.specs.declared.verdicts.AnyLockVerdict.TheVariants.{Good}
-use Rattle.any_lock.specs.Judging.{AreReasonsIf, BothHeard, JudgeState}
-use Rattle.any_lock.specs.Laws.{first_broken}
-use Rattle.any_lock.specs.Verdicts.{verdict_with}
 use Rattle.any_lock.proofs.Told.{AreTold, found_good, reasons_given, told_law, told_on}
 use Rattle.any_lock.proofs.judge.Judge.verdict_with.Goals as goal
 

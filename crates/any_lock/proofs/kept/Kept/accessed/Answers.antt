@@ -1,6 +1,5 @@
 use Rattle.std.proofs.Common.{sym, ap, ◌∙◌, arith}
-use Rattle.any_lock.specs.Keeping.{KeptState, accessed, accessed_by}
-use Rattle.any_lock.specs.Standings.{standing}
+use Rattle.any_lock.specs.{KeptState, accessed, accessed_by, standing}
 use Rattle.any_lock.proofs.StandsThere.{stands_there}
 use Rattle.any_lock.proofs.kept.Kept.accessed.Goals as goal
 

@@ -1,5 +1,5 @@
 use Rattle.std.proofs.Common.{sym, ap, ◌∙◌}
-use Rattle.any_lock.specs.Reasons.{doorway_with, of_standing, stands}
+use Rattle.any_lock.specs.{doorway_with, of_standing, stands}
 use Rattle.any_lock.proofs.kept.Kept.doorway_with.Goals as goal
 
 pub returns-in-None : goal.returns-in-None

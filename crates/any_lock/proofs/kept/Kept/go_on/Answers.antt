@@ -1,9 +1,7 @@
 use Rattle.std.proofs.Common.{◌≡◌, List, ◌∷◌, ◌<◌, ◌+◌, Some, cond, slice_get, slice_set, subst, sym, ap, ◌∙◌}
 use Rattle.std.specs.List.{list_any}
-use Rattle.plain_store.specs.Store.{after}
-use Rattle.any_lock.specs.declared.standings.Standing.{Standing}
-use Rattle.any_lock.specs.Keeping.{KeptState, Knows, is_taken}
-use Rattle.any_lock.specs.Standings.{standing}
+use Rattle.plain_store.specs.{after}
+use Rattle.any_lock.specs.{KeptState, Knows, Standing, is_taken, standing}
 use Rattle.any_lock.proofs.Going.{kept_by_fields, kept_with, knows_on}
 use Rattle.any_lock.proofs.kept.Kept.go_on.Goals as goal
 

@@ -1,7 +1,5 @@
 use Rattle.std.proofs.Common.{not, ◌&&◌, sym, ap, ◌∙◌, arith, ne_eqb}
-use Rattle.any_lock.specs.declared.standings.Standing.{Standing}
-use Rattle.any_lock.specs.Keeping.{KeptState}
-use Rattle.any_lock.specs.Standings.{standing}
+use Rattle.any_lock.specs.{KeptState, Standing, standing}
 use Rattle.any_lock.proofs.StandsThere.{stands_there}
 use Rattle.any_lock.proofs.kept.Kept.is_inside_beside.Goals as goal
 

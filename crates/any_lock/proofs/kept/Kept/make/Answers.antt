@@ -1,7 +1,5 @@
 use Rattle.std.proofs.Common.{◌≡◌, ℕ, ◌<◌, ◌+◌, ◌∷◌, Some, slice_get, slice_set, subst, sym, ap, ◌∙◌}
-use Rattle.any_lock.specs.declared.standings.Standing.{Standing}
-use Rattle.any_lock.specs.Keeping.{KeptState, Knows, accessed}
-use Rattle.any_lock.specs.Standings.{standing}
+use Rattle.any_lock.specs.{KeptState, Knows, Standing, accessed, standing}
 use Rattle.any_lock.proofs.Unmarked.{given_at, unmarked_on}
 use Rattle.any_lock.proofs.kept.Kept.make.Goals as goal
 

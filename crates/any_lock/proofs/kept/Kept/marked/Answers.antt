@@ -1,8 +1,6 @@
 use Rattle.std.proofs.Common.{◌≡◌, ◌∷◌, sym, ap, ◌∙◌}
-use Rattle.record.specs.Entries.{Entry}
-use Rattle.any_lock.specs.Keeping.{KeptState, accessed_by, marked_all, refusal_on}
-use Rattle.any_lock.specs.Refusals.{refusal_of_marks}
-use Rattle.any_lock.specs.Standings.{standing}
+use Rattle.record.specs.{Entry}
+use Rattle.any_lock.specs.{KeptState, accessed_by, marked_all, refusal_of_marks, refusal_on, standing}
 use Rattle.any_lock.proofs.Markings.{with_marks}
 use Rattle.any_lock.proofs.Whole.{accepted, crowded_refused, nothing_refused, refused}
 use Rattle.any_lock.proofs.kept.Kept.marked.Goals as goal

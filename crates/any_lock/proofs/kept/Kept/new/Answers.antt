@@ -1,7 +1,7 @@
 use Rattle.std.proofs.Common.{List, Some, length, slice_get, refl, sym, ap, ◌∙◌, arith}
 use Rattle.std.proofs.lemmas.List.{length-replicate}
-use Rattle.plain_store.specs.Store.{empty_store}
-use Rattle.any_lock.specs.declared.standings.Standing.{Standing}
+use Rattle.plain_store.specs.{empty_store}
+use Rattle.any_lock.specs.{Standing}
 use Rattle.any_lock.proofs.Going.{slice_get-replicate}
 use Rattle.any_lock.proofs.Rooms.{has_room}
 use Rattle.any_lock.proofs.Steps.{at_first}

@@ -1,6 +1,5 @@
 use Rattle.std.proofs.Common.{◌<◌, ◌==◌, not, ◌&&◌, subst, sym, ◌∙◌}
-use Rattle.any_lock.specs.Laws.{waits_before}
-use Rattle.any_lock.specs.Standings.{standing}
+use Rattle.any_lock.specs.{standing, waits_before}
 use Rattle.any_lock.proofs.Lowest.{lowest_found, lowest_none}
 use Rattle.any_lock.proofs.kept.Kept.other_ahead.Goals as goal
 

@@ -1,8 +1,6 @@
 use Rattle.std.proofs.Common.{◌≡◌, None, ◌==◌, not, ◌&&◌}
-use Rattle.record.specs.Entries.{Past}
-use Rattle.any_lock.specs.Keeping.{Knows}
-use Rattle.any_lock.specs.Laws.{lowest_below, waits_before}
-use Rattle.any_lock.specs.Standings.{standing}
+use Rattle.record.specs.{Past}
+use Rattle.any_lock.specs.{Knows, lowest_below, standing, waits_before}
 use Rattle.any_lock.proofs.kept.Kept.other_ahead.Given as goal
 
 -- no lower process but this one is ahead

@@ -1,5 +1,5 @@
 use Rattle.std.proofs.Common.{sym, ap, ◌∙◌}
-use Rattle.any_lock.specs.Reasons.{inside_by, opened_by, stage_of, torn_by, wait_by}
+use Rattle.any_lock.specs.{inside_by, opened_by, stage_of, torn_by, wait_by}
 use Rattle.any_lock.proofs.kept.Kept.reasons.Goals as goal
 
 pub returns : goal.returns

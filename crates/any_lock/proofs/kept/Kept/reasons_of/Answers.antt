@@ -1,6 +1,5 @@
 use Rattle.std.proofs.Common.{Option, Some, refl, subst, sym}
-use Rattle.any_lock.specs.declared.verdicts.AnyLockLaw.{AnyLockLaw}
-use Rattle.any_lock.specs.Judging.{AreReasonsIf}
+use Rattle.any_lock.specs.{AnyLockLaw, AreReasonsIf}
 use Rattle.any_lock.proofs.kept.Kept.reasons_of.Goals as goal
 
 pub returns-in-Some-clause-some : goal.returns-in-Some-clause-some

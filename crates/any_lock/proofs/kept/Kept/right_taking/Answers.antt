@@ -1,9 +1,7 @@
 use Rattle.std.proofs.Common.{◌≡◌, ap, ◌∙◌, arith}
 use Rattle.std.proofs.lemmas.Result.{IfOk-at_ok}
-use Rattle.plain_store.specs.declared.Reply.{Reply}
-use Rattle.plain_store.specs.Store.{reply_to}
-use Rattle.any_lock.specs.declared.standings.Standing.{Standing}
-use Rattle.any_lock.specs.Keeping.{KeptState}
+use Rattle.plain_store.specs.{Reply, reply_to}
+use Rattle.any_lock.specs.{KeptState, Standing}
 use Rattle.any_lock.proofs.StandsThere.{stands_there}
 use Rattle.any_lock.proofs.kept.Kept.right_taking.Goals as goal
 

@@ -1,6 +1,5 @@
 use Rattle.std.proofs.Common.{Some, sym, ap, ◌∙◌}
-use Rattle.any_lock.specs.declared.standings.Standing.{Standing}
-use Rattle.any_lock.specs.Reasons.{of_standing}
+use Rattle.any_lock.specs.{Standing, of_standing}
 use Rattle.any_lock.proofs.kept.Kept.stage.Goals as goal
 
 pub returns-in-None : goal.returns-in-None

@@ -1,7 +1,7 @@
 use Rattle.std.proofs.Common.{Result, Ok, Err, cond, slice_get, sym, ap, ◌∙◌, arith, true≢false}
 use Rattle.std.specs.Result.{IsOk, OnOk}
-use Rattle.plain_store.specs.Store.{after}
-use Rattle.any_lock.specs.Keeping.{KeptState}
+use Rattle.plain_store.specs.{after}
+use Rattle.any_lock.specs.{KeptState}
 use Rattle.any_lock.proofs.Unmarked.{given_at}
 use Rattle.any_lock.proofs.kept.Kept.take.Goals as goal
 

@@ -1,6 +1,5 @@
 use Rattle.std.proofs.Common.{sym, ap, ◌∙◌}
-use Rattle.any_lock.specs.declared.standings.Standing.{Standing}
-use Rattle.any_lock.specs.Reasons.{entry_of, of_standing}
+use Rattle.any_lock.specs.{Standing, entry_of, of_standing}
 use Rattle.any_lock.proofs.kept.Kept.torn.Goals as goal
 
 pub returns-in-None : goal.returns-in-None

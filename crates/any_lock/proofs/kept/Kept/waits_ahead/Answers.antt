@@ -1,5 +1,5 @@
 use Rattle.std.proofs.Common.{◌≡◌, ◌≢◌, ◌<◌, None, slice_set, get_or, length, length-set, below_more, arith, ◌∙◌, get_or-set_other, get_or-set_same}
-use Rattle.any_lock.specs.Reasons.{wait_ahead}
+use Rattle.any_lock.specs.{wait_ahead}
 use Rattle.any_lock.proofs.kept.Kept.waits_ahead.Goals as goal
 
 pub loop-other-preserved : goal.loop-other-preserved

@@ -1,7 +1,6 @@
 use Rattle.std.proofs.Common.{◌≡◌, ℕ, ◌<◌, None, get_or, length}
-use Rattle.record.specs.Entries.{Past}
-use Rattle.any_lock.specs.Keeping.{Knows}
-use Rattle.any_lock.specs.Reasons.{wait_ahead}
+use Rattle.record.specs.{Past}
+use Rattle.any_lock.specs.{Knows, wait_ahead}
 use Rattle.any_lock.proofs.kept.Kept.waits_ahead.Given as goal
 
 -- those below the present one are told

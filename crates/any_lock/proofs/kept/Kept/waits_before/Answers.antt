@@ -1,7 +1,6 @@
 use Rattle.std.proofs.Common.{◌&&◌, sym, ap, ◌∙◌, arith}
-use Rattle.record.specs.Doorways.{is_before}
-use Rattle.any_lock.specs.Keeping.{KeptState}
-use Rattle.any_lock.specs.Laws.{waits_before}
+use Rattle.record.specs.{is_before}
+use Rattle.any_lock.specs.{KeptState, waits_before}
 use Rattle.any_lock.proofs.StandsThere.{stands_there}
 use Rattle.any_lock.proofs.kept.Kept.waits_before.Goals as goal
 

@@ -1,6 +1,6 @@
 use Rattle.std.proofs.Common.{None, ap, sym, ◌∙◌}
 use Rattle.record.specs.declared.stages.Stage.TheVariants.{Settling}
-use Rattle.any_lock.specs.Keeping.{marked}
+use Rattle.any_lock.specs.{marked}
 use Rattle.any_lock.proofs.standings.Standing.mark.Goals as goal
 
 pub returns-in-Called : goal.returns-in-Called

@@ -1,5 +1,5 @@
 use Rattle.std.proofs.Common.{◌+◌, drop, ap, sym, ◌∙◌}
-use Rattle.any_lock.specs.Keeping.{marked_all, refusal_on}
+use Rattle.any_lock.specs.{marked_all, refusal_on}
 use Rattle.any_lock.proofs.Loops.{dropped_all, dropped_more, refused_here, refused_later}
 use Rattle.any_lock.proofs.standings.Standing.mark_all.Goals as goal
 

@@ -1,5 +1,5 @@
 use Rattle.std.proofs.Common.{◌≡◌, drop}
-use Rattle.any_lock.specs.Keeping.{marked_all, refusal_on}
+use Rattle.any_lock.specs.{marked_all, refusal_on}
 use Rattle.any_lock.proofs.standings.Standing.mark_all.Given as goal
 
 -- what is refused, and what is marked, is so from the present mark on

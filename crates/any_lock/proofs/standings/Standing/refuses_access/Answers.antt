@@ -1,6 +1,5 @@
 use Rattle.std.proofs.Common.{Option, None, Some, sym, ap, ◌∙◌}
-use Rattle.any_lock.specs.declared.refusals.AccessRefusal.{AccessRefusal}
-use Rattle.any_lock.specs.Refusals.{first_that, maker_refusals, move_refusals}
+use Rattle.any_lock.specs.{AccessRefusal, first_that, maker_refusals, move_refusals}
 use Rattle.any_lock.proofs.Loops.{first_of_two}
 use Rattle.any_lock.proofs.standings.Standing.refuses_access.Goals as goal
 

@@ -1,5 +1,5 @@
 use Rattle.std.proofs.Common.{ap, sym, ◌∙◌}
-use Rattle.any_lock.specs.Refusals.{mark_refusal}
+use Rattle.any_lock.specs.{mark_refusal}
 use Rattle.any_lock.proofs.standings.Standing.refuses_mark.Goals as goal
 
 pub returns-in-Called : goal.returns-in-Called

@@ -1,5 +1,5 @@
 use Rattle.std.proofs.Common.{◌≡◌, [], Some, sym, subst, arith}
-use Rattle.auditor.specs.Hearing.{AuditorState, HasHeard, IsHeard, flick_in}
+use Rattle.auditor.specs.{AuditorState, HasHeard, IsHeard, flick_in}
 use Rattle.auditor.proofs.Within.{MadeWithin, access_entry, heard_within}
 use Rattle.auditor.proofs.auditor.Auditor.hear_access.Goals as goal
 

@@ -1,8 +1,7 @@
 use Rattle.std.proofs.Common.{◌≡◌, ◌==◌, List, [], ◌∷◌, length, true, refl, sym, subst, ◌∙◌, arith, eqb-true}
-use Rattle.record.specs.declared.marks.Mark.{Mark}
-use Rattle.record.specs.Entries.{Entry}
-use Rattle.read_law.specs.Entries.{entry_by}
-use Rattle.auditor.specs.Hearing.{Hears}
+use Rattle.record.specs.{Entry, Mark}
+use Rattle.read_law.specs.{entry_by}
+use Rattle.auditor.specs.{Hears}
 use Rattle.auditor.proofs.auditor.Auditor.hear_parts.Goals as goal
 
 empty : (marks : List Mark) → (length marks == 0) ≡ true → marks ≡ []

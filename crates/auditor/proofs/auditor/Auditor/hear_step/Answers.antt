@@ -1,14 +1,12 @@
 use Rattle.std.proofs.Common.{length, true≢false, sym, subst, ◌∙◌}
 use Rattle.std.specs.Prelude.{Some, None}
 use Rattle.record.specs.declared.events.Event.TheVariants.{Step}
-use Rattle.record.specs.Entries.{Entry, Past}
-use Rattle.record.specs.Histories.{history}
+use Rattle.record.specs.{Entry, Past, history}
 use Rattle.world.specs.process.declared.told.Effect.TheVariants.{Steps}
-use Rattle.world.specs.process.Telling.{act_of}
-use Rattle.world.specs.Cores.{CoreRefuses, CoreSteps, with_history}
-use Rattle.world.specs.Events.{Adds}
+use Rattle.world.specs.process.{act_of}
+use Rattle.world.specs.{Adds, CoreRefuses, CoreSteps, with_history}
 use Rattle.auditor.specs.declared.verdicts.Law.TheVariants as law
-use Rattle.auditor.specs.Hearing.{AuditorState, BreaksNext, HasHeard, IsHeard, flick_in}
+use Rattle.auditor.specs.{AuditorState, BreaksNext, HasHeard, IsHeard, flick_in}
 use Rattle.auditor.proofs.Hearing.{StepMade, heard_misplaced, heard_refused, heard_step, heard_wrong}
 use Rattle.auditor.proofs.auditor.Auditor.hear_step.Goals as goal
 use Rattle.auditor.proofs.auditor.Auditor.hear_step.Goals.{After-is_alike}

@@ -1,12 +1,11 @@
 use Rattle.std.proofs.Common.{◌≡◌, ℕ, List, length, get_or, [], sym, ap, ◌∙◌, subst, arith}
 use Rattle.std.proofs.lemmas.List.{length-replicate}
 use Rattle.reader_copies.specs.safe_bit.Cell.{Cell}
-use Rattle.reader_copies.specs.Row.{cell_at, IsClosed}
-use Rattle.safe_number.specs.Runs.{preset_number}
+use Rattle.reader_copies.specs.{cell_at, IsClosed}
+use Rattle.safe_number.specs.{preset_number}
 use Rattle.record.specs.declared.access.Field.TheVariants.{Image0}
-use Rattle.plain_store.specs.Setups.{callers_of, opening_store}
-use Rattle.store_image.specs.Image.{image_of}
-use Rattle.plain_store.specs.Store.{Contents}
+use Rattle.plain_store.specs.{Contents, callers_of, opening_store}
+use Rattle.store_image.specs.{image_of}
 use Rattle.store_image.proofs.ImageBytes.{length-image_of}
 use Rattle.bakery.specs.Registers.{Data, data_from, register_from, opening_cell, zero_cell}
 use Rattle.bakery.proofs.Opening.{open-other, open-first, zero-closed, zero-wide}

@@ -1,12 +1,10 @@
 use Rattle.std.proofs.Common.{◌≡◌, ℕ, ◌*◌, ◌<◌, refl, List, [], ◌∷◌, ◌++◌, length, map, take, sym, ap, ◌∙◌, subst, arith}
 use Rattle.std.specs.List.{range_with_len}
-use Rattle.store_image.specs.Reading.{store_in}
-use Rattle.plain_store.specs.Setups.{callers_of}
-use Rattle.plain_store.specs.Store.{Contents}
-use Rattle.record.specs.Program.{Version, image_field}
-use Rattle.record.specs.Registers.{image_bytes, bytes_of_bits}
+use Rattle.store_image.specs.{store_in}
+use Rattle.plain_store.specs.{Contents, callers_of}
+use Rattle.record.specs.{Version, bytes_of_bits, image_bytes, image_field}
 use Rattle.record.specs.declared.access.Field.TheVariants.{Commit, Stamp0, Stamp1, Image0, Image1}
-use Rattle.bakery.specs.Newest.{IsReadable, values_of, version_in, version_held, newest_of}
+use Rattle.bakery.specs.{IsReadable, values_of, version_in, version_held, newest_of}
 use Rattle.bakery.specs.Registers.{Data, DataRow, data_of, register_of}
 use Rattle.bakery.specs.declared.newest.Newest.{Newest}
 use Rattle.bakery.proofs.Committed.{part-is, readable, values-wide, versions-more, many-versions, newest-inside}

@@ -1,6 +1,6 @@
 use Rattle.std.proofs.Common.{◌≡◌, map}
 use Rattle.std.specs.List.{range_with_len}
-use Rattle.bakery.specs.Newest.{newest_of, version_in}
+use Rattle.bakery.specs.{newest_of, version_in}
 use Rattle.bakery.proofs.data_row.DataRow.newest.Given as goal
 
 abbrev pub invariant-loop-process : goal.invariant-loop-process

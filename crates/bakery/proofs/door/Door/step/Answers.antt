@@ -1,6 +1,6 @@
 use Rattle.std.proofs.Common.{Bool, sym, ap, ◌∙◌}
-use Rattle.record.specs.Places.{stage_at, value_of}
-use Rattle.process.specs.Places.{stepped}
+use Rattle.record.specs.{stage_at, value_of}
+use Rattle.process.specs.{stepped}
 use Rattle.bakery.specs.Doors.{marks_told}
 use Rattle.bakery.proofs.DoorSteps.{any-after, any-marks, tells}
 use Rattle.bakery.proofs.door.Door.step.Goals as goal

@@ -1,7 +1,7 @@
 use Rattle.std.proofs.Common.{◌<◌, length, List, ap, ◌∙◌, sym, subst, arith}
 use Rattle.std.proofs.lemmas.List.{get_or_default}
-use Rattle.reader_copies.specs.safe_bit.Cell.{read_answer}
-use Rattle.reader_copies.specs.Row.{cell_at, HasCell}
+use Rattle.reader_copies.specs.safe_bit.{read_answer}
+use Rattle.reader_copies.specs.{cell_at, HasCell}
 use Rattle.bakery.specs.Locks.{LockRows, no_lock, row_in, lock_of}
 use Rattle.bakery.proofs.Cells.{owner-there}
 use Rattle.bakery.proofs.lock.Locks.answer.Goals as goal

@@ -1,5 +1,5 @@
 use Rattle.std.proofs.Common.{◌≡◌, ◌<◌, length, ◌∙◌, sym, ap, arith, inl, inr}
-use Rattle.record.specs.Program.{newest_stamp}
+use Rattle.record.specs.{newest_stamp}
 use Rattle.bakery.specs.declared.newest.Newest.{Newest}
 use Rattle.bakery.proofs.NewestSteps.{newest-new, newest-old}
 use Rattle.bakery.proofs.newest.Newest.with.Goals as goal

@@ -1,5 +1,5 @@
 use Rattle.std.proofs.Common.{◌≡◌, false, is_some, sym, ap, ◌∙◌}
-use Rattle.process.specs.Places.{ProcessState, stepped}
+use Rattle.process.specs.{ProcessState, stepped}
 use Rattle.bakery.specs.Sections.{goes_on, is_going, marks_told, progress_on}
 use Rattle.bakery.proofs.SectionSteps.{told, told-is}
 use Rattle.bakery.proofs.section.Section.advance.Goals as goal

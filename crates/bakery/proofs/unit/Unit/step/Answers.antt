@@ -1,8 +1,7 @@
 -- The access may be made on the register that it names; and it is that of any closing.
 use Rattle.std.proofs.Common.{sym, ap, subst, ◌∙◌}
-use Rattle.reader_copies.specs.Row.{CanMake}
-use Rattle.process.specs.Places.{ProcessState}
-use Rattle.process.specs.Serving.{next_at}
+use Rattle.reader_copies.specs.{CanMake}
+use Rattle.process.specs.{ProcessState, next_at}
 use Rattle.bakery.specs.Locks.{made_by}
 use Rattle.bakery.specs.Memory.{CanAccess}
 use Rattle.bakery.proofs.UnitRegisters.{of-lock, of-versions}

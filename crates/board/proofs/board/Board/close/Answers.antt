@@ -1,6 +1,5 @@
 use Rattle.std.proofs.Common.{◌≡◌, ℕ, length, refl, rules, ap, subst, ◌∙◌, arith}
-use Rattle.board.specs.Boards.{BoardState}
-use Rattle.board.specs.Closings.{AreOfAll, AreQuiet}
+use Rattle.board.specs.{AreOfAll, AreQuiet, BoardState}
 use Rattle.board.proofs.Orders.{all_later, are_lists, first_leaves, first_ports, quiet_later}
 use Rattle.board.proofs.Seats.{some_processes}
 use Rattle.board.proofs.board.Board.close.Goals as goal

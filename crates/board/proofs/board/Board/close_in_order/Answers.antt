@@ -1,10 +1,8 @@
 use Rattle.std.proofs.Common.{◌≡◌, ◌+◌, ℕ, suc, List, ◌∷◌, Some, sym, ap, ◌∙◌, subst, arith}
 use Rattle.std.specs.Prelude.{slice_get}
-use Rattle.board.specs.Boards.{IsOf}
-use Rattle.plain_store.specs.declared.Setup.{Setup}
+use Rattle.board.specs.{AreQuiet, IsOf, IsStill, Leaves, PortState, StandsInRecord, done_calls}
+use Rattle.plain_store.specs.{Setup}
 use Rattle.board.specs.Calls.{Calls}
-use Rattle.board.specs.Closings.{AreQuiet, IsStill, Leaves, StandsInRecord, done_calls}
-use Rattle.board.specs.Ports.{PortState}
 use Rattle.board.proofs.PortLists.{first_and_rest, item_at, rest_of}
 use Rattle.board.proofs.board.Board.close_in_order.Goals as goal
 

@@ -1,9 +1,7 @@
 use Rattle.std.proofs.Common.{◌≡◌, ◌+◌, ℕ, suc, List, [], length, vec_len, sym, ap, ◌∙◌, subst, arith}
 use Rattle.std.specs.Prelude.{slice_get, Some}
-use Rattle.process.specs.Places.{ProcessState}
-use Rattle.board.specs.Boards.{IsOf}
-use Rattle.board.specs.Ports.{PortState}
-use Rattle.board.specs.Views.{OwnView, ViewState, new_own, new_view}
+use Rattle.process.specs.{ProcessState}
+use Rattle.board.specs.{IsOf, OwnView, PortState, ViewState, new_own, new_view}
 use Rattle.board.proofs.PortLists.{all_first}
 use Rattle.board.proofs.board.Board.new.Goals as goal
 

@@ -1,6 +1,6 @@
 use Rattle.std.proofs.Common.{◌<◌, ap, sym, subst, ◌∙◌}
-use Rattle.plain_store.specs.declared.Setup.{Setup}
-use Rattle.board.specs.Boards.{BoardState}
+use Rattle.plain_store.specs.{Setup}
+use Rattle.board.specs.{BoardState}
 use Rattle.board.proofs.Seats.{some_processes, some_words, splits_at}
 use Rattle.board.proofs.board.Board.newcomer.Goals as goal
 

@@ -1,9 +1,6 @@
 use Rattle.std.proofs.Common.{◌≡◌, ◌+◌, ℕ, suc, List, [], length, vec_len, sym, ap, ◌∙◌, subst, arith}
-use Rattle.process.specs.Places.{ProcessState}
-use Rattle.board.specs.Boards.{AreOthersIdle, BoardState, IsOf}
-use Rattle.board.specs.Closings.{AreMadeWith}
-use Rattle.board.specs.Ports.{PortState}
-use Rattle.board.specs.Views.{ViewState, new_own, new_view, with_made}
+use Rattle.process.specs.{ProcessState}
+use Rattle.board.specs.{AreMadeWith, AreOthersIdle, BoardState, IsOf, PortState, ViewState, new_own, new_view, with_made}
 use Rattle.board.proofs.PortLists.{all_push}
 use Rattle.board.proofs.Seats.{some_processes}
 use Rattle.board.proofs.board.Board.others.Goals as goal

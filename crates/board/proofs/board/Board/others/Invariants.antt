@@ -1,7 +1,5 @@
 use Rattle.std.proofs.Common.{◌≡◌, ◌+◌, [], vec_len, vec_capacity}
-use Rattle.board.specs.Boards.{AreOthersIdle}
-use Rattle.board.specs.Closings.{AreMadeWith}
-use Rattle.board.specs.Views.{new_view}
+use Rattle.board.specs.{AreMadeWith, AreOthersIdle, new_view}
 use Rattle.board.proofs.board.Board.others.Given as goal
 
 abbrev pub invariant-loop-number : goal.invariant-loop-number

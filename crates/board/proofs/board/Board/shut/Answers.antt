@@ -1,12 +1,8 @@
 use Rattle.std.proofs.Common.{◌≡◌, ◌+◌, ◌++◌, List, [], ◌∷◌, length, vec_len, sym, ap, ◌∙◌, subst, arith}
 use Rattle.std.specs.Global.{Vec}
-use Rattle.plain_store.specs.declared.Setup.{Setup}
-use Rattle.board.specs.Agreement.{Agree}
-use Rattle.board.specs.Boards.{BoardState}
-use Rattle.board.specs.Closings.{EachStandsInRecord, IsStill, Leaves}
-use Rattle.board.specs.Views.{OwnView}
-use Rattle.record.specs.CallLists.{lists_of}
-use Rattle.record.specs.declared.calls.Placed.{Placed}
+use Rattle.plain_store.specs.{Setup}
+use Rattle.board.specs.{Agree, BoardState, EachStandsInRecord, IsStill, Leaves, OwnView}
+use Rattle.record.specs.{Placed, lists_of}
 use Rattle.board.proofs.Closings.{closes}
 use Rattle.board.proofs.board.Board.shut.Goals as goal
 

@@ -1,7 +1,6 @@
 use Rattle.std.proofs.Common.{ap, sym, ◌∙◌}
-use Rattle.process.specs.Places.{refusal_of}
-use Rattle.board.specs.Ports.{PortState}
-use Rattle.board.specs.Views.{refusal_in}
+use Rattle.process.specs.{refusal_of}
+use Rattle.board.specs.{PortState, refusal_in}
 use Rattle.board.proofs.Pendings.{answers_no}
 use Rattle.board.proofs.port.Port.answer.Goals as goal
 

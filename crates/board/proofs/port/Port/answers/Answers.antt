@@ -1,9 +1,7 @@
 use Rattle.std.proofs.Common.{List, subst, sym, ap, ◌∙◌}
 use Rattle.board.specs.Calls.{Calls}
-use Rattle.board.specs.Lists.{AreFirstChanges, StandsIn}
-use Rattle.board.specs.Ports.{PortState, with_pending}
-use Rattle.board.specs.Views.{ViewState}
-use Rattle.record.specs.declared.calls.Placed.{Placed}
+use Rattle.board.specs.{AreFirstChanges, PortState, StandsIn, ViewState, with_pending}
+use Rattle.record.specs.{Placed}
 use Rattle.board.proofs.Stands.{finished_stand}
 use Rattle.board.proofs.port.Port.answers.Goals as goal
 

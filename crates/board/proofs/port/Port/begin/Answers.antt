@@ -1,14 +1,11 @@
 use Rattle.std.proofs.Common.{◌≡◌, true, false, [], ◌∷◌, Some, Result, Ok, Err, OnErr, OnOk, inl, inr, refl, ap, subst, sym, ◌∙◌}
 use Rattle.std.specs.Result.{is_err}
-use Rattle.plain_store.specs.declared.Setup.{Setup}
+use Rattle.plain_store.specs.{Setup}
 use Rattle.record.specs.declared.Event.TheVariants.{Call}
 use Rattle.record.specs.declared.Mark.TheVariants.{Called}
-use Rattle.process.specs.Places.{ProcessState}
+use Rattle.process.specs.{ProcessState}
 use Rattle.board.specs.Calls.{Calls, calls_after}
-use Rattle.board.specs.Listing.{KnowsPlace}
-use Rattle.board.specs.Lists.{StandsInSeen}
-use Rattle.board.specs.Ports.{PortState, answer_to, with_pending}
-use Rattle.board.specs.Views.{ViewState, at_events}
+use Rattle.board.specs.{KnowsPlace, PortState, StandsInSeen, ViewState, answer_to, at_events, with_pending}
 use Rattle.board.specs.declared.pending.Pending.{Pending}
 use Rattle.board.proofs.Listings.{place_called}
 use Rattle.board.proofs.Pendings.{accepted, happens, joins_call, refused}

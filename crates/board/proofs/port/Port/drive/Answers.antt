@@ -1,6 +1,5 @@
 use Rattle.std.proofs.Common.{◌≡◌, ◌+◌, ◌∙◌, suc, refl, sym, subst, true, arith}
-use Rattle.board.specs.Views.{stage_in}
-use Rattle.board.specs.WordSteps.{LeadsTo, goes}
+use Rattle.board.specs.{LeadsTo, goes, stage_in}
 use Rattle.board.proofs.Drives.{IsDriven, drives_down, drives_to_answer, driven_on, goes_unless, same_on}
 use Rattle.board.proofs.port.Port.drive.Goals as goal
 

@@ -1,4 +1,4 @@
-use Rattle.board.specs.Boards.{IsOf}
+use Rattle.board.specs.{IsOf}
 use Rattle.board.proofs.Drives.{IsDriven}
 use Rattle.board.proofs.port.Port.drive.Given as goal
 

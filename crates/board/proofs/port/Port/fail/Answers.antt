@@ -1,11 +1,8 @@
 use Rattle.std.proofs.Common.{◌≡◌, true, [], ◌∷◌, refl, ap, subst, sym, ◌∙◌}
-use Rattle.plain_store.specs.declared.Setup.{Setup}
+use Rattle.plain_store.specs.{Setup}
 use Rattle.record.specs.declared.Event.TheVariants.{Fail}
-use Rattle.process.specs.Places.{ProcessState, changes_pending}
-use Rattle.board.specs.Listing.{KnowsPlace}
-use Rattle.board.specs.Lists.{StandsInSeen}
-use Rattle.board.specs.Ports.{with_pending}
-use Rattle.board.specs.Views.{ViewState, at_events}
+use Rattle.process.specs.{ProcessState, changes_pending}
+use Rattle.board.specs.{KnowsPlace, StandsInSeen, ViewState, at_events, with_pending}
 use Rattle.board.proofs.Listings.{place_failed}
 use Rattle.board.proofs.Pendings.{accepted, happens, joins_failure, refused}
 use Rattle.board.specs.declared.pending.Pending.{Pending}

@@ -1,9 +1,6 @@
 use Rattle.std.proofs.Common.{sym, ap, ◌∙◌, subst}
 use Rattle.board.specs.Calls.{Calls}
-use Rattle.board.specs.Closings.{IsStill, StandsInRecord}
-use Rattle.board.specs.Pending.{events_of}
-use Rattle.board.specs.Ports.{PortState, with_pending}
-use Rattle.board.specs.Views.{ViewState}
+use Rattle.board.specs.{IsStill, PortState, StandsInRecord, ViewState, events_of, with_pending}
 use Rattle.board.proofs.SeenStands.{in_record}
 use Rattle.board.proofs.Happenings.{same_process_all}
 use Rattle.board.proofs.StillSeats.{still_seat}

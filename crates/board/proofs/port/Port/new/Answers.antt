@@ -2,13 +2,9 @@ use Rattle.std.proofs.Common.{◌≡◌, ap, sym, subst, ◌∙◌}
 use Rattle.board.proofs.Listings.{place_new}
 use Rattle.board.proofs.Pendings.{new_tied}
 use Rattle.board.proofs.SeenStands.{stands_new}
-use Rattle.board.specs.Listing.{KnowsPlace}
-use Rattle.board.specs.Lists.{StandsInSeen}
-use Rattle.board.specs.Ports.{with_pending}
-use Rattle.board.specs.Views.{ViewState, new_view}
+use Rattle.board.specs.{IsTied, KnowsPlace, StandsInSeen, ViewState, new_view, with_pending}
 use Rattle.board.specs.declared.pending.Pending.{Pending}
 use Rattle.std.specs.Prelude.{None}
-use Rattle.board.specs.Ports.{IsTied}
 use Rattle.board.proofs.port.Port.new.Goals as goal
 
 pub invariant_of-result : goal.invariant_of-result

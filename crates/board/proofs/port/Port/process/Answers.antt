@@ -1,6 +1,6 @@
 use Rattle.std.proofs.Common.{ap, ◌∙◌}
-use Rattle.process.specs.Places.{ProcessState}
-use Rattle.board.specs.Ports.{PortState}
+use Rattle.process.specs.{ProcessState}
+use Rattle.board.specs.{PortState}
 use Rattle.board.proofs.port.Port.process.Goals as goal
 
 pub returns : goal.returns

@@ -1,15 +1,9 @@
 use Rattle.std.proofs.Common.{◌≡◌, true, ap, sym, subst, ◌∙◌}
 use Rattle.std.specs.Prelude.{fold}
-use Rattle.process.specs.Places.{ProcessState, may_step}
-use Rattle.process.specs.Telling.{marks_told}
-use Rattle.plain_store.specs.declared.Setup.{Setup}
-use Rattle.board.specs.Boards.{BoardState}
+use Rattle.process.specs.{ProcessState, marks_told, may_step}
+use Rattle.plain_store.specs.{Setup}
+use Rattle.board.specs.{BoardState, IsTied, KnowsPlace, LeadsTo, PortState, StandsInSeen, ViewState, WordStep, goes, with_pending}
 use Rattle.board.specs.Calls.{Calls, calls_after}
-use Rattle.board.specs.Listing.{KnowsPlace}
-use Rattle.board.specs.Lists.{StandsInSeen}
-use Rattle.board.specs.Ports.{IsTied, PortState, with_pending}
-use Rattle.board.specs.Views.{ViewState}
-use Rattle.board.specs.WordSteps.{LeadsTo, WordStep, goes}
 use Rattle.board.specs.declared.pending.Pending.{Pending}
 use Rattle.board.proofs.Doings.{goes_steps}
 use Rattle.board.proofs.port.Port.turn.Goals as goal

@@ -1,5 +1,5 @@
 use Rattle.std.proofs.Common.{◌≤◌, ℕ, take, length, refl, sym, ◌∙◌, arith, true≢false}
-use Rattle.call_check.specs.declared.calls.Call.{Call}
+use Rattle.call_check.specs.{Call}
 use Rattle.call_check.proofs.Judged.{bad_in, judged_more, none_bad, note_there}
 use Rattle.call_check.proofs.notes.Followed.first_bad.Goals as goal
 

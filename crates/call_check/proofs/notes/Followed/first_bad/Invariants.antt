@@ -1,7 +1,6 @@
 use Rattle.std.proofs.Common.{ℕ, List}
-use Rattle.plain_store.specs.declared.Setup.{Setup}
-use Rattle.call_check.specs.declared.calls.Call.{Call}
-use Rattle.call_check.specs.Following.{ArePart, IsFollowed, IsJudged}
+use Rattle.plain_store.specs.{Setup}
+use Rattle.call_check.specs.{ArePart, Call, IsFollowed, IsJudged}
 use Rattle.call_check.proofs.notes.Followed.first_bad.Given as goal
 
 -- no call before the present one is bad

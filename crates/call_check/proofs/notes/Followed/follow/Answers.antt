@@ -1,10 +1,7 @@
 use Rattle.std.proofs.Common.{◌≡◌, ℕ, List, true, false, length, Some, refl, sym, ap, subst, ◌∙◌, arith}
-use Rattle.plain_store.specs.declared.Setup.{Setup}
-use Rattle.plain_store.specs.Store.{Contents}
-use Rattle.call_check.specs.declared.calls.Call.{Call}
-use Rattle.call_check.specs.Following.{AreBlank, IsFollowed}
-use Rattle.record.specs.CallLists.{lists_of}
-use Rattle.call_check.specs.Weighing.{all_calls}
+use Rattle.plain_store.specs.{Contents, Setup}
+use Rattle.call_check.specs.{AreBlank, Call, IsFollowed, all_calls}
+use Rattle.record.specs.{lists_of}
 use Rattle.call_check.proofs.Followed.{callers_of_store}
 use Rattle.call_check.proofs.Stores.{ended_after_all, ended_at_nothing, ended_at_several, next_store, none_noted, noted_below}
 use Rattle.call_check.proofs.notes.Followed.follow.Goals as goal

@@ -1,6 +1,6 @@
 use Rattle.std.proofs.Common.{◌+◌, drop, ap, sym, ◌∙◌}
 use Rattle.std.proofs.lemmas.List.{at_drop_all, at_drop_more}
-use Rattle.calls.specs.Stepping.{marked_all, marked_on}
+use Rattle.calls.specs.{marked_all, marked_on}
 use Rattle.calls.proofs.standing.CallStanding.mark_all.Goals as goal
 
 pub loop-mark-preserved : goal.loop-mark-preserved

@@ -1,5 +1,5 @@
 use Rattle.std.proofs.Common.{◌≡◌, drop}
-use Rattle.calls.specs.Stepping.{marked_all}
+use Rattle.calls.specs.{marked_all}
 use Rattle.calls.proofs.standing.CallStanding.mark_all.Given as goal
 
 -- what is kept is so from the present mark on

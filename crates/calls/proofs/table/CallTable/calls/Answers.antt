@@ -1,7 +1,5 @@
 use Rattle.std.proofs.Common.{ap, arith}
-use Rattle.calls.specs.declared.standing.CallStanding.{CallStanding}
-use Rattle.calls.specs.Hearing.{TableState}
-use Rattle.calls.specs.Stepping.{standing}
+use Rattle.calls.specs.{CallStanding, TableState, standing}
 use Rattle.calls.proofs.KeptThere.{kept_there}
 use Rattle.calls.proofs.table.CallTable.calls.Goals as goal
 

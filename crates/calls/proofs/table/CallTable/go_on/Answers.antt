@@ -1,8 +1,6 @@
 use Rattle.std.proofs.Common.{◌+◌, ◌-◌, ◌^◌, ◌<◌, not, ◌&&◌, cond, None, Some, length, slice_set, sym, ap, ◌∙◌, subst, arith, length-set}
 use Rattle.std.proofs.lemmas.Option.{slice_get_within}
-use Rattle.calls.specs.declared.standing.CallStanding.{CallStanding}
-use Rattle.calls.specs.Hearing.{TableState}
-use Rattle.calls.specs.Stepping.{AreFew, heard}
+use Rattle.calls.specs.{AreFew, CallStanding, TableState, heard}
 use Rattle.calls.proofs.KeptThere.{kept_there}
 use Rattle.calls.proofs.table.CallTable.go_on.Goals as goal
 

@@ -1,8 +1,7 @@
 use Rattle.std.proofs.Common.{◌≡◌, ◌++◌, ◌∷◌, [], ap, refl, sym, ◌∙◌, arith, length, slice_get}
 use Rattle.std.specs.Prelude.{List}
 use Rattle.std.proofs.lemmas.List.FromFn.{length-map-range_with_len}
-use Rattle.calls.specs.Stepping.{at_rest}
-use Rattle.calls.specs.declared.standing.CallStanding.{CallStanding}
+use Rattle.calls.specs.{CallStanding, at_rest}
 use Rattle.calls.proofs.Heard.{at_rest_more, at_rest-there}
 use Rattle.calls.proofs.table.CallTable.new.Goals as goal
 

@@ -1,6 +1,6 @@
 use Rattle.std.proofs.Common.{◌≡◌, map}
 use Rattle.std.specs.List.{range_with_len}
-use Rattle.calls.specs.Stepping.{at_rest}
+use Rattle.calls.specs.{at_rest}
 use Rattle.calls.proofs.table.CallTable.new.Given as goal
 
 -- each process so far is at rest

@@ -1,8 +1,6 @@
 use Rattle.std.proofs.Common.{◌+◌, length, slice_set, sym, ap, ◌∙◌, subst, arith, length-set}
 use Rattle.std.proofs.lemmas.Option.{slice_get_within}
-use Rattle.calls.specs.declared.standing.CallStanding.{CallStanding}
-use Rattle.calls.specs.Hearing.{TableState}
-use Rattle.calls.specs.Passing.{HaveRoom, passed}
+use Rattle.calls.specs.{CallStanding, HaveRoom, TableState, passed}
 use Rattle.calls.proofs.KeptThere.{kept_there}
 use Rattle.calls.proofs.table.CallTable.pass_on.Goals as goal
 

@@ -1,7 +1,6 @@
 use Rattle.std.proofs.Common.{[], ◌∷◌, ap, filter_map, ◌∙◌}
 use Rattle.std.proofs.lemmas.List.{map-append}
-use Rattle.columns.specs.Columns.{row_shared, seen}
-use Rattle.columns.specs.Told.{text_of, texts}
+use Rattle.columns.specs.{row_shared, seen, text_of, texts}
 use Rattle.columns.proofs.columns.Column.join.Goals as goal
 
 pub returns-clause-told : goal.returns-clause-told

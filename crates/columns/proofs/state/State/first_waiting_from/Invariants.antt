@@ -1,5 +1,5 @@
 use Rattle.std.proofs.Common.{◌≡◌, drop}
-use Rattle.columns.specs.States.{first_waiting}
+use Rattle.columns.specs.{first_waiting}
 use Rattle.columns.proofs.state.State.first_waiting_from.Given as goal
 
 -- none before the present one waits

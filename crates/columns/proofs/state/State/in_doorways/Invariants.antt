@@ -1,5 +1,5 @@
 use Rattle.std.proofs.Common.{◌≡◌, length, map, take}
-use Rattle.columns.specs.States.{is_in_doorway}
+use Rattle.columns.specs.{is_in_doorway}
 use Rattle.columns.proofs.state.State.in_doorways.Given as goal
 
 -- which of the processes before the present one are in their doorways

@@ -1,8 +1,6 @@
 use Rattle.std.proofs.Common.{◌≡◌, set, ap, ◌∙◌}
-use Rattle.record.specs.Stages.{stage_after}
-use Rattle.columns.specs.Stages.{stages_marked}
-use Rattle.columns.specs.States.{inside_marked, places_marked, with_seats_marked}
-use Rattle.columns.specs.declared.state.State.{State}
+use Rattle.record.specs.{stage_after}
+use Rattle.columns.specs.{State, inside_marked, places_marked, stages_marked, with_seats_marked}
 use Rattle.columns.proofs.state.State.mark.Goals as goal
 
 pub returns-clause-whole : goal.returns-clause-whole

@@ -1,5 +1,5 @@
 use Rattle.std.proofs.Common.{◌≡◌, ◌++◌, drop, take}
-use Rattle.columns.specs.States.{lined_up}
+use Rattle.columns.specs.{lined_up}
 use Rattle.columns.proofs.state.State.place_in.Given as goal
 
 -- those before the present one stand before the process

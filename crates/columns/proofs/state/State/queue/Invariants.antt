@@ -1,5 +1,5 @@
 use Rattle.std.proofs.Common.{◌≡◌}
-use Rattle.columns.specs.States.{line_of_first}
+use Rattle.columns.specs.{line_of_first}
 use Rattle.columns.proofs.state.State.queue.Given as goal
 
 -- the line of the processes before the present one

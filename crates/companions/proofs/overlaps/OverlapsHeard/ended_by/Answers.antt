@@ -1,6 +1,5 @@
 use Rattle.std.proofs.Common.{◌≡◌, ◌∙◌, Ok, sym, subst}
-use Rattle.plain_store.specs.Setups.{checked}
-use Rattle.plain_store.specs.declared.setups.Setup.{Setup}
+use Rattle.plain_store.specs.{Setup, checked}
 use Rattle.companions.proofs.Overhearing.{told_at}
 use Rattle.companions.proofs.overlaps.OverlapsHeard.ended_by.Goals as goal
 

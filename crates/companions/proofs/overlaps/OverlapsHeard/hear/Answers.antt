@@ -1,5 +1,5 @@
 use Rattle.std.proofs.Common.{◌≡◌, Some, subst, sym, ap, ◌∙◌}
-use Rattle.read_law.specs.Watching.{HasHeard, WatchState}
+use Rattle.read_law.specs.{HasHeard, WatchState}
 use Rattle.companions.proofs.Overhearing.{hears_none, hears_on}
 use Rattle.companions.proofs.overlaps.OverlapsHeard.hear.Goals as goal
 

@@ -1,10 +1,8 @@
 use Rattle.std.proofs.Common.{◌≡◌, ◌++◌, [], ◌∷◌, List, Option, None, Some, IfSome, false, get_or, inl, inr, length, refl, sym, subst, ap, ◌∙◌}
 use Rattle.std.specs.Option.{option_to_list}
-use Rattle.picture.specs.columns.declared.reads.OverlappedRead.{OverlappedRead}
-use Rattle.read_law.specs.Looks.{ends_overlapped}
-use Rattle.companions.specs.declared.overlaps.BegunRead.{BegunRead}
-use Rattle.companions.specs.declared.overlaps.OverlapsHeard.{OverlapsHeard}
-use Rattle.companions.specs.Overlaps.{first_three, is_begin, overlapped_with}
+use Rattle.picture.specs.columns.{OverlappedRead}
+use Rattle.read_law.specs.{ends_overlapped}
+use Rattle.companions.specs.{BegunRead, OverlapsHeard, first_three, is_begin, overlapped_with}
 use Rattle.std.proofs.lemmas.Result.{on_ok_weaker}
 use Rattle.companions.proofs.Overhearing.{IsQuiet, ends_no_read, still_begun, still_ended}
 use Rattle.companions.proofs.overlaps.OverlapsHeard.keep.Goals as goal

@@ -1,4 +1,4 @@
-use Rattle.record.specs.Entries.{Entry}
+use Rattle.record.specs.{Entry}
 use Rattle.course.proofs.Listeners.{audits_more}
 use Rattle.course.proofs.judging.Audit.hear.Goals as goal
 

@@ -1,5 +1,5 @@
 use Rattle.std.proofs.Common.{[], Some}
-use Rattle.record.specs.Entries.{Entry}
+use Rattle.record.specs.{Entry}
 use Rattle.course.proofs.Listeners.{audits_more}
 use Rattle.course.proofs.judging.Audit.hear_access.Goals as goal
 

@@ -1,9 +1,8 @@
 use Rattle.std.proofs.Common.{◌≡◌, ◌∙◌, ◌∷◌, subst}
-use Rattle.plain_store.specs.declared.setups.Setup.{Setup}
-use Rattle.record.specs.Entries.{Entry, Past}
-use Rattle.auditor.specs.Verdicts.{KeepsAll}
-use Rattle.course.specs.Judging.{Audits}
-use Rattle.course.specs.Telling.{entry_made}
+use Rattle.plain_store.specs.{Setup}
+use Rattle.record.specs.{Entry, Past}
+use Rattle.auditor.specs.{KeepsAll}
+use Rattle.course.specs.{Audits, entry_made}
 use Rattle.course.proofs.Listeners.{other_audited, told_audited}
 use Rattle.course.proofs.judging.Audit.hear_told.Goals as goal
 

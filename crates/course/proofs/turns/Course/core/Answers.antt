@@ -1,6 +1,6 @@
 use Rattle.std.proofs.Common.{◌≡◌, subst}
-use Rattle.world.specs.Cores.{with_history}
-use Rattle.course.specs.Courses.{CourseState}
+use Rattle.world.specs.{with_history}
+use Rattle.course.specs.{CourseState}
 use Rattle.course.proofs.turns.Course.core.Goals as goal
 
 pub returns : goal.returns

@@ -1,12 +1,7 @@
 use Rattle.std.proofs.Common.{◌-◌, false, length, refl, subst}
 use Rattle.std.specs.Prelude.{IfOk, Option, Some}
-use Rattle.record.specs.declared.access.Access.{Access}
-use Rattle.course.specs.Courses.{CourseState, Follows, Makes, course}
-use Rattle.course.specs.Happenings.{Tries}
-use Rattle.course.specs.Runs.{Run}
-use Rattle.course.specs.Turns.{happens}
-use Rattle.course.specs.declared.told.Accepted.{Accepted}
-use Rattle.course.specs.declared.told.Told.{Told}
+use Rattle.record.specs.{Access}
+use Rattle.course.specs.{Accepted, CourseState, Follows, Makes, Run, Told, Tries, course, happens}
 use Rattle.course.specs.declared.told.Told.TheVariants as told
 use Rattle.course.proofs.CourseTurns.{event_accepted, event_refused_by}
 use Rattle.course.proofs.turns.Course.event.Goals as goal

@@ -1,7 +1,6 @@
 use Rattle.std.proofs.Common.{◌≡◌, ◌<◌, ◌∙◌, false, sym, subst}
-use Rattle.record.specs.Stages.{stage}
-use Rattle.course.specs.Courses.{CourseState, Follows}
-use Rattle.course.specs.Runs.{Run, has_step, past_in}
+use Rattle.record.specs.{stage}
+use Rattle.course.specs.{CourseState, Follows, Run, has_step, past_in}
 use Rattle.course.proofs.CourseTurns.{mover_told, mover_beyond}
 use Rattle.course.proofs.turns.Course.has_step.Goals as goal
 

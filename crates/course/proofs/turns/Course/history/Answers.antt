@@ -1,8 +1,6 @@
 use Rattle.std.proofs.Common.{◌≡◌, subst}
-use Rattle.record.specs.Histories.{history}
-use Rattle.course.specs.Courses.{CourseState, Follows}
-use Rattle.course.specs.Happenings.{tried}
-use Rattle.course.specs.Runs.{Run, past_in}
+use Rattle.record.specs.{history}
+use Rattle.course.specs.{CourseState, Follows, Run, past_in, tried}
 use Rattle.course.proofs.turns.Course.history.Goals as goal
 
 pub returns : goal.returns

@@ -1,9 +1,7 @@
 use Rattle.std.proofs.Common.{◌≤◌, ◌-◌, ◌∙◌, ap, sym, subst, arith}
 use Rattle.std.specs.Prelude.{Some, None}
 use Rattle.scenario.specs.declared.lines.Line.TheVariants as line
-use Rattle.course.specs.Courses.{CourseState, Follows, Makes, course}
-use Rattle.course.specs.Runs.{Run}
-use Rattle.course.specs.Turns.{turn_of}
+use Rattle.course.specs.{CourseState, Follows, Makes, Run, course, turn_of}
 use Rattle.course.specs.declared.told.Told.TheVariants as told
 use Rattle.course.proofs.CourseTurns.{flick_made, show_made, turn_ended, turn_made, turn_made_by}
 use Rattle.course.proofs.Played.{wanted_by}

@@ -1,8 +1,7 @@
 use Rattle.std.proofs.Common.{◌≡◌, ◌<◌, ℕ, Bool, true, false, [], ◌∷◌, length, ◌∙◌, arith, ap, sym, append-nil}
 use Rattle.std.proofs.lemmas.List.{length-append}
-use Rattle.record.specs.Stages.{stage}
-use Rattle.course.specs.Courses.{CourseState}
-use Rattle.course.specs.Runs.{Run, has_step, past_in}
+use Rattle.record.specs.{stage}
+use Rattle.course.specs.{CourseState, Run, has_step, past_in}
 use Rattle.course.proofs.Movers.{kept_more}
 use Rattle.course.proofs.turns.Course.movers.Goals as goal
 use Rattle.course.proofs.turns.Course.movers.Goals.{then-has_step, else-has_step}

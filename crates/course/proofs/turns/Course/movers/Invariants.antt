@@ -1,8 +1,7 @@
 use Rattle.std.proofs.Common.{◌≡◌, ◌≤◌, filter, length}
 use Rattle.std.specs.List.{range_with_len}
-use Rattle.record.specs.Stages.{stage}
-use Rattle.course.specs.Courses.{Follows}
-use Rattle.course.specs.Runs.{Run, has_step, past_in}
+use Rattle.record.specs.{stage}
+use Rattle.course.specs.{Follows, Run, has_step, past_in}
 use Rattle.course.proofs.turns.Course.movers.Given as goal
 
 -- those below the present process that have a Step to make; there is room for all 16

@@ -1,9 +1,7 @@
 use Rattle.std.proofs.Common.{◌≡◌, List, subst}
-use Rattle.record.specs.declared.events.Event.{Event}
-use Rattle.record.specs.Records.{past_of}
+use Rattle.record.specs.{Event, past_of}
 use Rattle.world.specs.Shows.{Shows}
-use Rattle.course.specs.Courses.{CourseState}
-use Rattle.course.specs.Texts.{newest_store}
+use Rattle.course.specs.{CourseState, newest_store}
 use Rattle.course.proofs.Images.{newest_is}
 use Rattle.course.proofs.turns.Course.newest.Goals as goal
 

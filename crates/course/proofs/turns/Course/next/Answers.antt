@@ -1,9 +1,6 @@
 use Rattle.std.proofs.Common.{◌+◌, arith}
 use Rattle.scenario.specs.files.declared.faults.Fault.TheVariants.{Memory}
-use Rattle.course.specs.Courses.{Follows}
-use Rattle.course.specs.Listening.{HearsUpTo, room_wanted}
-use Rattle.course.specs.Runs.{Run}
-use Rattle.course.specs.Turns.{rest_of}
+use Rattle.course.specs.{Follows, HearsUpTo, Run, rest_of, room_wanted}
 use Rattle.course.proofs.Alone.{alone_whole}
 use Rattle.course.proofs.Knowing.{nothing_yet}
 use Rattle.course.proofs.Played.{no_value, on_fault, unheard}

@@ -1,9 +1,6 @@
 use Rattle.std.proofs.Common.{◌+◌, ◌^◌, ap, arith, refl, subst}
 use Rattle.std.specs.Prelude.{Option}
-use Rattle.course.specs.Courses.{CourseState, Follows}
-use Rattle.course.specs.Listening.{ComesTo, HearsUpTo}
-use Rattle.course.specs.Runs.{Run, run_after}
-use Rattle.course.specs.declared.told.Told.{Told}
+use Rattle.course.specs.{ComesTo, CourseState, Follows, HearsUpTo, Run, Told, run_after}
 use Rattle.course.proofs.Played.{not_ok, on_fault, played_cut, played_ended, played_on, played_start, played_torn}
 use Rattle.course.proofs.turns.Course.play.Goals as goal
 

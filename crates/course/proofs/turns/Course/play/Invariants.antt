@@ -1,7 +1,5 @@
 use Rattle.std.proofs.Common.{◌+◌, ◌^◌, ◌≤◌, ℕ}
-use Rattle.course.specs.Courses.{Follows}
-use Rattle.course.specs.Runs.{Run}
-use Rattle.course.specs.Turns.{turns_in}
+use Rattle.course.specs.{Follows, Run, turns_in}
 use Rattle.course.proofs.Played.{PlayedOn}
 use Rattle.course.proofs.turns.Course.play.Given as goal
 

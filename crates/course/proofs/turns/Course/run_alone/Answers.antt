@@ -1,12 +1,7 @@
 use Rattle.std.proofs.Common.{Some, refl, ◌==◌, ◌≤◌, ◌+◌, ◌-◌, ◌∙◌, ℕ, ap, arith, inl, subst, sym}
-use Rattle.scenario.specs.declared.lines.Line.{Line}
-use Rattle.world.specs.flicks.Flicks.{flick_of}
-use Rattle.course.specs.Courses.{CourseState, Follows, course}
-use Rattle.course.specs.Happenings.{tried}
-use Rattle.course.specs.Listening.{ComesTo, HearsFrom, HearsStep, KnowsEnough, KnowsOr, Learns, MakesStep, MaySteps, RunsAlone}
-use Rattle.course.specs.Runs.{Run}
-use Rattle.course.specs.Steppers.{IsAlone}
-use Rattle.course.specs.Turns.{rest_of, turns_in}
+use Rattle.scenario.specs.{Line}
+use Rattle.world.specs.flicks.{flick_of}
+use Rattle.course.specs.{ComesTo, CourseState, Follows, HearsFrom, HearsStep, IsAlone, KnowsEnough, KnowsOr, Learns, MakesStep, MaySteps, Run, RunsAlone, course, rest_of, tried, turns_in}
 use Rattle.course.proofs.Alone.{KnowsAlone, MakesMore, alone_ended, alone_on, alone_passed, alone_stops, alone_told}
 use Rattle.course.proofs.Knowing.{quiet_steps, step_knows, step_needs, turns_above}
 use Rattle.course.proofs.Played.{no_value, on_fault}

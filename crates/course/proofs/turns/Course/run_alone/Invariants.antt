@@ -1,10 +1,7 @@
 use Rattle.std.proofs.Common.{None, ◌≡◌, ◌-◌, ◌+◌, ◌≤◌, ℕ}
-use Rattle.scenario.specs.declared.lines.Line.{Line}
-use Rattle.world.specs.Walks.{left_in}
-use Rattle.course.specs.Courses.{Follows, KeepsCourse, course}
-use Rattle.course.specs.Listening.{ComesOn, HearsFrom}
-use Rattle.course.specs.Runs.{Run}
-use Rattle.course.specs.Steppers.{IsAlone}
+use Rattle.scenario.specs.{Line}
+use Rattle.world.specs.{left_in}
+use Rattle.course.specs.{ComesOn, Follows, HearsFrom, IsAlone, KeepsCourse, Run, course}
 use Rattle.course.proofs.Alone.{KnowsAlone}
 use Rattle.course.proofs.turns.Course.run_alone.Given as goal
 

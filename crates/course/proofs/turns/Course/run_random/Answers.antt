@@ -1,12 +1,8 @@
 use Rattle.std.proofs.Common.{Some, refl, None, ◌≡◌, ◌==◌, ◌<◌, ◌≤◌, ◌+◌, ◌-◌, ◌∙◌, ℕ, List, ap, arith, inl, inr, length, set, sym, subst, slice_index}
 use Rattle.scenario.specs.declared.lines.Line.TheVariants.{Wander as WanderLine}
-use Rattle.world.specs.flicks.Flicks.{FlickState, after_flick, after_pick, flick_of, pick_of}
-use Rattle.world.specs.Walks.{left_in}
-use Rattle.course.specs.Counts.{IsCounted}
-use Rattle.course.specs.Courses.{CourseState, Follows, Makes, course}
-use Rattle.course.specs.Listening.{Comes, ComesOn, ComesTo, HearsFrom, HearsStep, HearsUpTo, KnowsEnough, Learns, MakesStep, MaySteps, room_wanted}
-use Rattle.course.specs.Runs.{Run, movers, past_in}
-use Rattle.course.specs.Turns.{rest_of, turn_of}
+use Rattle.world.specs.flicks.{FlickState, after_flick, after_pick, flick_of, pick_of}
+use Rattle.world.specs.{left_in}
+use Rattle.course.specs.{Comes, ComesOn, ComesTo, CourseState, Follows, HearsFrom, HearsStep, HearsUpTo, IsCounted, KnowsEnough, Learns, Makes, MakesStep, MaySteps, Run, course, movers, past_in, rest_of, room_wanted, turn_of}
 use Rattle.course.proofs.Counted.{counted_put, none_known}
 use Rattle.course.proofs.Knowing.{nothing_yet, pick_steps, step_knows, step_needs, turns_above}
 use Rattle.course.proofs.Movers.{none_left, some_left}

@@ -1,10 +1,7 @@
 use Rattle.std.proofs.Common.{None, ◌≡◌, ◌+◌, ◌≤◌, ℕ, length, slice_index}
 use Rattle.scenario.specs.declared.lines.Line.TheVariants.{Wander as WanderLine}
-use Rattle.world.specs.flicks.Flicks.{after_flick, after_pick, flick_of, pick_of}
-use Rattle.course.specs.Counts.{IsCounted}
-use Rattle.course.specs.Courses.{Follows, KeepsCourse, course}
-use Rattle.course.specs.Listening.{ComesOn, HearsFrom}
-use Rattle.course.specs.Runs.{Run}
+use Rattle.world.specs.flicks.{after_flick, after_pick, flick_of, pick_of}
+use Rattle.course.specs.{ComesOn, Follows, HearsFrom, IsCounted, KeepsCourse, Run, course}
 use Rattle.course.proofs.Wanders.{ArePicked, KnowsWhile}
 use Rattle.course.proofs.turns.Course.run_random.Given as goal
 

@@ -1,11 +1,7 @@
 use Rattle.std.proofs.Common.{Some, None, ◌≡◌, ◌+◌, ◌∙◌, ℕ, ap, arith, inr, refl, sym, subst}
 use Rattle.record.specs.declared.refusals.Refusal.TheVariants.{NoProcess}
 use Rattle.scenario.specs.declared.lines.Line.TheVariants.{Go as GoLine}
-use Rattle.course.specs.Courses.{CourseState, Follows, Makes, course}
-use Rattle.course.specs.Listening.{ComesTo, HearsUpTo, RunsTo, room_wanted}
-use Rattle.course.specs.Runs.{Run}
-use Rattle.course.specs.Steppers.{IsAlone}
-use Rattle.course.specs.Turns.{rest_of, turn_of}
+use Rattle.course.specs.{ComesTo, CourseState, Follows, HearsUpTo, IsAlone, Makes, Run, RunsTo, course, rest_of, room_wanted, turn_of}
 use Rattle.course.specs.declared.told.Told.TheVariants as told
 use Rattle.course.proofs.CourseTurns.{go_ends, go_lacks, turn_ended, turn_made}
 use Rattle.course.proofs.Goes.{go_tires, is_away}

@@ -1,8 +1,6 @@
 use Rattle.std.proofs.Common.{map, refl, subst, sym}
 use Rattle.world.specs.Shows.{Shows}
-use Rattle.course.specs.Courses.{CourseState, Follows}
-use Rattle.course.specs.Happenings.{Tries}
-use Rattle.course.specs.Runs.{Run}
+use Rattle.course.specs.{CourseState, Follows, Run, Tries}
 use Rattle.course.proofs.Played.{tried_all}
 use Rattle.course.proofs.turns.Course.shows_a_run.Goals as goal
 

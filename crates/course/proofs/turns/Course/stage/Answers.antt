@@ -1,8 +1,6 @@
 use Rattle.std.proofs.Common.{◌≡◌, subst}
-use Rattle.world.specs.Events.{stage_in}
-use Rattle.course.specs.Courses.{CourseState, Follows}
-use Rattle.course.specs.Happenings.{tried}
-use Rattle.course.specs.Runs.{Run, past_in}
+use Rattle.world.specs.{stage_in}
+use Rattle.course.specs.{CourseState, Follows, Run, past_in, tried}
 use Rattle.course.proofs.turns.Course.stage.Goals as goal
 
 pub returns : goal.returns

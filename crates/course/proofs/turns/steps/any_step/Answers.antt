@@ -1,6 +1,5 @@
 use Rattle.std.proofs.Common.{◌+◌, ◌∙◌, Some, arith, length, refl, subst, sym}
-use Rattle.course.specs.Happenings.{tried}
-use Rattle.course.specs.Listening.{HearsStep, Learns, LeavesRoom}
+use Rattle.course.specs.{HearsStep, Learns, LeavesRoom, tried}
 use Rattle.course.proofs.Played.{not_ok, on_fault, untold}
 use Rattle.course.proofs.StepsTold.{overlaps_of, step_quiet, step_setup, step_told}
 use Rattle.course.proofs.Within.{some_is, steps_on}

@@ -1,9 +1,6 @@
 use Rattle.std.proofs.Common.{◌+◌, ◌-◌, ◌<◌, ◌∙◌, ℕ, List, arith, inr, refl, sym}
-use Rattle.plain_store.specs.declared.setups.Setup.{Setup}
-use Rattle.course.specs.Courses.{course}
-use Rattle.course.specs.Happenings.{Happening}
-use Rattle.course.specs.Listening.{HearsFrom, KnowsOr, MaySteps}
-use Rattle.course.specs.Steppers.{IsAlone}
+use Rattle.plain_store.specs.{Setup}
+use Rattle.course.specs.{Happening, HearsFrom, IsAlone, KnowsOr, MaySteps, course}
 use Rattle.course.proofs.Alone.{alone_pass, steps_setup}
 use Rattle.course.proofs.Knowing.{passed_steps}
 use Rattle.course.proofs.Runnings.{comes_start}

@@ -1,5 +1,5 @@
 use Rattle.std.proofs.Common.{◌+◌, ◌∙◌, Bool, ap, arith, subst}
-use Rattle.world.specs.Walks.{MakesQuietly}
+use Rattle.world.specs.{MakesQuietly}
 use Rattle.course.proofs.Within.{all_made, byte_is, one_at_most, walks_few, walks_left}
 use Rattle.course.proofs.turns.steps.run_within.Goals as goal
 

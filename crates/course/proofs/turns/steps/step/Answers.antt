@@ -1,7 +1,6 @@
 use Rattle.std.proofs.Common.{◌∙◌, ◌∷◌, arith, refl, sym}
 use Rattle.record.specs.declared.events.Event.TheVariants.{Step}
-use Rattle.course.specs.Happenings.{Tries}
-use Rattle.course.specs.Listening.{HearsStep}
+use Rattle.course.specs.{HearsStep, Tries}
 use Rattle.course.proofs.Played.{not_ok, on_fault, untold}
 use Rattle.course.proofs.Within.{byte_is, on_within, pass_one}
 use Rattle.course.proofs.turns.steps.step.Goals as goal

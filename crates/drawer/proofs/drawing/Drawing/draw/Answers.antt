@@ -1,11 +1,9 @@
 use Rattle.std.proofs.Common.{ℕ, [], ◌∷◌, ◌++◌, codes, map, subst}
 use Rattle.course.proofs.Written.{ok_then}
-use Rattle.course.specs.declared.summaries.Summary.{Summary}
-use Rattle.drawer.specs.Drawings.{DrawsOn, kept}
-use Rattle.drawer.specs.Items.{GivesLine, GivesRead, says_of}
-use Rattle.companions.specs.Overlaps.{shown_of}
-use Rattle.companions.specs.picture.columns.Stages.{marks_said}
-use Rattle.companions.specs.picture.columns.Told.{saying_text}
+use Rattle.course.specs.{Summary}
+use Rattle.drawer.specs.{DrawsOn, GivesLine, GivesRead, kept, says_of}
+use Rattle.companions.specs.{shown_of}
+use Rattle.companions.specs.picture.columns.{marks_said, saying_text}
 use Rattle.drawer.proofs.Drawn.{draws_on_both, draws_on_line}
 use Rattle.drawer.proofs.drawing.Drawing.draw.Goals as goal
 

@@ -1,17 +1,12 @@
 use Rattle.std.proofs.Common.{◌≡◌, ℕ, ◌+◌, ◌++◌, List, [], ◌∷◌, ◌∙◌, flat_map, map, take, ap, add-zero, arith, refl, subst, sym}
 use Rattle.std.proofs.lemmas.List.{take_all}
-use Rattle.plain_store.specs.declared.setups.Setup.{Setup}
-use Rattle.record.specs.Entries.{Past}
-use Rattle.record.specs.declared.history.Taken.{Taken}
-use Rattle.record.specs.declared.marks.Mark.{Mark}
-use Rattle.companions.specs.picture.columns.declared.reads.OverlappedRead.{OverlappedRead}
+use Rattle.plain_store.specs.{Setup}
+use Rattle.record.specs.{Mark, Past, Taken}
+use Rattle.companions.specs.picture.columns.{OverlappedRead}
 use Rattle.companions.specs.picture.declared.reads.Reads.{Reads as Mode}
-use Rattle.course.specs.Texts.{mark_line}
-use Rattle.course.specs.declared.summaries.Summary.{Summary}
+use Rattle.course.specs.{Summary, mark_line}
 use Rattle.course.proofs.Written.{failed_same, items_more}
-use Rattle.drawer.specs.Changes.{IsNext, takes}
-use Rattle.drawer.specs.Drawings.{DrawsOn, IsAmong, all_take, kept}
-use Rattle.drawer.specs.Items.{Gives, Says, lines_given, says_mark, waiting}
+use Rattle.drawer.specs.{DrawsOn, Gives, IsAmong, IsNext, Says, all_take, kept, lines_given, says_mark, takes, waiting}
 use Rattle.drawer.proofs.Drawn.{draws_on_both, draws_on_none}
 use Rattle.drawer.proofs.Giving.{lines_more, map_more, next_at, take_counts, waiting_map, waiting_none}
 use Rattle.drawer.proofs.drawing.Drawing.draw_marks.Goals as goal

@@ -1,12 +1,10 @@
 use Rattle.std.proofs.Common.{◌≡◌, ℕ, ◌+◌, List, flat_map, map, take}
-use Rattle.plain_store.specs.declared.setups.Setup.{Setup}
-use Rattle.record.specs.Entries.{Past}
-use Rattle.record.specs.declared.marks.Mark.{Mark}
-use Rattle.companions.specs.picture.columns.declared.reads.OverlappedRead.{OverlappedRead}
+use Rattle.plain_store.specs.{Setup}
+use Rattle.record.specs.{Mark, Past}
+use Rattle.companions.specs.picture.columns.{OverlappedRead}
 use Rattle.companions.specs.picture.declared.reads.Reads.{Reads as Mode}
-use Rattle.course.specs.Texts.{mark_line}
-use Rattle.drawer.specs.Drawings.{AreNext, DrawsOn, IsAmong, all_take, kept}
-use Rattle.drawer.specs.Items.{lines_given, says_mark, waiting}
+use Rattle.course.specs.{mark_line}
+use Rattle.drawer.specs.{AreNext, DrawsOn, IsAmong, all_take, kept, lines_given, says_mark, waiting}
 use Rattle.drawer.proofs.drawing.Drawing.draw_marks.Given as goal
 
 -- the marks before the present one are drawn, and their commands applied

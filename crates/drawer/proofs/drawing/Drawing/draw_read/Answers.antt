@@ -1,5 +1,5 @@
 use Rattle.course.proofs.Written.{ok_then}
-use Rattle.drawer.specs.Drawings.{kept}
+use Rattle.drawer.specs.{kept}
 use Rattle.drawer.proofs.Drawn.{draws_on_read}
 use Rattle.drawer.proofs.drawing.Drawing.draw_read.Goals as goal
 

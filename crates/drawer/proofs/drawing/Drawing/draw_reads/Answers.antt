@@ -1,9 +1,8 @@
 use Rattle.std.proofs.Common.{◌∙◌, false, List, [], ◌∷◌, get_or, map, take, arith, refl, subst, sym}
 use Rattle.std.proofs.lemmas.List.{take_all}
 use Rattle.record.specs.declared.access.Field.TheVariants.{Choosing}
-use Rattle.companions.specs.picture.columns.declared.reads.OverlappedRead.{OverlappedRead}
-use Rattle.drawer.specs.Drawings.{DrawsOn, kept}
-use Rattle.drawer.specs.Items.{GivesRead}
+use Rattle.companions.specs.picture.columns.{OverlappedRead}
+use Rattle.drawer.specs.{DrawsOn, GivesRead, kept}
 use Rattle.course.proofs.Written.{failed_same}
 use Rattle.drawer.proofs.Drawn.{draws_on_both, draws_on_none}
 use Rattle.drawer.proofs.Giving.{map_next}

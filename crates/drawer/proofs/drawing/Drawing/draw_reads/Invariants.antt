@@ -1,6 +1,5 @@
 use Rattle.std.proofs.Common.{◌≡◌, [], map, take}
-use Rattle.drawer.specs.Drawings.{DrawsOn, kept}
-use Rattle.drawer.specs.Items.{GivesRead}
+use Rattle.drawer.specs.{DrawsOn, GivesRead, kept}
 use Rattle.drawer.proofs.drawing.Drawing.draw_reads.Given as goal
 
 -- the reads before the present one are drawn, which are no lines

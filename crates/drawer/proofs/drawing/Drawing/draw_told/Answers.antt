@@ -2,19 +2,13 @@ use Rattle.std.proofs.Common.{◌≡◌, ℕ, ◌+◌, ◌++◌, List, [], ◌�
 use Rattle.std.specs.Result.{OnOk}
 use Rattle.std.specs.declared.vec.Vec.{Vec}
 use Rattle.std.specs.declared.alloc.Global.{Global}
-use Rattle.plain_store.specs.declared.setups.Setup.{Setup}
-use Rattle.record.specs.Records.{process_of}
-use Rattle.record.specs.declared.history.Taken.{Taken}
-use Rattle.record.specs.declared.marks.Mark.{Mark}
+use Rattle.plain_store.specs.{Setup}
+use Rattle.record.specs.{Mark, Taken, process_of}
 use Rattle.companions.specs.picture.declared.reads.Reads.{Reads as Mode}
-use Rattle.course.specs.Happenings.{Happening, past_after}
-use Rattle.course.specs.Telling.{entry_made, marks_made, told_text}
-use Rattle.course.specs.Texts.{mark_line, newest_words, store_text}
-use Rattle.course.specs.declared.told.Told.{Told}
+use Rattle.course.specs.{Happening, Told, entry_made, mark_line, marks_made, newest_words, past_after, store_text, told_text}
 use Rattle.course.specs.declared.told.Told.TheVariants as told
 use Rattle.course.proofs.Written.{ok_then}
-use Rattle.drawer.specs.Drawings.{AreNext, DrawsOn, IsAmong, IsToDraw, Recalls, all_take, kept, marks_told}
-use Rattle.drawer.specs.Items.{SaysStore, given_at, lines_given, reads_since, says_mark, waiting}
+use Rattle.drawer.specs.{AreNext, DrawsOn, IsAmong, IsToDraw, Recalls, SaysStore, all_take, given_at, kept, lines_given, marks_told, reads_since, says_mark, waiting}
 use Rattle.drawer.proofs.Turning.{BeginsMarks, Speaks, begins_marks, gives_one, speaks_as}
 use Rattle.drawer.proofs.drawing.Drawing.draw_told.Goals as goal
 

@@ -1,9 +1,8 @@
 use Rattle.std.proofs.Common.{[], ◌∷◌}
-use Rattle.companions.specs.picture.Pages.{seen_page}
+use Rattle.companions.specs.picture.{seen_page}
 use Rattle.course.proofs.Written.{ok_then}
-use Rattle.course.specs.Texts.{end_line}
-use Rattle.drawer.specs.Drawings.{kept}
-use Rattle.drawer.specs.Items.{SaysEnd, lines_given}
+use Rattle.course.specs.{end_line}
+use Rattle.drawer.specs.{SaysEnd, kept, lines_given}
 use Rattle.drawer.proofs.Drawn.{draws_on_rest}
 use Rattle.drawer.proofs.drawing.Drawing.end.Goals as goal
 

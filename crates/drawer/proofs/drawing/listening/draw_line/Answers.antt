@@ -1,10 +1,8 @@
 use Rattle.std.proofs.Common.{◌∙◌, ap, subst, sym}
 use Rattle.course.proofs.Endings.{failures_by, if_err, ok_with}
 use Rattle.course.proofs.Written.{ok_then}
-use Rattle.course.specs.Runs.{run_after}
-use Rattle.course.specs.Summaries.{CanCount}
-use Rattle.drawer.specs.Drawings.{HasDrawn, kept}
-use Rattle.drawer.specs.declared.drawing.Drawing.{Drawing}
+use Rattle.course.specs.{CanCount, run_after}
+use Rattle.drawer.specs.{Drawing, HasDrawn, kept}
 use Rattle.drawer.proofs.Marked.{drawn_from}
 use Rattle.drawer.proofs.drawing.listening.draw_line.Goals as goal
 

@@ -1,5 +1,5 @@
 use Rattle.std.proofs.Common.{refl, subst, sym}
-use Rattle.course.specs.Texts.{text_of}
+use Rattle.course.specs.{text_of}
 use Rattle.course.specs.Writing.{Counts}
 use Rattle.course.proofs.Counting.{counts_passed, text_passed, with_events}
 use Rattle.course.proofs.Endings.{took_same}

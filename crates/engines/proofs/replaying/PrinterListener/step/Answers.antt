@@ -1,7 +1,6 @@
 use Rattle.std.proofs.Common.{◌∷◌, refl}
 use Rattle.course.specs.«record».declared.events.Event.TheVariants.{Step}
-use Rattle.course.specs.Happenings.{Tries}
-use Rattle.course.specs.Texts.{text_of}
+use Rattle.course.specs.{Tries, text_of}
 use Rattle.course.specs.Writing.{Counts}
 use Rattle.course.proofs.Counting.{counts_stepped, step_passes, text_passed}
 use Rattle.course.proofs.Endings.{took_same}

@@ -1,6 +1,5 @@
 use Rattle.std.proofs.Common.{◌+◌, ◌<◌, ℕ, ◌≡◌, Bool, true, false, List, length, Err, refl, subst, sym}
-use Rattle.files.specs.Streams.{failed_reading}
-use Rattle.files.specs.declared.faults.Fault.{Fault}
+use Rattle.files.specs.{Fault, failed_reading}
 use Rattle.files.proofs.CallEnds.{counts_fault, no_value}
 use Rattle.files.proofs.FirstLines.{stops, tells_long}
 use Rattle.files.proofs.source_lines.Lines.next.Goals as goal

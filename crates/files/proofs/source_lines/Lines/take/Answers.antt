@@ -1,6 +1,5 @@
 use Rattle.std.proofs.Common.{subst}
-use Rattle.files.specs.Lines.{TakesLine}
-use Rattle.files.specs.SourceLines.{LineState, Told, coming, shown_line}
+use Rattle.files.specs.{LineState, TakesLine, Told, coming, shown_line}
 use Rattle.files.proofs.FirstLines.{fed_long, found_first}
 use Rattle.files.proofs.source_lines.Lines.take.Goals as goal
 

@@ -1,7 +1,7 @@
 use Rattle.std.proofs.Common.{◌<◌, sym, subst, ◌∙◌}
-use Rattle.plain_store.specs.declared.setups.Setup.{Setup}
-use Rattle.record.specs.Entries.{Entry}
-use Rattle.course.specs.Telling.{entry_made}
+use Rattle.plain_store.specs.{Setup}
+use Rattle.record.specs.{Entry}
+use Rattle.course.specs.{entry_made}
 use Rattle.inspect.proofs.heard.HeardRun.hear_event.Goals as goal
 
 pub returns-clause-heard : goal.returns-clause-heard

@@ -1,11 +1,10 @@
 use Rattle.std.proofs.Common.{◌<◌, [], Option, Some, ℕ, ap, refl, sym, subst, ◌∙◌}
 use Rattle.std.specs.Option.{unwrap_or}
-use Rattle.plain_store.specs.declared.setups.Setup.{Setup}
-use Rattle.record.specs.Entries.{Entry, Past}
-use Rattle.course.specs.Happenings.{past_after}
-use Rattle.snapshot.specs.Keeping.{TellsNumber}
-use Rattle.inspect.specs.States.{HasSeen, KnowsNewest}
-use Rattle.inspect.specs.declared.heard.HeardRun.{HeardRun}
+use Rattle.plain_store.specs.{Setup}
+use Rattle.record.specs.{Entry, Past}
+use Rattle.course.specs.{past_after}
+use Rattle.snapshot.specs.{TellsNumber}
+use Rattle.inspect.specs.{HasSeen, HeardRun, KnowsNewest}
 use Rattle.inspect.proofs.Seeing.{step_past, steps_below, tells_number}
 use Rattle.inspect.proofs.heard.HeardRun.hear_step.Goals as goal
 

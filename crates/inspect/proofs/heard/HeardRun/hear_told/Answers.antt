@@ -1,6 +1,6 @@
 use Rattle.std.proofs.Common.{subst, sym}
-use Rattle.course.specs.declared.told.Told.{Told}
-use Rattle.inspect.specs.States.{HearsTold, KnowsTold}
+use Rattle.course.specs.{Told}
+use Rattle.inspect.specs.{HearsTold, KnowsTold}
 use Rattle.inspect.proofs.heard.HeardRun.hear_told.Goals as goal
 
 pub returns-in-Accepted-clause-heard : goal.returns-in-Accepted-clause-heard

@@ -1,6 +1,6 @@
 use Rattle.std.proofs.Common.{◌++◌, length, codes, ap, ◌∙◌, append_assoc}
 use Rattle.std.specs.Fmt.{decimal}
-use Rattle.snapshot.specs.Processes.{newest_line}
+use Rattle.snapshot.specs.{newest_line}
 use Rattle.snapshot.proofs.Stand.{ok_then}
 use Rattle.inspect.proofs.heard.HeardRun.print_head.Goals as goal
 

@@ -1,7 +1,7 @@
 use Rattle.std.proofs.Common.{subst, sym, ◌∙◌}
-use Rattle.plain_store.specs.declared.setups.Setup.{Setup}
-use Rattle.course.specs.Happenings.{past_after}
-use Rattle.snapshot.specs.Keeping.{Passes}
+use Rattle.plain_store.specs.{Setup}
+use Rattle.course.specs.{past_after}
+use Rattle.snapshot.specs.{Passes}
 use Rattle.inspect.proofs.Seeing.{passes_of}
 use Rattle.inspect.proofs.heard.HeardRunListener.pass.Goals as goal
 

@@ -1,6 +1,6 @@
 use Rattle.std.proofs.Common.{refl}
 use Rattle.course.proofs.Endings.{took_same}
-use Rattle.inspect.specs.Tables.{HasTabled, lines_after}
+use Rattle.inspect.specs.{HasTabled, lines_after}
 use Rattle.inspect.proofs.Passing.{pass_lines, pass_tabled}
 use Rattle.inspect.proofs.hearing.TablerListener.pass.Goals as goal
 

@@ -1,8 +1,8 @@
 use Rattle.std.proofs.Common.{◌∷◌, refl}
 use Rattle.record.specs.declared.events.Event.TheVariants.{Step}
-use Rattle.course.specs.Happenings.{Tries}
+use Rattle.course.specs.{Tries}
 use Rattle.course.proofs.Endings.{took_same}
-use Rattle.inspect.specs.Tables.{HasTabled, lines_after}
+use Rattle.inspect.specs.{HasTabled, lines_after}
 use Rattle.inspect.proofs.Passing.{step_lines, step_tabled}
 use Rattle.inspect.proofs.hearing.TablerListener.step.Goals as goal
 

@@ -1,7 +1,7 @@
 use Rattle.std.proofs.Common.{◌≡◌, ◌+◌, ◌*◌, ◌^◌, ◌≤◌}
-use Rattle.plain_store.specs.declared.setups.Setup.{Setup}
-use Rattle.course.specs.Runs.{Run}
-use Rattle.inspect.specs.States.{IsAt}
+use Rattle.plain_store.specs.{Setup}
+use Rattle.course.specs.{Run}
+use Rattle.inspect.specs.{IsAt}
 use Rattle.inspect.proofs.Going.{InGo}
 use Rattle.inspect.proofs.part_of_run.PartOfRun.go.Given as goal
 

@@ -1,8 +1,8 @@
 use Rattle.std.proofs.Common.{sym, subst, ◌∙◌}
-use Rattle.scenario.specs.declared.lines.Line.{Line}
-use Rattle.course.specs.Runs.{run_after}
+use Rattle.scenario.specs.{Line}
+use Rattle.course.specs.{run_after}
 use Rattle.snapshot.proofs.Stand.{ok_then}
-use Rattle.inspect.specs.States.{IsAt, MakesPart}
+use Rattle.inspect.specs.{IsAt, MakesPart}
 use Rattle.inspect.proofs.Along.{good_at, line_part, long_is}
 use Rattle.inspect.proofs.part_of_run.PartOfRun.make_part.Goals as goal
 

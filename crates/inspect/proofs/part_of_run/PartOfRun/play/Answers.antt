@@ -1,7 +1,7 @@
 use Rattle.std.proofs.Common.{◌-◌, ◌^◌, subst, arith}
-use Rattle.plain_store.specs.declared.setups.Setup.{Setup}
-use Rattle.course.specs.Listening.{Keeps, Plays}
-use Rattle.inspect.specs.States.{Hears, Knows}
+use Rattle.plain_store.specs.{Setup}
+use Rattle.course.specs.{Keeps, Plays}
+use Rattle.inspect.specs.{Hears, Knows}
 use Rattle.inspect.proofs.part_of_run.PartOfRun.play.Goals as goal
 
 pub play-requires : goal.play-requires

@@ -1,7 +1,7 @@
 use Rattle.std.proofs.Common.{◌++◌, ap, ◌∙◌}
-use Rattle.course.specs.world.Shows.{WorldState}
-use Rattle.course.specs.Runs.{past_in}
-use Rattle.snapshot.specs.States.{state_lines}
+use Rattle.course.specs.world.{WorldState}
+use Rattle.course.specs.{past_in}
+use Rattle.snapshot.specs.{state_lines}
 use Rattle.snapshot.proofs.Stand.{ok_then}
 use Rattle.inspect.proofs.Standing.{stands_at}
 use Rattle.inspect.proofs.part_of_run.PartOfRun.print.Goals as goal

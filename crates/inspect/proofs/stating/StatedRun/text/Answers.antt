@@ -1,7 +1,7 @@
 use Rattle.std.proofs.Common.{◌++◌, ap, ◌∙◌, append_assoc}
-use Rattle.course.specs.Runs.{past_in}
-use Rattle.snapshot.specs.States.{state_lines}
-use Rattle.inspect.specs.States.{head_lines, state_after}
+use Rattle.course.specs.{past_in}
+use Rattle.snapshot.specs.{state_lines}
+use Rattle.inspect.specs.{head_lines, state_after}
 use Rattle.inspect.proofs.stating.StatedRun.text.Goals as goal
 
 pub returns : goal.returns

@@ -1,5 +1,5 @@
 use Rattle.std.proofs.Common.{not, ◌&&◌, Bool, OnOk, subst}
-use Rattle.judge.specs.AnyExplanations.{ExplainsIf, any_is_good}
+use Rattle.judge.specs.{ExplainsIf, any_is_good}
 use Rattle.judge.proofs.AnyExplained.{explained_on}
 use Rattle.judge.proofs.LinesAt.{ok_then}
 use Rattle.judge.proofs.any_explaining.ExplainingAnyLockHearer.take.Goals as goal

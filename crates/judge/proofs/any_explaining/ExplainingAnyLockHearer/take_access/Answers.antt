@@ -1,7 +1,7 @@
 use Rattle.std.proofs.Common.{◌≡◌, not, ◌&&◌, true, false, sym, ap, ◌∙◌, subst}
-use Rattle.record.specs.Entries.{Entry}
-use Rattle.record_file.specs.Printing.{step_entry as entry_of_step}
-use Rattle.judge.specs.AnyExplanations.{Explains, any_is_good}
+use Rattle.record.specs.{Entry}
+use Rattle.record_file.specs.{step_entry as entry_of_step}
+use Rattle.judge.specs.{Explains, any_is_good}
 use Rattle.judge.proofs.AnyExplained.{explained_now, explained_still, good_is}
 use Rattle.judge.proofs.LinesAt.{ok_then}
 use Rattle.judge.proofs.any_explaining.ExplainingAnyLockHearer.take_access.Goals as goal

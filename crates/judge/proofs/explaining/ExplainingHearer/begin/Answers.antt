@@ -1,5 +1,5 @@
 use Rattle.std.proofs.Common.{ℕ, List, [], sym, subst}
-use Rattle.judge.specs.Explanations.{HasExplained}
+use Rattle.judge.specs.{HasExplained}
 use Rattle.judge.proofs.Explained.{explained_first}
 use Rattle.judge.proofs.explaining.ExplainingHearer.begin.Goals as goal
 

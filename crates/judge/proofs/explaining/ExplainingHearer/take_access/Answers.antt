@@ -1,8 +1,8 @@
 use Rattle.std.proofs.Common.{OnOk, arith, subst}
-use Rattle.record.specs.Entries.{Entry}
-use Rattle.record_file.specs.Printing.{step_entry}
+use Rattle.record.specs.{Entry}
+use Rattle.record_file.specs.{step_entry}
 use Rattle.judge.proofs.LinesAt.{ok_then}
-use Rattle.judge.specs.Explanations.{ReasonsGoOn}
+use Rattle.judge.specs.{ReasonsGoOn}
 use Rattle.judge.proofs.Explained.{explained_on}
 use Rattle.judge.proofs.explaining.ExplainingHearer.take_access.Goals as goal
 

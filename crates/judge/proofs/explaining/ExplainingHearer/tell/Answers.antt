@@ -1,5 +1,5 @@
 use Rattle.std.proofs.Common.{◌≡◌, ◌++◌, ℕ, Global, List, Vec, ap, ◌∙◌}
-use Rattle.judge.specs.Judgements.{verdict_line}
+use Rattle.judge.specs.{verdict_line}
 use Rattle.judge.proofs.Tells.{tells_reasons}
 use Rattle.judge.proofs.explaining.ExplainingHearer.tell.Goals as goal
 

@@ -1,8 +1,8 @@
 use Rattle.std.proofs.Common.{true≢false, sym, ap, subst, ◌∙◌}
 use Rattle.std.specs.Option.{is_some}
-use Rattle.plain_store.specs.declared.setups.Setup.{Setup}
-use Rattle.auditor.specs.Hearing.{IsHeard}
-use Rattle.judge.specs.Following.{FollowerState, HasFollowed}
+use Rattle.plain_store.specs.{Setup}
+use Rattle.auditor.specs.{IsHeard}
+use Rattle.judge.specs.{FollowerState, HasFollowed}
 use Rattle.judge.proofs.Followed.{hears_kept}
 use Rattle.judge.proofs.follower.Follower.follow.Goals as goal
 

@@ -1,9 +1,7 @@
 use Rattle.std.proofs.Common.{◌≡◌, List, sym, ap, ◌∙◌}
-use Rattle.plain_store.specs.declared.setups.Setup.{Setup}
-use Rattle.record.specs.declared.history.Taken.{Taken}
-use Rattle.record.specs.Entries.{Past}
-use Rattle.record.specs.Records.{refused}
-use Rattle.judge.specs.Following.{FollowerState}
+use Rattle.plain_store.specs.{Setup}
+use Rattle.record.specs.{Past, Taken, refused}
+use Rattle.judge.specs.{FollowerState}
 use Rattle.judge.proofs.Followed.{followed}
 use Rattle.judge.proofs.follower.Follower.refusal.Goals as goal
 

@@ -1,9 +1,8 @@
 use Rattle.std.proofs.Common.{◌≡◌, List, ap, ◌∙◌}
-use Rattle.plain_store.specs.declared.setups.Setup.{Setup}
-use Rattle.record.specs.declared.history.Taken.{Taken}
-use Rattle.record.specs.Entries.{Past}
-use Rattle.auditor.specs.world.Events.{stage_in}
-use Rattle.judge.specs.Following.{FollowerState}
+use Rattle.plain_store.specs.{Setup}
+use Rattle.record.specs.{Past, Taken}
+use Rattle.auditor.specs.world.{stage_in}
+use Rattle.judge.specs.{FollowerState}
 use Rattle.judge.proofs.Followed.{followed}
 use Rattle.judge.proofs.follower.Follower.stage.Goals as goal
 

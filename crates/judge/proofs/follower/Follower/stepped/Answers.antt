@@ -1,14 +1,11 @@
 use Rattle.std.proofs.Common.{◌≡◌, ℕ, List, length, map, Some, None, sym, ap, ◌∙◌}
-use Rattle.plain_store.specs.declared.setups.Setup.{Setup}
+use Rattle.plain_store.specs.{Setup}
 use Rattle.record.specs.declared.events.Event.TheVariants.{Step}
-use Rattle.record.specs.declared.history.Taken.{Taken}
-use Rattle.record.specs.Entries.{Past}
-use Rattle.record.specs.Histories.{history}
-use Rattle.record.specs.Records.{entry_of, placed, refused}
-use Rattle.auditor.specs.world.Events.{entry_with}
-use Rattle.auditor.specs.world.process.Telling.{act_of, marks_told}
+use Rattle.record.specs.{Past, Taken, entry_of, history, placed, refused}
+use Rattle.auditor.specs.world.{entry_with}
+use Rattle.auditor.specs.world.process.{act_of, marks_told}
 use Rattle.auditor.specs.world.process.declared.told.Effect.TheVariants.{Steps}
-use Rattle.judge.specs.Following.{FollowerState}
+use Rattle.judge.specs.{FollowerState}
 use Rattle.judge.proofs.Followed.{followed, none_of_refused, taken_is}
 use Rattle.judge.proofs.follower.Follower.stepped.Goals as goal
 

@@ -1,7 +1,7 @@
 use Rattle.std.proofs.Common.{rules, ◌≡◌, sym, ap, subst, ◌∙◌}
-use Rattle.record.specs.Entries.{Entry}
+use Rattle.record.specs.{Entry}
 use Rattle.auditor.specs.declared.verdicts.Verdict.TheVariants.{Good}
-use Rattle.judge.specs.Judging.{JudgeState}
+use Rattle.judge.specs.{JudgeState}
 use Rattle.judge.proofs.JudgedRecords.{HearsOn, hears_bad, hears_good}
 use Rattle.judge.proofs.judge.RecordJudge.hear.Goals as goal
 use Rattle.judge.proofs.judge.RecordJudge.hear.Goals.{then-eq, else-eq}

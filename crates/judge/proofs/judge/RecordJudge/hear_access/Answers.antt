@@ -1,8 +1,8 @@
 use Rattle.std.proofs.Common.{rules, ◌≡◌, sym, ap, subst, ◌∙◌}
-use Rattle.record.specs.Entries.{Entry}
+use Rattle.record.specs.{Entry}
 use Rattle.auditor.specs.declared.verdicts.Verdict.TheVariants.{Good}
-use Rattle.record_file.specs.Printing.{step_entry}
-use Rattle.judge.specs.Judging.{JudgeState}
+use Rattle.record_file.specs.{step_entry}
+use Rattle.judge.specs.{JudgeState}
 use Rattle.judge.proofs.JudgedRecords.{HearsOn, hears_bad, hears_good}
 use Rattle.judge.proofs.judge.RecordJudge.hear_access.Goals as goal
 use Rattle.judge.proofs.judge.RecordJudge.hear_access.Goals.{then-eq, else-eq}

@@ -1,10 +1,9 @@
 use Rattle.std.proofs.Common.{◌≡◌, List, [], ◌∷◌, ◌++◌, reverse, sym, subst, ◌∙◌}
-use Rattle.plain_store.specs.declared.setups.Setup.{Setup}
-use Rattle.record.specs.Entries.{Entry}
-use Rattle.auditor.specs.Verdicts.{IsVerdict}
-use Rattle.auditor.specs.declared.verdicts.Verdict.{Verdict}
+use Rattle.plain_store.specs.{Setup}
+use Rattle.record.specs.{Entry}
+use Rattle.auditor.specs.{IsVerdict, Verdict}
 use Rattle.auditor.specs.declared.verdicts.Verdict.TheVariants.{Good}
-use Rattle.judge.specs.Judging.{BothHeard, HasJudged, JudgeState}
+use Rattle.judge.specs.{BothHeard, HasJudged, JudgeState}
 use Rattle.judge.proofs.JudgedRecords.{AreTold, told_goes_on, told_verdict}
 use Rattle.judge.proofs.judge.RecordJudge.verdict_with.Goals as goal
 

@@ -1,11 +1,10 @@
 use Rattle.std.proofs.Common.{◌≡◌, List, [], ◌∷◌, ◌++◌, reverse, refl, sym, subst, ◌∙◌}
-use Rattle.plain_store.specs.declared.setups.Setup.{Setup}
-use Rattle.record.specs.Entries.{Entry}
-use Rattle.auditor.specs.Verdicts.{IsVerdict}
-use Rattle.auditor.specs.declared.verdicts.Verdict.{Verdict}
+use Rattle.plain_store.specs.{Setup}
+use Rattle.record.specs.{Entry}
+use Rattle.auditor.specs.{IsVerdict, Verdict}
 use Rattle.auditor.specs.declared.verdicts.Verdict.TheVariants.{Good}
-use Rattle.record_file.specs.Printing.{step_entry}
-use Rattle.judge.specs.Judging.{BothHeard, HasJudged, JudgeState}
+use Rattle.record_file.specs.{step_entry}
+use Rattle.judge.specs.{BothHeard, HasJudged, JudgeState}
 use Rattle.judge.proofs.JudgedRecords.{AreTold, told_goes_on, told_verdict}
 use Rattle.judge.proofs.judge.RecordJudge.verdict_with_access.Goals as goal
 

@@ -1,10 +1,9 @@
 use Rattle.std.proofs.Common.{◌≡◌, ℕ, List, [], ◌∷◌, ◌++◌, Option, Some, None, Ok, ap, subst, ◌∙◌}
 use Rattle.std.specs.Option.{option_to_list}
-use Rattle.plain_store.specs.declared.setups.Setup.{Setup}
-use Rattle.files.specs.Files.{words_read}
-use Rattle.files.specs.Words.{words_of}
-use Rattle.record.specs.Entries.{Entry}
-use Rattle.record_file.specs.RecordFiles.{Progress, cleared, entry_in, record_grammar}
+use Rattle.plain_store.specs.{Setup}
+use Rattle.files.specs.{words_of, words_read}
+use Rattle.record.specs.{Entry}
+use Rattle.record_file.specs.{Progress, cleared, entry_in, record_grammar}
 use Rattle.judge.specs.Trials.{Hears}
 use Rattle.judge.proofs.Lines.{quiet_is_cleared}
 use Rattle.judge.proofs.Trials.{ends_heard, ends_quiet}

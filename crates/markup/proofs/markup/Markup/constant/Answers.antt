@@ -1,5 +1,5 @@
 use Rattle.std.proofs.Common.{ap, ◌∙◌}
-use Rattle.markup.specs.Readings.{reading}
+use Rattle.markup.specs.{reading}
 use Rattle.markup.proofs.Readings.{even_read, tags_after}
 use Rattle.markup.proofs.markup.Markup.constant.Goals as goal
 

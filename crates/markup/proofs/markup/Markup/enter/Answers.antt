@@ -1,8 +1,5 @@
 use Rattle.std.proofs.Common.{ap, ◌∙◌}
-use Rattle.markup.specs.Elements.{begun}
-use Rattle.markup.specs.Markup.{tag_name}
-use Rattle.markup.specs.Readings.{reading}
-use Rattle.markup.specs.Titles.{is_at_rest, tags_of}
+use Rattle.markup.specs.{begun, is_at_rest, reading, tag_name, tags_of}
 use Rattle.markup.proofs.Readings.{alone, grows, entering_settles, entering_read, tags_after}
 use Rattle.markup.proofs.markup.Markup.enter.Goals as goal
 

@@ -1,6 +1,5 @@
 use Rattle.std.proofs.Common.{ap, ◌∙◌}
-use Rattle.markup.specs.Elements.{opens_in}
-use Rattle.markup.specs.Readings.{reading}
+use Rattle.markup.specs.{opens_in, reading}
 use Rattle.markup.proofs.Readings.{frame_read, tags_after}
 use Rattle.markup.proofs.markup.Markup.frame.Goals as goal
 

@@ -1,7 +1,5 @@
 use Rattle.std.proofs.Common.{ap, ◌∙◌}
-use Rattle.markup.specs.Elements.{begun}
-use Rattle.markup.specs.Readings.{group, reading}
-use Rattle.markup.specs.Titles.{is_at_rest, tags_of}
+use Rattle.markup.specs.{begun, group, is_at_rest, reading, tags_of}
 use Rattle.markup.proofs.Readings.{alone, grows, lowering_settles, lowering_read, tags_after}
 use Rattle.markup.proofs.markup.Markup.lower.Goals as goal
 

@@ -1,6 +1,5 @@
 use Rattle.std.proofs.Common.{ap, ◌∙◌}
-use Rattle.markup.specs.Readings.{reading}
-use Rattle.markup.specs.Titles.{is_at_rest, tags_of}
+use Rattle.markup.specs.{is_at_rest, reading, tags_of}
 use Rattle.markup.proofs.Readings.{alone, grows, telling_settles, telling_read, tags_after}
 use Rattle.markup.proofs.markup.Markup.tell.Goals as goal
 

@@ -1,8 +1,7 @@
 use Rattle.std.proofs.Common.{ℕ, List, ◌++◌, ◌∙◌, ap, flat_map}
-use Rattle.markup.specs.Figures.{Shape}
-use Rattle.markup.specs.Readings.{with_lines}
-use Rattle.picture.specs.Drawings.{SeenBand, axis, chain_shapes, column_shapes, first_inside, for_each, lane_shapes, lane_words, links, seen_band, shades}
-use Rattle.columns.specs.Told.{told_in}
+use Rattle.markup.specs.{Shape, with_lines}
+use Rattle.picture.specs.{SeenBand, axis, chain_shapes, column_shapes, first_inside, for_each, lane_shapes, lane_words, links, seen_band, shades}
+use Rattle.columns.specs.{told_in}
 use Rattle.picture.proofs.Drawn.{ends_drawn, then_drawn}
 use Rattle.picture.proofs.Tellings.{then_same}
 use Rattle.picture.proofs.bands.Band.draw.Goals as goal

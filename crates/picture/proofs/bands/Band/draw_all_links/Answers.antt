@@ -1,8 +1,7 @@
 use Rattle.std.proofs.Common.{ℕ, ◌+◌, List, ◌∙◌, arith, drop, flat_map, map}
-use Rattle.markup.specs.Figures.{Shape}
-use Rattle.columns.specs.Columns.{Seen, seen}
-use Rattle.picture.specs.Drawings.{links, seen_band}
-use Rattle.columns.specs.declared.columns.Column.{Column}
+use Rattle.markup.specs.{Shape}
+use Rattle.columns.specs.{Column, Seen, seen}
+use Rattle.picture.specs.{links, seen_band}
 use Rattle.picture.proofs.Drawn.{drawn_on}
 use Rattle.picture.proofs.Steps.{each_next}
 use Rattle.picture.proofs.bands.Band.draw_all_links.Goals as goal

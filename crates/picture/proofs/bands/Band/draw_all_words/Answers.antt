@@ -1,9 +1,8 @@
 use Rattle.std.proofs.Common.{◌≡◌, ℕ, true, List, [], ap, sym, ◌∙◌}
 use Rattle.std.proofs.lemmas.Bool.{cond-true, not-false}
-use Rattle.markup.specs.Figures.{Shape}
-use Rattle.columns.specs.Layouts.{lane_in}
-use Rattle.columns.specs.declared.layout.Lane.{Lane}
-use Rattle.picture.specs.Drawings.{SeenBand, lane_words, seen_band, words_of_lane}
+use Rattle.markup.specs.{Shape}
+use Rattle.columns.specs.{Lane, lane_in}
+use Rattle.picture.specs.{SeenBand, lane_words, seen_band, words_of_lane}
 use Rattle.picture.proofs.Steps.{process_next}
 use Rattle.picture.proofs.bands.Band.draw_all_words.Goals as goal
 

@@ -1,7 +1,6 @@
 use Rattle.std.proofs.Common.{ℕ, ◌+◌, List, ◌∙◌, arith, drop, map}
-use Rattle.columns.specs.Columns.{Seen, seen}
-use Rattle.picture.specs.Drawings.{axis, axis_up_to}
-use Rattle.columns.specs.declared.columns.Column.{Column}
+use Rattle.columns.specs.{Column, Seen, seen}
+use Rattle.picture.specs.{axis, axis_up_to}
 use Rattle.picture.proofs.Drawn.{drawn_on}
 use Rattle.picture.proofs.Steps.{axis_next}
 use Rattle.picture.proofs.bands.Band.draw_axis.Goals as goal

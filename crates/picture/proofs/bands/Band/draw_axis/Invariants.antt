@@ -1,8 +1,7 @@
 use Rattle.std.proofs.Common.{◌≡◌, ◌++◌, drop, map}
-use Rattle.markup.specs.Figures.{drawings}
-use Rattle.markup.specs.Readings.{reading}
-use Rattle.columns.specs.Columns.{seen}
-use Rattle.picture.specs.Drawings.{axis}
+use Rattle.markup.specs.{drawings, reading}
+use Rattle.columns.specs.{seen}
+use Rattle.picture.specs.{axis}
 use Rattle.picture.proofs.bands.Band.draw_axis.Given as goal
 
 -- no line more, and what is drawn so far and what is drawn of those to come is all that is drawn

@@ -1,9 +1,7 @@
 use Rattle.std.proofs.Common.{ℕ, ◌+◌, List, arith, drop, flat_map, map, refl}
-use Rattle.markup.specs.Figures.{Shape}
-use Rattle.markup.specs.Readings.{reading}
-use Rattle.columns.specs.Columns.{Seen, seen}
-use Rattle.picture.specs.Drawings.{column_shapes, seen_band}
-use Rattle.columns.specs.declared.columns.Column.{Column}
+use Rattle.markup.specs.{Shape, reading}
+use Rattle.columns.specs.{Column, Seen, seen}
+use Rattle.picture.specs.{column_shapes, seen_band}
 use Rattle.picture.proofs.Drawn.{drawn_on}
 use Rattle.picture.proofs.Steps.{each_next}
 use Rattle.picture.proofs.Tellings.{column_more, none_more}

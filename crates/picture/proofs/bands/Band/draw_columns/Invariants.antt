@@ -1,9 +1,7 @@
 use Rattle.std.proofs.Common.{◌≡◌, ◌++◌, drop, map, flat_map, take}
-use Rattle.markup.specs.Figures.{drawings}
-use Rattle.markup.specs.Readings.{reading, with_lines}
-use Rattle.columns.specs.Columns.{seen}
-use Rattle.picture.specs.Drawings.{column_shapes, seen_band}
-use Rattle.columns.specs.Told.{told_in}
+use Rattle.markup.specs.{drawings, reading, with_lines}
+use Rattle.columns.specs.{seen, told_in}
+use Rattle.picture.specs.{column_shapes, seen_band}
 use Rattle.picture.proofs.bands.Band.draw_columns.Given as goal
 
 -- the lines of the columns before the present one; and what is drawn so far and what is drawn of those to come is all that is drawn

@@ -1,10 +1,7 @@
 use Rattle.std.proofs.Common.{ℕ, ◌+◌, List, ◌++◌, arith, drop, map, ap, sym, ◌∙◌}
-use Rattle.markup.specs.Figures.{drawings}
-use Rattle.columns.specs.Columns.{seen}
-use Rattle.columns.specs.Layouts.{lane_in}
-use Rattle.columns.specs.declared.columns.Column.{Column}
-use Rattle.columns.specs.declared.layout.Lane.{Lane}
-use Rattle.picture.specs.Bars.{bar, bars}
+use Rattle.markup.specs.{drawings}
+use Rattle.columns.specs.{Column, Lane, lane_in, seen}
+use Rattle.picture.specs.{bar, bars}
 use Rattle.picture.proofs.Drawn.{drawn_on}
 use Rattle.picture.proofs.Steps.{bars_change, bars_stay}
 use Rattle.picture.proofs.bands.Band.draw_lane.Goals as goal

@@ -1,6 +1,6 @@
 use Rattle.std.proofs.Common.{ℕ, List, ◌∙◌, refl}
-use Rattle.markup.specs.Figures.{Shape}
-use Rattle.picture.specs.Drawings.{lane_shapes, seen_band}
+use Rattle.markup.specs.{Shape}
+use Rattle.picture.specs.{lane_shapes, seen_band}
 use Rattle.picture.proofs.Steps.{process_next}
 use Rattle.picture.proofs.bands.Band.draw_lanes.Goals as goal
 

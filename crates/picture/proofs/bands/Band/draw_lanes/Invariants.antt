@@ -1,7 +1,6 @@
 use Rattle.std.proofs.Common.{◌≡◌, ◌++◌}
-use Rattle.markup.specs.Figures.{drawings}
-use Rattle.markup.specs.Readings.{reading}
-use Rattle.picture.specs.Drawings.{for_each, lane_shapes, seen_band}
+use Rattle.markup.specs.{drawings, reading}
+use Rattle.picture.specs.{for_each, lane_shapes, seen_band}
 use Rattle.picture.proofs.bands.Band.draw_lanes.Given as goal
 
 -- no line more, and what is drawn of the processes before the present one

@@ -1,8 +1,7 @@
 use Rattle.std.proofs.Common.{ℕ, ◌+◌, List, arith, drop, refl}
-use Rattle.markup.specs.Readings.{reading}
-use Rattle.columns.specs.Columns.{seen}
-use Rattle.picture.specs.Drawings.{SeenBand, line_shapes, lines_shapes, seen_band}
-use Rattle.columns.specs.declared.told.RunLine.{RunLine}
+use Rattle.markup.specs.{reading}
+use Rattle.columns.specs.{RunLine, seen}
+use Rattle.picture.specs.{SeenBand, line_shapes, lines_shapes, seen_band}
 use Rattle.picture.proofs.Drawn.{drawn_on}
 use Rattle.picture.proofs.Steps.{lines_next}
 use Rattle.picture.proofs.Tellings.{line_more, none_more}

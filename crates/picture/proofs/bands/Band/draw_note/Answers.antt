@@ -1,9 +1,7 @@
 use Rattle.std.proofs.Common.{ℕ, ◌+◌, List, arith, drop, flat_map, refl}
-use Rattle.markup.specs.Figures.{Shape}
-use Rattle.markup.specs.Readings.{reading}
-use Rattle.columns.specs.Columns.{seen}
-use Rattle.picture.specs.Drawings.{note_shapes, seen_band}
-use Rattle.columns.specs.declared.told.RunLine.{RunLine}
+use Rattle.markup.specs.{Shape, reading}
+use Rattle.columns.specs.{RunLine, seen}
+use Rattle.picture.specs.{note_shapes, seen_band}
 use Rattle.picture.proofs.Drawn.{drawn_on}
 use Rattle.picture.proofs.Steps.{notes_next}
 use Rattle.picture.proofs.Tellings.{line_more, none_more}

@@ -1,9 +1,7 @@
 use Rattle.std.proofs.Common.{◌≡◌, ◌++◌, drop, flat_map, take}
-use Rattle.markup.specs.Figures.{drawings}
-use Rattle.markup.specs.Readings.{reading, with_lines}
-use Rattle.columns.specs.Columns.{seen}
-use Rattle.picture.specs.Drawings.{note_shapes, seen_band}
-use Rattle.columns.specs.Told.{texts}
+use Rattle.markup.specs.{drawings, reading, with_lines}
+use Rattle.columns.specs.{seen, texts}
+use Rattle.picture.specs.{note_shapes, seen_band}
 use Rattle.picture.proofs.bands.Band.draw_note.Given as goal
 
 -- the lines before the present one; and what is drawn so far and what is drawn of those to come is all that is drawn

@@ -1,10 +1,7 @@
 use Rattle.std.proofs.Common.{◌≡◌, ℕ, ◌+◌, ◌&&◌, ◌||◌, not, List, ◌++◌, arith, drop, map, ap, sym, ◌∙◌}
-use Rattle.markup.specs.Figures.{drawings}
-use Rattle.columns.specs.Columns.{seen}
-use Rattle.columns.specs.Layouts.{bar_of, lane_in, stands_in}
-use Rattle.columns.specs.declared.columns.Column.{Column}
-use Rattle.picture.specs.Bars.{free_left, is_word, says_word, stretch_at, stretch_word, words_from}
-use Rattle.picture.specs.declared.words.Stretch.{Stretch}
+use Rattle.markup.specs.{drawings}
+use Rattle.columns.specs.{Column, bar_of, lane_in, seen, stands_in}
+use Rattle.picture.specs.{Stretch, free_left, is_word, says_word, stretch_at, stretch_word, words_from}
 use Rattle.picture.proofs.Drawn.{drawn_on}
 use Rattle.picture.proofs.Steps.{words_end, words_stay}
 use Rattle.picture.proofs.bands.Band.draw_words.Goals as goal

@@ -1,6 +1,5 @@
-use Rattle.columns.specs.Columns.{seen}
-use Rattle.columns.specs.Told.{text_of}
-use Rattle.picture.specs.Pages.{held, seen_page}
+use Rattle.columns.specs.{seen, text_of}
+use Rattle.picture.specs.{held, seen_page}
 use Rattle.picture.proofs.Held.{alone_pending}
 use Rattle.picture.proofs.Pagings.{begun_is}
 use Rattle.picture.proofs.page.Page.begin_column.Goals as goal

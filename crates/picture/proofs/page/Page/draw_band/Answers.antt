@@ -1,16 +1,9 @@
 use Rattle.std.proofs.Common.{◌≡◌, ℕ, ◌+◌, List, [], ◌++◌, ap, drop, flat_map, length, map, sym, take, ◌∙◌}
 use Rattle.std.specs.declared.alloc.Global.{Global}
 use Rattle.std.specs.declared.vec.Vec.{Vec}
-use Rattle.markup.specs.Figures.{drawings}
-use Rattle.picture.specs.Bandings.{behind_columns, framed}
-use Rattle.columns.specs.Columns.{seen}
-use Rattle.picture.specs.Drawings.{band_shapes}
-use Rattle.columns.specs.Layouts.{layout_of}
-use Rattle.picture.specs.Pages.{seen_page}
-use Rattle.columns.specs.Placings.{stretched_all}
-use Rattle.columns.specs.Told.{told_in}
-use Rattle.picture.specs.Sheets.{held_in_64}
-use Rattle.columns.specs.declared.columns.Column.{Column}
+use Rattle.markup.specs.{drawings}
+use Rattle.picture.specs.{band_shapes, behind_columns, framed, held_in_64, seen_page}
+use Rattle.columns.specs.{Column, layout_of, seen, stretched_all, told_in}
 use Rattle.picture.proofs.Pagings.{draws_parts, stretched_within}
 use Rattle.picture.proofs.page.Page.draw_band.Goals as goal
 

@@ -1,4 +1,4 @@
-use Rattle.picture.specs.Pages.{seen_page}
+use Rattle.picture.specs.{seen_page}
 use Rattle.picture.proofs.Pagings.{gives_rest}
 use Rattle.picture.proofs.page.Page.end.Goals as goal
 

@@ -1,7 +1,6 @@
 use Rattle.std.proofs.Common.{ap, flat_map, refl}
-use Rattle.markup.specs.Markup.{lowering}
-use Rattle.markup.specs.Readings.{group, reading}
-use Rattle.columns.specs.Told.{told_in}
+use Rattle.markup.specs.{group, lowering, reading}
+use Rattle.columns.specs.{told_in}
 use Rattle.picture.proofs.Sheetings.{adds, adds_same}
 use Rattle.picture.proofs.Tellings.{framed_ends, framed_lines}
 use Rattle.picture.proofs.page.Page.group_of.Goals as goal

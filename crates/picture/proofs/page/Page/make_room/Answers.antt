@@ -1,7 +1,6 @@
 use Rattle.std.proofs.Common.{ap, ◌∙◌, sym}
-use Rattle.columns.specs.Columns.{seen}
-use Rattle.picture.specs.Pages.{seen_page}
-use Rattle.columns.specs.Placings.{has_room_at}
+use Rattle.columns.specs.{has_room_at, seen}
+use Rattle.picture.specs.{seen_page}
 use Rattle.picture.proofs.Pagings.{begins_next}
 use Rattle.picture.proofs.page.Page.make_room.Goals as goal
 

@@ -1,6 +1,6 @@
 use Rattle.std.proofs.Common.{◌∙◌, codes, flat_map, refl}
-use Rattle.markup.specs.Readings.{reading}
-use Rattle.columns.specs.Told.{told_in}
+use Rattle.markup.specs.{reading}
+use Rattle.columns.specs.{told_in}
 use Rattle.picture.proofs.Sheetings.{adds}
 use Rattle.picture.proofs.Tellings.{framed_ends, framed_lines}
 use Rattle.picture.proofs.page.Page.picture_of.Goals as goal

@@ -1,7 +1,6 @@
 use Rattle.std.proofs.Common.{Option, ap, option_map, ◌∙◌, sym}
-use Rattle.columns.specs.Columns.{seen}
-use Rattle.picture.specs.Pages.{seen_page}
-use Rattle.columns.specs.declared.columns.Column.{Column}
+use Rattle.columns.specs.{Column, seen}
+use Rattle.picture.specs.{seen_page}
 use Rattle.picture.proofs.Pagings.{places_one}
 use Rattle.picture.proofs.page.Page.place_pending.Goals as goal
 

@@ -1,8 +1,7 @@
 use Rattle.std.proofs.Common.{ap, map, ◌∷◌, [], ◌∙◌}
 use Rattle.std.proofs.lemmas.List.{map-append}
-use Rattle.columns.specs.Columns.{seen}
-use Rattle.picture.specs.Pages.{seen_page}
-use Rattle.columns.specs.declared.placing.ColumnPlace.{ColumnPlace}
+use Rattle.columns.specs.{ColumnPlace, seen}
+use Rattle.picture.specs.{seen_page}
 use Rattle.picture.proofs.Held.{put_last}
 use Rattle.picture.proofs.Pagings.{put_parts}
 use Rattle.picture.proofs.page.Page.put.Goals as goal

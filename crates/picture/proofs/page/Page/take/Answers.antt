@@ -1,9 +1,6 @@
 use Rattle.std.proofs.Common.{Some, [], ◌∷◌, ◌++◌, ap, option_map, refl, ◌∙◌, sym}
-use Rattle.columns.specs.Columns.{joined, seen}
-use Rattle.columns.specs.Told.{text_of}
-use Rattle.picture.specs.Pages.{held, lines_of, seen_page}
-use Rattle.columns.specs.declared.state.State.{State}
-use Rattle.picture.specs.declared.page.Page.{Page}
+use Rattle.columns.specs.{State, joined, seen, text_of}
+use Rattle.picture.specs.{Page, held, lines_of, seen_page}
 use Rattle.picture.proofs.Framing.{always, if_ok}
 use Rattle.picture.proofs.Held.{joins_pending}
 use Rattle.picture.proofs.Pagings.{begins_alone, does_not_join, none_to_join}

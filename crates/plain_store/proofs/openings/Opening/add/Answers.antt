@@ -1,8 +1,7 @@
 use Rattle.std.proofs.Common.{◌≡◌, ◌<◌, ◌∷◌, [], ap, sym, ◌∙◌, ◌++◌, length, length-append, arith}
 use Rattle.std.proofs.Common.{Some}
 use Rattle.std.proofs.Math.ListN.{set}
-use Rattle.plain_store.specs.Pairs.{pairs_in}
-use Rattle.plain_store.specs.Store.{names_differ}
+use Rattle.plain_store.specs.{names_differ, pairs_in}
 use Rattle.plain_store.proofs.OpeningPairs.{differ-more}
 use Rattle.plain_store.proofs.Places.{one_more, IsOneMore}
 use Rattle.plain_store.proofs.openings.Opening.add.Goals as goal

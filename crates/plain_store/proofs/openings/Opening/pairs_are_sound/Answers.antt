@@ -3,8 +3,7 @@ use Rattle.std.proofs.lemmas.Bool.{and_from}
 use Rattle.std.proofs.lemmas.List.{take_all}
 use Rattle.std.specs.List.{list_all}
 use Rattle.plain_store.proofs.OpeningPairs.{next_at}
-use Rattle.plain_store.specs.Pairs.{is_pair}
-use Rattle.plain_store.specs.Store.{names_differ}
+use Rattle.plain_store.specs.{is_pair, names_differ}
 use Rattle.plain_store.proofs.openings.Opening.pairs_are_sound.Goals as goal
 
 -- one more pair

@@ -1,6 +1,6 @@
 use Rattle.std.proofs.Common.{◌≡◌, take, true}
 use Rattle.std.specs.List.{list_all}
-use Rattle.plain_store.specs.Pairs.{is_pair}
+use Rattle.plain_store.specs.{is_pair}
 use Rattle.plain_store.proofs.openings.Opening.pairs_are_sound.Given as goal
 
 -- the pairs before the place are pairs

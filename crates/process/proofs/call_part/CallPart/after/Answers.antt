@@ -1,7 +1,6 @@
 use Rattle.std.proofs.Common.{sym, ap, ◌∙◌, subst}
-use Rattle.record.specs.Parts.{Part, last_marks}
-use Rattle.process.specs.CallParts.{IsOutcome, PartState, marks_to}
-use Rattle.process.specs.Seen.{call_of, part_at}
+use Rattle.record.specs.{Part, last_marks}
+use Rattle.process.specs.{IsOutcome, PartState, call_of, marks_to, part_at}
 use Rattle.process.proofs.MarksTo.{marks-to}
 use Rattle.process.proofs.call_part.CallPart.after.Goals as goal
 

@@ -1,8 +1,6 @@
 use Rattle.std.proofs.Common.{sym, ap, ◌∙◌}
-use Rattle.record.specs.Parts.{Part, last_marks}
-use Rattle.record.specs.Program.{store_read}
-use Rattle.process.specs.CallParts.{PartState, marks_to, reads_image}
-use Rattle.process.specs.Seen.{call_of, part_at}
+use Rattle.record.specs.{Part, last_marks, store_read}
+use Rattle.process.specs.{PartState, call_of, marks_to, part_at, reads_image}
 use Rattle.process.specs.declared.seen.Seen.{Seen}
 use Rattle.process.proofs.MarksTo.{after-image, marks-to}
 use Rattle.process.proofs.call_part.CallPart.after_image.Goals as goal

@@ -1,9 +1,6 @@
 use Rattle.std.proofs.Common.{◌≡◌, [], refl, ap, ◌∙◌}
-use Rattle.record.specs.Parts.{Part, to_e}
-use Rattle.record.specs.Registers.{processes}
-use Rattle.record.specs.Scripts.{Call}
-use Rattle.process.specs.CallParts.{PartState}
-use Rattle.process.specs.Seen.{versions_seen}
+use Rattle.record.specs.{Call, Part, processes, to_e}
+use Rattle.process.specs.{PartState, versions_seen}
 use Rattle.process.proofs.AfterParts.{all-all}
 use Rattle.process.proofs.call_part.CallPart.start_inside.Goals as goal
 

@@ -1,7 +1,6 @@
 use Rattle.std.proofs.Common.{ap, ◌∙◌}
 use Rattle.process.specs.declared.work.ProcessWork.TheVariants as work
-use Rattle.process.specs.Places.{ProcessState, may_step}
-use Rattle.process.specs.Telling.{changes_told}
+use Rattle.process.specs.{ProcessState, changes_told, may_step}
 use Rattle.process.proofs.NextAt.{has-moved, no-changes, runs-changes, shown-idle, then-marks, then-stepped}
 use Rattle.process.proofs.Serves.{stands}
 use Rattle.process.proofs.process.Process.advance.Goals as goal

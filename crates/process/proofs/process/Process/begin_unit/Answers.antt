@@ -1,13 +1,10 @@
 use Rattle.std.proofs.Common.{false, None, Option, sym, ap, subst, ◌∙◌}
 use Rattle.std.specs.Prelude.{IfSome}
-use Rattle.plain_store.specs.declared.Setup.{Setup}
-use Rattle.record.specs.declared.access.TornBit.{TornBit}
-use Rattle.record.specs.Cuts.{IsTornOf}
-use Rattle.registers.specs.Begins.{settling_from}
+use Rattle.plain_store.specs.{Setup}
+use Rattle.record.specs.{IsTornOf, TornBit}
+use Rattle.registers.specs.{settling_from}
 use Rattle.process.specs.declared.work.ProcessWork.TheVariants as work
-use Rattle.process.specs.Alone.{settling_with}
-use Rattle.process.specs.Places.{ProcessState}
-use Rattle.process.specs.Working.{KeepsPlace, doing_at, state_at}
+use Rattle.process.specs.{KeepsPlace, ProcessState, doing_at, settling_with, state_at}
 use Rattle.process.proofs.UnitBegins.{unit-keeps, unit-settles}
 use Rattle.process.proofs.process.Process.begin_unit.Goals as goal
 

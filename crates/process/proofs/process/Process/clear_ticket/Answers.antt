@@ -1,7 +1,6 @@
 use Rattle.std.proofs.Common.{true, sym, ap, ◌∙◌, subst}
 use Rattle.process.specs.declared.work.ProcessWork.TheVariants as work
-use Rattle.process.specs.Places.{withdrawn}
-use Rattle.process.specs.Working.{KeepsPlace, state_at}
+use Rattle.process.specs.{KeepsPlace, state_at, withdrawn}
 use Rattle.process.proofs.ClosingsOn.{clears-ticket}
 use Rattle.process.proofs.process.Process.clear_ticket.Goals as goal
 

@@ -1,5 +1,5 @@
 use Rattle.std.proofs.Common.{◌≡◌, true, is_some, sym, ap, ◌∙◌}
-use Rattle.laws.specs.Steps.{reads_of}
+use Rattle.laws.specs.{reads_of}
 use Rattle.process.proofs.Shown.{reads-goes, shown-drop, shown-fits}
 use Rattle.process.proofs.process.Process.drop_read.Goals as goal
 

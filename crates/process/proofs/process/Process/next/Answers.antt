@@ -1,9 +1,6 @@
 use Rattle.std.proofs.Common.{sym, ap, subst, ◌∙◌}
-use Rattle.registers.specs.Accesses.{next_access}
-use Rattle.process.specs.Alone.{IsOfRegister}
-use Rattle.process.specs.Places.{ProcessState, may_step}
-use Rattle.process.specs.Serving.{next_at}
-use Rattle.process.specs.Working.{doing_at}
+use Rattle.registers.specs.{next_access}
+use Rattle.process.specs.{IsOfRegister, ProcessState, doing_at, may_step, next_at}
 use Rattle.process.proofs.NextAt.{next-is}
 use Rattle.process.proofs.OfRegister.{of-register}
 use Rattle.process.proofs.Serves.{stands}

@@ -1,9 +1,8 @@
 use Rattle.std.proofs.Common.{List, sym, ap, subst, ◌∙◌, arith, ◌<◌}
 use Rattle.registers.specs.safe_bit.Cell.{Cell}
-use Rattle.flicks.specs.Flicks.{FlickState}
-use Rattle.registers.specs.Cursors.{CursorState}
-use Rattle.process.specs.Places.{ProcessState, left_at}
-use Rattle.process.specs.Working.{KeepsPlace, state_at}
+use Rattle.flicks.specs.{FlickState}
+use Rattle.registers.specs.{CursorState}
+use Rattle.process.specs.{KeepsPlace, ProcessState, left_at, state_at}
 use Rattle.process.proofs.Shown.{left-goes, shown-fits, shown-run}
 use Rattle.process.proofs.process.Process.run.Goals as goal
 

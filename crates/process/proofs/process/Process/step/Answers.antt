@@ -1,6 +1,6 @@
 use Rattle.std.proofs.Common.{ap, ◌∙◌, arith}
-use Rattle.registers.specs.Accesses.{applied, ends_overlapped}
-use Rattle.process.specs.Places.{ProcessState, marks_on, may_step, stepped}
+use Rattle.registers.specs.{applied, ends_overlapped}
+use Rattle.process.specs.{ProcessState, marks_on, may_step, stepped}
 use Rattle.process.proofs.Serves.{stands}
 use Rattle.process.proofs.Shown.{shown-answered, shown-copies, shown-fits}
 use Rattle.process.proofs.process.Process.step.Goals as goal

@@ -1,9 +1,8 @@
 use Rattle.std.proofs.Common.{List, sym, ap, subst, ◌∙◌}
 use Rattle.registers.specs.safe_bit.Cell.{Cell}
-use Rattle.record.specs.declared.access.Access.{Access}
-use Rattle.registers.specs.Accesses.{applied, cursor_after, ends_overlapped}
-use Rattle.process.specs.Places.{ProcessState}
-use Rattle.process.specs.Working.{KeepsPlace, state_at}
+use Rattle.record.specs.{Access}
+use Rattle.registers.specs.{applied, cursor_after, ends_overlapped}
+use Rattle.process.specs.{KeepsPlace, ProcessState, state_at}
 use Rattle.process.proofs.Shown.{left-goes, shown-answered, shown-copies, shown-fits, shown-step}
 use Rattle.process.proofs.process.Process.step_within.Goals as goal
 

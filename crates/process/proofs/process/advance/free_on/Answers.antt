@@ -1,6 +1,6 @@
 use Rattle.std.proofs.Common.{sym, ap, ◌∙◌, subst}
 use Rattle.process.specs.declared.work.ProcessWork.TheVariants as work
-use Rattle.process.specs.Working.{KeepsPlace, state_at}
+use Rattle.process.specs.{KeepsPlace, state_at}
 use Rattle.process.proofs.ClosingsOn.{clears-choosing, frees-marks, frees-to, still-frees}
 use Rattle.process.proofs.process.advance.free_on.Goals as goal
 

@@ -1,5 +1,5 @@
 use Rattle.std.proofs.Common.{sym, ap, ◌∙◌, subst, refl}
-use Rattle.process.specs.Working.{KeepsPlace, state_at}
+use Rattle.process.specs.{KeepsPlace, state_at}
 use Rattle.process.proofs.ClosingsOn.{still-lowers, lowers-marks, lowers-to}
 use Rattle.process.proofs.process.advance.lower_on.Goals as goal
 

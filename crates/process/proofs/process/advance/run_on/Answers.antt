@@ -1,7 +1,5 @@
 use Rattle.std.proofs.Common.{◌≡◌, sym, ◌∙◌, subst}
-use Rattle.process.specs.Places.{stepped}
-use Rattle.process.specs.Working.{KeepsPlace, state_at}
-use Rattle.process.specs.declared.work.ProcessWork.{ProcessWork}
+use Rattle.process.specs.{KeepsPlace, ProcessWork, state_at, stepped}
 use Rattle.process.specs.declared.work.ProcessWork.TheVariants as work
 use Rattle.process.proofs.RunsOn.{first-told, marks-past, marks-within, runs-next, runs-over, runs-within, still-runs}
 use Rattle.process.proofs.process.advance.run_on.Goals as goal

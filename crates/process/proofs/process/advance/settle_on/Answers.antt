@@ -1,7 +1,7 @@
 use Rattle.std.proofs.Common.{◌≡◌, Bool, [], cond, false, get_or, unwrap_or, refl, sym, ap, ◌∙◌, subst}
-use Rattle.record.specs.Closings.{settled_marks}
+use Rattle.record.specs.{settled_marks}
 use Rattle.process.specs.declared.work.ProcessWork.TheVariants as work
-use Rattle.process.specs.Working.{KeepsPlace, reply_taken, state_at}
+use Rattle.process.specs.{KeepsPlace, reply_taken, state_at}
 use Rattle.process.proofs.ClosingsOn.{clears-ticket}
 use Rattle.process.proofs.SettlesOn.{settles-marks, settles-over, settles-within, still-settles, value-settled}
 use Rattle.process.proofs.process.advance.settle_on.Goals as goal

@@ -1,5 +1,5 @@
 use Rattle.std.proofs.Common.{sym, ap, ◌∙◌, subst, refl}
-use Rattle.process.specs.Working.{KeepsPlace, state_at}
+use Rattle.process.specs.{KeepsPlace, state_at}
 use Rattle.process.proofs.ClosingsOn.{still-withdraws, withdraws-marks, withdraws-to}
 use Rattle.process.proofs.process.advance.withdraw_on.Goals as goal
 

@@ -1,6 +1,6 @@
 use Rattle.std.proofs.Common.{◌≡◌, ◌-◌, ◌&&◌, Bool, true, false, refl, sym, ap, ◌∙◌}
-use Rattle.registers.specs.Begins.{is_fresh}
-use Rattle.process.specs.Places.{is_told}
+use Rattle.registers.specs.{is_fresh}
+use Rattle.process.specs.{is_told}
 use Rattle.process.proofs.Rests.{left-before}
 use Rattle.process.proofs.process.serving.left_of.Goals.{else-is_fresh-via-then-is_fresh+else-is_told, else-is_fresh-via-else-is_fresh}
 use Rattle.process.proofs.process.serving.left_of.Goals as goal

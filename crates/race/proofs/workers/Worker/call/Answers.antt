@@ -1,6 +1,6 @@
 use Rattle.std.proofs.Common.{◌∙◌, Some, sym, subst}
-use Rattle.board.specs.Ports.{PortState}
-use Rattle.race.specs.Calling.{ComesTo, IsCalling}
+use Rattle.board.specs.{PortState}
+use Rattle.race.specs.{ComesTo, IsCalling}
 use Rattle.race.specs.declared.workers.CallReached.TheVariants.{Section}
 use Rattle.race.proofs.Calling.{Begins, begins, has_called, has_called_inside, was_ok, where_ok}
 use Rattle.race.proofs.workers.Worker.call.Goals as goal

@@ -1,8 +1,8 @@
 use Rattle.std.proofs.Common.{◌≡◌, ◌+◌, ◌∙◌, List, suc, take, sym, ap, subst, arith}
 use Rattle.std.proofs.lemmas.List.{take_all}
-use Rattle.plain_store.specs.declared.Command.{Command}
+use Rattle.plain_store.specs.{Command}
 use Rattle.board.proofs.PortLists.{item_at}
-use Rattle.race.specs.Races.{HasMade}
+use Rattle.race.specs.{HasMade}
 use Rattle.race.proofs.Lists.{take_more}
 use Rattle.race.proofs.Makings.{made_none, made_then}
 use Rattle.race.proofs.workers.Worker.run.Goals as goal

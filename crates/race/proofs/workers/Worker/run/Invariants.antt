@@ -1,5 +1,5 @@
 use Rattle.std.specs.Prelude.{take}
-use Rattle.race.specs.Races.{HasMade}
+use Rattle.race.specs.{HasMade}
 use Rattle.race.proofs.workers.Worker.run.Given as goal
 
 abbrev pub invariant-loop-command : goal.invariant-loop-command

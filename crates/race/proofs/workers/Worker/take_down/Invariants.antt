@@ -1,5 +1,4 @@
-use Rattle.board.specs.Boards.{IsOf}
-use Rattle.board.specs.Ports.{SamePort}
+use Rattle.board.specs.{IsOf, SamePort}
 use Rattle.race.proofs.workers.Worker.take_down.Given as goal
 
 abbrev pub invariant-loop : goal.invariant-loop

@@ -1,6 +1,5 @@
 use Rattle.std.proofs.Common.{◌<◌, ◌∙◌, [], false, sym, ap, get_or, length, arith}
-use Rattle.read_law.specs.Looks.{look_of}
-use Rattle.read_law.specs.Packing.{look_from}
+use Rattle.read_law.specs.{look_from, look_of}
 use Rattle.read_law.proofs.Packs.{get-looks, length-looks, look_read}
 use Rattle.read_law.proofs.packed.Looks.get.Goals as goal
 

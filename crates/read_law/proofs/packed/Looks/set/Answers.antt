@@ -1,5 +1,5 @@
 use Rattle.std.proofs.Common.{◌∙◌, ap, set, length, arith}
-use Rattle.read_law.specs.Packing.{look_from}
+use Rattle.read_law.specs.{look_from}
 use Rattle.read_law.proofs.Packs.{length-looks, looks-set}
 use Rattle.read_law.proofs.packed.Looks.set.Goals as goal
 

@@ -1,7 +1,6 @@
 use Rattle.std.proofs.Common.{◌≡◌, ◌∙◌, Some, sym, ap, subst}
-use Rattle.record.specs.declared.access.Access.{Access}
-use Rattle.laws.specs.Held.{IsThere}
-use Rattle.record.specs.Entries.{Entry}
+use Rattle.record.specs.{Access, Entry}
+use Rattle.laws.specs.{IsThere}
 use Rattle.read_law.proofs.watch.Watch.hear.Goals as goal
 
 pub returns-in-Some : goal.returns-in-Some

@@ -1,6 +1,6 @@
 use Rattle.std.proofs.Common.{◌∙◌, refl, true≢false, sym, subst}
-use Rattle.laws.specs.Held.{IsThere}
-use Rattle.read_law.specs.Watching.{WatchState}
+use Rattle.laws.specs.{IsThere}
+use Rattle.read_law.specs.{WatchState}
 use Rattle.read_law.proofs.Hears.{heard_stray, stray_keeps}
 use Rattle.read_law.proofs.watch.Watch.hear_access.Goals as goal
 

@@ -1,7 +1,6 @@
 use Rattle.std.proofs.Common.{sym, subst, refl, ◌∙◌}
-use Rattle.laws.specs.Held.{IsThere}
-use Rattle.read_law.specs.Safe.{KeepsSafe, MatchBool}
-use Rattle.read_law.specs.Watching.{HasHeard, WatchState}
+use Rattle.laws.specs.{IsThere}
+use Rattle.read_law.specs.{HasHeard, KeepsSafe, MatchBool, WatchState}
 use Rattle.read_law.proofs.Hears.{AtAccess, heard_written, look_is, place_within, watch_written}
 use Rattle.read_law.proofs.watch.Watch.hear_there.Goals as goal
 

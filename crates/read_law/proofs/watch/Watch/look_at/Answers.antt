@@ -1,6 +1,6 @@
 use Rattle.std.proofs.Common.{subst, sym, ◌∙◌}
-use Rattle.laws.specs.Held.{IsThere}
-use Rattle.read_law.specs.Watching.{TellsLook, WatchState}
+use Rattle.laws.specs.{IsThere}
+use Rattle.read_law.specs.{TellsLook, WatchState}
 use Rattle.read_law.proofs.Hears.{AtAccess, look_is, place_within}
 use Rattle.read_law.proofs.watch.Watch.look_at.Goals as goal
 

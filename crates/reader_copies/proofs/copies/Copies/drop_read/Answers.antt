@@ -1,4 +1,4 @@
-use Rattle.safe_bit.specs.Cell.{without_read}
+use Rattle.safe_bit.specs.{without_read}
 use Rattle.reader_copies.proofs.Cells.{cells-moved}
 use Rattle.reader_copies.proofs.copies.Copies.drop_read.Goals as goal
 

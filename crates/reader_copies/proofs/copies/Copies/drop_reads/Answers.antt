@@ -1,7 +1,7 @@
 use Rattle.std.proofs.Common.{◌≡◌, ◌≤◌, ◌++◌, ℕ, List, ap, ◌∙◌, set, map, take, drop, length, arith}
 use Rattle.std.proofs.lemmas.List.{append-nil, drop_all, length-map, take_all}
 use Rattle.std.proofs.lemmas.List.Edits.{map_over_more}
-use Rattle.reader_copies.specs.Flags.{cells_of}
+use Rattle.reader_copies.specs.{cells_of}
 use Rattle.reader_copies.specs.declared.flag_words.Flags.{Flags}
 use Rattle.reader_copies.proofs.Cells.{cells-without_reads, dropped}
 use Rattle.reader_copies.proofs.copies.Copies.drop_reads.Goals as goal

@@ -1,6 +1,6 @@
 use Rattle.std.proofs.Common.{◌++◌, ◌∷◌, [], ℕ, get_or, length, ap, sym, ◌∙◌, arith}
 use Rattle.std.proofs.lemmas.List.FromFn.{length-map-range_with_len, map-range_with_len_more}
-use Rattle.reader_copies.specs.Flags.{open_flags}
+use Rattle.reader_copies.specs.{open_flags}
 use Rattle.reader_copies.specs.declared.flag_words.Flags.{Flags}
 use Rattle.reader_copies.proofs.Cells.{cells-open}
 use Rattle.reader_copies.proofs.copies.Copies.open.Goals as goal

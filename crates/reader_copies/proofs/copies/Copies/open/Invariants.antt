@@ -1,6 +1,6 @@
 use Rattle.std.proofs.Common.{◌≡◌, ◌≤◌, ◌+◌, ◌/◌, get_or, map}
 use Rattle.std.specs.List.{range_with_len}
-use Rattle.reader_copies.specs.Flags.{open_flags}
+use Rattle.reader_copies.specs.{open_flags}
 use Rattle.reader_copies.proofs.copies.Copies.open.Given as goal
 
 abbrev pub invariant-loop-place : goal.invariant-loop-place

@@ -1,5 +1,5 @@
 use Rattle.std.proofs.Common.{cond, false}
-use Rattle.safe_bit.specs.Cell.{cell_after}
+use Rattle.safe_bit.specs.{cell_after}
 use Rattle.safe_bit.specs.declared.moves.Move.TheVariants.{BeginRead, EndRead}
 use Rattle.reader_copies.proofs.Cells.{cells-moved}
 use Rattle.reader_copies.proofs.copies.Copies.read_next.Goals as goal

@@ -1,6 +1,5 @@
 use Rattle.std.proofs.Common.{cond, ◌∙◌, ap}
-use Rattle.reader_copies.specs.Flags.{cell_in_flags}
-use Rattle.reader_copies.specs.Wordwise.{after_read}
+use Rattle.reader_copies.specs.{after_read, cell_in_flags}
 use Rattle.reader_copies.proofs.Cells.{cells-over}
 use Rattle.reader_copies.proofs.copies.Copies.read_word.Goals as goal
 

@@ -1,5 +1,5 @@
 use Rattle.std.proofs.Common.{◌∙◌, ap}
-use Rattle.reader_copies.specs.Seeing.{bit_seen}
+use Rattle.reader_copies.specs.{bit_seen}
 use Rattle.reader_copies.proofs.Cells.{cells-read}
 use Rattle.reader_copies.proofs.copies.Copies.seen.Goals as goal
 

@@ -1,6 +1,5 @@
 use Rattle.std.proofs.Common.{◌≡◌, ◌+◌, ◌*◌, ◌/◌, ◌%◌, arith, cond, ◌∙◌, ap}
-use Rattle.reader_copies.specs.Flags.{cell_in_flags, flag_in}
-use Rattle.reader_copies.specs.Wordwise.{after_write}
+use Rattle.reader_copies.specs.{after_write, cell_in_flags, flag_in}
 use Rattle.reader_copies.proofs.Cells.{cells-over}
 use Rattle.reader_copies.proofs.copies.Copies.write_word.Goals as goal
 

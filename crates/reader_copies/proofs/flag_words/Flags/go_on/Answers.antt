@@ -1,8 +1,7 @@
 use Rattle.std.proofs.Common.{◌≡◌, ℕ, true, ap, sym, ◌∙◌}
-use Rattle.safe_bit.specs.Cell.{cell_after}
-use Rattle.safe_bit.specs.declared.moves.Move.{Move}
+use Rattle.safe_bit.specs.{Move, cell_after}
 use Rattle.reader_copies.specs.declared.flag_words.Flags.{Flags}
-use Rattle.reader_copies.specs.Flags.{cell_in_flags, flag_in}
+use Rattle.reader_copies.specs.{cell_in_flags, flag_in}
 use Rattle.reader_copies.proofs.Flags.{cell, changes, kept}
 use Rattle.reader_copies.proofs.flag_words.Flags.go_on.Goals as goal
 

@@ -1,5 +1,5 @@
 use Rattle.std.proofs.Common.{cond, ◌&&◌, ◌∙◌, ap}
-use Rattle.reader_copies.specs.Flags.{flag_in}
+use Rattle.reader_copies.specs.{flag_in}
 use Rattle.reader_copies.proofs.Flags.{changes, flag-both, kept, read_goes}
 use Rattle.reader_copies.proofs.flag_words.Flags.read_next.Goals as goal
 

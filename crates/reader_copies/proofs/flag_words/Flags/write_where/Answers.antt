@@ -1,6 +1,5 @@
 use Rattle.std.proofs.Common.{◌≡◌, Bool, true, false, cond, ◌∙◌, ap, refl}
-use Rattle.reader_copies.specs.Flags.{flag_in}
-use Rattle.reader_copies.specs.Wordwise.{after_write}
+use Rattle.reader_copies.specs.{after_write, flag_in}
 use Rattle.reader_copies.proofs.Flags.{cell, flag-zero, same_cell}
 use Rattle.reader_copies.proofs.Masks.{flag-ones}
 use Rattle.reader_copies.proofs.flag_words.Flags.write_where.Goals as goal

@@ -1,7 +1,5 @@
 use Rattle.std.proofs.Common.{◌∙◌, ap, subst, sym}
-use Rattle.reader_copies.specs.declared.runs.Made.{Made}
-use Rattle.reader_copies.specs.Row.{CanMake}
-use Rattle.reader_copies.specs.Runs.{next_read}
+use Rattle.reader_copies.specs.{CanMake, Made, next_read}
 use Rattle.reader_copies.proofs.Steps.{read_can}
 use Rattle.reader_copies.proofs.row.CopiedRow.read_step.Goals as goal
 

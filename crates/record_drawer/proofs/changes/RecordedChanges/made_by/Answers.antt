@@ -1,10 +1,9 @@
 use Rattle.std.proofs.Common.{◌∷◌, Option, sym, subst, ap, ◌∙◌, option_map}
 use Rattle.std.specs.Global.{Vec}
-use Rattle.record.specs.declared.marks.Mark.{Mark}
-use Rattle.companions.specs.picture.columns.declared.told.TakenChange.{TakenChange}
-use Rattle.companions.specs.StoreChanges.{changed}
-use Rattle.record_drawer.specs.Takings.{Knows}
-use Rattle.record_drawer.specs.declared.changes.LastCall.{LastCall}
+use Rattle.record.specs.{Mark}
+use Rattle.companions.specs.picture.columns.{TakenChange}
+use Rattle.companions.specs.{changed}
+use Rattle.record_drawer.specs.{Knows, LastCall}
 use Rattle.record_drawer.proofs.Takings.{change_taking, is_taking, knows_called, knows_taking}
 use Rattle.record_drawer.proofs.Written.{if_ok_then, ok_then}
 use Rattle.record_drawer.proofs.changes.RecordedChanges.made_by.Goals as goal

@@ -1,7 +1,6 @@
 use Rattle.std.proofs.Common.{◌≡◌, List, [], ◌∷◌, ◌++◌, ◌∙◌, ap, get_or, length, refl, arith}
 use Rattle.std.proofs.lemmas.List.{get_or-replicate, length-replicate, replicate-append-replicate}
-use Rattle.record_drawer.specs.Takings.{no_call}
-use Rattle.record_drawer.specs.declared.changes.LastCall.{LastCall}
+use Rattle.record_drawer.specs.{LastCall, no_call}
 use Rattle.record_drawer.proofs.changes.RecordedChanges.new.Goals as goal
 
 pub returns : goal.returns

@@ -1,5 +1,5 @@
 use Rattle.std.proofs.Common.{◌≡◌, ◌≤◌, replicate}
-use Rattle.record_drawer.specs.Takings.{no_call}
+use Rattle.record_drawer.specs.{no_call}
 use Rattle.record_drawer.proofs.changes.RecordedChanges.new.Given as goal
 
 -- each process so far has called nothing

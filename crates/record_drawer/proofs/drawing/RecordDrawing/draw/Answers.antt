@@ -1,8 +1,7 @@
 use Rattle.std.proofs.Common.{◌≡◌, ℕ, [], ◌∷◌, ◌++◌, map, subst, sym}
-use Rattle.companions.specs.picture.columns.Told.{saying_text}
-use Rattle.record_drawer.specs.Drawings.{DrawsOn, kept}
-use Rattle.record_drawer.specs.Items.{GivesLine, GivesRead, says_of, says_text}
-use Rattle.companions.specs.Overlaps.{shown_of}
+use Rattle.companions.specs.picture.columns.{saying_text}
+use Rattle.record_drawer.specs.{DrawsOn, GivesLine, GivesRead, kept, says_of, says_text}
+use Rattle.companions.specs.{shown_of}
 use Rattle.record_drawer.proofs.Drawn.{draws_on_both, draws_on_line}
 use Rattle.record_drawer.proofs.Written.{ok_then}
 use Rattle.record_drawer.proofs.drawing.RecordDrawing.draw.Goals as goal

@@ -1,7 +1,5 @@
 use Rattle.std.proofs.Common.{ℕ, List, [], ◌∷◌, Option, refl, subst, sym, ◌∙◌, arith}
-use Rattle.record_drawer.specs.Drawings.{DrawsOn, kept}
-use Rattle.record_drawer.specs.Items.{SaysJudged, lines_given}
-use Rattle.record_drawer.specs.Judged.{told_lines}
+use Rattle.record_drawer.specs.{DrawsOn, SaysJudged, kept, lines_given, told_lines}
 use Rattle.record_drawer.proofs.JudgedLines.{HasJudged, all_judged, judged_next, judged_none}
 use Rattle.record_drawer.proofs.drawing.RecordDrawing.draw_judged.Goals as goal
 

@@ -1,5 +1,5 @@
 use Rattle.std.proofs.Common.{◌≡◌}
-use Rattle.record_drawer.specs.Judged.{told_lines}
+use Rattle.record_drawer.specs.{told_lines}
 use Rattle.record_drawer.proofs.JudgedLines.{HasJudged}
 use Rattle.record_drawer.proofs.drawing.RecordDrawing.draw_judged.Given as goal
 

@@ -1,10 +1,7 @@
 use Rattle.std.proofs.Common.{ℕ, ◌-◌, [], ◌∷◌, Option, option_map, ap, refl, subst, sym, ◌∙◌}
-use Rattle.companions.specs.picture.columns.States.{places_marked}
-use Rattle.record_drawer.specs.Drawings.{DrawsOn, kept}
-use Rattle.record_drawer.specs.Items.{SaysMark, lines_given}
-use Rattle.companions.specs.StoreChanges.{Changed, changed}
-use Rattle.record_drawer.specs.Takings.{Knows}
-use Rattle.record_drawer.specs.declared.changes.RecordedChanges.{RecordedChanges}
+use Rattle.companions.specs.picture.columns.{places_marked}
+use Rattle.record_drawer.specs.{DrawsOn, Knows, RecordedChanges, SaysMark, kept, lines_given}
+use Rattle.companions.specs.{Changed, changed}
 use Rattle.record_drawer.proofs.Written.{ok_then}
 use Rattle.record_drawer.proofs.drawing.RecordDrawing.draw_mark.Goals as goal
 

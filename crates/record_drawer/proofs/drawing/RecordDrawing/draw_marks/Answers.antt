@@ -1,13 +1,10 @@
 use Rattle.std.proofs.Common.{◌+◌, ◌-◌, ℕ, List, [], ◌∷◌, ◌∙◌, take, arith, refl, subst}
 use Rattle.std.proofs.lemmas.List.{take_all}
-use Rattle.plain_store.specs.declared.setups.Setup.{Setup}
-use Rattle.record.specs.Entries.{Past}
-use Rattle.record.specs.declared.marks.Mark.{Mark}
-use Rattle.companions.specs.picture.columns.declared.reads.OverlappedRead.{OverlappedRead}
+use Rattle.plain_store.specs.{Setup}
+use Rattle.record.specs.{Mark, Past}
+use Rattle.companions.specs.picture.columns.{OverlappedRead}
 use Rattle.companions.specs.picture.declared.reads.Reads.{Reads as Mode}
-use Rattle.record_drawer.specs.Drawings.{DrawsOn, IsAmong, kept}
-use Rattle.record_drawer.specs.Items.{SaysMark, behind, lines_given, says_marks, waiting}
-use Rattle.record_drawer.specs.Takings.{change_of}
+use Rattle.record_drawer.specs.{DrawsOn, IsAmong, SaysMark, behind, change_of, kept, lines_given, says_marks, waiting}
 use Rattle.record_drawer.proofs.Drawn.{draws_on_both, draws_on_none}
 use Rattle.record_drawer.proofs.Giving.{behind_next, lines_next, waiting_next}
 use Rattle.record_drawer.proofs.Written.{failed_same}

@@ -1,11 +1,9 @@
 use Rattle.std.proofs.Common.{◌≡◌, ◌-◌, ℕ, List, take}
-use Rattle.plain_store.specs.declared.setups.Setup.{Setup}
-use Rattle.record.specs.Entries.{Past}
-use Rattle.record.specs.declared.marks.Mark.{Mark}
-use Rattle.companions.specs.picture.columns.declared.reads.OverlappedRead.{OverlappedRead}
+use Rattle.plain_store.specs.{Setup}
+use Rattle.record.specs.{Mark, Past}
+use Rattle.companions.specs.picture.columns.{OverlappedRead}
 use Rattle.companions.specs.picture.declared.reads.Reads.{Reads as Mode}
-use Rattle.record_drawer.specs.Drawings.{DrawsOn, IsAmong, kept}
-use Rattle.record_drawer.specs.Items.{behind, lines_given, says_marks, waiting}
+use Rattle.record_drawer.specs.{DrawsOn, IsAmong, behind, kept, lines_given, says_marks, waiting}
 use Rattle.record_drawer.proofs.drawing.RecordDrawing.draw_marks.Given as goal
 
 -- the marks before the present one are drawn

@@ -1,4 +1,4 @@
-use Rattle.record_drawer.specs.Drawings.{kept}
+use Rattle.record_drawer.specs.{kept}
 use Rattle.record_drawer.proofs.Drawn.{draws_on_read}
 use Rattle.record_drawer.proofs.Written.{ok_then}
 use Rattle.record_drawer.proofs.drawing.RecordDrawing.draw_read.Goals as goal

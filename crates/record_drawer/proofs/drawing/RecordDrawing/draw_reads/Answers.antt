@@ -1,9 +1,8 @@
 use Rattle.std.proofs.Common.{◌∙◌, false, List, [], ◌∷◌, get_or, map, take, arith, refl, subst, sym}
 use Rattle.std.proofs.lemmas.List.{take_all}
 use Rattle.record.specs.declared.access.Field.TheVariants.{Choosing}
-use Rattle.companions.specs.picture.columns.declared.reads.OverlappedRead.{OverlappedRead}
-use Rattle.record_drawer.specs.Drawings.{DrawsOn, kept}
-use Rattle.record_drawer.specs.Items.{GivesRead}
+use Rattle.companions.specs.picture.columns.{OverlappedRead}
+use Rattle.record_drawer.specs.{DrawsOn, GivesRead, kept}
 use Rattle.record_drawer.proofs.Drawn.{draws_on_both, draws_on_none}
 use Rattle.record_drawer.proofs.Giving.{map_next}
 use Rattle.record_drawer.proofs.Written.{failed_same}

@@ -1,6 +1,5 @@
 use Rattle.std.proofs.Common.{◌≡◌, map, take}
-use Rattle.record_drawer.specs.Drawings.{DrawsOn, kept}
-use Rattle.record_drawer.specs.Items.{GivesRead}
+use Rattle.record_drawer.specs.{DrawsOn, GivesRead, kept}
 use Rattle.record_drawer.proofs.drawing.RecordDrawing.draw_reads.Given as goal
 
 -- the reads before the present one are drawn, which are no lines

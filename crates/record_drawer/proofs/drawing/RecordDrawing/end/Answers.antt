@@ -1,7 +1,6 @@
 use Rattle.std.proofs.Common.{arith, List, [], ◌∷◌, ◌++◌, refl, subst, sym}
-use Rattle.companions.specs.picture.Pages.{seen_page}
-use Rattle.record_drawer.specs.Drawings.{DrawsOn, kept}
-use Rattle.record_drawer.specs.Items.{Gives, Says, SaysEnd, lines_given, says_judged, waiting}
+use Rattle.companions.specs.picture.{seen_page}
+use Rattle.record_drawer.specs.{DrawsOn, Gives, Says, SaysEnd, kept, lines_given, says_judged, waiting}
 use Rattle.record_drawer.proofs.Drawn.{draws_on_both, draws_on_rest}
 use Rattle.record_drawer.proofs.Giving.{lines_more}
 use Rattle.record_drawer.proofs.Written.{ok_then}

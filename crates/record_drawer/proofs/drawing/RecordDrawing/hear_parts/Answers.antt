@@ -1,8 +1,7 @@
 use Rattle.std.proofs.Common.{ℕ, ◌+◌, ◌-◌, List, ◌∷◌, ◌++◌, length, ap, refl, subst, sym}
-use Rattle.record.specs.declared.marks.Mark.{Mark}
-use Rattle.record_drawer.specs.Drawings.{DrawsOn, IsAmong, kept}
-use Rattle.record_drawer.specs.Items.{behind, lines_given, marks_back, reads_since, says_marks, waiting}
-use Rattle.companions.specs.Overlaps.{overlapped_by}
+use Rattle.record.specs.{Mark}
+use Rattle.record_drawer.specs.{DrawsOn, IsAmong, behind, kept, lines_given, marks_back, reads_since, says_marks, waiting}
+use Rattle.companions.specs.{overlapped_by}
 use Rattle.record_drawer.proofs.Hearing.{heard_among, recalls_on}
 use Rattle.record_drawer.proofs.drawing.RecordDrawing.hear_parts.Goals as goal
 

@@ -1,5 +1,5 @@
 use Rattle.std.proofs.Common.{◌+◌, Some, refl}
-use Rattle.record_file.specs.Printing.{step_entry}
+use Rattle.record_file.specs.{step_entry}
 use Rattle.record_drawer.proofs.Hearing.{heard_among, recalls_on}
 use Rattle.record_drawer.proofs.drawing.RecordDrawing.hear_step.Goals as goal
 

@@ -1,6 +1,6 @@
 use Rattle.std.proofs.Common.{◌≡◌, ◌<◌, ◌∙◌, ◌++◌, ap, length, subst, ℕ, List}
-use Rattle.files.specs.Cuts.{input_limit}
-use Rattle.record_drawer.specs.Openings.{is_record}
+use Rattle.files.specs.{input_limit}
+use Rattle.record_drawer.specs.{is_record}
 use Rattle.record_drawer.proofs.Opening.{fewer_left, told_front, told_whole}
 use Rattle.record_drawer.proofs.opened.Opened.new.Goals as goal
 use Rattle.record_drawer.proofs.opened.Opened.new.Goals.{then-blocks-2-test+in_ok-tells_now+else-not-branch, else-blocks-2-test}

@@ -1,6 +1,6 @@
 use Rattle.std.proofs.Common.{◌≡◌, ◌+◌, ◌-◌, ◌≤◌, cond, length, false}
 use Rattle.std.specs.Io.KnownBytes.{IsAtEnd, Keeps, prepend_known}
-use Rattle.files.specs.Cuts.{input_limit}
+use Rattle.files.specs.{input_limit}
 use Rattle.record_drawer.proofs.opened.Opened.new.Given as goal
 
 -- the bytes to come are the same, none is left behind the end, what is asked for is no more than counts, and no call has

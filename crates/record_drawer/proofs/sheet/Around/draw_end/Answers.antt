@@ -1,8 +1,5 @@
 use Rattle.std.proofs.Common.{ℕ, List, [], ◌∷◌, ◌++◌, Option, ap, sym, subst, ◌∙◌}
-use Rattle.record_drawer.specs.Drawings.{DrawsRest, kept}
-use Rattle.record_drawer.specs.Items.{SaysEnd, lines_given, reads_since, says_judged}
-use Rattle.record_drawer.specs.Sheets.{DrawsPast, IsDrawn}
-use Rattle.record_drawer.specs.declared.drawing.RecordDrawing.{RecordDrawing}
+use Rattle.record_drawer.specs.{DrawsPast, DrawsRest, IsDrawn, RecordDrawing, SaysEnd, kept, lines_given, reads_since, says_judged}
 use Rattle.record_drawer.proofs.Sheeted.{drawn_begun, drawn_end}
 use Rattle.record_drawer.proofs.sheet.Around.draw_end.Goals as goal
 use Rattle.record_drawer.proofs.sheet.Around.draw_end.Goals.{then-is_none+in_ok-begin, else-is_none}

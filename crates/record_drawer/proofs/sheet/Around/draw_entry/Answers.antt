@@ -1,6 +1,5 @@
 use Rattle.std.proofs.Common.{ℕ, List, Option, ap, sym, subst, ◌∙◌}
-use Rattle.record_drawer.specs.Sheets.{DrawsPast, IsDrawn}
-use Rattle.record_drawer.specs.declared.drawing.RecordDrawing.{RecordDrawing}
+use Rattle.record_drawer.specs.{DrawsPast, IsDrawn, RecordDrawing}
 use Rattle.record_drawer.proofs.Sheeted.{drawn_begun, drawn_entry}
 use Rattle.record_drawer.proofs.Written.{ok_both}
 use Rattle.record_drawer.proofs.sheet.Around.draw_entry.Goals as goal

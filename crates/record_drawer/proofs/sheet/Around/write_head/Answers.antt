@@ -1,6 +1,6 @@
 use Rattle.std.proofs.Common.{subst, sym}
-use Rattle.companions.specs.picture.declared.page.Form.{Form}
-use Rattle.record_drawer.specs.Sheets.{Heads}
+use Rattle.companions.specs.picture.{Form}
+use Rattle.record_drawer.specs.{Heads}
 use Rattle.record_drawer.proofs.Sheeted.{heads_page}
 use Rattle.record_drawer.proofs.Written.{ok_then}
 use Rattle.record_drawer.proofs.sheet.Around.write_head.Goals as goal

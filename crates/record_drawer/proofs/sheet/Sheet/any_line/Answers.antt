@@ -1,12 +1,10 @@
 use Rattle.std.proofs.Common.{◌≡◌, List, [], ◌∷◌, ℕ, Option, Some, None, Ok, refl, ap, subst, ◌∙◌}
 use Rattle.std.specs.Option.{option_to_list}
-use Rattle.plain_store.specs.declared.setups.Setup.{Setup}
-use Rattle.files.specs.Files.{words_read}
-use Rattle.files.specs.Words.{words_of}
-use Rattle.record.specs.Entries.{Entry, Past}
-use Rattle.record_file.specs.RecordFiles.{Progress, cleared, entry_in, record_grammar}
-use Rattle.record_drawer.specs.Sheets.{DrawsPast}
-use Rattle.record_drawer.specs.declared.sheet.Sheet.{Sheet}
+use Rattle.plain_store.specs.{Setup}
+use Rattle.files.specs.{words_of, words_read}
+use Rattle.record.specs.{Entry, Past}
+use Rattle.record_file.specs.{Progress, cleared, entry_in, record_grammar}
+use Rattle.record_drawer.specs.{DrawsPast, Sheet}
 use Rattle.judge.proofs.Lines.{quiet_is_cleared}
 use Rattle.record_drawer.proofs.Lines.{ends_drawn, ends_quiet}
 use Rattle.record_drawer.proofs.sheet.Sheet.any_line.Goals as goal

@@ -1,7 +1,7 @@
 use Rattle.std.proofs.Common.{◌≡◌, ap, sym, subst, ◌∙◌}
-use Rattle.plain_store.specs.declared.setups.Setup.{Setup}
-use Rattle.record_file.specs.RecordFiles.{Progress}
-use Rattle.record_drawer.specs.Sheets.{DrawsPast, EndsAt}
+use Rattle.plain_store.specs.{Setup}
+use Rattle.record_file.specs.{Progress}
+use Rattle.record_drawer.specs.{DrawsPast, EndsAt}
 use Rattle.record_drawer.proofs.Sheeted.{draws_of, same_some}
 use Rattle.record_drawer.proofs.sheet.Sheet.end.Goals as goal
 

@@ -1,5 +1,5 @@
 use Rattle.std.proofs.Common.{Some, refl}
-use Rattle.record_drawer.specs.declared.sheet.Sheet.{Sheet}
+use Rattle.record_drawer.specs.{Sheet}
 use Rattle.record_drawer.proofs.Lines.{ends_stepped}
 use Rattle.record_drawer.proofs.Sheeted.{drawn_step}
 use Rattle.record_drawer.proofs.sheet.Sheet.hears_step.Goals as goal

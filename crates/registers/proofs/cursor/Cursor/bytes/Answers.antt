@@ -1,7 +1,6 @@
 use Rattle.std.proofs.Common.{◌≡◌, ◌<◌, ◌≤◌, ℕ, Bool, false, List, get_or, length, sym, ap, subst, ◌∙◌, arith}
-use Rattle.registers.specs.Cursors.{CursorState, bits_kept}
-use Rattle.reader_copies.specs.Words.{bit_of_words}
-use Rattle.registers.specs.declared.cursor.NumberRun.{NumberRun}
+use Rattle.registers.specs.{CursorState, NumberRun, bits_kept}
+use Rattle.reader_copies.specs.{bit_of_words}
 use Rattle.registers.specs.declared.cursor.NumberRun.TheVariants.{Reads, Writes, Settles}
 use Rattle.reader_copies.proofs.Words.{bit-found, length-bits}
 use Rattle.registers.proofs.cursor.Cursor.bytes.Goals as goal

@@ -1,6 +1,6 @@
 use Rattle.std.proofs.Common.{◌≡◌, ◌%◌, ◌^◌, arith, sym, ◌∙◌, ap}
-use Rattle.safe_number.specs.Bytes.{number_of_bits}
-use Rattle.registers.specs.Cursors.{CursorState, bits_kept}
+use Rattle.safe_number.specs.{number_of_bits}
+use Rattle.registers.specs.{CursorState, bits_kept}
 use Rattle.registers.proofs.Numbers.{words-number}
 use Rattle.registers.proofs.cursor.Cursor.number.Goals as goal
 

@@ -1,8 +1,7 @@
 use Rattle.std.proofs.Common.{◌≡◌, ◌<◌, ◌+◌, ◌/◌, ◌%◌, ◌++◌, ◌∷◌, [], ◌&&◌, ℕ, List, Bool, not, cond, set, length, arith, ◌∙◌, ap, sym}
 use mir.Val.{bool_byte}
-use Rattle.registers.specs.Accesses.{read_after}
-use Rattle.registers.specs.Cursors.{CursorState, bits_kept}
-use Rattle.reader_copies.specs.Flags.{SetsFlag, flag_in}
+use Rattle.registers.specs.{CursorState, bits_kept, read_after}
+use Rattle.reader_copies.specs.{SetsFlag, flag_in}
 use Rattle.registers.specs.declared.cursor.NumberRun.TheVariants.{Reads}
 use Rattle.reader_copies.proofs.Flags.{flag-both}
 use Rattle.registers.proofs.Words.{bits-gone, next-bit}

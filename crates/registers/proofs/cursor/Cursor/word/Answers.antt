@@ -1,7 +1,6 @@
 use Rattle.std.proofs.Common.{◌≡◌, ◌<◌, ◌/◌, ◌%◌, false, get_or, arith, sym, ◌∙◌, ap}
-use Rattle.registers.specs.Cursors.{CursorState, bits_kept}
-use Rattle.reader_copies.specs.Flags.{flag_in}
-use Rattle.reader_copies.specs.Words.{bits_of_words}
+use Rattle.registers.specs.{CursorState, bits_kept}
+use Rattle.reader_copies.specs.{bits_of_words, flag_in}
 use Rattle.registers.specs.declared.cursor.NumberRun.TheVariants.{Writes}
 use Rattle.reader_copies.proofs.Words.{bit-found}
 use Rattle.registers.proofs.cursor.Cursor.word.Goals as goal

@@ -1,8 +1,7 @@
 use Rattle.std.proofs.Common.{◌≡◌, ◌<◌, ◌%◌, false, cond, get_or, arith, sym, ◌∙◌, ap}
 use Rattle.safe_bit.specs.declared.moves.Move.TheVariants.{BeginWrite, EndWrite}
-use Rattle.registers.specs.Accesses.{write_move}
-use Rattle.registers.specs.Cursors.{CursorState, bits_kept}
-use Rattle.reader_copies.specs.Flags.{flag_in}
+use Rattle.registers.specs.{CursorState, bits_kept, write_move}
+use Rattle.reader_copies.specs.{flag_in}
 use Rattle.registers.specs.declared.cursor.NumberRun.TheVariants.{Writes}
 use Rattle.reader_copies.proofs.Words.{bit-found}
 use Rattle.registers.proofs.cursor.Cursor.write_move.Goals as goal

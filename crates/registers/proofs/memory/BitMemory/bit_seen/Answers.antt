@@ -1,8 +1,6 @@
 use Rattle.std.proofs.Common.{◌≡◌, length, ap, ◌∙◌, arith}
-use Rattle.registers.specs.Accesses.{lane_of_access}
-use Rattle.reader_copies.specs.Row.{cell_in}
-use Rattle.registers.specs.Memory.{lane_of}
-use Rattle.reader_copies.specs.Seeing.{bit_seen}
+use Rattle.registers.specs.{lane_of, lane_of_access}
+use Rattle.reader_copies.specs.{bit_seen, cell_in}
 use Rattle.registers.proofs.Held.{lane-found}
 use Rattle.registers.proofs.Openings.{access-lane}
 use Rattle.registers.proofs.memory.BitMemory.bit_seen.Goals as goal

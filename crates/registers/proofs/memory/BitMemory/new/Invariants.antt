@@ -1,9 +1,9 @@
 use Rattle.std.proofs.Common.{◌≡◌, map}
 use Rattle.std.specs.List.{range_with_len}
-use Rattle.record.specs.Registers.{width}
+use Rattle.record.specs.{width}
 use Rattle.record.specs.declared.access.Field.TheVariants.{Image0}
-use Rattle.registers.specs.Openings.{opening_lane}
-use Rattle.reader_copies.specs.Words.{bits_of_words}
+use Rattle.registers.specs.{opening_lane}
+use Rattle.reader_copies.specs.{bits_of_words}
 use Rattle.registers.proofs.memory.BitMemory.new.Given as goal
 
 abbrev pub invariant-loop-lane : goal.invariant-loop-lane

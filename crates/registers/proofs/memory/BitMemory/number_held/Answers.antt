@@ -1,6 +1,6 @@
 use Rattle.std.proofs.Common.{◌%◌, ◌^◌, ℕ, get_or, sym, ap, ◌∙◌, arith}
-use Rattle.record.specs.Registers.{width}
-use Rattle.safe_number.specs.Bytes.{number_of_bits}
+use Rattle.record.specs.{width}
+use Rattle.safe_number.specs.{number_of_bits}
 use Rattle.registers.proofs.Numbers.{words-number}
 use Rattle.registers.proofs.memory.BitMemory.number_held.Goals as goal
 

@@ -1,9 +1,7 @@
 use Rattle.std.proofs.Common.{◌≡◌, ◌+◌, arith, subst, sym, ◌∙◌, ap, List, ℕ}
 use Rattle.safe_bit.specs.Cell.{Cell}
-use Rattle.flicks.specs.Flicks.{FlickState}
-use Rattle.registers.specs.Accesses.{overlapped_reads, reads_of}
-use Rattle.registers.specs.Cursors.{CursorState}
-use Rattle.registers.specs.Loops.{HasRead}
+use Rattle.flicks.specs.{FlickState}
+use Rattle.registers.specs.{CursorState, HasRead, overlapped_reads, reads_of}
 use Rattle.registers.proofs.Overlaps.{overlapped-few, overlapped-more}
 use Rattle.registers.proofs.Steps.{read-goes_far}
 use Rattle.registers.proofs.memory.BitMemory.read_on.Goals as goal

@@ -1,6 +1,5 @@
 use Rattle.std.proofs.Common.{◌≡◌, ◌-◌, ◌≤◌}
-use Rattle.registers.specs.Accesses.{overlapped_reads}
-use Rattle.registers.specs.Loops.{HasRead}
+use Rattle.registers.specs.{HasRead, overlapped_reads}
 use Rattle.registers.proofs.memory.BitMemory.read_on.Given as goal
 
 abbrev pub invariant-steps : goal.invariant-steps

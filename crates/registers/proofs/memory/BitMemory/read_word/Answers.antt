@@ -1,11 +1,9 @@
 use Rattle.std.proofs.Common.{◌*◌, ◌≡◌, ◌<◌, ◌/◌, ℕ, Bool, List, [], set, length, arith, sym, ◌∙◌, ap}
 use Rattle.std.proofs.lemmas.List.{get_or_default}
 use Rattle.safe_bit.specs.Cell.{Cell}
-use Rattle.flicks.specs.Flicks.{FlickState, flicks_after}
-use Rattle.registers.specs.Accesses.{overlapped_reads}
-use Rattle.registers.specs.Memory.{lane_of}
-use Rattle.registers.specs.Cursors.{CursorState, first_lane}
-use Rattle.reader_copies.specs.Wordwise.{after_read, over}
+use Rattle.flicks.specs.{FlickState, flicks_after}
+use Rattle.registers.specs.{CursorState, first_lane, lane_of, overlapped_reads}
+use Rattle.reader_copies.specs.{after_read, over}
 use Rattle.registers.proofs.AtOnce.{read-at_once}
 use Rattle.registers.proofs.Overlaps.{none-overlapped}
 use Rattle.registers.proofs.memory.BitMemory.read_word.Goals as goal

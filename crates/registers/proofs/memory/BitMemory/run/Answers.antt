@@ -1,8 +1,7 @@
 use Rattle.std.proofs.Common.{◌≡◌, List, subst, sym, ◌∙◌, ap}
 use Rattle.safe_bit.specs.Cell.{Cell}
-use Rattle.flicks.specs.Flicks.{FlickState, flicks_after}
-use Rattle.registers.specs.Cursors.{CursorState, Fits, IsAtCopy}
-use Rattle.registers.specs.declared.cursor.NumberRun.{NumberRun}
+use Rattle.flicks.specs.{FlickState, flicks_after}
+use Rattle.registers.specs.{CursorState, Fits, IsAtCopy, NumberRun}
 use Rattle.registers.specs.declared.cursor.NumberRun.TheVariants.{Reads, Writes}
 use Rattle.registers.proofs.Iterates.{of_write, run-reads, run-writes}
 use Rattle.registers.proofs.Overlaps.{overlapped-read, overlapped-write}

@@ -1,9 +1,8 @@
 use Rattle.std.proofs.Common.{◌≡◌, ◌<◌, ℕ, length, ap, ◌∙◌, arith}
 use Rattle.std.proofs.lemmas.List.{length-set}
-use Rattle.record.specs.Registers.{width}
-use Rattle.registers.specs.Cursors.{lane_number}
-use Rattle.reader_copies.specs.Row.{cell_in}
-use Rattle.registers.specs.Memory.{lane_of}
+use Rattle.record.specs.{width}
+use Rattle.registers.specs.{lane_number, lane_of}
+use Rattle.reader_copies.specs.{cell_in}
 use Rattle.registers.proofs.Held.{lane-found, values-kept, words-more}
 use Rattle.registers.proofs.Openings.{register-lane}
 use Rattle.registers.proofs.memory.BitMemory.words_held.Goals as goal

@@ -1,6 +1,5 @@
 use Rattle.std.proofs.Common.{◌≡◌, ℕ, ◌*◌, ◌<◌, length}
-use Rattle.reader_copies.specs.Row.{cell_in}
-use Rattle.reader_copies.specs.Words.{bit_of_words}
+use Rattle.reader_copies.specs.{bit_of_words, cell_in}
 use Rattle.registers.proofs.memory.BitMemory.words_held.Given as goal
 
 abbrev pub invariant-loop-place : goal.invariant-loop-place

@@ -1,9 +1,8 @@
 use Rattle.std.proofs.Common.{◌≡◌, ◌<◌, ◌+◌, ◌%◌, ℕ, List, [], length, arith, ◌∙◌, ap}
 use Rattle.std.proofs.lemmas.List.{get_or_default}
 use Rattle.safe_bit.specs.Cell.{Cell}
-use Rattle.reader_copies.specs.Flags.{flag_in}
-use Rattle.registers.specs.Memory.{lane_of}
-use Rattle.reader_copies.specs.Wordwise.{after_write, over}
+use Rattle.reader_copies.specs.{after_write, flag_in, over}
+use Rattle.registers.specs.{lane_of}
 use Rattle.registers.proofs.Over.{lanes-above, length-over_lanes}
 use Rattle.registers.proofs.memory.BitMemory.write_lanes.Goals as goal
 

@@ -1,7 +1,6 @@
 use Rattle.std.proofs.Common.{◌≡◌, ◌%◌}
-use Rattle.reader_copies.specs.Flags.{flag_in}
-use Rattle.reader_copies.specs.Wordwise.{after_write, over}
-use Rattle.registers.specs.Wordwise.{over_lanes}
+use Rattle.reader_copies.specs.{after_write, flag_in, over}
+use Rattle.registers.specs.{over_lanes}
 use Rattle.registers.proofs.memory.BitMemory.write_lanes.Given as goal
 
 abbrev pub invariant-loop-copy : goal.invariant-loop-copy

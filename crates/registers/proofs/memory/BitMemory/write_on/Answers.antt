@@ -1,8 +1,6 @@
 use Rattle.std.proofs.Common.{◌≡◌, ◌+◌, arith, subst, sym, ◌∙◌, ap, List, ℕ}
 use Rattle.safe_bit.specs.Cell.{Cell}
-use Rattle.registers.specs.Accesses.{writes_of}
-use Rattle.registers.specs.Cursors.{CursorState}
-use Rattle.registers.specs.Loops.{HasWritten}
+use Rattle.registers.specs.{CursorState, HasWritten, writes_of}
 use Rattle.registers.proofs.Steps.{write-goes_far}
 use Rattle.registers.proofs.memory.BitMemory.write_on.Goals as goal
 

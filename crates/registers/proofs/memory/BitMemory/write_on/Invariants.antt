@@ -1,5 +1,5 @@
 use Rattle.std.proofs.Common.{◌-◌, ◌≤◌}
-use Rattle.registers.specs.Loops.{HasWritten}
+use Rattle.registers.specs.{HasWritten}
 use Rattle.registers.proofs.memory.BitMemory.write_on.Given as goal
 
 abbrev pub invariant-steps : goal.invariant-steps

@@ -1,9 +1,7 @@
 use Rattle.std.proofs.Common.{◌%◌, ℕ, List, ◌∙◌, ap}
 use Rattle.safe_bit.specs.Cell.{Cell}
-use Rattle.registers.specs.Cursors.{first_lane}
-use Rattle.reader_copies.specs.Flags.{flag_in}
-use Rattle.reader_copies.specs.Wordwise.{after_write, over}
-use Rattle.registers.specs.Wordwise.{over_lanes}
+use Rattle.registers.specs.{first_lane, over_lanes}
+use Rattle.reader_copies.specs.{after_write, flag_in, over}
 use Rattle.registers.proofs.AtOnce.{write-at_once}
 use Rattle.registers.proofs.memory.BitMemory.write_word.Goals as goal
 

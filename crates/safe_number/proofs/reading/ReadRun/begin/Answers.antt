@@ -1,7 +1,6 @@
 use Rattle.std.proofs.Common.{ap, ◌∙◌, true}
-use Rattle.reader_copies.specs.Runs.{Reading}
-use Rattle.safe_number.specs.Bytes.{bits_in}
-use Rattle.safe_number.specs.Runs.{NumberRead}
+use Rattle.reader_copies.specs.{Reading}
+use Rattle.safe_number.specs.{NumberRead, bits_in}
 use Rattle.safe_number.proofs.Numbers.{read-begins}
 use Rattle.safe_number.proofs.reading.ReadRun.begin.Goals as goal
 

@@ -1,7 +1,6 @@
 use Rattle.std.proofs.Common.{◌∙◌, ap, take, get_or, length, false, arith}
 use Rattle.std.proofs.lemmas.List.{length-take-le}
-use Rattle.safe_number.specs.Bytes.{bit_in}
-use Rattle.safe_number.specs.Runs.{NumberRead}
+use Rattle.safe_number.specs.{NumberRead, bit_in}
 use Rattle.safe_number.proofs.Numbers.{bits-told, length_bits}
 use Rattle.safe_number.proofs.reading.ReadRun.bytes.Goals as goal
 

@@ -1,8 +1,7 @@
 use Rattle.std.proofs.Common.{ℕ, ◌<◌, ◌++◌, ◌∷◌, [], ◌∙◌, ap, length, List, Bool, false, arith}
 use Rattle.std.proofs.lemmas.List.{length-set}
-use Rattle.reader_copies.specs.Runs.{Reading}
-use Rattle.safe_number.specs.Bytes.{bits_in}
-use Rattle.safe_number.specs.Runs.{NumberRead}
+use Rattle.reader_copies.specs.{Reading}
+use Rattle.safe_number.specs.{NumberRead, bits_in}
 use Rattle.safe_number.proofs.Numbers.{length_bits, bit_in-set_above, bits_in-more, read-ends}
 use Rattle.safe_number.proofs.reading.ReadRun.end.Goals as goal
 

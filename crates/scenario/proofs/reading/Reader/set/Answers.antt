@@ -1,11 +1,8 @@
 use Rattle.std.proofs.Common.{◌≡◌, ◌∙◌, true, Ok, ap, subst, sym}
 use Rattle.std.specs.Int.{is_in_range}
 use Rattle.std.specs.List.{list_all}
-use Rattle.plain_store.specs.Setups.{checked}
-use Rattle.plain_store.specs.declared.setups.Setup.{Setup}
-use Rattle.scenario.specs.Reading.{Progress, heading_set}
-use Rattle.scenario.specs.Setting.{most_of}
-use Rattle.scenario.specs.Statements.{is_line_of}
+use Rattle.plain_store.specs.{Setup, checked}
+use Rattle.scenario.specs.{Progress, heading_set, is_line_of, most_of}
 use Rattle.scenario.proofs.Good.{good_with_heading}
 use Rattle.scenario.proofs.reading.Reader.set.Goals as goal
 

@@ -1,6 +1,6 @@
 use Rattle.std.proofs.Common.{◌≡◌, ◌||◌, ap, sym, ◌∙◌, arith}
 use Rattle.std.specs.List.{list_any, range_with_len}
-use Rattle.snapshot.specs.Copies.{is_copy_changed}
+use Rattle.snapshot.specs.{is_copy_changed}
 use Rattle.snapshot.proofs.Ranges.{any_next}
 use Rattle.snapshot.proofs.copies.RegisterCopies.are_changed.Goals as goal
 

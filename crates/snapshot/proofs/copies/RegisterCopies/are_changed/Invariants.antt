@@ -1,8 +1,7 @@
 use Rattle.std.proofs.Common.{◌≡◌}
 use Rattle.std.specs.List.{list_any, range_with_len}
-use Rattle.record.specs.Entries.{Past}
-use Rattle.snapshot.specs.Knowing.{CoreShows}
-use Rattle.snapshot.specs.Copies.{is_copy_changed}
+use Rattle.record.specs.{Past}
+use Rattle.snapshot.specs.{CoreShows, is_copy_changed}
 use Rattle.snapshot.proofs.copies.RegisterCopies.are_changed.Given as goal
 
 -- one of the copies below is changed

@@ -1,8 +1,7 @@
 use Rattle.std.proofs.Common.{◌<◌, sym, ap, subst, ◌∙◌}
-use Rattle.plain_store.specs.declared.setups.Setup.{Setup}
-use Rattle.record.specs.declared.access.Access.{Access}
-use Rattle.record.specs.Registers.{width}
-use Rattle.snapshot.specs.Copies.{bit_at, held_in}
+use Rattle.plain_store.specs.{Setup}
+use Rattle.record.specs.{Access, width}
+use Rattle.snapshot.specs.{bit_at, held_in}
 use Rattle.snapshot.proofs.copies.RegisterCopies.bit.Goals as goal
 
 pub bit_seen-requires-clause-owner : goal.bit_seen-requires-clause-owner

@@ -1,9 +1,8 @@
 use Rattle.std.proofs.Common.{◌≡◌, ◌<◌, ◌||◌, sym, ap, subst, ◌∙◌, arith}
 use Rattle.std.specs.List.{list_any, range_with_len}
-use Rattle.plain_store.specs.declared.setups.Setup.{Setup}
-use Rattle.record.specs.declared.access.Access.{Access}
-use Rattle.record.specs.Registers.{opening_bit, width}
-use Rattle.snapshot.specs.Copies.{bit_at, copy_of, has_changed, held_in, is_changed, is_one}
+use Rattle.plain_store.specs.{Setup}
+use Rattle.record.specs.{Access, opening_bit, width}
+use Rattle.snapshot.specs.{bit_at, copy_of, has_changed, held_in, is_changed, is_one}
 use Rattle.snapshot.proofs.Ranges.{any_next}
 use Rattle.snapshot.proofs.copies.RegisterCopies.is_copy_changed.Goals as goal
 

@@ -3,9 +3,9 @@ use Rattle.std.proofs.lemmas.List.{length-append}
 use Rattle.std.proofs.lemmas.Result.{IfOk-weaker}
 use Rattle.std.specs.Prelude.{codes, is_none, map}
 use Rattle.std.specs.List.{list_any, range_with_len}
-use Rattle.record.specs.Registers.{width}
-use Rattle.safe_number.specs.Runs.{NumberRead}
-use Rattle.snapshot.specs.Copies.{bit_held, bits_held, copy_of, flickers, is_one, shown}
+use Rattle.record.specs.{width}
+use Rattle.safe_number.specs.{NumberRead}
+use Rattle.snapshot.specs.{bit_held, bits_held, copy_of, flickers, is_one, shown}
 use Rattle.snapshot.proofs.Ranges.{any_next, map_next}
 use Rattle.snapshot.proofs.copies.RegisterCopies.text.Goals as goal
 

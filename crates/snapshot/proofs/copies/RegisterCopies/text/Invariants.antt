@@ -1,10 +1,8 @@
 use Rattle.std.proofs.Common.{◌≡◌, false, length, map}
 use Rattle.std.specs.Prelude.{is_none}
 use Rattle.std.specs.List.{list_any, range_with_len}
-use Rattle.record.specs.Entries.{Past}
-use Rattle.record.specs.Registers.{width}
-use Rattle.snapshot.specs.Knowing.{CoreShows}
-use Rattle.snapshot.specs.Copies.{bit_held, copy_of, is_one}
+use Rattle.record.specs.{Past, width}
+use Rattle.snapshot.specs.{CoreShows, bit_held, copy_of, is_one}
 use Rattle.snapshot.proofs.copies.RegisterCopies.text.Given as goal
 
 -- the bits below were read

@@ -1,12 +1,9 @@
 use Rattle.std.proofs.Common.{◌≡◌, ◌++◌, ℕ, List, Option, ap, ◌∙◌, append_assoc}
 use Rattle.std.specs.Prelude.{option_map}
 use Rattle.std.specs.String.{string_bytes}
-use Rattle.calls.specs.read_law.laws.Doings.{Doing, doing}
-use Rattle.world.specs.process.Looks.{number_read, settling_of, ticket_known}
-use Rattle.world.specs.process.Places.{ProcessState, process_after}
-use Rattle.snapshot.specs.Doing.{busy_lines, failed_words, open_by, open_words, ticket_lines}
-use Rattle.snapshot.specs.Keeping.{call_kept}
-use Rattle.snapshot.specs.Lines.{line_if}
+use Rattle.calls.specs.read_law.laws.{Doing, doing}
+use Rattle.world.specs.process.{ProcessState, number_read, process_after, settling_of, ticket_known}
+use Rattle.snapshot.specs.{busy_lines, call_kept, failed_words, line_if, open_by, open_words, ticket_lines}
 use Rattle.snapshot.proofs.Stand.{ok_then}
 use Rattle.snapshot.proofs.known.Known.push.Goals as goal
 

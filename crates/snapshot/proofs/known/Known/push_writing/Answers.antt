@@ -1,8 +1,6 @@
 use Rattle.std.proofs.Common.{◌≡◌, ◌-◌, ◌++◌, subst, ◌∙◌}
 use Rattle.std.specs.Prelude.{codes}
-use Rattle.snapshot.specs.Doing.{ahead, progress_words, writes_before, writes_in_all}
-use Rattle.snapshot.specs.Knowing.{CoreShows}
-use Rattle.snapshot.specs.Lines.{process_line}
+use Rattle.snapshot.specs.{CoreShows, ahead, process_line, progress_words, writes_before, writes_in_all}
 use Rattle.snapshot.proofs.Stand.{ok_then}
 use Rattle.snapshot.proofs.known.Known.push_writing.Goals as goal
 

@@ -1,6 +1,6 @@
 use Rattle.std.proofs.Common.{◌≡◌, ◌∷◌, ◌<◌, ◌+◌, ◌-◌, ◌^◌, sym, ap, subst, ◌∙◌}
 use Rattle.std.specs.Prelude.{slice_index_or}
-use Rattle.snapshot.specs.States.{HasHeard, SnapshotState}
+use Rattle.snapshot.specs.{HasHeard, SnapshotState}
 use Rattle.snapshot.proofs.Keeps.{mark_heard, state_with}
 use Rattle.snapshot.proofs.snapshot.Snapshot.hear.Goals as goal
 

@@ -1,7 +1,6 @@
 use Rattle.std.proofs.Common.{◌≡◌, ◌<◌, sym, ap, subst, ◌∙◌}
 use Rattle.std.specs.Prelude.{slice_index_or}
-use Rattle.snapshot.specs.States.{HasHeard, SnapshotState}
-use Rattle.snapshot.specs.Keeping.{kept}
+use Rattle.snapshot.specs.{HasHeard, SnapshotState, kept}
 use Rattle.snapshot.proofs.Keeps.{kept_found}
 use Rattle.snapshot.proofs.snapshot.Snapshot.kept.Goals as goal
 

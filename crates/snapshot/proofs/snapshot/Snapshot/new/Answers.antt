@@ -1,8 +1,7 @@
 use Rattle.std.proofs.Common.{◌≡◌, ◌++◌, ◌∷◌, [], ap, refl, sym, ◌∙◌, arith, length, slice_get}
 use Rattle.std.specs.Prelude.{List}
 use Rattle.std.proofs.lemmas.List.FromFn.{length-map-range_with_len}
-use Rattle.snapshot.specs.Keeping.{nothing_kept}
-use Rattle.snapshot.specs.declared.kept.ProcessKept.{ProcessKept}
+use Rattle.snapshot.specs.{ProcessKept, nothing_kept}
 use Rattle.snapshot.proofs.Keeps.{nothing_more, nothing_there}
 use Rattle.snapshot.proofs.snapshot.Snapshot.new.Goals as goal
 

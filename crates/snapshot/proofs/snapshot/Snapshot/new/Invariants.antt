@@ -1,6 +1,6 @@
 use Rattle.std.proofs.Common.{◌≡◌, map}
 use Rattle.std.specs.List.{range_with_len}
-use Rattle.snapshot.specs.Keeping.{nothing_kept}
+use Rattle.snapshot.specs.{nothing_kept}
 use Rattle.snapshot.proofs.snapshot.Snapshot.new.Given as goal
 
 -- nothing is kept of the processes below

@@ -1,6 +1,5 @@
 use Rattle.std.proofs.Common.{◌+◌, sym, subst}
-use Rattle.snapshot.specs.Keeping.{Passes}
-use Rattle.snapshot.specs.States.{HasHeard, SnapshotState}
+use Rattle.snapshot.specs.{HasHeard, Passes, SnapshotState}
 use Rattle.snapshot.proofs.Keeps.{pass_heard}
 use Rattle.snapshot.proofs.snapshot.Snapshot.pass.Goals as goal
 

@@ -1,10 +1,6 @@
 use Rattle.std.proofs.Common.{List, ◌++◌, flat_map, ap, ◌∙◌, append_assoc}
-use Rattle.record.specs.declared.history.Taken.{Taken}
-use Rattle.record.specs.Registers.{processes}
-use Rattle.snapshot.specs.Copies.{register_lines}
-use Rattle.snapshot.specs.Processes.{process_lines}
-use Rattle.snapshot.specs.States.{SnapshotState}
-use Rattle.snapshot.specs.Stores.{history_lines}
+use Rattle.record.specs.{Taken, processes}
+use Rattle.snapshot.specs.{SnapshotState, history_lines, process_lines, register_lines}
 use Rattle.snapshot.proofs.Stand.{core_shows, ok_then, taken_is}
 use Rattle.snapshot.proofs.snapshot.Snapshot.print.Goals as goal
 

@@ -1,21 +1,12 @@
 use Rattle.std.proofs.Common.{◌≡◌, ◌++◌, ℕ, false, List, Option, None, Some, Ok, sym, ap, subst, ◌∙◌}
-use Rattle.plain_store.specs.declared.setups.Setup.{Setup}
-use Rattle.plain_store.specs.Setups.{checked}
-use Rattle.record.specs.declared.access.Access.{Access}
-use Rattle.record.specs.declared.events.Event.{Event}
+use Rattle.plain_store.specs.{Setup, checked}
+use Rattle.record.specs.{Access, Entry, Event, Past, entry_of, past_of}
 use Rattle.record.specs.declared.events.Event.TheVariants.{Step}
-use Rattle.record.specs.Entries.{Entry, Past}
-use Rattle.record.specs.Records.{entry_of, past_of}
 use Rattle.record.proofs.Width.{is_good}
-use Rattle.calls.specs.read_law.laws.Held.{IsThere}
+use Rattle.calls.specs.read_law.laws.{Doing, IsThere, doing}
 use Rattle.calls.proofs.read_law.laws.HeldThere.{access_there}
-use Rattle.calls.specs.read_law.laws.Doings.{Doing, doing}
-use Rattle.world.specs.process.Looks.{number_read, settling_of, ticket_known}
-use Rattle.snapshot.specs.declared.kept.ProcessKept.{ProcessKept}
-use Rattle.snapshot.specs.Doing.{access_in, busy_lines, doing_by, doing_lines, doing_with, failed_words, open_words}
-use Rattle.snapshot.specs.Keeping.{call_kept, kept}
-use Rattle.snapshot.specs.Lines.{line_if}
-use Rattle.snapshot.specs.States.{SnapshotState, Stands}
+use Rattle.world.specs.process.{number_read, settling_of, ticket_known}
+use Rattle.snapshot.specs.{ProcessKept, SnapshotState, Stands, access_in, busy_lines, call_kept, doing_by, doing_lines, doing_with, failed_words, kept, line_if, open_words}
 use Rattle.snapshot.proofs.OfCalls.{tickets_kept}
 use Rattle.snapshot.proofs.Stand.{core_shows, ok_then, past_is}
 use Rattle.snapshot.proofs.snapshot.Snapshot.push_doing.Goals as goal

@@ -1,9 +1,6 @@
 use Rattle.std.proofs.Common.{◌≡◌, Bool, true, false, cond, ◌++◌, None, Some, ap, sym, ◌∙◌}
-use Rattle.record.specs.Calls.{calls_in}
-use Rattle.record.specs.Entries.{own}
-use Rattle.record.specs.Stages.{stage}
-use Rattle.snapshot.specs.Processes.{is_resting, lines_at, rest_line, running_lines}
-use Rattle.snapshot.specs.declared.kept.ProcessKept.{ProcessKept}
+use Rattle.record.specs.{calls_in, own, stage}
+use Rattle.snapshot.specs.{ProcessKept, is_resting, lines_at, rest_line, running_lines}
 use Rattle.snapshot.proofs.Stand.{ok_then, stage_is}
 use Rattle.snapshot.proofs.snapshot.Snapshot.push_process.Goals as goal
 

@@ -1,7 +1,6 @@
 use Rattle.std.proofs.Common.{◌≡◌, ◌++◌, flat_map, ap, sym, ◌∙◌, arith, append-nil}
 use Rattle.std.specs.List.{range_with_len}
-use Rattle.snapshot.specs.Processes.{process_lines}
-use Rattle.snapshot.specs.States.{SnapshotState}
+use Rattle.snapshot.specs.{SnapshotState, process_lines}
 use Rattle.snapshot.proofs.Ranges.{text_more}
 use Rattle.snapshot.proofs.snapshot.Snapshot.push_processes.Goals as goal
 

@@ -1,8 +1,7 @@
 use Rattle.std.proofs.Common.{◌≡◌, ◌++◌, flat_map}
 use Rattle.std.specs.List.{range_with_len}
-use Rattle.record.specs.Entries.{Past}
-use Rattle.snapshot.specs.Processes.{process_lines}
-use Rattle.snapshot.specs.States.{Stands}
+use Rattle.record.specs.{Past}
+use Rattle.snapshot.specs.{Stands, process_lines}
 use Rattle.snapshot.proofs.snapshot.Snapshot.push_processes.Given as goal
 
 -- the lines of those below were written

@@ -1,10 +1,7 @@
 use Rattle.std.proofs.Common.{◌≡◌, ℕ, false, true, List, ◌++◌, refl, ap, ◌∙◌, append_assoc}
 use Rattle.record.specs.declared.events.Event.TheVariants.{Step}
-use Rattle.calls.specs.Hearing.{open_call}
-use Rattle.snapshot.specs.Keeping.{call_kept}
-use Rattle.snapshot.specs.Doing.{doing_lines}
-use Rattle.snapshot.specs.Lines.{open_lines, process_line, stage_word}
-use Rattle.snapshot.specs.Processes.{lines_of_two, words_added}
+use Rattle.calls.specs.{open_call}
+use Rattle.snapshot.specs.{call_kept, doing_lines, lines_of_two, open_lines, process_line, stage_word, words_added}
 use Rattle.snapshot.proofs.OfCalls.{lines_kept}
 use Rattle.snapshot.proofs.Stand.{added_is, ok_then, taken_is}
 use Rattle.snapshot.proofs.snapshot.Snapshot.push_running.Goals as goal

@@ -1,7 +1,6 @@
 use Rattle.std.proofs.Common.{◌≡◌, ◌∷◌, ◌<◌, ◌+◌, sym, ap, subst, ◌∙◌}
 use Rattle.std.specs.Prelude.{slice_index_or}
-use Rattle.snapshot.specs.States.{HasHeard, SnapshotState}
-use Rattle.snapshot.specs.Keeping.{TellsNumber}
+use Rattle.snapshot.specs.{HasHeard, SnapshotState, TellsNumber}
 use Rattle.snapshot.proofs.Keeps.{state_with, step_heard}
 use Rattle.snapshot.proofs.snapshot.Snapshot.step.Goals as goal
 

@@ -1,6 +1,6 @@
 use Rattle.std.proofs.Common.{◌≡◌, ◌∙◌, ap, ◌+◌, ◌*◌, arith}
 use Rattle.store_image.proofs.ImageBytes.{take-kept, store_kept}
-use Rattle.store_image.specs.Image.{image_of}
+use Rattle.store_image.specs.{image_of}
 use Rattle.store_image.proofs.image.Image.bytes.Goals as goal
 
 pub returns-clause-image : goal.returns-clause-image

@@ -1,6 +1,6 @@
 use Rattle.std.proofs.Common.{refl}
 use Rattle.store_image.proofs.ImageBytes.{IsImage-empty_store, IsStore-empty_store, kept_image, store_read-image}
-use Rattle.plain_store.specs.Store.{empty_store}
+use Rattle.plain_store.specs.{empty_store}
 use Rattle.store_image.proofs.image.Image.empty.Goals as goal
 
 pub invariant_of-result : goal.invariant_of-result

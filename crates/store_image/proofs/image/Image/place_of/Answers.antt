@@ -1,6 +1,6 @@
 use Rattle.std.proofs.Common.{◌≡◌, ◌≤◌, ◌∙◌, length, sym, arith}
 use Rattle.store_image.proofs.Puts.{place_found, place_passed, place_ended}
-use Rattle.store_image.specs.Slots.{pair_in}
+use Rattle.store_image.specs.{pair_in}
 use Rattle.store_image.proofs.image.Image.place_of.Goals as goal
 
 pub returns-then-has_name : goal.returns-then-has_name

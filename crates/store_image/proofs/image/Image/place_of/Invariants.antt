@@ -1,5 +1,5 @@
 use Rattle.std.proofs.Common.{◌≡◌, ◌+◌, drop}
-use Rattle.store_image.specs.Placing.{place_of}
+use Rattle.store_image.specs.{place_of}
 use Rattle.store_image.proofs.image.Image.place_of.Given as goal
 
 -- the places passed, and the place among the rest

@@ -2,9 +2,8 @@ use Rattle.std.proofs.Common.{◌≡◌, ◌∙◌, ◌⊎◌, inl, inr, ◌≤�
 use Rattle.std.proofs.lemmas.Bool.Decides.{nat_tests}
 use Rattle.store_image.proofs.ImageBytes.{kept_image, store_read-image, IsImage}
 use Rattle.store_image.proofs.Readings.{image_read, image_slots, image_is_length, image_follows, IsImage-read, used_in-le, store_in-image, store_in_cases}
-use Rattle.store_image.specs.Image.{store_read}
-use Rattle.store_image.specs.Reading.{IsImageOf, IsFault, IsFirstBad, is_length, slot_count, follows_rules, used_in, store_in}
-use Rattle.plain_store.specs.Store.{Contents, empty_store}
+use Rattle.store_image.specs.{IsFault, IsFirstBad, IsImageOf, follows_rules, is_length, slot_count, store_in, store_read, used_in}
+use Rattle.plain_store.specs.{Contents, empty_store}
 use Rattle.store_image.specs.declared.image.BadImage.TheVariants.{Length, Slot}
 use Rattle.store_image.proofs.image.Image.read.Goals as goal
 

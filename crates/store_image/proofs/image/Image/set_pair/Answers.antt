@@ -1,7 +1,7 @@
 use Rattle.std.proofs.Common.{◌≡◌, ◌∙◌, ◌+◌, ◌-◌, ◌*◌, ◌++◌, take, drop, refl, arith}
 use Rattle.store_image.proofs.ImageBytes.{image_kept, store_kept, kept_image, store_read-image, IsImage}
 use Rattle.store_image.proofs.Puts.{with_pair, IsStore-with_pair, IsImage-with_pair}
-use Rattle.store_image.specs.Image.{IsStore}
+use Rattle.store_image.specs.{IsStore}
 use Rattle.store_image.proofs.image.Image.set_pair.Goals as goal
 
 store : (c : goal.After-copy_from_slice) → IsStore c.args.self.now

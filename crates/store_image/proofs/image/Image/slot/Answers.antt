@@ -1,6 +1,6 @@
 use Rattle.std.proofs.Common.{◌≡◌, ℕ, ◌+◌, ◌-◌, ◌*◌, List, take, drop, Some, refl, ap, sym, ◌∙◌, arith}
 use Rattle.store_image.proofs.ImageBytes.{image_kept, store_kept, slot_there, IsSlotAt}
-use Rattle.store_image.specs.Slots.{is_used, pair_in}
+use Rattle.store_image.specs.{is_used, pair_in}
 use Rattle.store_image.proofs.image.Image.slot.Goals as goal
 
 there : (c : goal.After-result-1) → IsSlotAt c.args.self.now c.args.place (take 23 (drop (23 * c.args.place) c.self.inside.bytes))

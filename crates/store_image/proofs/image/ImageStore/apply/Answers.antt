@@ -1,10 +1,7 @@
 use Rattle.std.proofs.Common.{◌≡◌, ◌<◌, ◌∙◌, IsSome, subst, length, nat_lt, arith}
 use Rattle.store_image.proofs.Puts.{written_room}
-use Rattle.plain_store.specs.Commands.{name_of}
-use Rattle.plain_store.specs.Outcomes.{outcome}
-use Rattle.store_image.specs.Placing.{place_for}
-use Rattle.plain_store.specs.Store.{value_for}
-use Rattle.plain_store.specs.declared.outcomes.Outcome.{Outcome}
+use Rattle.plain_store.specs.{Outcome, name_of, outcome, value_for}
+use Rattle.store_image.specs.{place_for}
 use Rattle.store_image.proofs.image.ImageStore.apply.Goals as goal
 
 pub write-requires-clause-room : goal.write-requires-clause-room

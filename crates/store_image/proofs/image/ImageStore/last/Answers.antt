@@ -1,8 +1,8 @@
 use Rattle.std.proofs.Common.{◌≡◌, ◌∙◌, ◌<◌, ◌≤◌, ◌+◌, ◌-◌, ◌*◌, take, drop, length, ap, sym, arith}
 use Rattle.std.proofs.lemmas.List.{get_or_past}
 use Rattle.store_image.proofs.ImageBytes.{image_kept, store_kept, number_there, IsImage}
-use Rattle.store_image.specs.Image.{number_in}
-use Rattle.plain_store.specs.Padding.{padded}
+use Rattle.store_image.specs.{number_in}
+use Rattle.plain_store.specs.{padded}
 use Rattle.store_image.proofs.image.ImageStore.last.Goals as goal
 
 pub returns-then-process-self : goal.returns-then-process-self

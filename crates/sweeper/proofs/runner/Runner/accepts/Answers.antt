@@ -1,7 +1,6 @@
 use Rattle.std.proofs.Common.{◌≡◌, List, subst}
-use Rattle.record.specs.declared.events.Event.{Event}
-use Rattle.sweeper.specs.Runners.{Follows, RunnerState}
-use Rattle.sweeper.specs.Sweeps.{is_accepted}
+use Rattle.record.specs.{Event}
+use Rattle.sweeper.specs.{Follows, RunnerState, is_accepted}
 use Rattle.sweeper.proofs.Making.{accepts_is}
 use Rattle.sweeper.proofs.runner.Runner.accepts.Goals as goal
 

@@ -1,6 +1,5 @@
 use Rattle.std.proofs.Common.{◌≡◌, ◌≤◌, ◌+◌, ◌*◌, take}
-use Rattle.sweeper.specs.Runners.{IsRun, due}
-use Rattle.sweeper.specs.Sweeps.{Run, with_calls}
+use Rattle.sweeper.specs.{IsRun, Run, due, with_calls}
 use Rattle.sweeper.proofs.runner.Runner.calls.Given as goal
 
 -- the calls before the present one are made

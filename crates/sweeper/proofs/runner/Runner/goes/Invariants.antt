@@ -1,9 +1,8 @@
 use Rattle.std.proofs.Common.{◌≡◌, false, List}
 use Rattle.std.specs.List.{list_any, range_with_len}
-use Rattle.record.specs.declared.events.Event.{Event}
+use Rattle.record.specs.{Event}
 use Rattle.record.specs.declared.events.Event.TheVariants.{Step}
-use Rattle.sweeper.specs.Runners.{Follows}
-use Rattle.sweeper.specs.Sweeps.{is_accepted}
+use Rattle.sweeper.specs.{Follows, is_accepted}
 use Rattle.sweeper.proofs.runner.Runner.goes.Given as goal
 
 -- none of those below the present process has a step to make

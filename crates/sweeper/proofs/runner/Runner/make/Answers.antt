@@ -1,12 +1,10 @@
 use Rattle.std.proofs.Common.{◌≡◌, ◌+◌, ◌≤◌, List, ◌∷◌, true, false, cond, None, ap, sym, subst, ◌∙◌}
-use Rattle.plain_store.specs.declared.Setup.{Setup}
-use Rattle.record.specs.declared.events.Event.{Event}
-use Rattle.record.specs.Records.{is_call}
-use Rattle.world.specs.Cores.{CoreState}
-use Rattle.sweeper.specs.Runners.{Follows, RunnerState, RunsOn, due}
-use Rattle.sweeper.specs.Sweeps.{is_accepted}
+use Rattle.plain_store.specs.{Setup}
+use Rattle.record.specs.{Event, is_call}
+use Rattle.world.specs.{CoreState}
+use Rattle.sweeper.specs.{Follows, RunnerState, RunsOn, due, is_accepted}
 use Rattle.sweeper.proofs.Dues.{few_made, few_seats}
-use Rattle.auditor.specs.read_law.Entries.{entry_by}
+use Rattle.auditor.specs.read_law.{entry_by}
 use Rattle.sweeper.proofs.Making.{IsAnswered, IsMade, follows_made, follows_refused, made_accepted, none_broken, refused_left}
 use Rattle.sweeper.proofs.runner.Runner.make.Goals as goal
 use Rattle.sweeper.proofs.runner.Runner.make.Goals.{After-more-self-inside}

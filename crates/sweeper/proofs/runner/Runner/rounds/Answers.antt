@@ -1,8 +1,7 @@
 use Rattle.std.proofs.Common.{◌≡◌, ◌<◌, List, refl, sym, subst, ◌∙◌, arith}
-use Rattle.plain_store.specs.declared.Setup.{Setup}
-use Rattle.record.specs.declared.events.Event.{Event}
-use Rattle.sweeper.specs.Runners.{Follows, RunsOn}
-use Rattle.sweeper.specs.Sweeps.{goes, round}
+use Rattle.plain_store.specs.{Setup}
+use Rattle.record.specs.{Event}
+use Rattle.sweeper.specs.{Follows, RunsOn, goes, round}
 use Rattle.sweeper.proofs.Going.{going_ended, going_on, going_over}
 use Rattle.sweeper.proofs.runner.Runner.rounds.Goals as goal
 

@@ -1,7 +1,6 @@
 use Rattle.std.proofs.Common.{◌≡◌, ◌≤◌, List}
-use Rattle.record.specs.declared.events.Event.{Event}
-use Rattle.sweeper.specs.Runners.{Follows, due}
-use Rattle.sweeper.specs.Sweeps.{goes, round}
+use Rattle.record.specs.{Event}
+use Rattle.sweeper.specs.{Follows, due, goes, round}
 use Rattle.sweeper.proofs.Going.{Going}
 use Rattle.sweeper.proofs.runner.Runner.rounds.Given as goal
 

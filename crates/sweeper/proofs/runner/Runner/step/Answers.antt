@@ -1,15 +1,12 @@
 use Rattle.std.proofs.Common.{◌≡◌, List, ◌∷◌, false, true, map, None, Some, ap, refl, sym, subst, ◌∙◌}
-use Rattle.plain_store.specs.declared.Setup.{Setup}
-use Rattle.record.specs.declared.events.Event.{Event}
+use Rattle.plain_store.specs.{Setup}
+use Rattle.record.specs.{Event, Mark, placed}
 use Rattle.record.specs.declared.events.Event.TheVariants.{Step}
-use Rattle.record.specs.declared.marks.Mark.{Mark}
-use Rattle.record.specs.Records.{placed}
 use Rattle.world.specs.process.declared.told.Effect.TheVariants.{Steps}
-use Rattle.world.specs.process.Telling.{marks_told}
-use Rattle.world.specs.Cores.{CoreState}
-use Rattle.sweeper.specs.Runners.{Follows, RunnerState, RunsOn}
-use Rattle.sweeper.specs.Sweeps.{is_accepted}
-use Rattle.auditor.specs.read_law.Entries.{entry_by}
+use Rattle.world.specs.process.{marks_told}
+use Rattle.world.specs.{CoreState}
+use Rattle.sweeper.specs.{Follows, RunnerState, RunsOn, is_accepted}
+use Rattle.auditor.specs.read_law.{entry_by}
 use Rattle.sweeper.proofs.Making.{IsAnswered, IsMade, follows_made, follows_refused, made_accepted, none_broken, refused_left}
 use Rattle.sweeper.proofs.runner.Runner.step.Goals as goal
 use Rattle.sweeper.proofs.runner.Runner.step.Goals.{After-more-self-inside}

@@ -1,9 +1,8 @@
 use Rattle.std.proofs.Common.{◌≡◌, ◌<◌, List, ◌∷◌, refl, sym, subst, ◌∙◌, arith}
-use Rattle.plain_store.specs.declared.Setup.{Setup}
-use Rattle.record.specs.declared.events.Event.{Event}
+use Rattle.plain_store.specs.{Setup}
+use Rattle.record.specs.{Event}
 use Rattle.record.specs.declared.events.Event.TheVariants.{Step}
-use Rattle.sweeper.specs.Runners.{Follows, RunnerState}
-use Rattle.sweeper.specs.Sweeps.{is_accepted, steps_of}
+use Rattle.sweeper.specs.{Follows, RunnerState, is_accepted, steps_of}
 use Rattle.sweeper.proofs.Going.{going_ended, going_on, going_over}
 use Rattle.sweeper.proofs.runner.Runner.walk.Goals as goal
 

@@ -1,8 +1,7 @@
 use Rattle.std.proofs.Common.{◌≡◌, ◌≤◌, List, ◌∷◌}
-use Rattle.record.specs.declared.events.Event.{Event}
+use Rattle.record.specs.{Event}
 use Rattle.record.specs.declared.events.Event.TheVariants.{Step}
-use Rattle.sweeper.specs.Runners.{Follows, due}
-use Rattle.sweeper.specs.Sweeps.{is_accepted}
+use Rattle.sweeper.specs.{Follows, due, is_accepted}
 use Rattle.sweeper.proofs.Going.{Going}
 use Rattle.sweeper.proofs.runner.Runner.walk.Given as goal
 

@@ -1,7 +1,5 @@
 use Rattle.std.proofs.Common.{◌≡◌, [], ◌∷◌, ◌++◌, None, ap, sym, subst, ◌∙◌}
-use Rattle.sweeper.specs.declared.swept.Swept.{Swept}
-use Rattle.sweeper.specs.Sweeps.{cut}
-use Rattle.sweeper.specs.Tallies.{Counts, counted}
+use Rattle.sweeper.specs.{Counts, Swept, counted, cut}
 use Rattle.sweeper.proofs.Counting.{run_counts}
 use Rattle.sweeper.proofs.sweeping.Sweeper.run.Goals as goal
 

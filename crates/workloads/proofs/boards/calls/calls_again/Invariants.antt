@@ -1,4 +1,4 @@
-use Rattle.board_runs.specs.board.Boards.{IsOf}
+use Rattle.board_runs.specs.board.{IsOf}
 use Rattle.workloads.proofs.boards.calls.calls_again.Given as goal
 
 abbrev pub invariant-loop : goal.invariant-loop

@@ -1,5 +1,4 @@
-use Rattle.board_runs.specs.board.Boards.{IsOf}
-use Rattle.board_runs.specs.board.Ports.{SamePort}
+use Rattle.board_runs.specs.board.{IsOf, SamePort}
 use Rattle.workloads.proofs.boards.calls.calls_alone.Given as goal
 
 abbrev pub invariant-loop : goal.invariant-loop

@@ -1,7 +1,6 @@
 use Rattle.std.proofs.Common.{◌≡◌, ◌<◌, ◌≤◌, true, false, length, sym, subst, ap, ◌∙◌, arith}
-use Rattle.record.specs.Doorways.{ahead}
-use Rattle.world.specs.Cores.{CoreState, InEachCorePast}
-use Rattle.world.specs.Queue.{listed}
+use Rattle.record.specs.{ahead}
+use Rattle.world.specs.{CoreState, InEachCorePast, listed}
 use Rattle.world.proofs.WorldAsks.{ahead-beyond, ahead-there}
 use Rattle.world.proofs.WorldOpen.{seat-indexed}
 use Rattle.world.proofs.cores.Core.ahead.Goals as goal

@@ -1,7 +1,7 @@
 use Rattle.std.proofs.Common.{◌≡◌, subst, ap, sym, ◌∙◌}
-use Rattle.laws.specs.Held.{IsThere, cell_held}
-use Rattle.process.specs.registers.reader_copies.Seeing.{bit_seen}
-use Rattle.world.specs.Cores.{CoreState, InEachCorePast}
+use Rattle.laws.specs.{IsThere, cell_held}
+use Rattle.process.specs.registers.reader_copies.{bit_seen}
+use Rattle.world.specs.{CoreState, InEachCorePast}
 use Rattle.world.proofs.CoreCopies.{registers-are}
 use Rattle.world.proofs.CoreLooks.{cell-shown}
 use Rattle.world.proofs.cores.Core.bit_seen.Goals as goal

@@ -1,12 +1,9 @@
 use Rattle.std.proofs.Common.{◌≡◌, false, None, refl, sym, ap, slice_set, subst, ◌∙◌, arith, ◌<◌}
-use Rattle.record.specs.declared.events.Event.{Event}
+use Rattle.record.specs.{Event}
 use Rattle.record.specs.declared.events.Event.TheVariants.{Call}
 use Rattle.process.specs.declared.told.Effect.TheVariants.{Calls}
-use Rattle.process.specs.Places.{ProcessState, next_number}
-use Rattle.world.specs.Changes.{waiting_in}
-use Rattle.world.specs.Cores.{CoreState}
-use Rattle.world.specs.Going.{core_after}
-use Rattle.world.specs.Seats.{seat_called}
+use Rattle.process.specs.{ProcessState, next_number}
+use Rattle.world.specs.{CoreState, core_after, seat_called, waiting_in}
 use Rattle.world.proofs.CoreCode.{call-counts, call-idle, untold-after}
 use Rattle.world.proofs.CoreKeeps.{IsNext, core_in, next-at, next-goes, next-keeps}
 use Rattle.world.proofs.cores.Core.call.Goals as goal

@@ -1,7 +1,6 @@
 use Rattle.std.proofs.Common.{ap, sym, subst, ◌∙◌}
-use Rattle.process.specs.registers.Openings.{AreOf}
-use Rattle.world.specs.Cores.{CoreState}
-use Rattle.world.specs.Seats.{setups_in}
+use Rattle.process.specs.registers.{AreOf}
+use Rattle.world.specs.{CoreState, setups_in}
 use Rattle.world.proofs.CoreCopies.{registers-are, seats-alike}
 use Rattle.world.proofs.cores.Core.copy_from.Goals as goal
 

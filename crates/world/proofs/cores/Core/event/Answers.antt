@@ -1,5 +1,5 @@
 use Rattle.std.proofs.Common.{subst}
-use Rattle.world.specs.Cores.{CoreRefuses}
+use Rattle.world.specs.{CoreRefuses}
 use Rattle.world.proofs.cores.Core.event.Goals as goal
 
 pub make_event-requires : goal.make_event-requires

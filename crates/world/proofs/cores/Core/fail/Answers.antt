@@ -2,9 +2,7 @@ use Rattle.std.proofs.Common.{◌≡◌, ◌++◌, false, None, length, take, dr
 use Rattle.std.proofs.lemmas.List.{length-set}
 use Rattle.record.specs.declared.events.Event.TheVariants.{Fail}
 use Rattle.process.specs.declared.told.Effect.TheVariants.{Fails}
-use Rattle.world.specs.Changes.{told}
-use Rattle.world.specs.Cores.{CoreState}
-use Rattle.world.specs.Going.{core_after}
+use Rattle.world.specs.{CoreState, core_after, told}
 use Rattle.world.proofs.CoreCode.{fail-may, fail-waits, seated, told-after}
 use Rattle.world.proofs.CoreKeeps.{IsNext, core_in, next-at, next-goes, next-keeps}
 use Rattle.world.proofs.WorldOpen.{IsSeated}

@@ -1,9 +1,7 @@
 use Rattle.std.proofs.Common.{◌<◌, ◌≤◌, ℕ, Option, None, Some, length, sym, ap, ◌∙◌, arith}
 use Rattle.std.proofs.lemmas.Option.{slice_get_past}
-use Rattle.process.specs.Places.{left_at}
-use Rattle.world.specs.Cores.{CoreState}
-use Rattle.world.specs.Seats.{Seat}
-use Rattle.world.specs.Walks.{left_in}
+use Rattle.process.specs.{left_at}
+use Rattle.world.specs.{CoreState, Seat, left_in}
 use Rattle.world.proofs.WorldOpen.{seat-indexed}
 use Rattle.world.proofs.cores.Core.left.Goals as goal
 

@@ -1,7 +1,6 @@
 use Rattle.std.proofs.Common.{None, Some, sym, subst}
 use Rattle.process.specs.declared.told.Effect.TheVariants as effect
-use Rattle.world.specs.Cores.{CoreRefuses}
-use Rattle.world.specs.Going.{CoreGoes}
+use Rattle.world.specs.{CoreGoes, CoreRefuses}
 use Rattle.world.proofs.cores.Core.make_event.Goals as goal
 
 pub call-requires-clause-accepted : goal.call-requires-clause-accepted

@@ -1,15 +1,11 @@
 use Rattle.std.proofs.Common.{◌≡◌, ◌++◌, ◌∙◌, ap, Some, length, take, drop, refl, slice_set, arith}
 use Rattle.std.proofs.lemmas.List.{length-set}
-use Rattle.record.specs.declared.access.Access.{Access}
+use Rattle.record.specs.{Access, value_of}
 use Rattle.record.specs.declared.events.Event.TheVariants.{Step}
-use Rattle.record.specs.Places.{value_of}
-use Rattle.process.specs.registers.Accesses.{applied}
+use Rattle.process.specs.registers.{applied}
 use Rattle.process.specs.declared.told.Effect.TheVariants.{Steps}
-use Rattle.process.specs.Places.{marks_on, stepped}
-use Rattle.world.specs.Changes.{told}
-use Rattle.world.specs.Cores.{CoreState}
-use Rattle.world.specs.Going.{core_after, registers_after, seat_after}
-use Rattle.world.specs.Seats.{is_waiting, seat_stepped}
+use Rattle.process.specs.{marks_on, stepped}
+use Rattle.world.specs.{CoreState, core_after, is_waiting, registers_after, seat_after, seat_stepped, told}
 use Rattle.world.proofs.CoreCode.{seated, step-may, told-after}
 use Rattle.world.proofs.CoreKeeps.{IsNext, core_in, next-at, next-goes, next-keeps}
 use Rattle.world.proofs.CoreOverlaps.{tells-overlapped}

@@ -1,7 +1,7 @@
 use Rattle.std.proofs.Common.{arith, set}
 use Rattle.process.specs.declared.told.Effect.TheVariants.{Steps}
 use Rattle.process.specs.declared.told.StepTold.TheVariants.{Nothing}
-use Rattle.world.specs.Cores.{CoreState}
+use Rattle.world.specs.{CoreState}
 use Rattle.world.proofs.CoreCode.{IsLeft, IsOne, is-left, is-one, left-there, seated}
 use Rattle.world.proofs.CoreOverlaps.{tells-overlapped}
 use Rattle.world.proofs.CoreWalks.{quietly-by}

@@ -1,7 +1,7 @@
 use Rattle.std.proofs.Common.{◌≡◌, ◌++◌, ◌∷◌, List, [], map, sym, ap, ◌∙◌, arith}
 use Rattle.std.specs.List.{range_with_len}
 use Rattle.std.proofs.lemmas.List.FromFn.{map-range_with_len_more}
-use Rattle.world.specs.Seats.{Seat, seat_of}
+use Rattle.world.specs.{Seat, seat_of}
 use Rattle.world.proofs.CoreNew.{new-shows}
 use Rattle.world.proofs.cores.Core.new.Goals as goal
 

@@ -1,6 +1,6 @@
 use Rattle.std.proofs.Common.{◌≡◌, [], map}
 use Rattle.std.specs.List.{range_with_len}
-use Rattle.world.specs.Seats.{seat_of}
+use Rattle.world.specs.{seat_of}
 use Rattle.world.proofs.cores.Core.new.Given as goal
 
 abbrev pub invariant-loop-process : goal.invariant-loop-process

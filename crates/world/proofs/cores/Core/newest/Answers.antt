@@ -1,10 +1,9 @@
 use Rattle.std.proofs.Common.{◌≡◌, Some, None, sym, ap, subst, ◌∙◌}
 use Rattle.std.specs.List.{list_any}
-use Rattle.record.specs.store_image.Image.{image_of}
-use Rattle.record.specs.Newest.{newest}
-use Rattle.laws.specs.Doings.{is_inside}
-use Rattle.world.specs.Cores.{CoreState, InEachCorePast}
-use Rattle.world.specs.Seats.{Seat}
+use Rattle.record.specs.store_image.{image_of}
+use Rattle.record.specs.{newest}
+use Rattle.laws.specs.{is_inside}
+use Rattle.world.specs.{CoreState, InEachCorePast, Seat}
 use Rattle.world.proofs.CoreCopies.{registers-are}
 use Rattle.world.proofs.WorldNewest.{newest-none, newest-told}
 use Rattle.world.proofs.cores.Core.newest.Goals as goal

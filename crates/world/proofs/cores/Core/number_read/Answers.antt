@@ -1,8 +1,7 @@
 use Rattle.std.proofs.Common.{◌≡◌, ◌<◌, ◌≤◌, length, subst, ap, sym, ◌∙◌, arith}
-use Rattle.laws.specs.Doings.{doing}
-use Rattle.process.specs.Looks.{number_read}
-use Rattle.process.specs.Places.{ProcessState}
-use Rattle.world.specs.Cores.{CoreState, InEachCorePast}
+use Rattle.laws.specs.{doing}
+use Rattle.process.specs.{ProcessState, number_read}
+use Rattle.world.specs.{CoreState, InEachCorePast}
 use Rattle.world.proofs.CoreLooks.{none-shown, process-shown}
 use Rattle.world.proofs.WorldOpen.{seat-indexed}
 use Rattle.world.proofs.cores.Core.number_read.Goals as goal

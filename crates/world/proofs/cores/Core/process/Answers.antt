@@ -1,6 +1,6 @@
 use Rattle.std.proofs.Common.{◌≡◌, ◌<◌, length, subst, ap, ◌∙◌, arith}
-use Rattle.process.specs.Places.{process_after}
-use Rattle.world.specs.Cores.{CoreState, InEachCorePast, with_history}
+use Rattle.process.specs.{process_after}
+use Rattle.world.specs.{CoreState, InEachCorePast, with_history}
 use Rattle.world.proofs.CoreLooks.{process-shown}
 use Rattle.world.proofs.WorldOpen.{many-seats, seat-indexed}
 use Rattle.world.proofs.cores.Core.process.Goals as goal

@@ -1,8 +1,8 @@
 use Rattle.std.proofs.Common.{◌<◌, ◌≤◌, Some, length, sym, subst, ap, ◌∙◌, arith}
 use Rattle.record.specs.declared.refusals.Refusal.TheVariants.{NoProcess}
-use Rattle.record.specs.Records.{process_of}
-use Rattle.process.specs.Places.{ProcessState, refusal_of}
-use Rattle.world.specs.Cores.{CoreRefuses, CoreState}
+use Rattle.record.specs.{process_of}
+use Rattle.process.specs.{ProcessState, refusal_of}
+use Rattle.world.specs.{CoreRefuses, CoreState}
 use Rattle.world.proofs.CoreRefused.{refused-beyond, refused-told}
 use Rattle.world.proofs.WorldOpen.{seat-indexed}
 use Rattle.world.proofs.cores.Core.refusal.Goals as goal

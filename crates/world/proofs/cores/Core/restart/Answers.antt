@@ -1,8 +1,7 @@
 use Rattle.std.proofs.Common.{◌≡◌, false, None, refl, slice_set, sym, arith}
 use Rattle.record.specs.declared.events.Event.TheVariants.{Restart}
 use Rattle.process.specs.declared.told.Effect.TheVariants.{Restarts}
-use Rattle.world.specs.Cores.{CoreState}
-use Rattle.world.specs.Going.{core_after}
+use Rattle.world.specs.{CoreState, core_after}
 use Rattle.world.proofs.CoreCode.{restart-down, untold-after}
 use Rattle.world.proofs.CoreKeeps.{IsNext, core_in, next-at, next-goes, next-keeps}
 use Rattle.world.proofs.cores.Core.restart.Goals as goal

@@ -1,8 +1,7 @@
 use Rattle.std.proofs.Common.{◌≡◌, ◌<◌, ◌≤◌, Some, refl, slice_set, subst, arith}
 use Rattle.std.specs.Prelude.{slice_get}
-use Rattle.process.specs.Places.{left_at}
-use Rattle.world.specs.Cores.{CoreState, CoreWalks}
-use Rattle.world.specs.Walks.{left_in}
+use Rattle.process.specs.{left_at}
+use Rattle.world.specs.{CoreState, CoreWalks, left_in}
 use Rattle.world.proofs.CoreCode.{IsLeft, is-left, run-code, run-keeps, run-left, run-walks, run-within, seated}
 use Rattle.world.proofs.CoreWalks.{core_ran}
 use Rattle.world.proofs.cores.Core.run.Goals as goal

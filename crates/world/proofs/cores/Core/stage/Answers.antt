@@ -1,7 +1,6 @@
 use Rattle.std.proofs.Common.{◌≡◌, ◌<◌, ◌≤◌, Some, None, length, subst, ap, ◌∙◌, arith}
-use Rattle.process.specs.Places.{ProcessState, stage_doing}
-use Rattle.world.specs.Cores.{CoreState, InEachCorePast}
-use Rattle.world.specs.Events.{stage_in}
+use Rattle.process.specs.{ProcessState, stage_doing}
+use Rattle.world.specs.{CoreState, InEachCorePast, stage_in}
 use Rattle.world.proofs.WorldAsks.{stage-beyond, stage-there}
 use Rattle.world.proofs.WorldOpen.{seat-indexed}
 use Rattle.world.proofs.cores.Core.stage.Goals as goal

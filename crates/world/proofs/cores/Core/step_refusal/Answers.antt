@@ -1,8 +1,8 @@
 use Rattle.std.proofs.Common.{◌≡◌, ◌<◌, ◌≤◌, Some, None, cond, true, false, length, sym, subst, ap, ◌∙◌, arith}
 use Rattle.record.specs.declared.events.Event.TheVariants.{Step}
 use Rattle.record.specs.declared.refusals.Refusal.TheVariants.{NoProcess, NotRunning}
-use Rattle.process.specs.Places.{ProcessState, may_step}
-use Rattle.world.specs.Cores.{CoreRefuses, CoreState}
+use Rattle.process.specs.{ProcessState, may_step}
+use Rattle.world.specs.{CoreRefuses, CoreState}
 use Rattle.world.proofs.CoreRefused.{refused-beyond, refused-step}
 use Rattle.world.proofs.WorldOpen.{seat-indexed}
 use Rattle.world.proofs.cores.Core.step_refusal.Goals as goal

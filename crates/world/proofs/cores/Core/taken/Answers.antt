@@ -1,9 +1,8 @@
 use Rattle.std.proofs.Common.{◌≡◌, ◌<◌, ℕ, List, Option, None, Some, length, sym, ap, ◌∙◌, arith}
 use Rattle.std.specs.Prelude.{slice_get}
-use Rattle.plain_store.specs.declared.Command.{Command}
+use Rattle.plain_store.specs.{Command}
 use Rattle.plain_store.specs.declared.Command.TheVariants.{Ask}
-use Rattle.world.specs.Cores.{CoreState, call_in, taken_by}
-use Rattle.world.specs.Seats.{Seat}
+use Rattle.world.specs.{CoreState, Seat, call_in, taken_by}
 use Rattle.world.proofs.WorldOpen.{seat-indexed}
 use Rattle.world.proofs.cores.Core.taken.Goals as goal
 

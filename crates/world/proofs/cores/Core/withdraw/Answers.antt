@@ -1,12 +1,9 @@
 use Rattle.std.proofs.Common.{◌≡◌, ◌++◌, false, true, None, length, take, drop, refl, sym, ap, slice_set, arith}
 use Rattle.std.proofs.lemmas.List.{length-set}
 use Rattle.record.specs.declared.events.Event.TheVariants.{Withdraw}
-use Rattle.record.specs.Doorways.{is_waiting_stage}
+use Rattle.record.specs.{is_waiting_stage}
 use Rattle.process.specs.declared.told.Effect.TheVariants.{Withdraws}
-use Rattle.world.specs.Changes.{told}
-use Rattle.world.specs.Cores.{CoreState}
-use Rattle.world.specs.Going.{core_after}
-use Rattle.world.specs.Seats.{is_waiting}
+use Rattle.world.specs.{CoreState, core_after, is_waiting, told}
 use Rattle.world.proofs.CoreCode.{seated, told-after, withdraw-waits}
 use Rattle.world.proofs.CoreKeeps.{IsNext, core_in, next-at, next-goes, next-keeps}
 use Rattle.world.proofs.WorldOpen.{IsSeated}

@@ -1,8 +1,8 @@
 use Rattle.std.proofs.Common.{◌≡◌, ◌<◌, List, get_or, set, length, ap, sym, ◌∙◌, arith}
 use Rattle.std.proofs.lemmas.List.{get_or-map, length-map}
-use Rattle.plain_store.specs.declared.Setup.{Setup}
+use Rattle.plain_store.specs.{Setup}
 use Rattle.record.proofs.reader_copies.Copying.{get_or-written_over, written_over-more}
-use Rattle.world.specs.Seats.{Seat}
+use Rattle.world.specs.{Seat}
 use Rattle.world.proofs.cores.copies.copy_seats.Goals as goal
 
 pub copy_from-requires : goal.copy_from-requires

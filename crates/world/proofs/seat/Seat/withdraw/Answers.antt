@@ -1,6 +1,6 @@
 use Rattle.std.proofs.Common.{ap, ◌∙◌}
-use Rattle.process.specs.Places.{withdrawn}
-use Rattle.world.specs.Seats.{Seat, seat_with}
+use Rattle.process.specs.{withdrawn}
+use Rattle.world.specs.{Seat, seat_with}
 use Rattle.world.proofs.seat.Seat.withdraw.Goals as goal
 
 pub returns-clause-seat : goal.returns-clause-seat

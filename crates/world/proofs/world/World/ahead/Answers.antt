@@ -1,6 +1,5 @@
 use Rattle.std.proofs.Common.{sym, ap, subst, ◌∙◌}
-use Rattle.record.specs.Records.{past_of}
-use Rattle.record.specs.Doorways.{ahead}
+use Rattle.record.specs.{ahead, past_of}
 use Rattle.world.specs.Shows.{Shows, WorldState}
 use Rattle.world.proofs.world.World.ahead.Goals as goal
 

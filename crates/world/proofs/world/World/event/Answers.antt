@@ -1,9 +1,8 @@
 use Rattle.std.proofs.Common.{rules, ◌≡◌, ◌∙◌, IfOk, ap, length, subst, sym}
-use Rattle.process.specs.Telling.{act_of}
-use Rattle.record.specs.Records.{process_of}
+use Rattle.process.specs.{act_of}
+use Rattle.record.specs.{process_of}
 use Rattle.std.specs.Prelude.{IfErr, OnErr, OnOk}
-use Rattle.world.specs.Events.{Adds, GoesOn, IsTurnedAway, KeepsTheHeadline}
-use Rattle.world.specs.Shows.{WorldState}
+use Rattle.world.specs.{Adds, GoesOn, IsTurnedAway, KeepsTheHeadline, WorldState}
 use Rattle.world.proofs.world.World.event.Goals.{in-Ok, in-Err}
 use Rattle.world.proofs.world.World.event.Goals as goal
 

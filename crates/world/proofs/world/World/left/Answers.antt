@@ -1,6 +1,5 @@
 use Rattle.std.proofs.Common.{◌≡◌, subst}
-use Rattle.world.specs.Shows.{WorldState}
-use Rattle.world.specs.Walks.{left_in}
+use Rattle.world.specs.{WorldState, left_in}
 use Rattle.world.proofs.world.World.left.Goals as goal
 
 pub returns : goal.returns

@@ -1,12 +1,8 @@
 use Rattle.std.proofs.Common.{◌∷◌, List, Some, ap, length, sym, subst, ◌∙◌, inl, arith}
 use Rattle.std.specs.Vec.{vec_capacity}
-use Rattle.process.specs.Telling.{act_of, marks_of}
-use Rattle.record.specs.declared.Taken.{Taken}
-use Rattle.record.specs.Histories.{reply_taken}
-use Rattle.record.specs.Records.{process_of}
-use Rattle.world.specs.Changes.{with_taken}
-use Rattle.world.specs.Cores.{CoreState, call_in, with_history}
-use Rattle.world.specs.Events.{Adds, GoesOn, IsRefused, IsTurnedAway, KeepsTheHeadline, KeepsWorld}
+use Rattle.process.specs.{act_of, marks_of}
+use Rattle.record.specs.{Taken, process_of, reply_taken}
+use Rattle.world.specs.{Adds, CoreState, GoesOn, IsRefused, IsTurnedAway, KeepsTheHeadline, KeepsWorld, call_in, with_history, with_taken}
 use Rattle.world.specs.Shows.{Shows, WorldState}
 use Rattle.world.proofs.WorldHeadline.{keeps_headline}
 use Rattle.world.proofs.WorldKeeps.{made_keeps, made_room, wider_keeps}

@@ -1,8 +1,6 @@
 use Rattle.std.proofs.Common.{◌≡◌, ◌+◌, ◌<◌, refl, sym, subst}
 use Rattle.record.specs.declared.events.Event.TheVariants.{Step}
-use Rattle.world.specs.Cores.{with_history}
-use Rattle.world.specs.Shows.{WorldState}
-use Rattle.world.specs.Walks.{KeepOthers, MakesQuietly, left_in}
+use Rattle.world.specs.{KeepOthers, MakesQuietly, WorldState, left_in, with_history}
 use Rattle.world.proofs.WorldHeadline.{keeps_headline}
 use Rattle.world.proofs.WorldKeeps.{quietly_keeps}
 use Rattle.world.proofs.world.World.make_step_within.Goals as goal

@@ -1,5 +1,5 @@
 use Rattle.std.proofs.Common.{[], sym, subst}
-use Rattle.world.specs.Cores.{with_history}
+use Rattle.world.specs.{with_history}
 use Rattle.world.specs.Shows.{Shows}
 use Rattle.world.proofs.WorldKeeps.{new_keeps}
 use Rattle.world.proofs.world.World.new.Goals as goal

@@ -1,7 +1,7 @@
 use Rattle.std.proofs.Common.{sym, ap, subst, ◌∙◌}
-use Rattle.record.specs.Records.{past_of}
-use Rattle.laws.specs.Doings.{doing}
-use Rattle.process.specs.Looks.{number_read}
+use Rattle.record.specs.{past_of}
+use Rattle.laws.specs.{doing}
+use Rattle.process.specs.{number_read}
 use Rattle.world.specs.Shows.{Shows, WorldState}
 use Rattle.world.proofs.world.World.number_read.Goals as goal
 

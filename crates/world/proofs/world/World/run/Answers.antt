@@ -1,6 +1,5 @@
 use Rattle.std.proofs.Common.{subst}
-use Rattle.world.specs.Cores.{with_history}
-use Rattle.world.specs.Shows.{WorldState}
+use Rattle.world.specs.{WorldState, with_history}
 use Rattle.world.specs.Walks.{Walks}
 use Rattle.world.proofs.WorldKeeps.{walk_keeps}
 use Rattle.world.proofs.world.World.run.Goals as goal

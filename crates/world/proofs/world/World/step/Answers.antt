@@ -1,14 +1,11 @@
 use Rattle.std.proofs.Common.{◌≡◌, ◌∷◌, length, Some, None, sym, ap, subst, ◌∙◌}
 use Rattle.std.specs.Vec.{vec_capacity}
 use Rattle.record.specs.declared.events.Event.TheVariants.{Step}
-use Rattle.record.specs.Histories.{reply_taken}
+use Rattle.record.specs.{reply_taken}
 use Rattle.process.specs.declared.told.Effect.TheVariants.{Steps}
-use Rattle.process.specs.Telling.{act_of, marks_told}
-use Rattle.world.specs.Changes.{with_taken}
-use Rattle.world.specs.Cores.{CoreState, call_in, with_history}
-use Rattle.world.specs.Events.{Adds, GoesOn, IsRefused, KeepsTheHeadline, KeepsWorld}
+use Rattle.process.specs.{act_of, marks_told}
+use Rattle.world.specs.{Adds, CoreState, GoesOn, IsRefused, KeepOthers, KeepsTheHeadline, KeepsWorld, TellsOverlapped, call_in, with_history, with_taken}
 use Rattle.world.specs.Shows.{Shows, WorldState}
-use Rattle.world.specs.Walks.{KeepOthers, TellsOverlapped}
 use Rattle.world.proofs.WorldHeadline.{keeps_headline}
 use Rattle.world.proofs.WorldKeeps.{step_keeps}
 use Rattle.world.proofs.world.World.step.Goals as goal

@@ -1,6 +1,6 @@
 use Rattle.std.proofs.Common.{refl}
 use Rattle.course.proofs.Endings.{err_both, ok_both, ok_with}
-use Rattle.drawer.specs.Drawings.{IsToDraw}
+use Rattle.drawer.specs.{IsToDraw}
 use Rattle.drawer.proofs.Marked.{told_drawn}
 use Rattle.drawer.proofs.drawing.listening.DrawerListener.hear.Goals as goal
 

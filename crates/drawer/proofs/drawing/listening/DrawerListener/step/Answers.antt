@@ -1,6 +1,6 @@
 use Rattle.std.proofs.Common.{◌∷◌, add-zero, refl, sym}
 use Rattle.record.specs.declared.events.Event.TheVariants.{Step}
-use Rattle.course.specs.Happenings.{Tries}
+use Rattle.course.specs.{Tries}
 use Rattle.course.proofs.Counting.{step_passes}
 use Rattle.course.proofs.Played.{on_fault}
 use Rattle.files.specs.declared.faults.Fault.TheVariants.{Memory}

@@ -1,6 +1,6 @@
 use Rattle.std.proofs.Common.{rules, arith, ◌≡◌, ◌≤◌, ◌<◌, true, false, Ok, ◌++◌, length, take, drop, refl, ap, sym, subst, ◌∙◌}
 use Rattle.std.proofs.lemmas.Bool.{false≢true}
-use Rattle.files.specs.SourceLines.{ComesToEnd, Held, Stays, coming}
+use Rattle.files.specs.{ComesToEnd, Held, Stays, coming}
 use Rattle.files.proofs.Blocks.{at_its_end, more_come, none_come, none_left, some_came, some_left, stays}
 use Rattle.files.proofs.source_lines.ahead.Ahead.fill.Goals.{in-Ok-extend_from_slice, in-Err-extend_from_slice}
 use Rattle.files.proofs.source_lines.ahead.Ahead.fill.Goals as goal

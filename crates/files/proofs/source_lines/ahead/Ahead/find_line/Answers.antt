@@ -1,7 +1,6 @@
 use Rattle.std.proofs.Common.{rules, ◌≡◌, ◌+◌, ◌-◌, ◌≤◌, [], Some, length, take, drop, refl, subst}
 use Rattle.std.specs.List.{position}
-use Rattle.files.specs.Lines.{ends_line, without_return}
-use Rattle.files.specs.SourceLines.{FindsLine, Held}
+use Rattle.files.specs.{FindsLine, Held, ends_line, without_return}
 use Rattle.files.specs.contracts.source_lines.ahead.Ahead.{the_view}
 use Rattle.files.proofs.Blocks.{found_line, moves_ended}
 use Rattle.files.proofs.source_lines.ahead.Ahead.find_line.Goals as goal

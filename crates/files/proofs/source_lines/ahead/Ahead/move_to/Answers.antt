@@ -1,8 +1,7 @@
 use Rattle.std.proofs.Common.{rules, arith, ◌≡◌, ◌+◌, ◌++◌, ◌-◌, ◌≤◌, length, take, drop, None, Some, refl, subst, sym}
 use Rattle.std.proofs.lemmas.Bool.{false≢true}
 use Rattle.std.specs.List.{position}
-use Rattle.files.specs.Lines.{MovesAll, MovesEnded, ends_line}
-use Rattle.files.specs.SourceLines.{Held}
+use Rattle.files.specs.{Held, MovesAll, MovesEnded, ends_line}
 use Rattle.files.proofs.Blocks.{moves_all, moves_ended}
 use Rattle.files.proofs.CallEnds.{no_value}
 use Rattle.files.proofs.source_lines.ahead.Ahead.move_to.Goals as goal
