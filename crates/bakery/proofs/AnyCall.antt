@@ -13,11 +13,7 @@ some_call c = call c.setup c.process Ask 0
 -- its parts read and write the same
 same-does : (c : Call) (part : Part) → AtDoor part → (read_at (some_call c) part ≡ read_at c part) × (written_at (some_call c) part ≡ written_at c part)
 same-does c part raises = (refl, refl)
-same-does c part (asks j js ts) = (refl, refl)
-same-does c part (takes t) = (refl, refl)
-same-does c part (lowers t) = (refl, refl)
-same-does c part (refuses full) = (refl, refl)
-same-does c part (waits t w ws) = (refl, refl)
+same-does c part _ = (refl, refl)
 
 same-last : (c : Call) (part : Part) → AtDoor part → (run : Run) → is_last (some_call c) part run ≡ is_last c part run
 same-last c part door (Writing w) = ap (λ (own : Field × List Bool). (write_moved c.setup.processes own.1 w).bit == w.width) (same-does c part door).1
@@ -30,19 +26,7 @@ same-run c part door (Reading bits begun) v = refl
 -- a number access of which nothing is made, of any part
 same-new : (c : Call) (part : Part) → new_run (some_call c) part ≡ new_run c part
 same-new c Raises = refl
-same-new c (Asks j js ts) = refl
-same-new c (TakesTicket t) = refl
-same-new c (Lowers t) = refl
-same-new c (Refuses full) = refl
-same-new c (Waits t w ws) = refl
-same-new c (AsksCommit k ks vs) = refl
-same-new c (AsksStamp k ks vs b) = refl
-same-new c (AsksImage vs) = refl
-same-new c (WritesImage vs st) = refl
-same-new c (WritesStamp vs st) = refl
-same-new c (WritesCommit vs st) = refl
-same-new c (Clears a) = refl
-same-new c Over = refl
+same-new c _ = refl
 
 same-b : (c : Call) (js ts : List ℕ) → to_b (some_call c) js ts ≡ to_b c js ts
 same-b c [] ts = refl
@@ -62,11 +46,7 @@ same-part c part (waits t w ws) bits = same-d c t (cond (lets_by c t w bits) ws 
 
 same-marks : (c : Call) (part : Part) → AtDoor part → (bits : List Bool) → last_marks (some_call c) part bits ≡ last_marks c part bits
 same-marks c part raises bits = refl
-same-marks c part (asks j js ts) bits = refl
-same-marks c part (takes t) bits = refl
-same-marks c part (lowers t) bits = refl
-same-marks c part (refuses full) bits = refl
-same-marks c part (waits t w ws) bits = refl
+same-marks c part _ bits = refl
 
 -- the call goes on alike
 pub same-after : (c : Call) (at : Place) (v : Bool) → AtDoor at.part → place_after (some_call c) at v ≡ place_after c at v

@@ -9,12 +9,7 @@ use Rattle.bakery.specs.Locks.{LockRows, no_lock, row_in, lock_of}
 
 no-cell : (f : Field) (bit reader : ℕ) → HasCell (row_in no_lock f) bit reader → ⊥
 no-cell Choosing bit reader h = omega (arith, h.reader_in)
-no-cell Ticket bit reader h = omega (arith, h.reader_in)
-no-cell Commit bit reader h = omega (arith, h.reader_in)
-no-cell Stamp0 bit reader h = omega (arith, h.reader_in)
-no-cell Stamp1 bit reader h = omega (arith, h.reader_in)
-no-cell Image0 bit reader h = omega (arith, h.reader_in)
-no-cell Image1 bit reader h = omega (arith, h.reader_in)
+no-cell _ bit reader h = omega (arith, h.reader_in)
 
 pub owner-there : (locks : List LockRows) (owner : ℕ) (f : Field) (bit reader : ℕ) → HasCell (row_in (lock_of locks owner) f) bit reader → owner < length locks
 owner-there locks owner f bit reader h = elim (cases_lt owner (length locks)) [

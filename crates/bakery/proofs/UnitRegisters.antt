@@ -13,8 +13,4 @@ of-lock lock versions f (inr h) = ap (register_in lock versions) h ∙ sym (ap (
 pub of-versions : (lock : LockRows) (versions : Data) (f : Field) → (f ≡ Choosing → ⊥) → (f ≡ Ticket → ⊥) → register_in lock versions f ≡ register_of versions f
 of-versions lock versions Choosing a b = absurd (a refl)
 of-versions lock versions Ticket a b = absurd (b refl)
-of-versions lock versions Commit a b = refl
-of-versions lock versions Stamp0 a b = refl
-of-versions lock versions Stamp1 a b = refl
-of-versions lock versions Image0 a b = refl
-of-versions lock versions Image1 a b = refl
+of-versions lock versions _ a b = refl

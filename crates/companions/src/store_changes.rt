@@ -33,9 +33,21 @@ pub fn apply(
     if !changes {
         return Ok(None);
     }
-    let pair = pair(alloc, store, command)?;
-    let store = store_words(alloc, store)?;
-    Ok(Some(TakenChange { pair, store }))
+    Ok(Some(change_shown(alloc, store, command)?))
+}
+
+/// What a command changed that was just applied.
+fn change_shown(
+    alloc: Global,
+    store: &PlainStore,
+    command: &Command,
+) -> Result<TakenChange, AllocError>
+    ensures { IfOk result (λ change. changed change ≡ record { pair = pair_words store.now.pairs (name_of command.now); store = words_of_store store.now }) }
+{
+    Ok(TakenChange {
+        pair: pair(alloc, store, command)?,
+        store: store_words(alloc, store)?,
+    })
 }
 
 /// Whether the command would change the store.

@@ -11,6 +11,7 @@ use Rattle.companions.specs.picture.columns.{OverlappedRead, RunLine, marks_said
 use Rattle.companions.specs.picture.declared.reads.Reads.{Reads as Mode}
 use Rattle.scenario.specs.{Script}
 use Rattle.course.proofs.Written.{appends_both, appends_none}
+use Rattle.companions.specs.{IsAround}
 use Rattle.drawer.specs.{Draws, DrawsAll, DrawsBands, DrawsFramed, DrawsOn, DrawsRest, Fills, Gives, GivesLine, GivesRead, IsPictureOf, Kept, Writes, ended_lines, given, lines_told, plan_of, says_of}
 
 -- lines, and then others
@@ -130,17 +131,20 @@ draws_on_read read had has band a b is goes draws = record {
   fills = fills_one (Reads read) had.page has.page band [] [] (GivesRead read ∷ []) refl refl refl goes;
 }
 
+-- a band, and then the last one
+pub draws_last : (a b c : Option (List ℕ)) (band : Option (List ℕ)) (last : List ℕ) → Draws a b (band_text band) (ended_lines (lines_of_band band)) → Draws b c last (ended_lines (lines_in last)) → Draws a c (band_text band ++ last) (ended_lines (lines_of_band band ++ lines_in last))
+draws_last a b c band last first next = subst (λ text. Draws a c (band_text band ++ last) text) (sym (ended-append (lines_of_band band) (lines_in last)))
+    (draws_both a b c (band_text band) last (ended_lines (lines_of_band band)) (ended_lines (lines_in last)) first next)
+
 -- the last line, and then the bands that are left
-pub draws_on_rest : (had has : Kept) (new : SeenPage) (full : Option (List ℕ)) (last : List ℕ) (a b c d : Option (List ℕ)) (text : List ℕ) (last_given : List Gives) → DrawsOn had has a b text [] last_given → lines_of_band full ++ lines_in last ≡ has.lines → GivesRest has.page full last new →
-    Draws b c (band_text full) (ended_lines (lines_of_band full)) → Draws c d last (ended_lines (lines_in last)) → DrawsRest had a d text last_given new.height
-draws_on_rest had has new full last a b c d text last_given on are gives band ending =
+pub draws_on_rest : (had has : Kept) (new : SeenPage) (full : Option (List ℕ)) (last : List ℕ) (a b c : Option (List ℕ)) (text : List ℕ) (last_given : List Gives) → DrawsOn had has a b text [] last_given → lines_of_band full ++ lines_in last ≡ has.lines → GivesRest has.page full last new →
+    Draws b c (band_text full ++ last) (ended_lines (lines_of_band full ++ lines_in last)) → DrawsRest had a c text last_given new.height
+draws_on_rest had has new full last a b c text last_given on are gives ending =
     let rest : List ℕ = band_text full ++ last in
-    let held : ended_lines (lines_of_band full) ++ ended_lines (lines_in last) ≡ ended_lines has.lines = sym (ended-append (lines_of_band full) (lines_in last)) ∙ ap ended_lines are in
     record {
       markup = on.markup ++ rest;
-      draws = subst (λ l. Draws a d (on.markup ++ rest) l) (ap (λ l. on.drawn ++ l) held ∙ on.goes_on)
-          (draws_both a b d on.markup rest on.drawn (ended_lines (lines_of_band full) ++ ended_lines (lines_in last)) on.draws
-          (draws_both b c d (band_text full) last (ended_lines (lines_of_band full)) (ended_lines (lines_in last)) band ending));
+      draws = subst (λ l. Draws a c (on.markup ++ rest) l) (ap (λ l. on.drawn ++ ended_lines l) are ∙ on.goes_on)
+          (draws_both a b c on.markup rest on.drawn (ended_lines (lines_of_band full ++ lines_in last)) on.draws ending);
       items = on.fills.items;
       are = on.fills.are;
       lines = on.fills.lines;
@@ -176,9 +180,9 @@ draws_bands plan first has a b c text ending marks gives ends height none new on
     }
 
 -- what stands before and behind tells nothing, and ends what it begins
-pub draws_framed : (reads : Mode) (form : Form) (file : List ℕ) (said : Script) (a d : Option (List ℕ)) (head ending : List ℕ) (names : List (List ℕ)) → lines_in head ≡ [] → opens_in head (Some []) ≡ Some names → lines_in ending ≡ [] → opens_in ending (Some names) ≡ Some [] →
+pub draws_framed : (reads : Mode) (form : Form) (file : List ℕ) (said : Script) (a d : Option (List ℕ)) (head ending : List ℕ) (names : List (List ℕ)) → IsAround names head ending →
     (f : DrawsFramed reads form head ending said a d) → IsPictureOf reads form file said ((head ++ bands_told (plan_of form said.setup) f.bands.items) ++ ending) → DrawsAll reads form file said a d
-draws_framed reads form file said a d head ending names no_head begin no_ending end f page =
+draws_framed reads form file said a d head ending names around f page =
     let bands = f.bands in
     let markup : List ℕ = bands_told (plan_of form said.setup) bands.items in
     let front = writes_both a f.begun f.drawn head markup f.first bands.draws.writes in
@@ -186,9 +190,9 @@ draws_framed reads form file said a d head ending names no_head begin no_ending 
       markup = (head ++ markup) ++ ending;
       page = page;
       elements = opens_on (head ++ markup) ending (Some []) front.rests
-          ∙ ap (opens_in ending) (opens_on head markup (Some []) f.first.rests ∙ ap (opens_in markup) begin ∙ bands.draws.ended (Some names))
-          ∙ end;
-      read_back = ap ended_lines (lines_on (head ++ markup) ending front.rests ∙ (λ i. lines_on head markup f.first.rests i ++ no_ending i)
-          ∙ append-nil (lines_in head ++ lines_in markup) ∙ ap (λ l. l ++ lines_in markup) no_head) ∙ bands.draws.read_back;
+          ∙ ap (opens_in ending) (opens_on head markup (Some []) f.first.rests ∙ ap (opens_in markup) around.begins ∙ bands.draws.ended (Some names))
+          ∙ around.ends;
+      read_back = ap ended_lines (lines_on (head ++ markup) ending front.rests ∙ (λ i. lines_on head markup f.first.rests i ++ around.no_end i)
+          ∙ append-nil (lines_in head ++ lines_in markup) ∙ ap (λ l. l ++ lines_in markup) around.no_head) ∙ bands.draws.read_back;
       writes = writes_both a f.drawn d (head ++ markup) ending front f.last;
     }

@@ -18,7 +18,7 @@ ghost use Rattle.drawer.specs.Pictures.{plan_of};
 mod listening;
 
 use crate::changes::Changes;
-use crate::writing::{write_band, write_markup};
+use crate::writing::{write_band, write_last};
 use companions::{
     Form, OverlappedRead, OverlapsHeard, Page, Reads, RunLine, Saying, hear, take_ended,
 };
@@ -63,41 +63,12 @@ pub(crate) fn draw_bands<W: Sink, L: Onlooker>(
     ensures failures { W.failures output.new ≡ W.failures output.old + failed_write result }
 {
     let mut drawing = Drawing::new(alloc, &scenario.setup, form, reads)?;
-    draw_course(alloc, file, scenario, &mut drawing, output, onlooker)
-}
-
-/// The same, lent a drawing that has just begun. It is a function of its own, as is the one that is lent a course too, since
-/// values that are dropped at each way out of a function are dear to prove.
-fn draw_course<W: Sink, L: Onlooker>(
-    alloc: Global,
-    file: &[u8],
-    scenario: &Scenario,
-    drawing: &mut Drawing,
-    output: &mut W,
-    onlooker: &mut L,
-) -> Result<(Summary, u64), Fault>
-    requires summary { drawing.old.summary ≡ record { events = 0; taken = 0; refused = 0 } }
-    requires held { held drawing.old.page ≡ [] }
-    requires source { drawing.old.source ≡ length scenario.now.setup.opening + 5 }
-    requires writes { W.failures output.old < 2 ^ 64 - 1 }
-    ensures ok { IfOk result (λ answer. (plan : Plan) (mode : Mode)
-        → seen_page drawing.old.page ≡ page_of plan []
-        → Recalls mode scenario.now.setup [] drawing.old.changes.store drawing.old.overlaps
-        → DrawsBands plan (W.taken output.old) (W.taken output.new) (replayed (script scenario.now))
-        (marks_in (past_after scenario.now.setup (happenings (script scenario.now))))
-        (run_given mode (script scenario.now)) answer.1) }
-    ensures summary { IfOk result (λ answer. (plan : Plan) (mode : Mode)
-        → seen_page drawing.old.page ≡ page_of plan []
-        → Recalls mode scenario.now.setup [] drawing.old.changes.store drawing.old.overlaps
-        → answer.0 ≡ summary_of scenario.now.setup (happenings (script scenario.now))) }
-    ensures fault { IfErr result IsWriteFault }
-    ensures failures { W.failures output.new ≡ W.failures output.old + failed_write result }
-{
     let mut course = Course::new(alloc, &scenario.setup)?;
-    draw_lines(file, scenario, &mut course, drawing, output, onlooker)
+    draw_lines(file, scenario, &mut course, &mut drawing, output, onlooker)
 }
 
-/// The same, lent a course that has just begun.
+/// The same, lent a course and a drawing that have just begun: values that are dropped at each way out of a function are dear
+/// to prove.
 fn draw_lines<W: Sink, L: Onlooker>(
     file: &[u8],
     scenario: &Scenario,
@@ -163,9 +134,9 @@ impl Drawing {
         ensures fault { IfErr result IsWriteFault }
         ensures failures { failed_write result ≡ 0 }
     {
+        let overlaps = OverlapsHeard::new(alloc, setup, reads)?;
         let changes = Changes::new(alloc, setup)?;
         let page = first_page(alloc, form, setup, &changes)?;
-        let overlaps = OverlapsHeard::new(alloc, setup, reads)?;
         Ok(Drawing {
             alloc,
             changes,
@@ -357,7 +328,6 @@ impl Drawing {
         };
         self.draw(ended, output)?;
         let (full, last) = self.page.end()?;
-        write_band(&full, output)?;
-        write_markup(&last, output)
+        write_last(&full, &last, output)
     }
 }

@@ -14,7 +14,7 @@ use crate::changes::Changes;
 use crate::drawing::draw_bands;
 use crate::nowhere::Nowhere;
 use crate::writing::write_markup;
-use companions::{FIRST_BAND, Form, Markup, Reads, page_end, page_head, picture_end, picture_head};
+use companions::{FIRST_BAND, Form, Markup, Reads, around_picture, page_end, page_head};
 use course::Summary;
 use files::progress::{Again, Onlooker};
 use plain_store::Setup;
@@ -212,8 +212,7 @@ fn draw_picture<W: Sink, L: Onlooker>(
 {
     let form = Form::Picture(top);
     let (first, height) = draw_bands(alloc, file, scenario, form, reads, &mut Nowhere, onlooker)?;
-    let head = picture_head(alloc, &scenario.setup, height, reads)?;
-    let end = picture_end(alloc, height, reads)?;
+    let (head, end) = around_picture(alloc, &scenario.setup, height, reads)?;
     let frame = Frame {
         form,
         reads,

@@ -1,5 +1,5 @@
 //! How markup is written.
-ghost use Rattle.std.specs.Prelude.{◌≡◌, ◌+◌, ◌-◌, ◌^◌, ◌<◌, IfErr, IfSome, OnOk};
+ghost use Rattle.std.specs.Prelude.{◌≡◌, ◌+◌, ◌-◌, ◌^◌, ◌<◌, ◌++◌, IfErr, IfSome, OnOk};
 ghost use Rattle.companions.specs.picture.markup.{EndsAll, lines_in};
 ghost use Rattle.companions.specs.picture.{band_text, lines_of_band};
 ghost use Rattle.course.specs.{IsWriteFault, failed_write};
@@ -33,4 +33,19 @@ pub(crate) fn write_band<W: Sink>(band: &Option<Markup>, output: &mut W) -> Resu
         Some(band) => write_markup(band, output),
         None => Ok(()),
     }
+}
+
+/// Writes a band, if there is one, and the last one behind it.
+pub(crate) fn write_last<W: Sink>(
+    band: &Option<Markup>,
+    last: &Markup,
+    output: &mut W,
+) -> Result<(), Fault>
+    requires { W.failures output.old < 2 ^ 64 - 1 }
+    ensures ok { OnOk result (IfSome band.now EndsAll → EndsAll last.now → Draws (W.taken output.old) (W.taken output.new) (band_text band.now ++ last.now) (ended_lines (lines_of_band band.now ++ lines_in last.now))) }
+    ensures fault { IfErr result IsWriteFault }
+    ensures failures { W.failures output.new ≡ W.failures output.old + failed_write result }
+{
+    write_band(band, output)?;
+    write_markup(last, output)
 }

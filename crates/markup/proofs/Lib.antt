@@ -4,4 +4,5 @@ pub mod Lines
 pub mod Readings
 pub mod Stacks
 pub mod Tags
+mod Assembled
 mod Runs

@@ -27,10 +27,7 @@ pub mark_after : {A E : Type 0} (r : Result A E) (new old more : Reading) (line 
 mark_after (Ok done) new old more line is same = is ∙ ap (joined old) same
 mark_after (Err e) new old more line is same = tt
 
--- bytes to which nothing else was added are these, and so markup grows by them
-pub alone : (new old more : List ℕ) → new ≡ old ++ more → old ≡ [] → new ≡ more
-alone new old more is none = is ∙ ap (λ l. l ++ more) none
-
+-- markup grows by bytes that are known
 pub grows : {A E : Type 0} (r : Result A E) (new old bytes more : List ℕ) → OnOk r (new ≡ old ++ bytes) → bytes ≡ more → OnOk r (new ≡ old ++ more)
 grows (Ok done) new old bytes more is are = is ∙ ap (λ l. old ++ l) are
 grows (Err e) new old bytes more is are = tt

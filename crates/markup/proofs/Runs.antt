@@ -1,5 +1,5 @@
 -- Paths as `format!` puts them together, and what loops write.
-use Rattle.std.proofs.Common.{◌≡◌, ℕ, ◌+◌, ◌<◌, ◌≤◌, if◌then◌else◌, Result, Ok, Err, OnOk, is_ok, List, ◌++◌, codes, drop, flat_map, get_or, length, ap, append-nil, append_assoc, sym, ◌∙◌}
+use Rattle.std.proofs.Common.{◌≡◌, ℕ, ◌+◌, ◌<◌, ◌≤◌, List, ◌++◌, codes, drop, flat_map, get_or, length, ap, append-nil, append_assoc, sym, ◌∙◌}
 use Rattle.std.proofs.lemmas.List.{at_drop_all, at_drop_more}
 use Rattle.std.specs.Fmt.{decimal}
 
@@ -18,10 +18,3 @@ written_more f xs i x whole before after within so_far is =
 -- all are
 pub written_all : {A : Type 0} (f : A → List ℕ) (xs : List A) (i : ℕ) (whole before : List ℕ) → length xs ≤ i → before ++ flat_map f (drop i xs) ≡ whole → before ≡ whole
 written_all f xs i whole before past so_far = sym (append-nil before) ∙ sym (at_drop_all (λ l. before ++ flat_map f l) xs i past) ∙ so_far
-
--- five pieces, one after the other
-pub five_written : {A E : Type 0} (r : Result A E) (old one two three four new rest a b c d e : List ℕ) → one ≡ old ++ a → two ≡ one ++ b → three ≡ two ++ c → four ≡ three ++ d → new ≡ (if is_ok r then four ++ e else rest) →
-    OnOk r (new ≡ old ++ (a ++ b ++ c ++ d ++ e))
-five_written (Ok done) old one two three four new rest a b c d e first second third fourth is =
-    is ∙ ap (λ l. l ++ e) (fourth ∙ ap (λ l. l ++ d) (third ∙ ap (λ l. l ++ c) (second ∙ ap (λ l. l ++ b) first))) ∙ simp append_assoc
-five_written (Err fault) old one two three four new rest a b c d e first second third fourth is = tt

@@ -9,6 +9,8 @@ use Rattle.markup.specs.declared.names.Tag.TheVariants as tag
 use Rattle.markup.specs.declared.attributes.Attribute.{Attribute}
 use Rattle.markup.specs.declared.attributes.Meaning.{Meaning}
 use Rattle.markup.specs.declared.attributes.Meaning.TheVariants as meaning
+use Rattle.markup.specs.declared.parts.TagPart.{TagPart}
+use Rattle.markup.specs.declared.parts.TagPart.TheVariants as part
 
 -- the name of a tag
 abbrev pub tag_name : Tag → List ℕ
@@ -67,6 +69,16 @@ attribute_text attribute = said_text (attribute.key, meant attribute.meaning)
 
 abbrev pub attributes_text : List Attribute → List ℕ
 attributes_text = flat_map attribute_text
+
+-- a part of a tag, and parts one after the other
+abbrev pub part_text : TagPart → List ℕ
+part_text (part.Plain markup) = markup.now
+part_text (part.Name tag) = tag_name tag
+part_text (part.Attributes attributes) = attributes_text attributes.now
+part_text (part.Text text) = escaped text.now
+
+abbrev pub parts_text : List TagPart → List ℕ
+parts_text = flat_map part_text
 
 -- a tag with these attributes, without its end
 abbrev pub front_by : Tag → List ℕ → List ℕ

@@ -10,7 +10,7 @@ use crate::names::{Key, Tag};
 use std::alloc::AllocError;
 
 /// A place in a picture, in pixels from its left upper corner.
-#[derive(Clone, Copy, PartialEq, Eq)]
+#[derive(Clone, Copy)]
 pub struct Point {
     pub x: u32,
     pub y: u32,

@@ -4,8 +4,8 @@ ghost use Rattle.markup.specs.Figures.{End, drawn};
 ghost use Rattle.markup.specs.Markup.{lowering};
 ghost use Rattle.markup.specs.Readings.{group, reading, with_begun, with_ended};
 
-use crate::attributes::push_lowering;
 use crate::markup::Markup;
+use crate::parts::TagPart;
 use std::alloc::AllocError;
 
 impl Markup {
@@ -14,9 +14,12 @@ impl Markup {
         ensures draws { OnOk result (self.new ≡ self.old ++ lowering by) }
         ensures read { OnOk result (reading self.new ≡ with_begun group (reading self.old)) }
     {
-        let mut bytes = Vec::new(self.alloc());
-        push_lowering(self.alloc(), &mut bytes, by)?;
-        self.add(bytes.as_slice())
+        let digits = by.to_string(self.alloc())?;
+        self.add_parts(&[
+            TagPart::Plain("<g transform=\"translate(0,"),
+            TagPart::Text(digits.as_bytes()),
+            TagPart::Plain(")\">\n"),
+        ])
     }
 
     /// Ends a group.

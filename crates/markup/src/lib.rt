@@ -8,6 +8,7 @@ mod figures;
 mod groups;
 mod markup;
 mod names;
+mod parts;
 
 pub use attributes::{Attribute, Meaning, class, number, words};
 pub use escaping::texts_are_read_back;

@@ -2,14 +2,13 @@
 ghost use Rattle.std.specs.Prelude.{◌≡◌, ◌++◌, [], true, OnOk};
 ghost use Rattle.markup.specs.Elements.{is_even};
 ghost use Rattle.markup.specs.Figures.{AddsShape, Note};
-ghost use Rattle.markup.specs.Markup.{entering, input_field, marking, standing, tag_name, telling};
+ghost use Rattle.markup.specs.Markup.{entering, input_field, marking, parts_text, standing, tag_name, telling};
 ghost use Rattle.markup.specs.Readings.{followed_by, group, reading, with_begun, with_entered, with_mark, with_tags_of};
 ghost use Rattle.markup.specs.Titles.{is_at_rest, is_no_mark, lines_in, tags_of};
 
-use crate::attributes::{
-    Attribute, push_entering, push_input, push_marking, push_noting, push_standing, push_telling,
-};
+use crate::attributes::Attribute;
 use crate::names::Tag;
+use crate::parts::{TagPart, push_parts};
 use std::alloc::{AllocError, Global};
 use std::marker::Model;
 
@@ -62,9 +61,12 @@ impl Markup {
         ensures draws { OnOk result (self.new ≡ self.old ++ standing tag attributes.now) }
         ensures read { OnOk result (reading self.new ≡ reading self.old) }
     {
-        let mut bytes = Vec::new(self.alloc);
-        push_standing(self.alloc, &mut bytes, tag, attributes)?;
-        self.add(bytes.as_slice())
+        self.add_parts(&[
+            TagPart::Plain("<"),
+            TagPart::Name(tag),
+            TagPart::Attributes(attributes),
+            TagPart::Plain("/>\n"),
+        ])
     }
 
     /// Adds a tag whose content follows: an element begins.
@@ -73,9 +75,12 @@ impl Markup {
         ensures draws { OnOk result (self.new ≡ self.old ++ entering tag attributes.now) }
         ensures read { OnOk result (reading self.new ≡ with_entered tag (reading self.old)) }
     {
-        let mut bytes = Vec::new(self.alloc);
-        push_entering(self.alloc, &mut bytes, tag, attributes)?;
-        self.add(bytes.as_slice())
+        self.add_parts(&[
+            TagPart::Plain("<"),
+            TagPart::Name(tag),
+            TagPart::Attributes(attributes),
+            TagPart::Plain(">"),
+        ])
     }
 
     /// Adds a tag around a text.
@@ -88,9 +93,16 @@ impl Markup {
         ensures draws { OnOk result (self.new ≡ self.old ++ telling tag attributes.now text.now) }
         ensures read { OnOk result (reading self.new ≡ reading self.old) }
     {
-        let mut bytes = Vec::new(self.alloc);
-        push_telling(self.alloc, &mut bytes, tag, attributes, text)?;
-        self.add(bytes.as_slice())
+        self.add_parts(&[
+            TagPart::Plain("<"),
+            TagPart::Name(tag),
+            TagPart::Attributes(attributes),
+            TagPart::Plain(">"),
+            TagPart::Text(text),
+            TagPart::Plain("</"),
+            TagPart::Name(tag),
+            TagPart::Plain(">"),
+        ])
     }
 
     /// Adds a field for input, which has no content and, in HTML, no end.
@@ -98,9 +110,11 @@ impl Markup {
         ensures draws { OnOk result (self.new ≡ self.old ++ input_field attributes.now) }
         ensures read { OnOk result (reading self.new ≡ reading self.old) }
     {
-        let mut bytes = Vec::new(self.alloc);
-        push_input(self.alloc, &mut bytes, attributes)?;
-        self.add(bytes.as_slice())
+        self.add_parts(&[
+            TagPart::Plain("<input"),
+            TagPart::Attributes(attributes),
+            TagPart::Plain(">"),
+        ])
     }
 
     /// Begins a mark, which has a line of the run as its title.
@@ -108,9 +122,13 @@ impl Markup {
         ensures draws { OnOk result (self.new ≡ self.old ++ marking attributes.now line.now) }
         ensures read { OnOk result (reading self.new ≡ with_mark line.now (reading self.old)) }
     {
-        let mut bytes = Vec::new(self.alloc);
-        push_marking(self.alloc, &mut bytes, attributes, line)?;
-        self.add(bytes.as_slice())
+        self.add_parts(&[
+            TagPart::Plain("<g class=\"m\" role=\"img\""),
+            TagPart::Attributes(attributes),
+            TagPart::Plain("><title>"),
+            TagPart::Text(line),
+            TagPart::Plain("</title>\n"),
+        ])
     }
 
     /// Begins a group that is no mark, with a title that is no line of the run.
@@ -119,9 +137,11 @@ impl Markup {
         ensures draws { AddsShape result self.old (Note title.now) self.new }
         ensures read { OnOk result (reading self.new ≡ with_begun group (reading self.old)) }
     {
-        let mut bytes = Vec::new(self.alloc);
-        push_noting(self.alloc, &mut bytes, title)?;
-        self.add(bytes.as_slice())
+        self.add_parts(&[
+            TagPart::Plain("<g class=\"r\"><title>"),
+            TagPart::Text(title),
+            TagPart::Plain("</title>\n"),
+        ])
     }
 
     /// Adds markup that stands in the program's source, in which there is no mark, and each element that begins ends.
@@ -145,9 +165,20 @@ impl Markup {
         self.add(markup.as_bytes())
     }
 
+    /// Adds parts that are at rest together: all of them, or none where memory is wanting.
+    pub(crate) fn add_parts(&mut self, parts: &[TagPart]) -> Result<(), AllocError>
+        requires { is_at_rest (tags_of (parts_text parts.now)) ≡ true }
+        ensures draws { OnOk result (self.new ≡ self.old ++ parts_text parts.now) }
+        ensures read { OnOk result (reading self.new ≡ followed_by (parts_text parts.now) (reading self.old)) }
+    {
+        let mut bytes = Vec::new(self.alloc);
+        push_parts(self.alloc, &mut bytes, parts)?;
+        self.add(bytes.as_slice())
+    }
+
     /// Adds bytes that are at rest.
     #[tactic(auto, using(crate::proofs::Lines::rests_after, crate::proofs::Readings::reading_after))]
-    pub(crate) fn add(&mut self, bytes: &[u8]) -> Result<(), AllocError>
+    fn add(&mut self, bytes: &[u8]) -> Result<(), AllocError>
         requires { is_at_rest (tags_of bytes.now) ≡ true }
         ensures draws { OnOk result (self.new ≡ self.old ++ bytes.now) }
         ensures read { OnOk result (reading self.new ≡ followed_by bytes.now (reading self.old)) }

@@ -41,7 +41,7 @@ draws_no_band a none = draws_none a
 pub writes_both : (a b c : Option (List ℕ)) (bytes more : List ℕ) → Writes a b bytes → Writes b c more → Writes a c (bytes ++ more)
 writes_both a b c bytes more first next = record { rests = rests_on bytes more first.rests next.rests; taken = appends_both a b c bytes more first.taken next.taken }
 
-draws_both : (a b c : Option (List ℕ)) (markup then : List ℕ) (lines more : List (List ℕ)) → Draws a b markup lines → Draws b c then more → Draws a c (markup ++ then) (lines ++ more)
+pub draws_both : (a b c : Option (List ℕ)) (markup then : List ℕ) (lines more : List (List ℕ)) → Draws a b markup lines → Draws b c then more → Draws a c (markup ++ then) (lines ++ more)
 draws_both a b c markup then lines more first next = record {
   ended = λ stack. opens_on markup then stack first.writes.rests ∙ ap (opens_in then) (first.ended stack) ∙ next.ended stack;
   read_back = lines_on markup then first.writes.rests ∙ (λ i. first.read_back i ++ next.read_back i);
@@ -105,15 +105,14 @@ draws_on_read read had has band a b is goes draws = record {
 }
 
 -- the last line, and then the bands that are left
-pub draws_on_rest : (had has : Kept) (new : SeenPage) (full : Option (List ℕ)) (last : List ℕ) (a b c d : Option (List ℕ)) (gives : List Gives) → DrawsOn had has a b gives → lines_of_band full ++ lines_in last ≡ has.lines → GivesRest has.page full last new →
-    Draws b c (band_text full) (lines_of_band full) → Draws c d last (lines_in last) → DrawsRest had a d gives new.height
-draws_on_rest had has new full last a b c d gives on are rests band ending =
+pub draws_on_rest : (had has : Kept) (new : SeenPage) (full : Option (List ℕ)) (last : List ℕ) (a b c : Option (List ℕ)) (gives : List Gives) → DrawsOn had has a b gives → lines_of_band full ++ lines_in last ≡ has.lines → GivesRest has.page full last new →
+    Draws b c (band_text full ++ last) (lines_of_band full ++ lines_in last) → DrawsRest had a c gives new.height
+draws_on_rest had has new full last a b c gives on are rests ending =
     let rest : List ℕ = band_text full ++ last in
     record {
       markup = on.markup ++ rest;
-      draws = subst (λ l. Draws a d (on.markup ++ rest) l) (ap (λ l. on.drawn ++ l) are ∙ on.goes_on)
-          (draws_both a b d on.markup rest on.drawn (lines_of_band full ++ lines_in last) on.draws
-          (draws_both b c d (band_text full) last (lines_of_band full) (lines_in last) band ending));
+      draws = subst (λ l. Draws a c (on.markup ++ rest) l) (ap (λ l. on.drawn ++ l) are ∙ on.goes_on)
+          (draws_both a b c on.markup rest on.drawn (lines_of_band full ++ lines_in last) on.draws ending);
       items = on.fills.items;
       are = on.fills.are;
       ends = λ plan before is.

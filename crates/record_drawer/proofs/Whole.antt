@@ -8,6 +8,7 @@ use Rattle.plain_store.specs.{Setup, opening_store}
 use Rattle.record.specs.{Entry}
 use Rattle.record_file.specs.{Said}
 use Rattle.judge.specs.{IsOfRecord, numbers_of}
+use Rattle.companions.specs.{IsAround, store_words}
 use Rattle.companions.specs.picture.{Form, bands_told, page_back, page_names, picture_back, picture_front, picture_names}
 use Rattle.companions.specs.picture.declared.page.Form.TheVariants as form
 use Rattle.companions.specs.picture.declared.reads.Reads.{Reads as Mode}
@@ -15,20 +16,19 @@ use Rattle.companions.specs.picture.markup.{lines_in, opens_in}
 use Rattle.companions.proofs.picture.markup.Lines.{lines_on}
 use Rattle.companions.proofs.picture.markup.Stacks.{opens_on}
 use Rattle.record_drawer.specs.{DrawnEntry, DrawsBands, DrawsBandsOf, DrawsRecord, DrawsSaid, Drew, DrewAs, IsDrawFault, IsJudged, IsPictureOf, IsWriteFault, LeavesNone, Writes, failed_write, picture_of, plan_of, record_gives, record_lines, without_write}
-use Rattle.companions.specs.{store_words}
 use Rattle.record_drawer.proofs.Drawn.{writes_both}
 use Rattle.record_drawer.proofs.Giving.{marks_of_record, texts_of_record}
 
 -- what stands before and behind tells nothing, and ends what it begins
-framed : (reads : Mode) (form : Form) (said : Said) (told : List ℕ) (a b c d : Option (List ℕ)) (head ending : List ℕ) (names : List (List ℕ)) (height : ℕ) → lines_in head ≡ [] → opens_in head (Some []) ≡ Some names → lines_in ending ≡ [] → opens_in ending (Some names) ≡ Some [] →
+framed : (reads : Mode) (form : Form) (said : Said) (told : List ℕ) (a b c d : Option (List ℕ)) (head ending : List ℕ) (names : List (List ℕ)) (height : ℕ) → IsAround names head ending →
     Writes a b head → (bands : DrawsBands (plan_of form said.setup) b c (record_gives reads said told) height) → Writes c d ending → (let markup : List ℕ = (head ++ bands_told (plan_of form said.setup) bands.items) ++ ending in markup) ≡ picture_of reads form said.setup bands.items →
     (let markup : List ℕ = (head ++ bands_told (plan_of form said.setup) bands.items) ++ ending in IsPictureOf reads form said told markup × (opens_in markup (Some []) ≡ Some []) × (lines_in markup ≡ record_lines said told) × Writes a d markup)
-framed reads form said told a b c d head ending names height no_head begin no_ending end first bands last is =
+framed reads form said told a b c d head ending names height around first bands last is =
     let markup : List ℕ = bands_told (plan_of form said.setup) bands.items in
     let front = writes_both a b c head markup first bands.draws.writes in (
       record { items = bands.items; are = bands.are; marks = marks_of_record reads said told bands.items bands.are; is = is },
-      opens_on (head ++ markup) ending (Some []) front.rests ∙ ap (opens_in ending) (opens_on head markup (Some []) first.rests ∙ ap (opens_in markup) begin ∙ bands.draws.ended (Some names)) ∙ end,
-      lines_on (head ++ markup) ending front.rests ∙ (λ i. lines_on head markup first.rests i ++ no_ending i) ∙ append-nil (lines_in head ++ lines_in markup) ∙ ap (λ l. l ++ lines_in markup) no_head ∙ bands.draws.read_back ∙ texts_of_record reads said told,
+      opens_on (head ++ markup) ending (Some []) front.rests ∙ ap (opens_in ending) (opens_on head markup (Some []) first.rests ∙ ap (opens_in markup) around.begins ∙ bands.draws.ended (Some names)) ∙ around.ends,
+      lines_on (head ++ markup) ending front.rests ∙ (λ i. lines_on head markup first.rests i ++ around.no_end i) ∙ append-nil (lines_in head ++ lines_in markup) ∙ ap (λ l. l ++ lines_in markup) around.no_head ∙ bands.draws.read_back ∙ texts_of_record reads said told,
       writes_both a c d (head ++ markup) ending front last,
     )
 
@@ -40,7 +40,7 @@ page_drawn reads said told drawn a b c opening ending bands opens back no_ending
     let items = bands.ends.bands.items in
     let is : (h.head ++ bands_told (plan_of form.Page said.setup) items) ++ ending ≡ picture_of reads form.Page said.setup items =
     λ i. (h.is i ++ bands_told (plan_of form.Page said.setup) items) ++ (back ∙ ap page_back (opens ∙ ap (λ s. store_words (opening_store s)) bands.setup)) i in
-    let all = framed reads form.Page said told a bands.ends.mid b c h.head ending page_names drawn.height h.lines h.opens no_ending end h.writes bands.ends.bands last is in
+    let all = framed reads form.Page said told a bands.ends.mid b c h.head ending page_names drawn.height (record { no_head = h.lines; begins = h.opens; no_end = no_ending; ends = end }) h.writes bands.ends.bands last is in
     record { markup = (h.head ++ bands_told (plan_of form.Page said.setup) items) ++ ending; picture = all.0; elements = all.1; read_back = all.2; writes = all.3 }
 
 -- bytes that were held
@@ -49,8 +49,8 @@ held_are bytes markup is = is
 
 -- one picture
 pub picture_drawn : (reads : Mode) (said : Said) (told : List ℕ) (drawn : DrawnEntry) (bytes : List ℕ) (a b c d : Option (List ℕ)) (head ending : List ℕ) → DrawsBandsOf reads (form.Picture 34) drawn (Some []) (Some bytes) said told → head ≡ picture_front drawn.setup drawn.height reads → ending ≡ picture_back drawn.height reads →
-    lines_in head ≡ [] → opens_in head (Some []) ≡ Some picture_names → lines_in ending ≡ [] → opens_in ending (Some picture_names) ≡ Some [] → Writes a b head → Appends b c bytes → Writes c d ending → DrawsSaid reads (form.Picture 34) said told a d
-picture_drawn reads said told drawn bytes a b c d head ending bands front back no_head begin no_ending end first mid last =
+    IsAround picture_names head ending → Writes a b head → Appends b c bytes → Writes c d ending → DrawsSaid reads (form.Picture 34) said told a d
+picture_drawn reads said told drawn bytes a b c d head ending bands front back around first mid last =
     let o = bands.ends.bands in
     let same : bytes ≡ bands_told (plan_of (form.Picture 34) said.setup) o.items = held_are bytes (bands_told (plan_of (form.Picture 34) said.setup) o.items) (subst (λ (m : Option (List ℕ)). Appends m (Some bytes) (bands_told (plan_of (form.Picture 34) said.setup) o.items)) bands.ends.heads o.draws.writes.taken) in
     let again : DrawsBands (plan_of (form.Picture 34) said.setup) b c (record_gives reads said told) drawn.height = record {
@@ -61,7 +61,7 @@ picture_drawn reads said told drawn bytes a b c d head ending bands front back n
     } in
     let is : (head ++ bands_told (plan_of (form.Picture 34) said.setup) o.items) ++ ending ≡ picture_of reads (form.Picture 34) said.setup o.items =
     λ i. ((front ∙ (λ j. picture_front (bands.setup j) (o.heights j) reads)) i ++ bands_told (plan_of (form.Picture 34) said.setup) o.items) ++ (back ∙ ap (λ h. picture_back h reads) o.heights) i in
-    let all = framed reads (form.Picture 34) said told a b c d head ending picture_names drawn.height no_head begin no_ending end first again last is in
+    let all = framed reads (form.Picture 34) said told a b c d head ending picture_names drawn.height around first again last is in
     record { markup = (head ++ bands_told (plan_of (form.Picture 34) said.setup) o.items) ++ ending; picture = all.0; elements = all.1; read_back = all.2; writes = all.3 }
 
 -- what follows of the whole input, where it is told

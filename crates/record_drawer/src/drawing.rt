@@ -17,7 +17,7 @@ ghost use Rattle.record_drawer.specs.Writing.{IsWriteFault, failed_write};
 
 use crate::changes::RecordedChanges;
 use crate::judged::{bad_process, lane_of};
-use crate::writing::{write_band, write_markup};
+use crate::writing::{write_band, write_last};
 use bstr::ByteSlice;
 use companions::{
     Form, OverlappedRead, OverlapsHeard, Page, Reads, RunLine, Saying, hear, take_ended,
@@ -76,9 +76,9 @@ impl RecordDrawing {
         ensures fault { IfErr result IsWriteFault }
         ensures failures { failed_write result ≡ 0 }
     {
+        let overlaps = OverlapsHeard::new(alloc, setup, reads)?;
         let changes = RecordedChanges::new(alloc, setup)?;
         let page = first_page(alloc, form, setup, &changes)?;
-        let overlaps = OverlapsHeard::new(alloc, setup, reads)?;
         Ok(RecordDrawing {
             alloc,
             changes,
@@ -271,8 +271,7 @@ impl RecordDrawing {
         };
         self.draw(self.last, ended, output)?;
         let (full, last) = self.page.end()?;
-        write_band(&full, output)?;
-        write_markup(&last, output)
+        write_last(&full, &last, output)
     }
 
     /// Draws the lines that a judge tells.

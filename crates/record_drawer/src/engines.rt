@@ -17,7 +17,7 @@ use crate::changes::RecordedChanges;
 use crate::held::Held;
 use crate::sheet::{DrawnEntry, Sheet};
 use crate::writing::write_markup;
-use companions::{FIRST_BAND, Form, Reads, page_end, picture_end, picture_head};
+use companions::{FIRST_BAND, Form, Reads, around_picture, page_end};
 use files::source_lines::Lines;
 use files::{Fault, FaultKind, Sink, Source, write_all};
 use judge::{Judging, Telling, Trial};
@@ -135,8 +135,7 @@ fn write_picture<W: Sink>(
     ensures fault { IfErr result IsWriteFault }
     ensures failures { W.failures output.new ≡ W.failures output.old + failed_write result }
 {
-    let head = picture_head(alloc, &drawn.setup, drawn.height, reads)?;
-    let end = picture_end(alloc, drawn.height, reads)?;
+    let (head, end) = around_picture(alloc, &drawn.setup, drawn.height, reads)?;
     write_markup(&head, output)?;
     write_all(output, bands)?;
     write_markup(&end, output)

@@ -6,10 +6,10 @@ pub returns : goal.returns
 returns g c =
     let begun = c.in_ok-drawing.ensures in
     let plan = plan_of c.args.form c.args.scenario.now.setup in
-    let drawn = c.draw_course.ensures in
+    let drawn = c.draw_lines.ensures in
     record {
-      ok = IfOk-weaker c.draw_course.result _ _ (λ answer is. is plan c.args.reads begun.page begun.recalls) drawn.ok;
-      summary = IfOk-weaker c.draw_course.result _ _ (λ answer is. is plan c.args.reads begun.page begun.recalls) drawn.summary;
+      ok = IfOk-weaker c.draw_lines.result _ _ (λ answer is. is plan c.args.reads begun.page begun.recalls) drawn.ok;
+      summary = IfOk-weaker c.draw_lines.result _ _ (λ answer is. is plan c.args.reads begun.page begun.recalls) drawn.summary;
       fault = drawn.fault;
       failures = drawn.failures;
     }

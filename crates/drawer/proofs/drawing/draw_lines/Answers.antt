@@ -1,10 +1,10 @@
-use Rattle.std.proofs.Common.{◌≡◌, ◌∙◌, ◌+◌, ◌-◌, ◌*◌, ◌^◌, ◌<◌, ℕ, List, [], ◌∷◌, Some, ap, drop, length, arith, refl, subst, sym}
+use Rattle.std.proofs.Common.{◌≡◌, ◌∙◌, ◌+◌, ◌-◌, ◌*◌, ◌^◌, ◌<◌, ◌≤◌, ℕ, List, [], ◌∷◌, Some, ap, drop, length, arith, refl, subst, sym}
 use Rattle.std.proofs.lemmas.List.{drop_all}
 use Rattle.plain_store.specs.{Setup}
 use Rattle.drawer.specs.{Drawing, DrawsRest, SaysEnd, kept, lines_given, reads_since}
 use Rattle.scenario.specs.{Line, script}
 use Rattle.scenario.proofs.Places.{drop_in}
-use Rattle.course.specs.{IsWriteFault, Summary, end_line, happenings, past_after, summary_of}
+use Rattle.course.specs.{CanCount, IsWriteFault, Summary, end_line, happenings, past_after, summary_of}
 use Rattle.course.proofs.Onwards.{onward_numbers}
 use Rattle.course.proofs.Played.{on_fault}
 use Rattle.course.proofs.Written.{failed_same}
@@ -14,6 +14,17 @@ use Rattle.drawer.proofs.Drawn.{rest_at}
 use Rattle.drawer.proofs.Giving.{number_of_first}
 use Rattle.drawer.proofs.Drawings.{Drawn, drawn_end, drawn_on, drawn_start}
 use Rattle.drawer.proofs.drawing.draw_lines.Goals as goal
+
+-- no count wraps in as many lines as a scenario may have
+
+begins : (summary : Summary) → summary ≡ record { events = 0; taken = 0; refused = 0 } → CanCount summary (4000 * 2 ^ 32)
+begins summary none = let events = ap (λ (s : Summary). s.events) none in let refused = ap (λ (s : Summary). s.refused) none in (omega (arith, events), omega (arith, refused))
+
+goes_on : (summary : Summary) (k lines : ℕ) → k < lines → lines ≤ 4000 → CanCount summary ((4000 - k) * 2 ^ 32) → CanCount summary ((4000 - (k + 1)) * 2 ^ 32 + 2 ^ 32)
+goes_on summary k lines within few (events, refused) = (omega (arith, events, within, few), omega (arith, refused, within, few))
+
+one_line : (summary : Summary) (k lines : ℕ) → k < lines → lines ≤ 4000 → CanCount summary ((4000 - k) * 2 ^ 32) → CanCount summary (2 ^ 32)
+one_line summary k lines within few (events, refused) = (omega (arith, events, within, few), omega (arith, refused, within, few))
 
 pub loop-line-init : goal.loop-line-init
 loop-line-init g c =
@@ -25,7 +36,7 @@ loop-line-init g c =
           c.requires.setup c.requires.follows none c.requires.held page (number_of_first s d.source c.requires.source) recalls;
       source = omega (arith, c.requires.source);
       whole = refl;
-      room = (let events = ap (λ (s : Summary). s.events) none in omega (arith, events), let refused = ap (λ (s : Summary). s.refused) none in omega (arith, refused));
+      room = begins d.summary none;
     }
 
 pub loop-line-preserved : goal.loop-line-preserved
@@ -34,27 +45,23 @@ loop-line-preserved g c =
     let lines : List Line = c.args.scenario.now.lines.items in
     let k : ℕ = c.loop-line.line-index in
     let here : Line = c.line-item.result in
-    let next : drop k lines ≡ here ∷ drop (k + 1) lines = drop_in lines k here (omega arith) (rw c.deref-line-items.ensures.value at c.line-item.is) in
+    let within : k < length lines = omega arith in
+    let next : drop k lines ≡ here ∷ drop (k + 1) lines = drop_in lines k here within (rw c.deref-line-items.ensures.value at c.line-item.is) in
     let begun : Drawing = record c.loop-line.drawing { source = c.loop-line.drawing.source + 1 } in
-    let within : k < length c.args.scenario.now.lines.items = omega arith in
-    let few : k < 4000 = omega (arith, within, c.args.scenario.now.few) in
-    let room = c.loop-line.invariant.room in
     record {
       drawn = λ (plan : Plan) (mode : Mode) page recalls. subst (λ n. Drawn plan mode s lines (drop (k + 1) lines) n c.draw_line.new.course c.draw_line.new.drawing.summary c.draw_line.new.drawing.changes.store c.draw_line.new.drawing.overlaps (kept c.draw_line.new.drawing.page) (g.W.Sink.taken c.args.output.now) (g.W.Sink.taken c.draw_line.new.output)) (sym c.in_ok-draw_line.ensures.source)
-          (drawn_on plan mode s lines (drop (k + 1) lines) here c.loop-line.drawing.source c.loop-line.course c.draw_line.new.course begun c.draw_line.new.drawing _ _ _
+          (drawn_on plan mode s lines (drop (k + 1) lines) here c.loop-line.drawing.source c.loop-line.course c.draw_line.new.course begun c.draw_line.new.drawing (g.W.Sink.taken c.args.output.now) (g.W.Sink.taken c.loop-line.output) (g.W.Sink.taken c.draw_line.new.output)
           (subst (λ (rest : List Line). Drawn plan mode s lines rest c.loop-line.drawing.source c.loop-line.course c.loop-line.drawing.summary c.loop-line.drawing.changes.store c.loop-line.drawing.overlaps (kept c.loop-line.drawing.page) (g.W.Sink.taken c.args.output.now) (g.W.Sink.taken c.loop-line.output)) next (c.loop-line.invariant.drawn plan mode page recalls))
           c.in_ok-draw_line.ensures.ok c.in_ok-draw_line.ensures.source);
       source = omega (arith, c.in_ok-draw_line.ensures.source, c.loop-line.invariant.source);
       whole = omega (arith, c.in_ok-draw_line.ensures.failures, c.loop-line.invariant.whole);
-      room = c.in_ok-draw_line.ensures.room ((4000 - (k + 1)) * 2 ^ 32) (omega (arith, room.0, few), omega (arith, room.1, few));
+      room = c.in_ok-draw_line.ensures.room ((4000 - (k + 1)) * 2 ^ 32) (goes_on c.loop-line.drawing.summary k (length lines) within c.args.scenario.now.few c.loop-line.invariant.room);
     }
 
 pub draw_line-requires-clause-room : goal.draw_line-requires-clause-room
 draw_line-requires-clause-room g c =
     let within : c.loop-line.line-index < length c.args.scenario.now.lines.items = omega arith in
-    let few : c.loop-line.line-index < 4000 = omega (arith, within, c.args.scenario.now.few) in
-    let room = c.loop-line.invariant.room in
-    (omega (arith, room.0, few), omega (arith, room.1, few))
+    one_line c.loop-line.drawing.summary c.loop-line.line-index (length c.args.scenario.now.lines.items) within c.args.scenario.now.few c.loop-line.invariant.room
 
 pub returns-clause-ok : goal.returns-clause-ok
 returns-clause-ok g c = λ (plan : Plan) (mode : Mode) page recalls.
@@ -62,10 +69,12 @@ returns-clause-ok g c = λ (plan : Plan) (mode : Mode) page recalls.
     let lines : List Line = c.args.scenario.now.lines.items in
     let d : Drawn plan mode s lines [] c.loop-line.drawing.source c.loop-line.course c.loop-line.drawing.summary c.loop-line.drawing.changes.store c.loop-line.drawing.overlaps (kept c.loop-line.drawing.page) (g.W.Sink.taken c.args.output.now) (g.W.Sink.taken c.loop-line.output) =
     subst (λ (rest : List Line). Drawn plan mode s lines rest c.loop-line.drawing.source c.loop-line.course c.loop-line.drawing.summary c.loop-line.drawing.changes.store c.loop-line.drawing.overlaps (kept c.loop-line.drawing.page) (g.W.Sink.taken c.args.output.now) (g.W.Sink.taken c.loop-line.output)) (drop_all c.loop-line.line-index lines (omega arith)) (c.loop-line.invariant.drawn plan mode page recalls) in
+    let told : Summary = record c.loop-line.drawing.summary { taken = c.taken-drawing.result } in
     let numbers = onward_numbers s lines c.loop-line.course c.loop-line.drawing.summary c.taken-drawing.result (Some []) (Some d.text) d.onward c.taken-drawing.ensures in
-    drawn_end plan mode s lines c.loop-line.drawing.source c.loop-line.course c.loop-line.drawing.summary c.loop-line.drawing.changes.store c.loop-line.drawing.overlaps (kept c.loop-line.drawing.page) _ _ _ (end_line (summary_of s (happenings (script c.args.scenario.now)))) c.loop-line.drawing.summary.events _ d refl
+    drawn_end plan mode s lines c.loop-line.drawing.source c.loop-line.course c.loop-line.drawing.summary c.loop-line.drawing.changes.store c.loop-line.drawing.overlaps (kept c.loop-line.drawing.page) (g.W.Sink.taken c.args.output.now) (g.W.Sink.taken c.loop-line.output) (g.W.Sink.taken c.end.new.output) (end_line (summary_of s (happenings (script c.args.scenario.now)))) c.loop-line.drawing.summary.events c.height.result d refl
     (subst (λ (n : Summary). DrawsRest (kept c.loop-line.drawing.page) (g.W.Sink.taken c.loop-line.output) (g.W.Sink.taken c.end.new.output) (end_line n) (lines_given mode (c.loop-line.drawing.source + 1) c.loop-line.drawing.summary.events (reads_since s d.onward.now.happened) (SaysEnd n ∷ [])) c.height.result) numbers
-    (rest_at _ _ _ _ _ _ _ c.height.ensures (c.in_ok-end.ensures.ok mode s (past_after s d.onward.now.happened) (reads_since s d.onward.now.happened) d.recalls.waits)))
+    (rest_at (kept c.loop-line.drawing.page) (g.W.Sink.taken c.loop-line.output) (g.W.Sink.taken c.end.new.output) (end_line told) (lines_given mode (c.loop-line.drawing.source + 1) told.events (reads_since s d.onward.now.happened) (SaysEnd told ∷ [])) c.end.new.self.page.height c.height.result
+    c.height.ensures (c.in_ok-end.ensures.ok mode s (past_after s d.onward.now.happened) (reads_since s d.onward.now.happened) d.recalls.waits)))
 
 pub returns-clause-summary : goal.returns-clause-summary
 returns-clause-summary g c = λ (plan : Plan) (mode : Mode) page recalls.

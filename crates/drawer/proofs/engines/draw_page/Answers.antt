@@ -17,7 +17,7 @@ returns g c =
     let drew = c.draw_framed.ensures in
     record {
       ok = ok_then c.draw_framed.result
-          (λ framed. draws_framed c.args.reads form.Page c.args.file.now said (g.W.Sink.taken c.args.output.now) (g.W.Sink.taken c.draw_framed.new.output) c.in_ok-head.head c.in_ok-end.end page_names head.lines head.elements end.lines end.elements framed
+          (λ framed. draws_framed c.args.reads form.Page c.args.file.now said (g.W.Sink.taken c.args.output.now) (g.W.Sink.taken c.draw_framed.new.output) c.in_ok-head.head c.in_ok-end.end page_names (record { no_head = head.lines; begins = head.elements; no_end = end.lines; ends = end.elements }) framed
           (is_page c.args.reads said c.args.file.now (store_words (opening_store c.args.scenario.now.setup)) c.in_ok-head.head c.in_ok-end.end _ _ _ framed.bands refl head.draws end.draws))
           drew.ok;
       summary = drew.summary;

@@ -9,13 +9,12 @@ use Rattle.drawer.proofs.engines.draw_picture.Goals as goal
 pub returns : goal.returns
 returns g c =
     let said = script c.args.scenario.now in
-    let head = c.in_ok-head.ensures in
-    let end = c.in_ok-end.ensures in
+    let around = c.in_ok-head.ensures in
     let drew = c.draw_framed.ensures in
     record {
       ok = ok_then c.draw_framed.result
-          (λ framed. draws_framed c.args.reads (form.Picture c.args.top) c.args.file.now said (g.W.Sink.taken c.args.output.now) (g.W.Sink.taken c.draw_framed.new.output) c.in_ok-head.head c.in_ok-end.end picture_names head.lines head.elements end.lines end.elements framed
-          (is_picture c.args.top c.args.reads c.args.file.now said c.in_ok-head.head c.in_ok-end.end _ _ _ _ _ _ c.in_ok-first.ensures.ok framed.bands head.draws end.draws))
+          (λ framed. draws_framed c.args.reads (form.Picture c.args.top) c.args.file.now said (g.W.Sink.taken c.args.output.now) (g.W.Sink.taken c.draw_framed.new.output) c.in_ok-head.head c.in_ok-head.end picture_names around.elements framed
+          (is_picture c.args.top c.args.reads c.args.file.now said c.in_ok-head.head c.in_ok-head.end _ _ _ _ _ _ c.in_ok-first.ensures.ok framed.bands around.front around.back))
           drew.ok;
       summary = drew.summary;
       fault = drew.fault;

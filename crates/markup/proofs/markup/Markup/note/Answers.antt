@@ -1,14 +1,14 @@
-use Rattle.std.proofs.Common.{ap, ◌∙◌}
-use Rattle.markup.specs.{begun, drawn, group, is_at_rest, reading, tags_of}
-use Rattle.markup.proofs.Readings.{alone, grows, noting_settles, noting_read, tags_after}
+use Rattle.markup.specs.{begun, drawn, group}
+use Rattle.markup.proofs.Assembled.{noting_parts}
+use Rattle.markup.proofs.Readings.{grows, noting_settles, noting_read, tags_after}
 use Rattle.markup.proofs.markup.Markup.note.Goals as goal
 
-pub add-requires : goal.add-requires
-add-requires c = ap (λ b. is_at_rest (tags_of b)) c.as_slice.ensures.value ∙ noting_settles c.push_noting.new.bytes.items c.args.title.now (alone c.push_noting.new.bytes.items _ _ c.in_ok-push_noting.ensures c.new-bytes.ensures.items)
+pub add_parts-requires : goal.add_parts-requires
+add_parts-requires c = noting_settles _ c.args.title.now (noting_parts c.args.title.now)
 
 pub returns-clause-draws : goal.returns-clause-draws
 unfolding drawn
-returns-clause-draws c = grows c.add.result _ _ _ _ c.add.ensures.draws (c.as_slice.ensures.value ∙ alone c.push_noting.new.bytes.items _ _ c.in_ok-push_noting.ensures c.new-bytes.ensures.items)
+returns-clause-draws c = grows c.add_parts.result _ _ _ _ c.add_parts.ensures.draws (noting_parts c.args.title.now)
 
 pub returns-clause-read : goal.returns-clause-read
-returns-clause-read c = tags_after c.add.result _ _ _ (begun group) c.add.ensures.read (ap reading c.as_slice.ensures.value ∙ noting_read c.push_noting.new.bytes.items c.args.title.now (alone c.push_noting.new.bytes.items _ _ c.in_ok-push_noting.ensures c.new-bytes.ensures.items))
+returns-clause-read c = tags_after c.add_parts.result _ _ _ (begun group) c.add_parts.ensures.read (noting_read _ c.args.title.now (noting_parts c.args.title.now))

@@ -8,7 +8,7 @@ use Rattle.record_drawer.proofs.drawing.RecordDrawing.end.Goals as goal
 
 pub returns-clause-ok : goal.returns-clause-ok
 returns-clause-ok g c =
-    ok_then c.write_markup.result
+    ok_then c.write_last.result
     (λ last mode s past reads waits.
     let self = c.args.self.now in
     let mid = c.draw_judged.new.self in
@@ -22,14 +22,11 @@ returns-clause-ok g c =
     let both = draws_on_both (kept self.page) (kept mid.page) (kept c.draw.new.self.page) (g.W.Sink.taken c.args.output.now) (g.W.Sink.taken c.draw_judged.new.output) (g.W.Sink.taken c.draw.new.output)
     (lines_given mode self.last self.entries reads lines) (lines_given mode self.last self.entries (waiting lines reads) (ends ∷ [])) (judged.ok mode s past reads waits) next in
     draws_on_rest (kept self.page) (kept c.draw.new.self.page) (seen_page c.end.new.self) c.in_ok-full.full c.in_ok-full.last
-    (g.W.Sink.taken c.args.output.now) (g.W.Sink.taken c.draw.new.output) (g.W.Sink.taken c.write_band.new.output) (g.W.Sink.taken c.write_markup.new.output)
+    (g.W.Sink.taken c.args.output.now) (g.W.Sink.taken c.draw.new.output) (g.W.Sink.taken c.write_last.new.output)
     (lines_given mode self.last self.entries reads (lines ++ ends ∷ []))
     (subst (λ (l : List Gives). DrawsOn (kept self.page) (kept c.draw.new.self.page) (g.W.Sink.taken c.args.output.now) (g.W.Sink.taken c.draw.new.output) l) (sym (lines_more mode self.last self.entries reads lines ends)) both)
-    c.in_ok-full.ensures.lines c.in_ok-full.ensures.page (c.in_ok-write_band.ensures.ok c.in_ok-full.ensures.full) (last c.in_ok-full.ensures.last))
-    c.write_markup.ensures.ok
+    c.in_ok-full.ensures.lines c.in_ok-full.ensures.page (last c.in_ok-full.ensures.full c.in_ok-full.ensures.last))
+    c.write_last.ensures.ok
 
 pub returns-clause-failures : goal.returns-clause-failures
-returns-clause-failures g c = omega (arith, c.in_ok-draw_judged.ensures.failures, c.in_ok-draw.ensures.failures, c.in_ok-write_band.ensures.failures, c.write_markup.ensures.failures)
-
-pub write_markup-requires : goal.write_markup-requires
-write_markup-requires g c = omega (arith, c.requires, c.in_ok-draw_judged.ensures.failures, c.in_ok-draw.ensures.failures, c.in_ok-write_band.ensures.failures)
+returns-clause-failures g c = omega (arith, c.in_ok-draw_judged.ensures.failures, c.in_ok-draw.ensures.failures, c.write_last.ensures.failures)
