@@ -11,7 +11,7 @@ ghost use Rattle.read_law.specs.{entry_by};
 use plain_store::{Answer, Command, Name, Reply, Text, Value};
 use record::{Access, Entry, Event, Field, Mark, Move};
 use std::alloc::Global;
-use world::StepTold;
+use world::{StepTold, step_marks};
 
 /// The flick that an access tells, if there is one.
 #[inline]
@@ -113,7 +113,7 @@ fn are_told(alloc: Global, marks: &[Mark], told: &StepTold) -> bool
 fn are_those_of(alloc: Global, marks: &[Mark], told: &StepTold) -> bool
     ensures { IsTrue result ↔ (map (placed 0) marks.now ≡ map (placed 0) (marks_told told.now)) }
 {
-    are_alike(marks, &told.marks(alloc, 0))
+    are_alike(marks, &step_marks(alloc, told, 0))
 }
 
 /// Whether marks are the same, but for places.

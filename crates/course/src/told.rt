@@ -6,7 +6,7 @@ use plain_store::NestedTypes;
 use record::{Access, Act, Entry, Event, Mark, Refusal};
 use smallvec::SmallVec;
 use std::alloc::Global;
-use world::{Effect, Image};
+use world::{Effect, Image, event_marks};
 
 /// An event that was accepted, the access that it makes, if it makes one, and what it leads to. A command that it takes
 /// gets this place in the history.
@@ -26,7 +26,7 @@ impl Accepted {
         ensures { result.items ≡ marks_made self.now }
     {
         let _nested: NestedTypes = None;
-        self.effect.marks(alloc, self.place)
+        event_marks(alloc, &self.effect, self.place)
     }
 
     /// Its entry. It takes no memory.

@@ -5,7 +5,7 @@ ghost use Rattle.record.specs.{refused};
 ghost use Rattle.auditor.specs.world.{stage_in};
 ghost use Rattle.judge.specs.Following.{FollowsOneMore, HasFollowed, IsAddedByStep, OfFollowed};
 
-use auditor::{Auditor, Core, StepTold};
+use auditor::{Auditor, Core, StepTold, step_marks};
 use plain_store::{NestedTypes, Setup};
 use record::{Act, Entry, Event, Refusal, Stage};
 use std::alloc::{AllocError, Global};
@@ -86,7 +86,7 @@ impl Follower {
             process,
             act: Act {
                 access: Some(made.access),
-                marks: told.marks(alloc, place),
+                marks: step_marks(alloc, &told, place),
             },
         })
     }

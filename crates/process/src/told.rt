@@ -1,12 +1,10 @@
 //! What a step and an event lead to.
-ghost use Rattle.std.specs.Prelude.{◌≡◌, [], ◌∷◌, map};
-ghost use Rattle.record.specs.{placed, reply_taken};
-ghost use Rattle.process.specs.Telling.{act_of, marks_of, marks_told};
+ghost use Rattle.std.specs.Prelude.{◌≡◌};
+ghost use Rattle.record.specs.{reply_taken};
+ghost use Rattle.process.specs.Telling.{marks_of, marks_told};
 
 use plain_store::{Answer, Command, Reply};
-use record::{Access, Act, Mark};
-use smallvec::SmallVec;
-use std::alloc::Global;
+use record::Access;
 
 /// What a step of a process, or of its memory unit, leads to.
 #[derive(Clone, Copy)]
@@ -48,26 +46,6 @@ impl StepTold {
             _ => None,
         }
     }
-
-    /// The marks, where a command that is taken gets this place in the history. They take no memory.
-    pub fn marks(&self, alloc: Global, place: u64) -> SmallVec<Mark, 3>
-        ensures { result.items ≡ map (placed place) (marks_told self.now) }
-    {
-        match *self {
-            StepTold::Nothing => SmallVec::new(alloc),
-            StepTold::Waits(ticket) => one(alloc, Mark::Waiting(ticket)),
-            StepTold::WaitsAndEnters(ticket) => two(alloc, Mark::Waiting(ticket), Mark::Entered),
-            StepTold::Enters => one(alloc, Mark::Entered),
-            StepTold::Took { reply, .. } => one(alloc, Mark::Taken(place, reply)),
-            StepTold::Leaves => one(alloc, Mark::Left),
-            StepTold::Answers(answer) => one(alloc, Mark::Answered(answer)),
-            StepTold::Settles(value) => one(alloc, Mark::Settled(value)),
-            StepTold::SettlesAndTakes(value, reply) => {
-                two(alloc, Mark::Settled(value), Mark::Taken(place, reply))
-            }
-            StepTold::Lies => one(alloc, Mark::Down),
-        }
-    }
 }
 
 impl Effect {
@@ -80,19 +58,6 @@ impl Effect {
             _ => None,
         }
     }
-
-    /// The marks, where a command that is taken gets this place in the history. They take no memory.
-    pub fn marks(&self, alloc: Global, place: u64) -> SmallVec<Mark, 3>
-        ensures { result.items ≡ map (placed place) (marks_of self.now) }
-    {
-        match self {
-            Effect::Steps(told) => told.marks(alloc, place),
-            Effect::Calls(command) => one(alloc, Mark::Called(*command)),
-            Effect::Fails => one(alloc, Mark::Failed),
-            Effect::Withdraws => one(alloc, Mark::Withdrew),
-            Effect::Restarts => one(alloc, Mark::Restarted),
-        }
-    }
 }
 
 /// What an event has made: the access of a step, and what the event leads to.
@@ -100,36 +65,4 @@ impl Effect {
 pub struct EventMade {
     pub access: Option<Access>,
     pub effect: Effect,
-}
-
-impl EventMade {
-    /// The same as an act, where a command that is taken gets this place in the history. It takes no memory.
-    pub fn act(&self, alloc: Global, place: u64) -> Act
-        ensures { result ≡ act_of place self.now }
-    {
-        Act {
-            access: self.access,
-            marks: self.effect.marks(alloc, place),
-        }
-    }
-}
-
-/// One mark, in place.
-fn one(alloc: Global, mark: Mark) -> SmallVec<Mark, 3>
-    ensures { result.items ≡ mark ∷ [] }
-{
-    match SmallVec::from_array(alloc, [mark]) {
-        Ok(marks) => marks,
-        Err(_) => unreachable!(),
-    }
-}
-
-/// Two marks, in place.
-fn two(alloc: Global, first: Mark, second: Mark) -> SmallVec<Mark, 3>
-    ensures { result.items ≡ first ∷ second ∷ [] }
-{
-    match SmallVec::from_array(alloc, [first, second]) {
-        Ok(marks) => marks,
-        Err(_) => unreachable!(),
-    }
 }

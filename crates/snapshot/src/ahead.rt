@@ -16,7 +16,7 @@ use plain_store::NestedTypes;
 use record::{Act, Entry, Event};
 use record_file::print_entry;
 use std::alloc::{AllocError, Global};
-use world::{Core, Effect, StepTold};
+use world::{Core, Effect, StepTold, event_marks};
 
 /// The entry that a Step of a process adds with this flick, tried on a twin of a run's core, where so many commands were taken.
 pub(crate) fn next_entry(
@@ -41,7 +41,7 @@ pub(crate) fn next_entry(
             process,
             act: Act {
                 access,
-                marks: effect.marks(alloc, taken),
+                marks: event_marks(alloc, &effect, taken),
             },
         }),
         Err(_) => None,

@@ -12,10 +12,10 @@ use plain_store::{NestedTypes, Setup};
 use record::{Access, Event};
 use std::alloc::{AllocError, Global};
 use std::marker::Model;
-use world::{Core, Effect, StepTold};
+use world::{Core, Effect, StepTold, event_marks, step_marks};
 
 /// The first entry of a run that breaks a law, counted from 0, and the law.
-#[derive(Clone, Copy, PartialEq, Eq)]
+#[derive(Clone, Copy)]
 pub(crate) struct BadEntry {
     pub entry: u64,
     pub law: Law,
@@ -113,7 +113,7 @@ impl Runner {
         let Ok(access) = self.core.event(event, &mut effect) else {
             return false;
         };
-        let marks = effect.marks(self.alloc, self.taken);
+        let marks = event_marks(self.alloc, &effect, self.taken);
         let law = self.auditor.hear_parts(event.process(), &access, &marks);
         self.taken = more(self.taken, &effect);
         self.bad = first_bad(self.bad, self.entries, law);
@@ -167,7 +167,7 @@ fn hear_step(
     if matches!(told, StepTold::Nothing) {
         return auditor.hear_access(process, access);
     }
-    auditor.hear_parts(process, &Some(access), &told.marks(alloc, place))
+    auditor.hear_parts(process, &Some(access), &step_marks(alloc, told, place))
 }
 
 /// The first bad entry, after one more with this number, which breaks this law or none.

@@ -19,6 +19,7 @@
 #![tactic(auto)]
 
 mod cores;
+mod marks;
 mod queue;
 mod seat;
 mod seats;
@@ -29,6 +30,7 @@ pub use cores::Core;
 pub use flicks::{Flick, Flicks};
 pub use history_laws;
 pub use laws;
+pub use marks::{event_marks, step_marks};
 pub use process::{
     AccessMade, BitSeen, Effect, EventMade, Image, Process, Settling, StepTold, TicketKnown,
 };

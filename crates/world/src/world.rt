@@ -15,6 +15,7 @@ ghost use Rattle.world.specs.Walks.{HasOneFewer, KeepOthers, MakesQuietly, Tells
 mod looking;
 
 use crate::cores::Core;
+use crate::marks::act_made;
 use crate::steps_made::StepsMade;
 use flicks::Flicks;
 use plain_store::{NestedTypes, Reply, Setup};
@@ -79,7 +80,7 @@ impl World {
         let place = self.history.len() as u64;
         let mut effect = Effect::Steps(StepTold::Nothing);
         match self.make(&event, &mut effect) {
-            Ok(access) => Ok(EventMade { access, effect }.act(self.alloc, place)),
+            Ok(access) => Ok(act_made(self.alloc, &EventMade { access, effect }, place)),
             Err(refusal) => Err(refusal),
         }
     }

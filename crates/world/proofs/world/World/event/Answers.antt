@@ -13,7 +13,7 @@ returns-clause-accepted c =
     let place : c.len-place.result ≡ length c.self.inside.history.items = search rules in
     elim c.match-make.branch [
       | in-Ok w ↦
-          let is = w.act.ensures ∙ ap (λ k. act_of k (record { access = w.in-Ok.access; effect = c.make.new.effect })) (place ∙ ap (λ (v : WorldState). length v.history) c.self.view_is) in
+          let is = w.act_made.ensures ∙ ap (λ k. act_of k (record { access = w.in-Ok.access; effect = c.make.new.effect })) (place ∙ ap (λ (v : WorldState). length v.history) c.self.view_is) in
           subst (λ r. IfOk r (λ act. Adds old c.args.event p act)) (sym w.result-is) (subst (Adds old c.args.event p) (sym is) w.in-Ok.ensures.accepted)
       | in-Err w ↦ subst (λ r. IfOk r (λ act. Adds old c.args.event p act)) (sym w.result-is) tt
     ]
@@ -25,7 +25,7 @@ returns-clause-headline c =
     let place : c.len-place.result ≡ length c.self.inside.history.items = search rules in
     elim c.match-make.branch [
       | in-Ok w ↦
-          let is = w.act.ensures ∙ ap (λ k. act_of k (record { access = w.in-Ok.access; effect = c.make.new.effect })) (place ∙ ap (λ (v : WorldState). length v.history) c.self.view_is) in
+          let is = w.act_made.ensures ∙ ap (λ k. act_of k (record { access = w.in-Ok.access; effect = c.make.new.effect })) (place ∙ ap (λ (v : WorldState). length v.history) c.self.view_is) in
           subst (λ r. IfOk r (λ act. KeepsTheHeadline old p act)) (sym w.result-is) (subst (KeepsTheHeadline old p) (sym is) w.in-Ok.ensures.headline)
       | in-Err w ↦ subst (λ r. IfOk r (λ act. KeepsTheHeadline old p act)) (sym w.result-is) tt
     ]
