@@ -18,10 +18,10 @@ mod writing;
 
 pub use auditing::run_audit;
 pub use bits::run_bits;
-pub use course::{Entry, Record, Summary};
+pub use course::Summary;
 pub use judge::{
-    Audited, Auditor, Law, RecordJudge, Verdict, Watch, audit, good_records_are_of_events,
-    records_have_one_verdict, records_of_events_are_good, run_judge, status_of,
+    Audited, Law, Verdict, good_records_are_of_events, records_have_one_verdict,
+    records_of_events_are_good, run_judge, status_of,
 };
 pub use listing::{events_of, record_of};
 pub use plain::run_plain;

@@ -6,8 +6,8 @@ use Rattle.record.specs.{Act, Entry, Event, IsAlone, Past, past_of}
 use Rattle.scenario.specs.files.Engines.{Streams, Ran}
 use Rattle.scenario.specs.{Script, scenario_of}
 use Rattle.scenario.specs.files.{Fault, ◌>>=◌}
-use Rattle.world.specs.{Adds, GoesOn, KeepsTheHeadline, entry_with}
-use Rattle.world.specs.Shows.{Shows, WorldState}
+use Rattle.auditor.specs.world.{Adds, GoesOn, KeepsTheHeadline, entry_with}
+use Rattle.auditor.specs.world.Shows.{Shows, WorldState}
 use Rattle.engines.specs.course.{InputKeepsHeadline, RunKeepsHeadline, Summary, ended, replay_text, replayed}
 use Rattle.scenario_tests.specs.{AreAlone, InputPrintsTrueReplies, PrintsTrueReplies}
 

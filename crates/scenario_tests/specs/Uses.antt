@@ -3,7 +3,7 @@ use Rattle.std.specs.Prelude.{◌≡◌, ℕ, List, ◌∷◌, ◌++◌, Option,
 use Rattle.std.specs.Io.KnownBytes.{Appends}
 use Rattle.record.specs.{Act, Entry, IsAlone, Past, StandsInHistory}
 use Rattle.scenario.specs.{Script, scenario_of}
-use Rattle.world.specs.{entry_with}
+use Rattle.auditor.specs.world.{entry_with}
 use Rattle.engines.specs.course.{happenings, past_after, replayed}
 
 -- after some past these are the acts of two processes, one after the other, and with each of them no two processes are inside together

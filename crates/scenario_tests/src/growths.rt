@@ -1,12 +1,12 @@
 //! Want of memory: what is refused changes nothing, and succeeds at the next try. The test passes with ample
 //! memory, and where any one growth is refused.
 use crate::worlds::{a, make};
+use auditor::World;
 use plain_store::{Command, Setup, Store, Value};
 use record::{Event, Refusal, Stage};
 use std::alloc::{AllocError, Global};
 use std::process::Abort;
 use std::test::Fail;
-use world::World;
 
 fn write(count: i64) -> Command {
     Command::Write(a(), Value::Count(count))

@@ -5,6 +5,7 @@ ghost use Rattle.plain_store.specs.{checked};
 
 use crate::scenarios::SCENARIOS;
 use crate::uses::printed_replies;
+use auditor::World;
 use bstr::ByteSlice;
 use engines::events_of;
 use plain_store::Setup;
@@ -12,7 +13,6 @@ use record::{Act, Event};
 use scenario::{FromRead, IntoWrite, Scenario, read_scenario};
 use std::alloc::{AllocError, Global};
 use std::test::Fail;
-use world::World;
 
 /// For how many bytes of a text there is room from the start, so that want of memory is told as such.
 const ROOM: usize = 4_096;

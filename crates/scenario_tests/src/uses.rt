@@ -4,12 +4,12 @@ ghost use Rattle.std.specs.Prelude.{◌-◌, ◌^◌, ◌<◌, IfOk, OnOk};
 ghost use Rattle.record.specs.{process_of};
 ghost use Rattle.scenario_tests.specs.Uses.{AreAlone, InputPrintsTrueReplies};
 
+use auditor::World;
 use engines::progress::Nobody;
 use engines::{Summary, replay};
 use record::{Act, Event, Refusal};
 use scenario::{Fault, Sink, Source};
 use std::alloc::Global;
-use world::World;
 
 /// Two events, one after the other: with the entry of each no two processes are inside the critical section.
 pub fn two_events(world: &mut World, first: Event, second: Event) -> Result<(Act, Act), Refusal>

@@ -5,7 +5,8 @@ ghost use Rattle.plain_store.specs.{checked};
 
 use crate::scenarios::LONE_WRITE;
 use crate::worlds::a;
-use engines::{Auditor, Law, Record, Swept, Verdict, audit, events_of, record_of, sweep};
+use auditor::{Auditor, Record, audit};
+use engines::{Law, Swept, Verdict, events_of, record_of, sweep};
 use plain_store::{Command, Setup, Value};
 use record::{Entry, Event, Mark};
 use scenario::read_scenario;

@@ -1,11 +1,11 @@
 //! Worlds that are driven by single events. Each is held by a function with one exit, which lends it.
 use crate::uses::two_events;
+use auditor::World;
 use plain_store::{Command, Name, Setup};
 use record::{Act, Event, Mark, Refusal, Stage};
 use std::alloc::Global;
 use std::process::Abort;
 use std::test::Fail;
-use world::World;
 
 /// The one name here.
 pub fn a() -> Name {
