@@ -79,13 +79,14 @@ def prove_all(below, rooms):
     behind = work_behind({it: below[it] for it in [PROGRAM, *left]})
     with ThreadPoolExecutor(CORES) as pool:
         while left or running:
-            # the crate that begins the longest chain gets two idle cores at least, and those that the others leave
+            # each crate gets a core, since a check that is shared by two takes a third more; the one that begins the longest
+            # chain gets those that the others leave
             ready = sorted((it for it in left if proved.issuperset(below[it])), key=lambda it: -behind[it])
             idle = CORES - sum(jobs for _, jobs in running.values())
             for at, name in enumerate(ready):
                 if idle == 0:
                     break
-                jobs = 1 if at else min(idle, max(2, idle + 1 - len(ready)))
+                jobs = 1 if at else max(1, idle + 1 - len(ready))
                 idle -= jobs
                 left.remove(name)
                 running[pool.submit(prove, name, below[name], rooms, jobs)] = name, jobs
