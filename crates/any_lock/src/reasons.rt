@@ -13,7 +13,7 @@ use plain_store::{NestedTypes, Reply};
 use record::{Access, Mark, Move, Stage};
 
 /// How an entry has to be changed to keep all laws.
-#[derive(Clone, Copy, PartialEq, Eq)]
+#[derive(Clone, Copy)]
 pub enum Remedy {
     /// Its read ends with this value.
     Value(bool),
@@ -22,7 +22,7 @@ pub enum Remedy {
 }
 
 /// Why an entry is refused: by the table of accesses, or else by that of marks.
-#[derive(Clone, Copy, PartialEq, Eq)]
+#[derive(Clone, Copy)]
 pub enum Refused {
     Access(AccessRefusal),
     Marks(MarkRefusal),

@@ -1,7 +1,7 @@
 //! Why an access or a mark is refused, whatever the algorithm.
 
 /// Why an access is refused. Where several apply, the first in this order is given.
-#[derive(Clone, Copy, Debug, PartialEq, Eq)]
+#[derive(Clone, Copy)]
 pub enum AccessRefusal {
     /// There is no such process. Without an access it is refused too.
     NoProcess,
@@ -26,7 +26,7 @@ pub enum AccessRefusal {
 }
 
 /// Why the marks of an entry are refused: the first refusal of the first refused mark.
-#[derive(Clone, Copy, Debug, PartialEq, Eq)]
+#[derive(Clone, Copy)]
 pub enum MarkRefusal {
     /// There is neither an access nor a mark.
     Nothing,

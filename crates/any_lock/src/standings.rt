@@ -12,7 +12,7 @@ use plain_store::{Command, NestedTypes, Reply, Setup};
 use record::{Access, Mark, Move, Stage};
 
 /// An access that begins, and the number of its entry.
-#[derive(Clone, Copy, PartialEq, Eq)]
+#[derive(Clone, Copy)]
 pub struct Begun {
     pub entry: u64,
     pub access: Access,

@@ -1,5 +1,5 @@
 /// A law that each entry of the record of any lock keeps, by the entries before it. They are looked at in this order.
-#[derive(Clone, Copy, Debug, PartialEq, Eq)]
+#[derive(Clone, Copy, PartialEq, Eq)]
 pub enum AnyLockLaw {
     /// A read that no write overlapped ends with the value last written or settled (Lamport 1986: the safe register).
     Safe,
@@ -16,7 +16,7 @@ pub enum AnyLockLaw {
 }
 
 /// What a judge finds.
-#[derive(Clone, Copy, Debug, PartialEq, Eq)]
+#[derive(Clone, Copy, PartialEq, Eq)]
 pub enum AnyLockVerdict {
     /// Each entry keeps each law.
     Good,
@@ -25,7 +25,7 @@ pub enum AnyLockVerdict {
 }
 
 /// A verdict on a record of so many entries. It is printed as `good <entries>` or `bad <entry> <law>`.
-#[derive(Clone, Copy, Debug, PartialEq, Eq)]
+#[derive(Clone, Copy)]
 pub struct Judged {
     pub verdict: AnyLockVerdict,
     pub entries: u64,

@@ -1,5 +1,5 @@
 /// A law that each entry of a record keeps, by the entries before it. They are looked at in this order.
-#[derive(Clone, Copy, Debug, PartialEq, Eq)]
+#[derive(Clone, Copy, PartialEq, Eq)]
 pub enum Law {
     /// A read that no write overlapped ends with the value last written or settled.
     Safe,
@@ -16,7 +16,7 @@ pub enum Law {
 }
 
 /// What an audit finds.
-#[derive(Clone, Copy, Debug, PartialEq, Eq)]
+#[derive(Clone, Copy, PartialEq, Eq)]
 pub enum Verdict {
     /// Each entry keeps each law.
     Good,
@@ -25,7 +25,7 @@ pub enum Verdict {
 }
 
 /// A verdict on a record of so many entries. It is printed as `good <entries>` or `bad <entry> <law>`.
-#[derive(Clone, Copy, Debug, PartialEq, Eq)]
+#[derive(Clone, Copy)]
 pub struct Audited {
     pub verdict: Verdict,
     pub entries: u64,

@@ -4,7 +4,7 @@ ghost use Rattle.bakery.specs.Doors.{told_at};
 use record::Stage;
 
 /// What an access of the doorway or of the waiting leads to.
-#[derive(Clone, Copy, Debug, PartialEq, Eq)]
+#[derive(Clone, Copy)]
 pub enum DoorProgress {
     /// The doorway goes on.
     Doorway,

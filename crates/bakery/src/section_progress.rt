@@ -4,7 +4,7 @@ ghost use Rattle.bakery.specs.Sections.{told_at};
 use plain_store::{Answer, Reply};
 
 /// What a section does next, told with each access.
-#[derive(Clone, Copy, Debug, PartialEq, Eq)]
+#[derive(Clone, Copy)]
 pub enum SectionProgress {
     /// It reads the versions, or the newest image.
     Reading,

@@ -4,7 +4,7 @@ ghost use Rattle.bakery.specs.Units.{remains};
 use process::Process;
 
 /// What remains of the work of a memory unit.
-#[derive(Clone, Copy, Debug, PartialEq, Eq)]
+#[derive(Clone, Copy)]
 pub enum UnitProgress {
     /// The torn bit is not settled on all copies.
     Settling,

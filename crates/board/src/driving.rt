@@ -9,7 +9,7 @@ use process::{Flicks, StepTold};
 use record::Stage;
 
 /// What driving a port has led to.
-#[derive(Clone, Copy, Debug, PartialEq, Eq)]
+#[derive(Clone, Copy)]
 pub enum Driven {
     /// The last word step answered the call.
     Answered(Answer),

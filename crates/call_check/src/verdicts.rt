@@ -1,5 +1,5 @@
 /// What weighing finds. It is printed as `good`, `bad <port> <call>` or `bad end`.
-#[derive(Clone, Copy, Debug, PartialEq, Eq)]
+#[derive(Clone, Copy, PartialEq, Eq)]
 pub enum Weighed {
     /// No call is bad, and the image is that of the store after all changes.
     Good,

@@ -2,7 +2,7 @@
 use plain_store::{Answer, Command};
 
 /// What the accesses of a call tell. Events are told by their numbers, from 0.
-#[derive(Clone, Copy, Debug)]
+#[derive(Clone, Copy)]
 pub struct Accesses {
     /// The first one: there its doorway begins.
     pub doorway: Option<u64>,
@@ -27,7 +27,7 @@ pub struct EntryKnown {
 }
 
 /// What the marks of a call tell, those of a memory unit too. Events are told by their numbers, from 0.
-#[derive(Clone, Copy, Debug)]
+#[derive(Clone, Copy)]
 pub struct Marked {
     /// Its doorway is finished: it waits.
     pub door_end: Option<u64>,
@@ -48,7 +48,7 @@ pub struct Marked {
 }
 
 /// A call of a process, and what has become of it so far.
-#[derive(Clone, Copy, Debug)]
+#[derive(Clone, Copy)]
 pub struct Called {
     pub process: u8,
     /// Which of its calls it is, from 1.

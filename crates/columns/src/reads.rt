@@ -9,7 +9,7 @@ use record::Field;
 use std::alloc::{AllocError, Global};
 
 /// A read that a write of its bit overlapped.
-#[derive(Clone, Copy, PartialEq, Eq)]
+#[derive(Clone, Copy)]
 pub struct OverlappedRead {
     pub reader: u8,
     pub owner: u8,

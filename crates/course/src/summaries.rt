@@ -9,7 +9,7 @@ use record::{Move, Taken};
 use scenario::{DONE, Ending, Fault};
 
 /// The three numbers that a replay ends with.
-#[derive(Clone, Copy, Debug, PartialEq, Eq)]
+#[derive(Clone, Copy)]
 pub struct Summary {
     /// Events that were accepted.
     pub events: u64,

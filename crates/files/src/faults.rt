@@ -45,7 +45,7 @@ impl fmt::Display for FaultKind {
 }
 
 /// The first line with a fault, counted from 1.
-#[derive(Clone, Copy, Debug, PartialEq, Eq, Error)]
+#[derive(Clone, Copy, Debug, Error)]
 #[error("line {line}: {kind}")]
 pub struct LineFault {
     pub line: u64,
@@ -53,7 +53,7 @@ pub struct LineFault {
 }
 
 /// Why an engine ended early.
-#[derive(Clone, Copy, Debug, PartialEq, Eq, Error)]
+#[derive(Clone, Copy, Debug, Error)]
 pub enum Fault {
     #[error(transparent)]
     Line(LineFault),

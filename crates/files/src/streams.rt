@@ -9,7 +9,7 @@ use std::alloc::Global;
 use std::io::{self, Read, Write};
 
 /// A call that failed, for whatever reason.
-#[derive(Clone, Copy, Debug, PartialEq, Eq)]
+#[derive(Clone, Copy)]
 pub struct Failed;
 
 /// Where an engine's bytes come from.

@@ -14,7 +14,7 @@ use markup::{Key, Markup, Tag, class, words};
 use std::alloc::{AllocError, Global};
 
 /// What the bands stand in.
-#[derive(Clone, Copy, PartialEq, Eq)]
+#[derive(Clone, Copy)]
 pub enum Form {
     /// A page: each band is a picture of its own.
     Page,

@@ -7,14 +7,14 @@ use crate::texts::Text;
 
 /// What a name stands for: a count of 64 bits with a sign, or a text. Values are equal if they are of one
 /// kind and equal.
-#[derive(Clone, Copy, Debug, PartialEq, Eq)]
+#[derive(Clone, Copy, PartialEq, Eq)]
 pub enum Value {
     Count(i64),
     Text(Text),
 }
 
 /// What is asked of a store.
-#[derive(Clone, Copy, Debug, PartialEq, Eq)]
+#[derive(Clone, Copy, PartialEq, Eq)]
 pub enum Command {
     /// The value of the name.
     Read(Name),
@@ -45,7 +45,7 @@ impl Command {
 }
 
 /// Who calls, and the number of the call.
-#[derive(Clone, Copy, Debug, PartialEq, Eq)]
+#[derive(Clone, Copy)]
 pub struct Caller {
     /// The calling process, from 0.
     pub process: u8,
@@ -54,7 +54,7 @@ pub struct Caller {
 }
 
 /// What a store replies to a command.
-#[derive(Clone, Copy, Debug, PartialEq, Eq)]
+#[derive(Clone, Copy, PartialEq, Eq)]
 pub enum Reply {
     /// To `Read`: the value of the name.
     Value(Value),
@@ -79,7 +79,7 @@ pub enum Reply {
 }
 
 /// How a call ends: by the store's reply, or without having reached the store.
-#[derive(Clone, Copy, Debug, PartialEq, Eq)]
+#[derive(Clone, Copy, PartialEq, Eq)]
 pub enum Answer {
     /// The store's reply.
     Reply(Reply),

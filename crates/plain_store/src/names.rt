@@ -13,7 +13,7 @@ use std::marker::Model;
 use thiserror::Error;
 
 /// The name of a value: 1 to 8 bytes, each `a` to `z`, `0` to `9` or `_`. Contracts see its bytes.
-#[derive(Clone, Copy, Debug)]
+#[derive(Clone, Copy)]
 pub struct Name {
     len: u8,
     bytes: [u8; 8],
@@ -37,7 +37,7 @@ impl Model for Name {
 }
 
 /// The bytes are no name.
-#[derive(Clone, Copy, Debug, PartialEq, Eq, Error)]
+#[derive(Clone, Copy, Debug, Error)]
 #[error("a name has 1 to 8 bytes, each a to z, 0 to 9 or _")]
 pub struct BadName;
 

@@ -9,7 +9,7 @@ use std::marker::Model;
 use thiserror::Error;
 
 /// Why a pair can't be added to an opening.
-#[derive(Clone, Copy, Debug, PartialEq, Eq, Error)]
+#[derive(Clone, Copy, Debug, Error)]
 pub enum OpenFault {
     #[error("the name has an opening pair")]
     Double,
@@ -18,7 +18,7 @@ pub enum OpenFault {
 }
 
 /// The pairs with which a store opens, at most 8. Contracts see their list, in the order added.
-#[derive(Clone, Copy, Debug)]
+#[derive(Clone, Copy)]
 pub struct Opening {
     len: u8,
     places: [Option<(Name, Value)>; 8],

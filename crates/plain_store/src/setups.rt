@@ -6,7 +6,7 @@ use crate::openings::Opening;
 use thiserror::Error;
 
 /// A world's processes, the bits of its tickets and stamps, and its store.
-#[derive(Clone, Copy, Debug)]
+#[derive(Clone, Copy)]
 pub struct Setup {
     /// 1, or 2 with larger ranges, opening pairs and call numbers.
     pub version: u8,
@@ -23,7 +23,7 @@ pub struct Setup {
 }
 
 /// The first field of a setup that is out of its range.
-#[derive(Clone, Copy, Debug, PartialEq, Eq, Error)]
+#[derive(Clone, Copy, Debug, Error)]
 pub enum BadSetup {
     #[error("the version is neither 1 nor 2")]
     Version,

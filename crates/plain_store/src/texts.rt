@@ -13,7 +13,7 @@ use std::marker::Model;
 use thiserror::Error;
 
 /// A text as a value: 0 to 12 bytes, each from 0x21 to 0x7E. Contracts see its bytes.
-#[derive(Clone, Copy, Debug)]
+#[derive(Clone, Copy)]
 pub struct Text {
     len: u8,
     bytes: [u8; 12],
@@ -37,7 +37,7 @@ impl Model for Text {
 }
 
 /// The bytes are no text.
-#[derive(Clone, Copy, Debug, PartialEq, Eq, Error)]
+#[derive(Clone, Copy, Debug, Error)]
 #[error("a text has at most 12 bytes, each printable ASCII and no space")]
 pub struct BadText;
 

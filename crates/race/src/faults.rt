@@ -62,7 +62,7 @@ impl RaceFault {
 }
 
 /// Why the engine ended early.
-#[derive(Clone, Copy, Debug, PartialEq, Eq, Error)]
+#[derive(Clone, Copy, Debug, Error)]
 pub enum RunFault {
     /// A file was at fault, or memory was wanting outside the race.
     #[error(transparent)]

@@ -2,7 +2,7 @@
 use std::thread;
 
 /// Where a port stands at a gate.
-#[derive(Clone, Copy, Debug, PartialEq, Eq)]
+#[derive(Clone, Copy, PartialEq, Eq)]
 pub enum Moment {
     /// A call of it was accepted, and no access of the call is made.
     Begun,
@@ -11,7 +11,7 @@ pub enum Moment {
 }
 
 /// Whether a port may go on.
-#[derive(Clone, Copy, Debug, PartialEq, Eq)]
+#[derive(Clone, Copy, PartialEq, Eq)]
 pub enum Pass {
     /// It goes on.
     On,
@@ -26,7 +26,7 @@ pub trait Gate {
 }
 
 /// The gate that holds nobody.
-#[derive(Clone, Copy, Debug)]
+#[derive(Clone, Copy)]
 pub struct AlwaysOn;
 
 impl Gate for AlwaysOn {

@@ -15,7 +15,7 @@ use std::sync::Wait;
 use std::thread;
 
 /// What a call has come to.
-#[derive(Clone, Copy, PartialEq, Eq)]
+#[derive(Clone, Copy)]
 pub(crate) enum CallReached {
     /// Its port is inside.
     Section,

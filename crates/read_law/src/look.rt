@@ -10,7 +10,7 @@ ghost use Rattle.read_law.specs.Watching.{LookTellsSafe};
 use record::Move;
 
 /// What the end of the read that began last may give.
-#[derive(Clone, Copy, PartialEq, Eq)]
+#[derive(Clone, Copy)]
 pub(crate) enum ReadEnd {
     /// Anything, and no write is open: a write overlapped the read, or no read has begun.
     Free,

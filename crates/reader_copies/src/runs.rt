@@ -7,7 +7,7 @@ use safe_bit::Move;
 use std::marker::Model;
 
 /// One access to one copy of a bit.
-#[derive(Clone, Copy, Debug, PartialEq, Eq)]
+#[derive(Clone, Copy, PartialEq, Eq)]
 pub struct Made {
     /// The reader whose copy it is, counted from 0.
     pub reader: u8,
@@ -15,7 +15,7 @@ pub struct Made {
 }
 
 /// Whether a run has accesses left.
-#[derive(Clone, Copy, Debug, PartialEq, Eq)]
+#[derive(Clone, Copy, PartialEq, Eq)]
 pub enum Progress {
     Going,
     Done,
@@ -25,7 +25,7 @@ pub enum Progress {
 /// reader 0 first.
 ///
 /// It belongs to the bit's one writer. It needs to be told the number of readers, 1 to 16, only as it goes on.
-#[derive(Clone, Copy, Debug)]
+#[derive(Clone, Copy)]
 pub struct CopyWrite {
     value: bool,
     /// How many of its accesses were made.
@@ -103,7 +103,7 @@ impl CopyWrite {
 }
 
 /// A read of one bit by one reader: begin and end on its own copy. It belongs to that reader.
-#[derive(Clone, Copy, Debug)]
+#[derive(Clone, Copy)]
 pub struct CopyRead {
     begun: bool,
     value: Option<bool>,
@@ -191,7 +191,7 @@ impl CopyRead {
 /// Settling goes over all copies, reader 0 first, and gives each the same value: a copy whose write is open
 /// by a single `Settle`, any other by begin and end of a write. It belongs to the memory itself, which
 /// settles in the writer's stead.
-#[derive(Clone, Copy, Debug)]
+#[derive(Clone, Copy)]
 pub struct Torn {
     /// How many accesses of the write were made.
     made: u8,

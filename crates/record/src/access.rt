@@ -6,7 +6,7 @@ use reader_copies::{Made, Torn};
 use safe_bit::Move;
 
 /// A register of a process: those of the lock, and those of the store and its two versions.
-#[derive(Clone, Copy, Debug, PartialEq, Eq)]
+#[derive(Clone, Copy, PartialEq, Eq)]
 pub enum Field {
     Choosing,
     Ticket,
@@ -18,7 +18,7 @@ pub enum Field {
 }
 
 /// One access to one copy of one bit.
-#[derive(Clone, Copy, Debug, PartialEq, Eq)]
+#[derive(Clone, Copy, PartialEq, Eq)]
 pub struct Access {
     /// The process whose register it is.
     pub owner: u8,
@@ -49,7 +49,7 @@ impl Access {
 }
 
 /// A bit whose write was cut before it had ended on every copy.
-#[derive(Clone, Copy, Debug)]
+#[derive(Clone, Copy)]
 pub struct TornBit {
     pub field: Field,
     /// The bit of the register, counted from 0, the least significant.

@@ -5,7 +5,7 @@ use plain_store::Command;
 
 /// What may happen to a world. The first number is the process, from 0. It is accepted or refused as a
 /// whole: see `Refusal`.
-#[derive(Clone, Copy, Debug, PartialEq, Eq)]
+#[derive(Clone, Copy)]
 pub enum Event {
     /// The process calls the store with a command.
     Call(u8, Command),

@@ -1,7 +1,7 @@
 use plain_store::{Command, Reply};
 
 /// A command that was taken: an item of the history, whose index is its place.
-#[derive(Clone, Copy, Debug, PartialEq, Eq)]
+#[derive(Clone, Copy)]
 pub struct Taken {
     /// Whose call it was, from 0.
     pub process: u8,

@@ -1,7 +1,7 @@
 use plain_store::{Answer, Command, Reply};
 
 /// What an entry marks, beside its access. The default stands in the unused places of an act's list alone.
-#[derive(Clone, Copy, Debug, Default, PartialEq, Eq)]
+#[derive(Clone, Copy, Default, PartialEq, Eq)]
 pub enum Mark {
     /// A call began, with this command.
     Called(Command),

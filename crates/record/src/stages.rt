@@ -1,5 +1,5 @@
 /// Where a process stands. It is running in the four stages from `Doorway` to `Leaving`.
-#[derive(Clone, Copy, Debug, PartialEq, Eq)]
+#[derive(Clone, Copy, PartialEq, Eq)]
 pub enum Stage {
     /// It has no call.
     Idle,

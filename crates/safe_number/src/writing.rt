@@ -11,7 +11,7 @@ use std::marker::Model;
 ///
 /// The value is handed in at each access, as bytes: bit `k` is bit `k % 8` of byte `k / 8`. A bit is looked
 /// at when its first copy begins.
-#[derive(Clone, Copy, Debug)]
+#[derive(Clone, Copy)]
 pub struct WriteRun {
     width: u16,
     /// The bit that is written now, and how far its write has come, once it has begun.

@@ -8,7 +8,7 @@ use std::alloc::Global;
 use std::marker::Model;
 
 /// A line of a bits file behind the first: a call on a bit, which opens at 0.
-#[derive(Clone, Copy, PartialEq, Eq)]
+#[derive(Clone, Copy)]
 pub enum BitLine {
     /// A write of this value begins.
     Write(bool),

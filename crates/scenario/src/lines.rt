@@ -16,7 +16,7 @@ pub enum Target {
 }
 
 /// A line behind the headings and opening pairs. A process may be one that is not there.
-#[derive(Clone, Copy, PartialEq, Eq)]
+#[derive(Clone, Copy)]
 pub enum Line {
     /// The process calls the command.
     Call(u8, Command),

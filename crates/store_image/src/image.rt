@@ -24,7 +24,7 @@ const MOST_BYTES: usize = 216;
 
 /// A store of 1 to 8 slots and at most 16 callers, kept as its image: the slots, used ones first, in order
 /// of first write, and then the callers' numbers of 2 bytes. It takes no memory.
-#[derive(Clone, Copy, Debug)]
+#[derive(Clone, Copy)]
 pub struct Image {
     used: u8,
     slots: u8,
@@ -33,7 +33,7 @@ pub struct Image {
 }
 
 /// Why bytes are no image.
-#[derive(Clone, Copy, Debug, PartialEq, Eq, Error)]
+#[derive(Clone, Copy, Debug, Error)]
 pub enum BadImage {
     /// The length less 2 times the callers is not 23 times 1 to 8.
     #[error("the length is that of no image")]

@@ -6,7 +6,7 @@ use crate::runner::BadEntry;
 use auditor::Law;
 
 /// A run of a sweep whose record is bad. It is printed as `bad cut <cut> value <0 or 1> entry <entry> <law>`.
-#[derive(Clone, Copy, Debug, PartialEq, Eq)]
+#[derive(Clone, Copy)]
 pub struct BadRun {
     /// The event after which the process failed, counted from 0 among those that are accepted.
     pub cut: u64,
@@ -20,7 +20,7 @@ pub struct BadRun {
 
 /// What a sweep finds. It is printed as `sweep runs <runs> good <good> stuck <stuck>`, and on a second line the first bad
 /// run, if there is one.
-#[derive(Clone, Copy, Debug, PartialEq, Eq)]
+#[derive(Clone, Copy)]
 pub struct Swept {
     /// How many runs there are.
     pub runs: u64,
