@@ -10,12 +10,13 @@ use command_line::{
 };
 use drawer::progress::Onlooker;
 use drawer::{Reads, draw, draw_svg};
-use engines::{replay, run_audit, run_bits, run_judge, run_plain, run_record, run_sweep};
+use engines::{
+    judge_any_lock, replay, run_audit, run_bits, run_judge, run_plain, run_record, run_sweep,
+};
 use inspect::{FileKind, KeptFile, KeptInput, events_said, explanation, run_calls, run_state};
 use race::{RunFault, run_fault_status, run_race};
 use record_drawer::{
-    Explaining, ExplainingAnyLock, Judging, Opened, draw_judged_record, draw_judged_record_svg,
-    draw_record, draw_record_svg, judge_any_lock,
+    JudgedBy, Opened, draw_judged_record, draw_judged_record_svg, draw_record, draw_record_svg,
 };
 use std::alloc::Global;
 use std::env::Env;
@@ -205,6 +206,7 @@ fn events_asked(request: &Request<'_>) -> Option<u64> {
 
 /// What a request asks of its engine.
 fn wanted_by(request: &Request<'_>, is_record: bool, at: u64) -> Wanted {
+    let judge = request.judge | request.any_lock;
     Wanted {
         engine: request.command.engine,
         reads: if request.reads {
@@ -212,10 +214,10 @@ fn wanted_by(request: &Request<'_>, is_record: bool, at: u64) -> Wanted {
         } else {
             Reads::Hidden
         },
-        judge: request.judge,
+        judge,
         any_lock: request.any_lock,
         why: request.why,
-        is_record: is_record | request.judge | request.any_lock,
+        is_record: is_record | judge,
         at,
     }
 }
@@ -233,6 +235,11 @@ fn run_engine<T: AllocGlobal + Threads + Wait + Sync, R: Source, W: Sink, L: Onl
 {
     let alloc = rt.alloc();
     let reads = wanted.reads;
+    let by = if wanted.any_lock {
+        JudgedBy::AnyLock
+    } else {
+        JudgedBy::ThisLock
+    };
     let ran = match wanted.engine {
         Engine::Plain => exit_status(run_plain(alloc, input, output)),
         Engine::Bits => exit_status(run_bits(alloc, input, output)),
@@ -245,12 +252,8 @@ fn run_engine<T: AllocGlobal + Threads + Wait + Sync, R: Source, W: Sink, L: Onl
         Engine::Judge if wanted.any_lock => judge_any_lock(alloc, input, output, wanted.why),
         Engine::Judge => run_judge(alloc, input, output, wanted.why),
         Engine::Race => return run_race(rt, alloc, input, output),
-        Engine::Draw | Engine::DrawSvg if wanted.any_lock => {
-            draw_judged::<ExplainingAnyLock, R, W>(alloc, wanted, input, output)
-        }
-        Engine::Draw | Engine::DrawSvg if wanted.judge => {
-            draw_judged::<Explaining, R, W>(alloc, wanted, input, output)
-        }
+        Engine::Draw if wanted.judge => draw_judged_record(alloc, by, reads, input, output),
+        Engine::DrawSvg if wanted.judge => draw_judged_record_svg(alloc, by, reads, input, output),
         Engine::Draw if wanted.is_record => exit_status(draw_record(alloc, reads, input, output)),
         Engine::DrawSvg if wanted.is_record => exit_status(draw_record_svg(
             alloc, reads, input, output,
@@ -259,23 +262,6 @@ fn run_engine<T: AllocGlobal + Threads + Wait + Sync, R: Source, W: Sink, L: Onl
         Engine::DrawSvg => exit_status(draw_svg(alloc, reads, input, output, onlooker)),
     };
     Ok(ran?)
-}
-
-/// Draws a record that is judged; answers the judge's exit status.
-fn draw_judged<H: Judging, R: Source, W: Sink>(
-    alloc: Global,
-    wanted: Wanted,
-    input: &mut R,
-    output: &mut W,
-) -> Result<u8, Fault>
-    requires reads { R.failures input.old < 2 ^ 64 - 1 }
-    requires writes { W.failures output.old < 2 ^ 64 - 1 }
-{
-    if wanted.engine == Engine::Draw {
-        draw_judged_record::<H, R, W>(alloc, wanted.reads, input, output)
-    } else {
-        draw_judged_record_svg::<H, R, W>(alloc, wanted.reads, input, output)
-    }
 }
 
 /// Tells a fault on standard error, and answers the exit status.

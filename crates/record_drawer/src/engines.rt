@@ -9,6 +9,7 @@ ghost use Rattle.judge.specs.Trials.{Stands as HearerStands};
 ghost use Rattle.companions.specs.picture.declared.reads.Reads.{Reads as Mode};
 ghost use Rattle.record.specs.{Entry as Noted};
 ghost use Rattle.record_file.specs.{Progress, Said};
+ghost use Rattle.record_drawer.specs.Judges.{DrewJudgedBy};
 ghost use Rattle.record_drawer.specs.Judgings.{HasRead, TellsOfLines};
 ghost use Rattle.record_drawer.specs.Sheets.{DrawsAllBands, DrawsBandsOf, DrawsSaid, Drew, DrewJudged, IsDrawFault, IsJudged, Stands, without_write};
 ghost use Rattle.record_drawer.specs.Writing.{IsWriteFault, failed_write};
@@ -20,8 +21,15 @@ use crate::writing::write_markup;
 use companions::{FIRST_BAND, Form, Reads, around_picture, page_end};
 use files::source_lines::Lines;
 use files::{Fault, FaultKind, Sink, Source, write_all};
-use judge::{Judging, Telling, Trial};
+use judge::{Explaining, ExplainingAnyLock, Judging, Telling, Trial};
 use std::alloc::{AllocError, Global};
+
+/// Which judge hears a record while it is drawn: the one of this project's lock, or the one of any lock.
+#[derive(Clone, Copy)]
+pub enum JudgedBy {
+    ThisLock,
+    AnyLock,
+}
 
 /// Reads a record file line by line, and writes the page of what it says: a picture in bands, each written when it is full.
 /// So it holds a line, a block and a band, however long the file is. Where it ends well, what was written is the page of
@@ -47,7 +55,27 @@ pub fn draw_record<R: Source, W: Sink>(
 
 /// The same of a record that a judge hears too: the page ends with the first entry that breaks a law, and then shows what
 /// the judge tells of the whole record, line by line. The file is read to its end. Answers the judge's exit status.
-pub fn draw_judged_record<H: Judging, R: Source, W: Sink>(
+pub fn draw_judged_record<R: Source, W: Sink>(
+    alloc: Global,
+    by: JudgedBy,
+    reads: Reads,
+    input: &mut R,
+    output: &mut W,
+) -> Result<u8, Fault>
+    requires reads { R.failures input.old < 2 ^ 64 - 1 }
+    requires writes { W.failures output.old < 2 ^ 64 - 1 }
+    ensures { DrewJudgedBy by reads form_variants.Page result
+        (streams ⟦<R as Source>⟧ ⟦<W as Sink>⟧ input.old output.old)
+        (streams ⟦<R as Source>⟧ ⟦<W as Sink>⟧ input.new output.new) }
+{
+    match by {
+        JudgedBy::ThisLock => judged_page::<Explaining, R, W>(alloc, reads, input, output),
+        JudgedBy::AnyLock => judged_page::<ExplainingAnyLock, R, W>(alloc, reads, input, output),
+    }
+}
+
+/// The same, by any judge.
+fn judged_page<H: Judging, R: Source, W: Sink>(
     alloc: Global,
     reads: Reads,
     input: &mut R,
@@ -99,7 +127,27 @@ pub fn draw_record_svg<R: Source, W: Sink>(
 }
 
 /// The same of a record that a judge hears too, as on its page.
-pub fn draw_judged_record_svg<H: Judging, R: Source, W: Sink>(
+pub fn draw_judged_record_svg<R: Source, W: Sink>(
+    alloc: Global,
+    by: JudgedBy,
+    reads: Reads,
+    input: &mut R,
+    output: &mut W,
+) -> Result<u8, Fault>
+    requires reads { R.failures input.old < 2 ^ 64 - 1 }
+    requires writes { W.failures output.old < 2 ^ 64 - 1 }
+    ensures { DrewJudgedBy by reads (form_variants.Picture 34) result
+        (streams ⟦<R as Source>⟧ ⟦<W as Sink>⟧ input.old output.old)
+        (streams ⟦<R as Source>⟧ ⟦<W as Sink>⟧ input.new output.new) }
+{
+    match by {
+        JudgedBy::ThisLock => judged_picture::<Explaining, R, W>(alloc, reads, input, output),
+        JudgedBy::AnyLock => judged_picture::<ExplainingAnyLock, R, W>(alloc, reads, input, output),
+    }
+}
+
+/// The same, by any judge.
+fn judged_picture<H: Judging, R: Source, W: Sink>(
     alloc: Global,
     reads: Reads,
     input: &mut R,

@@ -1,6 +1,6 @@
 //! The pictures of records: what an entry after the other says, as a page for a browser and as one picture. A record may be
 //! good or bad, and of any lock; what it says is drawn. Where a judge hears it too, its picture ends with the first entry
-//! that breaks a law, and with what he tells. The engines that judge records are passed on.
+//! that breaks a law, and with what he tells.
 //!
 //! ```rust
 //! Engine::Draw if wanted.is_record => exit_status(draw_record(alloc, reads, input, output)),
@@ -17,7 +17,8 @@ mod sheet;
 mod taken_files;
 mod writing;
 
-pub use engines::{draw_judged_record, draw_judged_record_svg, draw_record, draw_record_svg};
-pub use judge::{Explaining, ExplainingAnyLock, Judging, judge_any_lock};
+pub use engines::{
+    JudgedBy, draw_judged_record, draw_judged_record_svg, draw_record, draw_record_svg,
+};
 pub use opened::Opened;
 pub use taken_files::{records_are_taken_for_records, scenarios_are_not_taken_for_records};

@@ -3,7 +3,7 @@ use Rattle.judge.specs.{IsOfRecord}
 use Rattle.companions.specs.picture.declared.page.Form.TheVariants as form
 use Rattle.record_drawer.specs.{DrawsBandsOf, DrawsSaid, IsJudged}
 use Rattle.record_drawer.proofs.Whole.{judged_all}
-use Rattle.record_drawer.proofs.engines.draw_judged_record_svg.Goals as goal
+use Rattle.record_drawer.proofs.engines.judged_picture.Goals as goal
 
 pub returns-in-Ok : goal.returns-in-Ok
 returns-in-Ok g c =

@@ -1,7 +1,7 @@
 use Rattle.companions.specs.picture.declared.page.Form.TheVariants as form
 use Rattle.record_drawer.specs.{DrawsBandsOf, DrawsSaid}
 use Rattle.record_drawer.proofs.Whole.{judged_all}
-use Rattle.record_drawer.proofs.engines.draw_judged_record.Goals as goal
+use Rattle.record_drawer.proofs.engines.judged_page.Goals as goal
 
 pub returns : goal.returns
 returns g c =
