@@ -20,10 +20,8 @@ pub use auditing::run_audit;
 pub use bits::run_bits;
 pub use course::Summary;
 pub use judge::{
-pub use judge::{
     Audited, Law, Verdict, good_records_are_of_events, judge_any_lock, records_have_one_verdict,
     records_of_events_are_good, run_judge, status_of,
-};
 };
 pub use listing::{events_of, record_of};
 pub use plain::run_plain;
