@@ -12,7 +12,7 @@ returns-in-Ok-clause-entry c = λ history events many shows.
     let step : Event = Step p c.args.flick in
     let here = subst (λ (w : CoreState). Shows (with_history w history) events) (sym c.copy_from.ensures) shows in
     let adds = c.in-Ok.ensures.accepted history events here in
-    let marks = c.marks.ensures ∙ ap (λ k. map (placed k) (marks_of c.event.new.effect)) (sym many) in
+    let marks = c.event_marks.ensures ∙ ap (λ k. map (placed k) (marks_of c.event.new.effect)) (sym many) in
     ap (λ (m : List Mark). Some (record { process = p; access = c.in-Ok.access; marks = m })) marks
     ∙ sym adds ∙ ap (λ (w : CoreState). entry_of w.setup (past_of w.setup events) step) c.copy_from.ensures
 

@@ -18,5 +18,5 @@ returns-then-matches c = record {
 pub returns : goal.returns
 returns c = record {
   setup = c.hear_parts.ensures.setup;
-  heard = subst (λ (e : Entry). Hears c.args.auditor.now e c.hear_parts.new.self c.hear_parts.result) (ap (entry_by c.args.process (Some c.args.access)) (c.deref-2.ensures ∙ c.marks.ensures)) c.hear_parts.ensures.heard;
+  heard = subst (λ (e : Entry). Hears c.args.auditor.now e c.hear_parts.new.self c.hear_parts.result) (ap (entry_by c.args.process (Some c.args.access)) (c.deref-2.ensures ∙ c.step_marks.ensures)) c.hear_parts.ensures.heard;
 }

@@ -25,7 +25,7 @@ returns-clause-added c = λ s past h few.
     let same = c.copy_from.ensures ∙ c.core.ensures ∙ ap (λ (f : FollowerState). f.auditor.core) c.self.view_is in
     let both : Some c.in_ok-place.place ≡ Some (length (history s past)) = sym c.in_ok-place.was ∙ c.taken.ensures ∙ ap (λ (f : FollowerState). f.auditor.taken) c.self.view_is ∙ taken_is c.args.self.now s past h few in
     let place : c.in_ok-place.place ≡ length (history s past) = cc in
-    let marks = c.marks.ensures ∙ ap (λ (n : ℕ). map (placed n) (marks_told c.step.new.told)) place in
+    let marks = c.step_marks.ensures ∙ ap (λ (n : ℕ). map (placed n) (marks_told c.step.new.told)) place in
     let adds = followed c.args.self.now s past
     (λ (taken : List Taken) (s : Setup) (past : Past). entry_of s past (Step c.args.process c.args.flick) ≡ Some (entry_with c.args.process (act_of (length taken) (record { access = Some c.in-Ok.made.access; effect = Steps c.step.new.told }))))
     c.copy_from.new.self same h c.in-Ok.ensures.accepted in

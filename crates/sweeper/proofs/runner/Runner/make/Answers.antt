@@ -39,14 +39,14 @@ goes : (c : After-more-self-inside) (events : List Event) → Follows (before c)
     Follows (record { core = c.event.new.self; auditor = c.hear_parts-law.new.self; taken = c.more-self-inside.result }) (c.args.event.now ∷ events)
 goes c events follows =
     follows_made (before c) c.args.event.now c.in-Ok.access c.event.new.effect c.event.new.self (made c) events follows c.process.result c.deref.result.now c.hear_parts-law.result c.hear_parts-law.new.self c.more-self-inside.result
-    c.process.ensures (c.deref.ensures ∙ c.marks-marks.ensures) c.more-self-inside.ensures (answered c)
+    c.process.ensures (c.deref.ensures ∙ c.event_marks-marks.ensures) c.more-self-inside.ensures (answered c)
 
 pub invariant_of-self-2 : goal.invariant_of-self-2
 invariant_of-self-2 c =
     let kept = c.self.invariant in
     let b = (goal.at.invariant_of-self-2 c).After-more-self-inside in
     let none : c.hear_parts-law.result ≡ None = none_broken (before b) c.args.event.now c.in-Ok.access c.event.new.effect c.event.new.self (made b) kept.events kept.follows c.process.result c.deref.result.now c.hear_parts-law.result c.hear_parts-law.new.self
-    c.process.ensures (c.deref.ensures ∙ c.marks-marks.ensures) (answered b) in
+    c.process.ensures (c.deref.ensures ∙ c.event_marks-marks.ensures) (answered b) in
     record {
       events = c.args.event.now ∷ kept.events;
       follows = goes b kept.events kept.follows;
