@@ -11,5 +11,5 @@ pub use picture::{
     FIRST_BAND, Form, Markup, OverlappedRead, Page, Reads, RunLine, Saying, TakenChange, page_end,
     page_head, stages_are_the_records,
 };
-pub use store_changes::{apply, opening_store, store_words, words_by_pairs};
+pub use store_changes::{apply, store_words, words_by_pairs};
 pub use surroundings::around_picture;

@@ -6,8 +6,8 @@ ghost use Rattle.record.specs.{store_after};
 ghost use Rattle.companions.specs.{changed, store_words as words_of_store, words_by};
 ghost use Rattle.drawer.specs.Changes.{IsNext, after_taken, change_of, change_taken, takes};
 
-use companions::{TakenChange, opening_store, store_words, words_by_pairs};
-use plain_store::{Caller, NestedTypes, PlainStore, Setup};
+use companions::{TakenChange, store_words, words_by_pairs};
+use plain_store::{Caller, NestedTypes, PlainStore, Setup, opened};
 use record::{Mark, Taken};
 use std::alloc::{AllocError, Global};
 
@@ -26,7 +26,7 @@ impl Changes {
     {
         Ok(Changes {
             alloc,
-            store: opening_store(alloc, setup)?,
+            store: opened(PlainStore::new(alloc, setup.slots, setup.callers()), setup)?,
         })
     }
 

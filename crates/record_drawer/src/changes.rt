@@ -6,8 +6,8 @@ ghost use Rattle.record.specs.declared.marks.Mark.{Mark as Noted};
 ghost use Rattle.companions.specs.{changed, store_words as words_of_store, words_by};
 ghost use Rattle.record_drawer.specs.Takings.{Knows, after_call, change_by_call, change_of, next_number as number_after};
 
-use companions::{TakenChange, opening_store, store_words, words_by_pairs};
-use plain_store::{Caller, Command, NestedTypes, PlainStore, Setup};
+use companions::{TakenChange, store_words, words_by_pairs};
+use plain_store::{Caller, Command, NestedTypes, PlainStore, Setup, opened};
 use record::Mark;
 use std::alloc::{AllocError, Global};
 
@@ -44,7 +44,7 @@ impl RecordedChanges {
         Ok(RecordedChanges {
             alloc,
             version: setup.version,
-            store: opening_store(alloc, setup)?,
+            store: opened(PlainStore::new(alloc, setup.slots, setup.callers()), setup)?,
             calls,
         })
     }

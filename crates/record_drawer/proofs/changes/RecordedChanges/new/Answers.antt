@@ -9,7 +9,7 @@ returns c =
     record {
       version = refl;
       many = ap length c.loop-process.invariant.calls ∙ length-replicate c.loop-process._process no_call ∙ all;
-      store = c.in_ok-opening_store.ensures;
+      store = c.in_ok-opened.ensures;
       calls = λ p below. ap (λ (l : List LastCall). get_or l p no_call) c.loop-process.invariant.calls ∙ get_or-replicate c.loop-process._process p no_call no_call (omega (arith, below, all));
     }
 
