@@ -1,8 +1,8 @@
-ghost use Rattle.std.specs.Prelude.{◌≡◌, ◌+◌, ◌-◌, ◌^◌, ◌<◌, ◌∷◌, [], IfOk, Ok, Some, length};
+ghost use Rattle.std.specs.Prelude.{◌≡◌, ◌+◌, ◌-◌, ◌^◌, ◌<◌, [], IfOk, Ok, length};
 ghost use Rattle.plain_store.specs.{checked};
-ghost use Rattle.read_law.specs.{HasHeard as HasWatched, OfHeard, entry_by};
+ghost use Rattle.read_law.specs.{entry_by};
 ghost use Rattle.any_lock.specs.Headline.{SaysHeadline};
-ghost use Rattle.any_lock.specs.Judging.{HasJudged, HearOn, IsExplained, IsSafe, JudgesOn, OfJudged, TellsReasons, Finds};
+ghost use Rattle.any_lock.specs.Judging.{HasJudged, HearOn, IsExplained, JudgesOn, OfJudged, TellsReasons, Finds};
 ghost use Rattle.any_lock.specs.Verdicts.{verdict_of, verdict_with};
 
 use crate::kept::Kept;
@@ -10,7 +10,7 @@ use crate::reasons::Reasons;
 use crate::verdicts::{AnyLockLaw, AnyLockVerdict, Judged};
 use plain_store::{NestedTypes, Setup};
 use read_law::Watch;
-use record::{Access, Entry, Mark};
+use record::{Access, Mark};
 use std::alloc::{AllocError, Global};
 use std::marker::Model;
 
@@ -52,17 +52,8 @@ impl Judge {
         })
     }
 
-    /// One more entry, whatever it is. It takes no memory.
-    pub fn hear(&mut self, entry: &Entry)
-        requires { self.old.entries < 2 ^ 64 - 1 }
-        ensures heard { JudgesOn self.old entry.now self.new }
-        ensures count { self.new.entries ≡ self.old.entries + 1 }
-    {
-        self.hear_parts(entry.process, &entry.act.access, &entry.act.marks);
-    }
-
-    /// The same of an entry that is given by its parts: so it need not stand anywhere.
-    pub fn hear_parts(&mut self, process: u8, access: &Option<Access>, marks: &[Mark])
+    /// One more entry, whatever it is, by its parts. It takes no memory.
+    pub fn hear(&mut self, process: u8, access: &Option<Access>, marks: &[Mark])
         requires { self.old.entries < 2 ^ 64 - 1 }
         ensures heard { JudgesOn self.old (entry_by process access.now marks.now) self.new }
         ensures count { self.new.entries ≡ self.old.entries + 1 }
@@ -72,16 +63,6 @@ impl Judge {
         if self.verdict == AnyLockVerdict::Good {
             self.verdict = self.verdict_with(number, process, access, marks);
         }
-    }
-
-    /// The same of an entry with this access and no mark, as nearly all are.
-    #[inline]
-    pub fn hear_access(&mut self, process: u8, access: Access)
-        requires { self.old.entries < 2 ^ 64 - 1 }
-        ensures heard { JudgesOn self.old (entry_by process (Some access) []) self.new }
-        ensures count { self.new.entries ≡ self.old.entries + 1 }
-    {
-        self.hear_parts(process, &Some(access), &[]);
     }
 
     /// The verdict with an entry of this number, where that on the entries before it is good.
@@ -100,7 +81,7 @@ impl Judge {
         ensures goes_on { HearOn self.old (entry_by process access.now marks.now) result self.new }
     {
         let _nested: NestedTypes = None;
-        let is_safe = keeps_safe(&mut self.watch, access);
+        let is_safe = self.watch.hear(access);
         let law = self.kept.hear(is_safe, process, access, marks);
         self.reasons = self.kept.reasons_of(law, process, access, marks);
         found(number, law)
@@ -125,18 +106,6 @@ impl Judge {
         ensures { OfJudged self.now (IsExplained result) }
     {
         self.reasons
-    }
-}
-
-/// Whether an entry with this access keeps the law `Safe`, which a watch hears.
-fn keeps_safe(watch: &mut Watch, access: &Option<Access>) -> bool
-    ensures setup { watch.new.setup ≡ watch.old.setup }
-    ensures heard { OfHeard watch.old access.now (λ _ past e. HasWatched watch.new (e ∷ past)) }
-    ensures safe { OfHeard watch.old access.now (IsSafe result) }
-{
-    match access {
-        None => true,
-        Some(access) => watch.hear_access(*access),
     }
 }
 

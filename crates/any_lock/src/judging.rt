@@ -7,6 +7,7 @@ ghost use Rattle.any_lock.specs.Verdicts.{verdict_of};
 use crate::judge::Judge;
 use crate::verdicts::Judged;
 use plain_store::Setup;
+use read_law::parts;
 use record::Entry;
 use std::alloc::{AllocError, Global};
 
@@ -20,7 +21,8 @@ pub fn judge_all(alloc: Global, setup: &Setup, entries: &[Entry]) -> Result<Judg
 {
     let mut judge = Judge::new(alloc, setup)?;
     for entry in entries {
-        judge.hear(entry);
+        let (process, access, marks) = parts(entry);
+        judge.hear(process, access, marks);
     }
     Ok(judge.judged())
 }

@@ -19,6 +19,7 @@ mod verdicts;
 pub use changes::changed;
 pub use judge::Judge;
 pub use judging::{changed_entries_keep_all_laws, good_says_the_headline, judge_all};
+pub use read_law::parts;
 pub use reasons::{Reasons, Refused, Remedy};
 pub use refusals::{AccessRefusal, MarkRefusal};
 pub use standings::{Begun, Standing};

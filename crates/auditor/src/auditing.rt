@@ -7,7 +7,7 @@ ghost use Rattle.auditor.specs.Verdicts.{BreaksFirst, IsGoodOfEvents, IsTrueReco
 use crate::auditor::Auditor;
 use crate::verdicts::{Law, Verdict};
 use plain_store::Setup;
-use read_law::is_unsafe;
+use read_law::{is_unsafe, parts};
 use record::{Entry, Record};
 use std::alloc::{AllocError, Global};
 
@@ -31,7 +31,8 @@ fn audit_all(alloc: Global, setup: &Setup, entries: &[Entry]) -> Result<Verdict,
 {
     let mut auditor = Auditor::new(alloc, setup)?;
     for (number, entry) in entries.iter().enumerate() {
-        if let Some(law) = auditor.hear(entry) {
+        let (process, access, marks) = parts(entry);
+        if let Some(law) = auditor.hear(process, access, marks) {
             let before = &entries[..number];
             let first = first_law(setup, before, entry, law)?;
             return Ok(Verdict::Bad(number as u64, first));

@@ -9,7 +9,7 @@ ghost use Rattle.auditor.specs.Verdicts.{tells_event};
 use crate::matching::{are_at, event_in, flick_in, flick_of, is_alike, is_that, more, tells_event};
 use crate::verdicts::Law;
 use plain_store::Setup;
-use record::{Access, Entry, Event, Mark, Stage};
+use record::{Access, Event, Mark, Stage};
 use std::alloc::{AllocError, Global};
 use std::marker::Model;
 use world::{Core, Effect, StepTold};
@@ -73,25 +73,13 @@ impl Auditor {
         self.taken
     }
 
-    /// One more entry: none, if it keeps all laws; else the first law after `Safe` that it breaks. An entry that breaks
-    /// `Safe` breaks `Program` or `Unit` too; whether it does is looked up in the entries before. After an entry that
+    /// One more entry, by its parts: none, if it keeps all laws; else the first law after `Safe` that it breaks. An entry that
+    /// breaks `Safe` breaks `Program` or `Unit` too; whether it does is looked up in the entries before. After an entry that
     /// broke a law nothing is known of the auditor.
-    pub fn hear(&mut self, entry: &Entry) -> Option<Law>
-        ensures setup { result ≡ None → self.new.core.setup ≡ self.old.core.setup }
-        ensures heard { Hears self.old entry.now self.new result }
-    {
-        self.hear_parts(entry.process, &entry.act.access, &entry.act.marks)
-    }
-
-    /// The same of an entry that is given by its parts, for a run whose entries stand nowhere: most of its steps have
-    /// no mark, and an act has room for three.
+    ///
+    /// An entry has room for three marks, and most have none: those of a run stand nowhere.
     #[inline]
-    pub fn hear_parts(
-        &mut self,
-        process: u8,
-        access: &Option<Access>,
-        marks: &[Mark],
-    ) -> Option<Law>
+    pub fn hear(&mut self, process: u8, access: &Option<Access>, marks: &[Mark]) -> Option<Law>
         ensures setup { result ≡ None → self.new.core.setup ≡ self.old.core.setup }
         ensures heard { Hears self.old (entry_by process access.now marks.now) self.new result }
     {
@@ -107,7 +95,7 @@ impl Auditor {
     /// The same of an entry with this access and no mark, as nearly all are. Within a number access its process has
     /// nothing else to do than a step, and does not settle: the step is made, and its access alone is compared.
     #[inline]
-    pub fn hear_access(&mut self, process: u8, access: Access) -> Option<Law>
+    fn hear_access(&mut self, process: u8, access: Access) -> Option<Law>
         ensures setup { result ≡ None → self.new.core.setup ≡ self.old.core.setup }
         ensures heard { Hears self.old (entry_by process (Some access) []) self.new result }
     {

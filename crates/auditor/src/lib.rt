@@ -4,7 +4,8 @@
 //! ```rust
 //! let mut auditor = Auditor::new(alloc, setup)?;
 //! for (number, entry) in entries.iter().enumerate() {
-//!     if let Some(law) = auditor.hear(entry) {
+//!     let (process, access, marks) = parts(entry);
+//!     if let Some(law) = auditor.hear(process, access, marks) {
 //! ```
 #![tactic(auto)]
 
@@ -22,7 +23,7 @@ pub use laws_of_verdicts::{
     records_of_events_are_good,
 };
 pub use matching::{event_in, tells_event};
-pub use read_law::Watch;
+pub use read_law::{Watch, parts};
 pub use record::{Entry, Record};
 pub use verdicts::{Audited, Law, Verdict};
 pub use world::{Core, Flicks, StepTold, World, step_marks};

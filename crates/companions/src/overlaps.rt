@@ -68,7 +68,7 @@ impl OverlapsHeard {
             return Ok(());
         };
         self.keep(number, access)?;
-        self.watch.hear_access(access);
+        self.watch.hear(&Some(access));
         Ok(())
     }
 

@@ -66,6 +66,7 @@ impl Audit {
     }
 
     /// Hears an entry, unless one before has broken a law.
+    #[inline]
     fn hear(&mut self, process: u8, access: &Option<Access>, marks: &[Mark])
         ensures { (s : Given) (past : Past) →
             let e : Noted = record { process = process; access = access.now; marks = marks.now } in
@@ -75,22 +76,7 @@ impl Audit {
         if !self.is_good() {
             return;
         }
-        let law = self.auditor.hear_parts(process, access, marks);
-        self.note(law);
-    }
-
-    /// Hears an entry with this access and no mark, unless one before has broken a law.
-    #[inline]
-    fn hear_access(&mut self, process: u8, access: Access)
-        ensures { (s : Given) (past : Past) →
-            let e : Noted = record { process = process; access = Some access; marks = [] } in
-            KeepsAll s past e → Audits s past self.old → Audits s (e ∷ past) self.new }
-    {
-        let _nested: NestedTypes = None;
-        if !self.is_good() {
-            return;
-        }
-        let law = self.auditor.hear_access(process, access);
+        let law = self.auditor.hear(process, access, marks);
         self.note(law);
     }
 
@@ -145,7 +131,7 @@ impl<L: Listener + Drop> Listener for Overheard<L> {
 
     #[inline(always)]
     fn step(&mut self, made: Stepped) -> Result<(), Fault> {
-        self.audit.hear_access(made.process, made.access);
+        self.audit.hear(made.process, &Some(made.access), &[]);
         self.listener.step(made)
     }
 

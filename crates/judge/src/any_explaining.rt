@@ -5,10 +5,11 @@ ghost use Rattle.judge.specs.AnyKeepingLaws.{AnyKeepsLaws, any_found_bad, any_fo
 
 use crate::any_reasons::reason_lines;
 use crate::any_verdicts::{any_status_of, any_verdict_line};
-use crate::hearers::{Hearer, Judging, Telling, step_entry};
+use crate::hearers::{Hearer, Judging, Telling};
 use any_lock::{AnyLockVerdict, Judge};
+use auditor::parts;
 use plain_store::Setup;
-use record::{Access, Entry};
+use record::Entry;
 use std::alloc::{AllocError, Global};
 
 /// A judge, and the lines of the reasons once his verdict is bad.
@@ -33,8 +34,9 @@ impl Hearer for ExplainingAnyLock {
     }
 
     fn take(&mut self, alloc: Global, number: u64, entry: &Entry) -> Result<(), AllocError> {
+        let (process, access, marks) = parts(entry);
         let was_good = is_good(&self.judge);
-        self.judge.hear(entry);
+        self.judge.hear(process, access, marks);
         explain_if(
             was_good,
             alloc,
@@ -43,22 +45,6 @@ impl Hearer for ExplainingAnyLock {
             &self.judge,
             &mut self.reasons,
         )
-    }
-
-    fn take_access(
-        &mut self,
-        alloc: Global,
-        number: u64,
-        process: u8,
-        access: Access,
-    ) -> Result<(), AllocError> {
-        let was_good = is_good(&self.judge);
-        self.judge.hear_access(process, access);
-        if !was_good || is_good(&self.judge) {
-            return Ok(());
-        }
-        let entry = step_entry(alloc, process, access);
-        explain(alloc, number, &entry, &self.judge, &mut self.reasons)
     }
 
     fn tell(&self, alloc: Global) -> Result<Telling, AllocError> {

@@ -5,8 +5,9 @@ ghost use Rattle.judge.specs.AnyJudgements.{AnyTellsVerdict};
 use crate::any_verdicts::{any_status_of, any_verdict_line};
 use crate::hearers::{Hearer, Telling};
 use any_lock::Judge;
+use auditor::parts;
 use plain_store::Setup;
-use record::{Access, Entry};
+use record::Entry;
 use std::alloc::{AllocError, Global};
 
 #[derive(Drop)]
@@ -28,19 +29,8 @@ impl Hearer for PlainHearer {
     }
 
     fn take(&mut self, _alloc: Global, _number: u64, entry: &Entry) -> Result<(), AllocError> {
-        self.judge.hear(entry);
-        Ok(())
-    }
-
-    #[inline]
-    fn take_access(
-        &mut self,
-        _alloc: Global,
-        _number: u64,
-        process: u8,
-        access: Access,
-    ) -> Result<(), AllocError> {
-        self.judge.hear_access(process, access);
+        let (process, access, marks) = parts(entry);
+        self.judge.hear(process, access, marks);
         Ok(())
     }
 

@@ -9,11 +9,11 @@ ghost use Rattle.judge.specs.Explanations.{HasExplained, ReasonsGoOn, Writes, ev
 ghost use Rattle.judge.specs.Judgements.{TellsReasons};
 
 use crate::follower::Follower;
-use crate::hearers::{Hearer, Telling, step_entry};
+use crate::hearers::{Hearer, Telling};
 use crate::judge::RecordJudge;
 use crate::reason_lines::{push_bad, push_entry, push_stage, push_word};
 use crate::verdicts::{status_of, verdict_line};
-use auditor::{Verdict, event_in, tells_event};
+use auditor::{Verdict, event_in, parts, tells_event};
 use plain_store::{NestedTypes, Setup};
 use record::{Access, Act, Entry, Event, Refusal, Stage};
 use std::alloc::{AllocError, Global};
@@ -42,8 +42,9 @@ impl Hearer for Explaining {
     }
 
     fn take(&mut self, alloc: Global, number: u64, entry: &Entry) -> Result<(), AllocError> {
+        let (process, access, marks) = parts(entry);
         let was = self.judge.audited().verdict;
-        self.judge.hear(entry);
+        self.judge.hear(process, access, marks);
         let now = self.judge.audited().verdict;
         go_on(
             was,
@@ -51,28 +52,6 @@ impl Hearer for Explaining {
             alloc,
             number,
             entry,
-            &mut self.follower,
-            &mut self.reasons,
-        )
-    }
-
-    fn take_access(
-        &mut self,
-        alloc: Global,
-        number: u64,
-        process: u8,
-        access: Access,
-    ) -> Result<(), AllocError> {
-        let was = self.judge.audited().verdict;
-        self.judge.hear_access(process, access);
-        let now = self.judge.audited().verdict;
-        let entry = step_entry(alloc, process, access);
-        go_on(
-            was,
-            now,
-            alloc,
-            number,
-            &entry,
             &mut self.follower,
             &mut self.reasons,
         )

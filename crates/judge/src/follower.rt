@@ -5,7 +5,7 @@ ghost use Rattle.record.specs.{refused};
 ghost use Rattle.auditor.specs.world.{stage_in};
 ghost use Rattle.judge.specs.Following.{FollowsOneMore, HasFollowed, IsAddedByStep, OfFollowed};
 
-use auditor::{Auditor, Core, StepTold, step_marks};
+use auditor::{Auditor, Core, StepTold, parts, step_marks};
 use plain_store::{NestedTypes, Setup};
 use record::{Act, Entry, Event, Refusal, Stage};
 use std::alloc::{AllocError, Global};
@@ -48,7 +48,8 @@ impl Follower {
     pub fn follow(&mut self, entry: &Entry)
         ensures { FollowsOneMore self.old entry.now self.new }
     {
-        if self.auditor.hear(entry).is_some() {
+        let (process, access, marks) = parts(entry);
+        if self.auditor.hear(process, access, marks).is_some() {
             self.is_lost = true;
         }
     }

@@ -1,11 +1,9 @@
 //! Who hears the entries of a record file.
 ghost use Rattle.std.specs.Prelude.{◌≡◌, ◌-◌, ◌^◌, ◌<◌, ◌∷◌, ◌++◌, [], IfOk, List, Ok, OnOk, length, ℕ};
 ghost use Rattle.plain_store.specs.{checked};
-ghost use Rattle.record_file.specs.{step_entry as entry_of_step};
 
-use plain_store::{NestedTypes, Setup};
-use record::{Access, Act, Entry};
-use smallvec::SmallVec;
+use plain_store::Setup;
+use record::Entry;
 use std::alloc::{AllocError, Global};
 
 /// What is told of a record: a text, and an exit status.
@@ -39,18 +37,6 @@ pub trait Hearer: Sized + Drop {
         requires { count self.old < 2 ^ 64 - 1 }
         ensures { OnOk result ((s : Given) (entries : List Noted) (numbers : List ℕ) → HasHeard self.old s entries numbers → HasHeard self.new s (entries ++ entry.now ∷ []) (numbers ++ number ∷ [])) };
 
-    /// The same of an entry with this access and no mark, as nearly all are, by its parts: so it need not stand
-    /// anywhere.
-    fn take_access(
-        &mut self,
-        alloc: Global,
-        number: u64,
-        process: u8,
-        access: Access,
-    ) -> Result<(), AllocError>
-        requires { count self.old < 2 ^ 64 - 1 }
-        ensures { OnOk result ((s : Given) (entries : List Noted) (numbers : List ℕ) → HasHeard self.old s entries numbers → HasHeard self.new s (entries ++ entry_of_step process access ∷ []) (numbers ++ number ∷ [])) };
-
     /// What is told of the entries so far. The one fault is want of memory.
     fn tell(&self, alloc: Global) -> Result<Telling, AllocError>
         ensures { IfOk result (λ telling. (s : Given) (entries : List Noted) (numbers : List ℕ) → HasHeard self.now s entries numbers → Tells s entries numbers telling.text.items telling.status) };
@@ -79,18 +65,4 @@ pub trait Judging: Hearer {
     ghost good: { (hearer : Self) (s : Given) (entries : List Noted) (numbers : List ℕ) → Self.HasHeard hearer s entries numbers → finds_good hearer ≡ true → Keeps s entries };
 
     ghost bad: { (hearer : Self) (s : Given) (entries : List Noted) (numbers : List ℕ) → Self.HasHeard hearer s entries numbers → finds_good hearer ≡ false → Keeps s entries → ⊥ };
-}
-
-/// The entry of a Step with this access and no mark.
-pub fn step_entry(alloc: Global, process: u8, access: Access) -> Entry
-    ensures { result ≡ entry_of_step process access }
-{
-    let _nested: NestedTypes = None;
-    Entry {
-        process,
-        act: Act {
-            access: Some(access),
-            marks: SmallVec::new(alloc),
-        },
-    }
 }

@@ -5,8 +5,9 @@ ghost use Rattle.judge.specs.Judging.{HasJudged};
 use crate::hearers::{Hearer, Telling};
 use crate::judge::RecordJudge;
 use crate::verdicts::{status_of, verdict_line};
+use auditor::parts;
 use plain_store::Setup;
-use record::{Access, Entry};
+use record::Entry;
 use std::alloc::{AllocError, Global};
 
 impl Hearer for RecordJudge {
@@ -21,19 +22,8 @@ impl Hearer for RecordJudge {
     }
 
     fn take(&mut self, _alloc: Global, _number: u64, entry: &Entry) -> Result<(), AllocError> {
-        self.hear(entry);
-        Ok(())
-    }
-
-    #[inline]
-    fn take_access(
-        &mut self,
-        _alloc: Global,
-        _number: u64,
-        process: u8,
-        access: Access,
-    ) -> Result<(), AllocError> {
-        self.hear_access(process, access);
+        let (process, access, marks) = parts(entry);
+        self.hear(process, access, marks);
         Ok(())
     }
 

@@ -1,13 +1,13 @@
 ghost use Rattle.std.specs.Prelude.{◌≡◌, ◌+◌, ◌^◌, ◌-◌, ◌<◌, [], IfOk, Ok, length};
 ghost use Rattle.plain_store.specs.{checked};
 ghost use Rattle.auditor.specs.{IsVerdict};
+ghost use Rattle.auditor.specs.read_law.{entry_by};
 ghost use Rattle.auditor.specs.declared.verdicts.Verdict.TheVariants.{Good};
-ghost use Rattle.record_file.specs.{step_entry};
 ghost use Rattle.judge.specs.Judging.{BothHearOneMore, HasJudged, IsNextVerdict, JudgesOneMore, OfJudged, found as verdict_found, is_good};
 
 use auditor::{Audited, Auditor, Law, Verdict, Watch};
 use plain_store::Setup;
-use record::{Access, Entry};
+use record::{Access, Mark};
 use std::alloc::{AllocError, Global};
 use std::marker::Model;
 
@@ -43,54 +43,29 @@ impl RecordJudge {
         })
     }
 
-    /// One more entry, whatever it is. It takes no memory.
-    pub fn hear(&mut self, entry: &Entry)
+    /// One more entry, whatever it is, by its parts. It takes no memory.
+    #[inline]
+    pub fn hear(&mut self, process: u8, access: &Option<Access>, marks: &[Mark])
         requires { self.old.entries < 2 ^ 64 - 1 }
-        ensures heard { JudgesOneMore self.old entry.now self.new }
+        ensures heard { JudgesOneMore self.old (entry_by process access.now marks.now) self.new }
         ensures count { self.new.entries ≡ self.old.entries + 1 }
     {
         if self.verdict == Verdict::Good {
-            self.verdict = self.verdict_with(entry);
+            self.verdict = self.verdict_with(process, access, marks);
         }
         self.entries += 1;
     }
 
     /// The verdict with one more entry, where that on the entries before it is good.
-    fn verdict_with(&mut self, entry: &Entry) -> Verdict
+    #[inline]
+    fn verdict_with(&mut self, process: u8, access: &Option<Access>, marks: &[Mark]) -> Verdict
         ensures verdict { self.new.verdict ≡ self.old.verdict }
         ensures entries { self.new.entries ≡ self.old.entries }
-        ensures heard { IsNextVerdict self.old entry.now result }
-        ensures goes_on { BothHearOneMore self.old entry.now result self.new }
+        ensures heard { IsNextVerdict self.old (entry_by process access.now marks.now) result }
+        ensures goes_on { BothHearOneMore self.old (entry_by process access.now marks.now) result self.new }
     {
-        let is_safe = self.watch.hear(entry);
-        let law = self.auditor.hear(entry);
-        found(self.entries, is_safe, law)
-    }
-
-    /// The same of an entry with this access and no mark, as nearly all are, by its parts: so it need not stand
-    /// anywhere.
-    #[inline]
-    pub fn hear_access(&mut self, process: u8, access: Access)
-        requires { self.old.entries < 2 ^ 64 - 1 }
-        ensures heard { JudgesOneMore self.old (step_entry process access) self.new }
-        ensures count { self.new.entries ≡ self.old.entries + 1 }
-    {
-        if self.verdict == Verdict::Good {
-            self.verdict = self.verdict_with_access(process, access);
-        }
-        self.entries += 1;
-    }
-
-    /// The verdict with such an entry more, where that on the entries before it is good.
-    #[inline]
-    fn verdict_with_access(&mut self, process: u8, access: Access) -> Verdict
-        ensures verdict { self.new.verdict ≡ self.old.verdict }
-        ensures entries { self.new.entries ≡ self.old.entries }
-        ensures heard { IsNextVerdict self.old (step_entry process access) result }
-        ensures goes_on { BothHearOneMore self.old (step_entry process access) result self.new }
-    {
-        let is_safe = self.watch.hear_access(access);
-        let law = self.auditor.hear_access(process, access);
+        let is_safe = self.watch.hear(access);
+        let law = self.auditor.hear(process, access, marks);
         found(self.entries, is_safe, law)
     }
 

@@ -30,14 +30,14 @@ pub use any_explaining::ExplainingAnyLock;
 pub use any_judging::judge_any_lock;
 pub use any_lock::{AnyLockLaw, AnyLockVerdict, Judge, Judged};
 pub use auditor::{
-    Audited, Auditor, Law, Verdict, Watch, audit, good_records_are_of_events,
+    Audited, Auditor, Law, Verdict, Watch, audit, good_records_are_of_events, parts,
     records_have_one_verdict, records_of_events_are_good,
 };
 pub use common_laws::good_records_keep_laws_of_any_lock;
 pub use engine::run_trial;
 pub use explaining::Explaining;
 pub use files::{DONE, Fault, Sink, Source};
-pub use hearers::{Hearer, Judging, Telling, step_entry};
+pub use hearers::{Hearer, Judging, Telling};
 pub use judge::RecordJudge;
 pub use judging::run_judge;
 pub use laws_of_reasons::only_steps_keep_all_laws;

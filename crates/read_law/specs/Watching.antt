@@ -40,10 +40,6 @@ HasHeard w past = (a : Access) → IsThere w.setup a → look_at w.registers (re
 abbrev pub OfHeard : WatchState → Option Access → (Setup → Past → Entry → Type 0) → Type 0
 OfHeard w access P = (past : Past) (e : Entry) → e.access ≡ access → HasHeard w past → P w.setup past e
 
--- it goes on by an entry
-abbrev pub HearsOn : WatchState → Entry → WatchState → Type 0
-HearsOn w e then = (past : Past) → HasHeard w past → HasHeard then (e ∷ past)
-
 -- an entry's access, if it has one, is of a bit that there is
 abbrev pub IsOfThere : Setup → Entry → Type 0
 IsOfThere s e = (a : Access) → e.access ≡ Some a → IsThere s a
@@ -58,23 +54,15 @@ abbrev pub LookTellsSafe : Look → Move → Bool → Type 0
 LookTellsSafe l how told =
     (s : Setup) (past : Past) (e : Entry) (a : Access) → e.access ≡ Some a → a.how ≡ how → l ≡ look_of (opening_bit s a) (moves_of a past) → TellsSafe told s past e
 
+-- an access of a bit that is not there is let pass
+abbrev pub PassesStray : Setup → Option Access → Bool → Type 0
+PassesStray s access told = (a : Access) → access ≡ Some a → (IsThere s a → ⊥) → told ≡ true
+
 -- the answer tells whether an entry keeps the law, if its bit is there
-abbrev pub TellsThere : WatchState → Entry → Bool → Type 0
-TellsThere w e told = (past : Past) → HasHeard w past → IsOfThere w.setup e → TellsSafe told w.setup past e
+abbrev pub IfThere : Bool → Setup → Past → Entry → Type 0
+IfThere told s past e = IsOfThere s e → TellsSafe told s past e
 
 -- if so are the bits of all entries before
-abbrev pub TellsBehind : WatchState → Entry → Bool → Type 0
-TellsBehind w e told = (past : Past) → HasHeard w past → AllAreOfThere w.setup past → TellsSafe told w.setup past e
-
--- an entry whose bit is not there is let pass
-abbrev pub PassesStray : Setup → Entry → Bool → Type 0
-PassesStray s e told = (a : Access) → e.access ≡ Some a → (IsThere s a → ⊥) → told ≡ true
-
--- the answer tells whether an entry with this access keeps the law, if the access is there
-abbrev pub IfThere : Access → Bool → Setup → Past → Entry → Type 0
-IfThere a told s past e = IsThere s a → TellsSafe told s past e
-
--- if all accesses before are
 abbrev pub IfAllThere : Bool → Setup → Past → Entry → Type 0
 IfAllThere told s past e = AllAreOfThere s past → TellsSafe told s past e
 

@@ -1,17 +1,17 @@
-ghost use Rattle.std.specs.Prelude.{◌≡◌, ◌<◌, IfOk, Ok, Some, [], ◌∷◌, length, false, true};
+ghost use Rattle.std.specs.Prelude.{◌≡◌, ◌<◌, IfOk, Ok, Some, [], ◌∷◌, length, false};
 ghost use Rattle.plain_store.specs.{checked, opening_store};
 ghost use Rattle.store_image.specs.{image_of};
 ghost use Rattle.record.specs.{width};
 ghost use Rattle.laws.specs.{IsThere};
 ghost use Rattle.read_law.specs.Safe.{TellsSafe};
-ghost use Rattle.read_law.specs.Watching.{HasHeard, HearsOn, IfAllThere, IfThere, IsOpened, OfHeard, OpenAs, PassesStray, TellsBehind, TellsEndThere, TellsHeldThere, TellsLook, TellsThere};
+ghost use Rattle.read_law.specs.Watching.{HasHeard, IfAllThere, IfThere, IsOpened, OfHeard, OpenAs, PassesStray, TellsEndThere, TellsHeldThere, TellsLook};
 
 use crate::look::Look;
 use crate::opening::bit_of;
 use crate::packed::Looks;
 use crate::places::{FIELDS, copy_of, field_at, is_there, register_of, width};
 use plain_store::{Setup, opened};
-use record::{Access, Entry};
+use record::Access;
 use std::alloc::{AllocError, Global};
 use std::marker::Model;
 use store_image::Image;
@@ -68,36 +68,26 @@ impl Watch {
         })
     }
 
-    /// One more entry, whatever it is: whether it keeps the law, after the entries heard before. It takes no memory.
+    /// One more entry, whatever it is, by its access: whether it keeps the law, after the entries heard before. It takes no
+    /// memory.
     ///
     /// An access of a bit that is not there leaves no trace, and its entry is said to keep the law. So it does, if no
     /// entry before it was of such a bit.
-    pub fn hear(&mut self, entry: &Entry) -> bool
-        ensures setup { self.new.setup ≡ self.old.setup }
-        ensures heard { HearsOn self.old entry.now self.new }
-        ensures there { TellsThere self.old entry.now result }
-        ensures stray { PassesStray self.old.setup entry.now result }
-        ensures first { TellsBehind self.old entry.now result }
-    {
-        match &entry.act.access {
-            Some(access) => self.hear_access(*access),
-            None => true,
-        }
-    }
-
-    /// The same of an entry with this access, whatever its process and its marks.
     #[inline]
-    pub fn hear_access(&mut self, access: Access) -> bool
+    pub fn hear(&mut self, access: &Option<Access>) -> bool
         ensures setup { self.new.setup ≡ self.old.setup }
-        ensures heard { OfHeard self.old (Some access) (λ _ past e. HasHeard self.new (e ∷ past)) }
-        ensures there { OfHeard self.old (Some access) (IfThere access result) }
-        ensures stray { (IsThere self.old.setup access → ⊥) → result ≡ true }
-        ensures first { OfHeard self.old (Some access) (IfAllThere result) }
+        ensures heard { OfHeard self.old access.now (λ _ past e. HasHeard self.new (e ∷ past)) }
+        ensures there { OfHeard self.old access.now (IfThere result) }
+        ensures stray { PassesStray self.old.setup access.now result }
+        ensures first { OfHeard self.old access.now (IfAllThere result) }
     {
-        if !is_there(&self.setup, &access) {
+        let Some(access) = access else {
+            return true;
+        };
+        if !is_there(&self.setup, access) {
             return true;
         }
-        self.hear_there(access)
+        self.hear_there(*access)
     }
 
     /// Whether an access that is made now ends a read that a write overlapped. An access of a bit that is not there

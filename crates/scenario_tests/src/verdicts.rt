@@ -5,7 +5,7 @@ ghost use Rattle.plain_store.specs.{checked};
 
 use crate::scenarios::LONE_WRITE;
 use crate::worlds::a;
-use auditor::{Auditor, Record, audit};
+use auditor::{Auditor, Record, audit, parts};
 use engines::{Law, Swept, Verdict, events_of, record_of, sweep};
 use plain_store::{Command, Setup, Value};
 use record::{Entry, Event, Mark};
@@ -49,21 +49,16 @@ fn sweep_again(
     }
 }
 
-/// Whether an auditor finds no fault with an entry, of which it hears every other one as its parts.
-fn keeps_the_laws(auditor: &mut Auditor, number: usize, entry: &Entry) -> bool {
-    let act = &entry.act;
-    let law = if number % 2 == 0 {
-        auditor.hear(entry)
-    } else {
-        auditor.hear_parts(entry.process, &act.access, &act.marks)
-    };
-    law.is_none()
+/// Whether an auditor finds no fault with an entry.
+fn keeps_the_laws(auditor: &mut Auditor, entry: &Entry) -> bool {
+    let (process, access, marks) = parts(entry);
+    auditor.hear(process, access, marks).is_none()
 }
 
 /// An auditor finds no fault with the entries of a record.
 fn hear_all(rt: &impl Abort, auditor: &mut Auditor, record: &Record) {
     for (number, entry) in record.entries.iter().enumerate() {
-        assert!(rt; keeps_the_laws(auditor, number, entry), "entry {number}");
+        assert!(rt; keeps_the_laws(auditor, entry), "entry {number}");
     }
 }
 

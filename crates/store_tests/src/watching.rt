@@ -1,8 +1,7 @@
 //! The watch: the law of reads, move by move on one bit, and on bits that are told apart.
 use plain_store::Setup;
 use read_law::Watch;
-use record::{Access, Act, Entry, Field, Move};
-use smallvec::SmallVec;
+use record::{Access, Field, Move};
 use std::alloc::{AllocError, Global};
 use std::test::Fail;
 
@@ -32,15 +31,6 @@ fn access(place: Place, how: Move) -> Access {
     }
 }
 
-/// The entry of an access of process 0, without a mark.
-fn entry(alloc: Global, access: Access) -> Entry {
-    let act = Act {
-        access: Some(access),
-        marks: SmallVec::new(alloc),
-    };
-    Entry { process: 0, act }
-}
-
 /// What is asked of the watch.
 #[derive(Clone, Copy)]
 enum AskedOfWatch {
@@ -60,7 +50,7 @@ fn first_otherwise(
     for (number, (place, how, expected)) in heard.iter().enumerate() {
         let access = access(*place, *how);
         let overlaps = watch.overlaps(&access);
-        let keeps = watch.hear(&entry(alloc, access));
+        let keeps = watch.hear(&Some(access));
         let said = match asked {
             AskedOfWatch::Keeps => keeps,
             AskedOfWatch::Overlaps => overlaps,

@@ -114,7 +114,7 @@ impl Runner {
             return false;
         };
         let marks = event_marks(self.alloc, &effect, self.taken);
-        let law = self.auditor.hear_parts(event.process(), &access, &marks);
+        let law = self.auditor.hear(event.process(), &access, &marks);
         self.taken = more(self.taken, &effect);
         self.bad = first_bad(self.bad, self.entries, law);
         self.entries = self.entries.saturating_add(1);
@@ -165,9 +165,9 @@ fn hear_step(
     ensures heard { Hears auditor.old (step_told place process access told.now) auditor.new result }
 {
     if matches!(told, StepTold::Nothing) {
-        return auditor.hear_access(process, access);
+        return auditor.hear(process, &Some(access), &[]);
     }
-    auditor.hear_parts(process, &Some(access), &step_marks(alloc, told, place))
+    auditor.hear(process, &Some(access), &step_marks(alloc, told, place))
 }
 
 /// The first bad entry, after one more with this number, which breaks this law or none.

@@ -11,7 +11,7 @@ loop-entry-preserved c =
     record {
       judged = subst (λ (l : List Entry). HasJudged c.hear.new.self c.args.setup.now l)
           (sym (take_more c.args.entries.now c.loop-entry.entry-index e c.loop-entry-test.true ∙ ap (λ (x : Entry). before ++ x ∷ []) (sym c.entry-item.is)))
-          (c.hear.ensures.heard c.args.setup.now before c.loop-entry.invariant.judged);
+          (subst (λ (x : Entry). HasJudged c.hear.new.self c.args.setup.now (before ++ x ∷ [])) c.parts-process.ensures (c.hear.ensures.heard c.args.setup.now before c.loop-entry.invariant.judged));
       count = c.hear.ensures.count ∙ ap (λ n. n + 1) c.loop-entry.invariant.count;
     }
 

@@ -1,8 +1,8 @@
-use Rattle.std.proofs.Common.{◌≡◌, ◌∷◌, ◌+◌, List, refl, reverse, take, sym, subst, ◌∙◌}
+use Rattle.std.proofs.Common.{◌≡◌, ◌∷◌, ◌+◌, List, None, refl, reverse, take, sym, subst, ◌∙◌}
 use Rattle.std.proofs.lemmas.List.{take_all}
 use Rattle.plain_store.specs.{Setup}
 use Rattle.record.specs.{Entry, Past}
-use Rattle.auditor.specs.{AllKeep, BreaksNext, HasHeard, KeepsAll}
+use Rattle.auditor.specs.{AllKeep, BreaksNext, HasHeard, IsHeard, KeepsAll}
 use Rattle.read_law.proofs.Entries.{entries_more}
 use Rattle.auditor.proofs.Firsts.{is_bad_at}
 use Rattle.auditor.proofs.Whole.{good_of_events, true_record}
@@ -10,7 +10,7 @@ use Rattle.auditor.proofs.auditing.audit_all.Goals as goal
 
 pub first_law-requires-clause-breaks : goal.first_law-requires-clause-breaks
 first_law-requires-clause-breaks c = subst (λ (s : Setup). BreaksNext c.in-Some.law s (reverse (take c.loop-number.number c.args.entries.now)) c.index-entries-number.result) c.loop-number.invariant.setup
-    (c.in-Some.ensures.heard (reverse (take c.loop-number.number c.args.entries.now)) c.loop-number.invariant.heard)
+    (subst (λ (e : Entry). BreaksNext c.in-Some.law c.loop-number.auditor.core.setup (reverse (take c.loop-number.number c.args.entries.now)) e) c.parts-process.ensures (c.in-Some.ensures.heard (reverse (take c.loop-number.number c.args.entries.now)) c.loop-number.invariant.heard))
 
 pub returns-in-Some-clause-verdict : goal.returns-in-Some-clause-verdict
 returns-in-Some-clause-verdict c = is_bad_at c.args.setup.now c.args.entries.now c.loop-number.number c.index-entries-number.result c.in_ok-first.first c.loop-number-test.true c.index-entries-number.is c.loop-number.invariant.kept c.in_ok-first.ensures
@@ -20,7 +20,7 @@ loop-number-preserved c =
     let past : Past = reverse (take c.loop-number.number c.args.entries.now) in
     let e : Entry = c.index-entries-number.result in
     let more : reverse (take (c.loop-number.number + 1) c.args.entries.now) ≡ e ∷ past = entries_more c.args.entries.now c.loop-number.number e c.loop-number-test.true c.index-entries-number.is in
-    let heard = c.in_default.ensures.heard past c.loop-number.invariant.heard in
+    let heard = subst (λ (x : Entry). IsHeard c.loop-number.auditor.core.setup past x c.hear.new.self None) c.parts-process.ensures (c.in_default.ensures.heard past c.loop-number.invariant.heard) in
     let kept : KeepsAll c.args.setup.now past e = subst (λ (s : Setup). KeepsAll s past e) c.loop-number.invariant.setup heard.0 in
     record {
       setup = c.in_default.ensures.setup refl ∙ c.loop-number.invariant.setup;

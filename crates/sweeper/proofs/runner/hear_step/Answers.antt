@@ -8,15 +8,15 @@ use Rattle.sweeper.proofs.runner.hear_step.Goals.{in-Nothing, in_default}
 
 pub returns-then-matches : goal.returns-then-matches
 returns-then-matches c = record {
-  setup = c.hear_access.ensures.setup;
+  setup = c.hear.ensures.setup;
   heard = elim c.match-matches.branch [
-    | in-Nothing w ↦ subst (λ (told : StepTold). Hears c.args.auditor.now (step_told c.args.place c.args.process c.args.access told) c.hear_access.new.self c.hear_access.result) (sym w.in-Nothing.is) c.hear_access.ensures.heard
+    | in-Nothing w ↦ subst (λ (told : StepTold). Hears c.args.auditor.now (step_told c.args.place c.args.process c.args.access told) c.hear.new.self c.hear.result) (sym w.in-Nothing.is) c.hear.ensures.heard
     | in_default w ↦ absurd (true≢false (sym c.if-matches.true ∙ w.matches-is))
   ];
 }
 
 pub returns : goal.returns
 returns c = record {
-  setup = c.hear_parts.ensures.setup;
-  heard = subst (λ (e : Entry). Hears c.args.auditor.now e c.hear_parts.new.self c.hear_parts.result) (ap (entry_by c.args.process (Some c.args.access)) (c.deref-2.ensures ∙ c.step_marks.ensures)) c.hear_parts.ensures.heard;
+  setup = c.hear-2.ensures.setup;
+  heard = subst (λ (e : Entry). Hears c.args.auditor.now e c.hear-2.new.self c.hear-2.result) (ap (entry_by c.args.process (Some c.args.access)) (c.deref-2.ensures ∙ c.step_marks.ensures)) c.hear-2.ensures.heard;
 }

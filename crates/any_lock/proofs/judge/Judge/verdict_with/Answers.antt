@@ -3,6 +3,7 @@ use Rattle.plain_store.specs.{Setup}
 use Rattle.record.specs.{Entry, Past}
 use Rattle.any_lock.specs.{AnyLockLaw, AreReasonsIf, BothHeard, JudgeState, first_broken, verdict_with}
 use Rattle.any_lock.specs.declared.verdicts.AnyLockVerdict.TheVariants.{Good}
+use Rattle.any_lock.proofs.Breaks.{told_by}
 use Rattle.any_lock.proofs.Told.{AreTold, found_good, reasons_given, told_law, told_on}
 use Rattle.any_lock.proofs.judge.Judge.verdict_with.Goals as goal
 
@@ -13,11 +14,11 @@ heard_in c = record { process = c.args.process; access = c.args.access.now; mark
 abbrev before : goal.After-found → JudgeState
 before c = record { watch = c.self.inside.watch; kept = c.self.inside.kept; verdict = c.self.inside.verdict; entries = c.self.inside.entries; reasons = c.self.inside.reasons }
 
-told : (c : goal.After-found) → AreTold (before c) (heard_in c) c.keeps_safe-is_safe.result c.keeps_safe-is_safe.new.watch c.hear-law.result c.hear-law.new.self
+told : (c : goal.After-found) → AreTold (before c) (heard_in c) c.hear-is_safe.result c.hear-is_safe.new.self c.hear-law.result c.hear-law.new.self
 told c = record {
-  watched = c.keeps_safe-is_safe.ensures.setup;
-  watch = λ past. c.keeps_safe-is_safe.ensures.heard past (heard_in c) refl;
-  safe = λ past. c.keeps_safe-is_safe.ensures.safe past (heard_in c) refl;
+  watched = c.hear-is_safe.ensures.setup;
+  watch = λ past. c.hear-is_safe.ensures.heard past (heard_in c) refl;
+  safe = λ past heard there. told_by c.self.inside.watch.setup past (heard_in c) c.hear-is_safe.result (c.hear-is_safe.ensures.first past (heard_in c) refl heard there);
   kept = c.hear-law.ensures.setup;
   law = λ past. c.hear-law.ensures.law past (heard_in c) refl refl refl;
   knows = λ past. c.hear-law.ensures.knows past (heard_in c) refl refl refl;
@@ -30,7 +31,7 @@ returns-clause-heard c =
 
 pub returns-clause-goes_on : goal.returns-clause-goes_on
 returns-clause-goes_on c =
-    let then : JudgeState = record { watch = c.keeps_safe-is_safe.new.watch; kept = c.hear-law.new.self; verdict = c.self.inside.verdict; entries = c.self.inside.entries; reasons = c.reasons_of-self-inside.result } in
+    let then : JudgeState = record { watch = c.hear-is_safe.new.self; kept = c.hear-law.new.self; verdict = c.self.inside.verdict; entries = c.self.inside.entries; reasons = c.reasons_of-self-inside.result } in
     let family : JudgeState → Type 0 = λ j. (s : Setup) (past : Past) → BothHeard j s past → c.found.result ≡ Good → BothHeard then s (heard_in c ∷ past) in
     subst family c.self.view_is (λ s past both is.
     told_on _ (heard_in c) _ _ _ _ c.reasons_of-self-inside.result (told c) s past both (found_good c.args.number c.hear-law.result (sym c.found.ensures ∙ is)))

@@ -10,6 +10,6 @@ pub returns : goal.returns
 returns c = λ s past reads e is h number.
     let some : e.access ≡ Some c.in-Some.access = is ∙ c.in-Some.is in
     let same = c.keep.ensures.watch in
-    hears_on s past reads e _ _ c.keep.ensures.setup (c.hear_access.ensures.setup ∙ ap (λ (w : WatchState). w.setup) same)
-    (c.hear_access.ensures.heard past e some (subst (λ (w : WatchState). HasHeard w past) (sym same) h.heard))
+    hears_on s past reads e _ _ c.keep.ensures.setup (c.hear.ensures.setup ∙ ap (λ (w : WatchState). w.setup) same)
+    (c.hear.ensures.heard past e some (subst (λ (w : WatchState). HasHeard w past) (sym same) h.heard))
     (λ p below. c.in_ok-keep.ensures.begun s past reads e p some number h below) (c.in_ok-keep.ensures.room h.room) (c.in_ok-keep.ensures.ended s past reads e some number h) h

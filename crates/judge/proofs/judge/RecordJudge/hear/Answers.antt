@@ -1,6 +1,7 @@
 use Rattle.std.proofs.Common.{rules, ◌≡◌, sym, ap, subst, ◌∙◌}
 use Rattle.record.specs.{Entry}
 use Rattle.auditor.specs.declared.verdicts.Verdict.TheVariants.{Good}
+use Rattle.auditor.specs.read_law.{entry_by}
 use Rattle.judge.specs.{JudgeState}
 use Rattle.judge.proofs.JudgedRecords.{HearsOn, hears_bad, hears_good}
 use Rattle.judge.proofs.judge.RecordJudge.hear.Goals as goal
@@ -8,7 +9,7 @@ use Rattle.judge.proofs.judge.RecordJudge.hear.Goals.{then-eq, else-eq}
 
 pub returns-clause-heard : goal.returns-clause-heard
 returns-clause-heard c =
-    let e : Entry = c.args.entry.now in
+    let e : Entry = entry_by c.args.process c.args.access.now c.args.marks.now in
     let old : JudgeState = c.args.self.now in
     subst (HearsOn old e) (sym c.self-2.view_is) (elim c.if-eq.branch [
       | then-eq w ↦

@@ -1,20 +1,27 @@
-use Rattle.std.proofs.Common.{◌≡◌, List, [], ◌∷◌, ◌++◌, reverse, sym, subst, ◌∙◌}
+use Rattle.std.proofs.Common.{◌≡◌, List, [], ◌∷◌, ◌++◌, reverse, refl, sym, subst, ◌∙◌}
 use Rattle.plain_store.specs.{Setup}
 use Rattle.record.specs.{Entry}
 use Rattle.auditor.specs.{IsVerdict, Verdict}
 use Rattle.auditor.specs.declared.verdicts.Verdict.TheVariants.{Good}
+use Rattle.auditor.specs.read_law.{entry_by}
 use Rattle.judge.specs.{BothHeard, HasJudged, JudgeState}
 use Rattle.judge.proofs.JudgedRecords.{AreTold, told_goes_on, told_verdict}
 use Rattle.judge.proofs.judge.RecordJudge.verdict_with.Goals as goal
 
 abbrev heard_in : goal.After-found → Entry
-heard_in c = c.args.entry.now
+heard_in c = entry_by c.args.process c.args.access.now c.args.marks.now
 
 abbrev before : goal.After-found → JudgeState
 before c = record { watch = c.self.inside.watch; auditor = c.self.inside.auditor; verdict = c.self.inside.verdict; entries = c.self.inside.entries }
 
 told : (c : goal.After-found) → AreTold (before c) (heard_in c) c.hear-is_safe.result c.hear-is_safe.new.self c.hear-law.result c.hear-law.new.self
-told c = record { watched = c.hear-is_safe.ensures.setup; watch = c.hear-is_safe.ensures.heard; safe = c.hear-is_safe.ensures.first; audited = c.hear-law.ensures.setup; auditor = c.hear-law.ensures.heard }
+told c = record {
+  watched = c.hear-is_safe.ensures.setup;
+  watch = λ past heard. c.hear-is_safe.ensures.heard past (heard_in c) refl heard;
+  safe = λ past heard all. c.hear-is_safe.ensures.first past (heard_in c) refl heard all;
+  audited = c.hear-law.ensures.setup;
+  auditor = c.hear-law.ensures.heard;
+}
 
 pub returns-clause-heard : goal.returns-clause-heard
 returns-clause-heard c =

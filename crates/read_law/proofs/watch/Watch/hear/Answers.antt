@@ -1,16 +1,28 @@
-use Rattle.std.proofs.Common.{◌≡◌, ◌∙◌, Some, sym, ap, subst}
-use Rattle.record.specs.{Access, Entry}
+use Rattle.std.proofs.Common.{◌≡◌, ◌∙◌, refl, true≢false, sym, subst}
+use Rattle.record.specs.{Access}
 use Rattle.laws.specs.{IsThere}
+use Rattle.read_law.specs.{WatchState}
+use Rattle.read_law.proofs.Hears.{heard_stray, stray_keeps}
 use Rattle.read_law.proofs.watch.Watch.hear.Goals as goal
 
-pub returns-in-Some : goal.returns-in-Some
-returns-in-Some c =
-    let e : Entry = c.args.entry.now in
-    let access : e.access ≡ Some c.in-Some.access = sym (ap (λ (x : Entry). x.access) c.entry.view_is) ∙ sym (λ i. (c.entry-inside.view_is i).act.access) ∙ c.in-Some.is in
+pub returns-then-not-is_there : goal.returns-then-not-is_there
+returns-then-not-is_there c =
+    let out : IsThere c.args.self.now.setup c.in-Some.access → ⊥ = λ there. true≢false (sym (c.is_there.ensures.1 (subst (λ (x : WatchState). IsThere x.setup c.in-Some.access) (sym c.self.view_is) there)) ∙ c.if-not-is_there.true) in
     record {
-      setup = c.hear_access.ensures.setup;
-      heard = λ past heard. c.hear_access.ensures.heard past e access heard;
-      there = λ past heard of. c.hear_access.ensures.there past e access heard (of c.in-Some.access access);
-      stray = λ a is out. let same : c.in-Some.access ≡ a = cc in c.hear_access.ensures.stray (λ there. out (subst (λ (x : Access). IsThere c.args.self.now.setup x) same there));
-      first = λ past heard all. c.hear_access.ensures.first past e access heard all;
+      setup = refl;
+      heard = λ past e access heard. heard_stray c.args.self.now past e c.in-Some.access (access ∙ c.in-Some.is) out heard;
+      there = λ past e access heard there. absurd (out (there c.in-Some.access (access ∙ c.in-Some.is)));
+      stray = λ a is stray. refl;
+      first = λ past e access heard all. stray_keeps c.args.self.now.setup past e c.in-Some.access (access ∙ c.in-Some.is) out all;
+    }
+
+pub returns : goal.returns
+returns c =
+    let there : IsThere c.args.self.now.setup c.in-Some.access = subst (λ (x : WatchState). IsThere x.setup c.in-Some.access) c.self.view_is (c.is_there.ensures.0 c.if-not-is_there.false) in
+    record {
+      setup = c.hear_there.ensures.setup;
+      heard = λ past e access. c.hear_there.ensures.heard past e (access ∙ c.in-Some.is);
+      there = λ past e access heard is. c.hear_there.ensures.answer past e (access ∙ c.in-Some.is) heard;
+      stray = λ a is out. let same : c.in-Some.access ≡ a = cc in absurd (out (subst (λ (x : Access). IsThere c.args.self.now.setup x) same there));
+      first = λ past e access heard all. c.hear_there.ensures.answer past e (access ∙ c.in-Some.is) heard;
     }

@@ -31,21 +31,21 @@ before c = let i = c.self.inside in record { core = i.core; auditor = i.auditor;
 made : (c : After-more-self-inside) → IsMade (before c) c.args.event.now c.in-Ok.access c.event.new.effect c.event.new.self
 made c = record { adds = c.in-Ok.ensures.accepted; makes = c.in-Ok.ensures.shows; setup = c.in-Ok.ensures.setup }
 
-answered : (c : After-more-self-inside) → IsAnswered c.self.inside.auditor (entry_by c.process.result c.in-Ok.access c.deref.result.now) c.hear_parts-law.result c.hear_parts-law.new.self
-answered c = record { heard = c.hear_parts-law.ensures.heard; setup = c.hear_parts-law.ensures.setup }
+answered : (c : After-more-self-inside) → IsAnswered c.self.inside.auditor (entry_by c.process.result c.in-Ok.access c.deref.result.now) c.hear-law.result c.hear-law.new.self
+answered c = record { heard = c.hear-law.ensures.heard; setup = c.hear-law.ensures.setup }
 
 -- the runner goes on by the event
 goes : (c : After-more-self-inside) (events : List Event) → Follows (before c) events →
-    Follows (record { core = c.event.new.self; auditor = c.hear_parts-law.new.self; taken = c.more-self-inside.result }) (c.args.event.now ∷ events)
+    Follows (record { core = c.event.new.self; auditor = c.hear-law.new.self; taken = c.more-self-inside.result }) (c.args.event.now ∷ events)
 goes c events follows =
-    follows_made (before c) c.args.event.now c.in-Ok.access c.event.new.effect c.event.new.self (made c) events follows c.process.result c.deref.result.now c.hear_parts-law.result c.hear_parts-law.new.self c.more-self-inside.result
+    follows_made (before c) c.args.event.now c.in-Ok.access c.event.new.effect c.event.new.self (made c) events follows c.process.result c.deref.result.now c.hear-law.result c.hear-law.new.self c.more-self-inside.result
     c.process.ensures (c.deref.ensures ∙ c.event_marks-marks.ensures) c.more-self-inside.ensures (answered c)
 
 pub invariant_of-self-2 : goal.invariant_of-self-2
 invariant_of-self-2 c =
     let kept = c.self.invariant in
     let b = (goal.at.invariant_of-self-2 c).After-more-self-inside in
-    let none : c.hear_parts-law.result ≡ None = none_broken (before b) c.args.event.now c.in-Ok.access c.event.new.effect c.event.new.self (made b) kept.events kept.follows c.process.result c.deref.result.now c.hear_parts-law.result c.hear_parts-law.new.self
+    let none : c.hear-law.result ≡ None = none_broken (before b) c.args.event.now c.in-Ok.access c.event.new.effect c.event.new.self (made b) kept.events kept.follows c.process.result c.deref.result.now c.hear-law.result c.hear-law.new.self
     c.process.ensures (c.deref.ensures ∙ c.event_marks-marks.ensures) (answered b) in
     record {
       events = c.args.event.now ∷ kept.events;
@@ -56,7 +56,7 @@ invariant_of-self-2 c =
 
 pub returns-clause-follows : goal.returns-clause-follows
 returns-clause-follows c =
-    let then : RunnerState = record { core = c.event.new.self; auditor = c.hear_parts-law.new.self; taken = c.more-self-inside.result } in
+    let then : RunnerState = record { core = c.event.new.self; auditor = c.hear-law.new.self; taken = c.more-self-inside.result } in
     subst (λ (r : RunnerState). RunsOn r then (λ events. c.args.event.now ∷ events)) c.self.view_is (goes (goal.at.returns-clause-follows c).After-more-self-inside)
 
 pub returns-clause-accepted : goal.returns-clause-accepted
@@ -69,7 +69,7 @@ pub returns-clause-few : goal.returns-clause-few
 returns-clause-few c =
     let i = c.self.inside in
     let old : RunnerState = record { core = i.core; auditor = i.auditor; taken = i.taken } in
-    let then : RunnerState = record { core = c.event.new.self; auditor = c.hear_parts-law.new.self; taken = c.more-self-inside.result } in
+    let then : RunnerState = record { core = c.event.new.self; auditor = c.hear-law.new.self; taken = c.more-self-inside.result } in
     let few : due then ≤ due old + cond (is_call c.args.event.now) 16 0 =
     few_made c.args.event.now c.event.new.effect i.core.seats c.event.new.self.seats i.taken c.more-self-inside.result (few_seats i.core _ _ c.self.invariant.follows.shows) c.more-self-inside.ensures c.in-Ok.ensures.pending c.in-Ok.ensures.few in
     subst (λ (r : RunnerState). due then ≤ due r + cond (is_call c.args.event.now) 16 0) c.self.view_is few

@@ -3,7 +3,7 @@ use Rattle.record.specs.{Entry}
 use Rattle.any_lock.specs.declared.verdicts.AnyLockVerdict.TheVariants.{Good}
 use Rattle.any_lock.specs.{HasJudged, JudgeState}
 use Rattle.any_lock.proofs.Told.{hears_bad, hears_on, with_entries}
-use Rattle.any_lock.proofs.judge.Judge.hear_parts.Goals as goal
+use Rattle.any_lock.proofs.judge.Judge.hear.Goals as goal
 
 pub returns-then-eq-clause-heard : goal.returns-then-eq-clause-heard
 returns-then-eq-clause-heard c =

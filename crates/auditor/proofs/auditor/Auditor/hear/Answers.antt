@@ -2,7 +2,7 @@ use Rattle.std.proofs.Common.{◌≡◌, ◌==◌, List, [], ◌∷◌, length, 
 use Rattle.record.specs.{Entry, Mark}
 use Rattle.read_law.specs.{entry_by}
 use Rattle.auditor.specs.{Hears}
-use Rattle.auditor.proofs.auditor.Auditor.hear_parts.Goals as goal
+use Rattle.auditor.proofs.auditor.Auditor.hear.Goals as goal
 
 empty : (marks : List Mark) → (length marks == 0) ≡ true → marks ≡ []
 empty [] h = refl
