@@ -1,5 +1,5 @@
 -- One process makes the Steps of a line: `step`, and `go` while the process is not where it is to go.
-use Rattle.std.proofs.Common.{◌≡◌, ℕ, zero, suc, ◌+◌, ◌-◌, ◌<◌, ◌≤◌, arith, Bool, true, false, cond, List, [], ◌∷◌, ◌++◌, IfOk, Option, None, Some, Result, Ok, Err, is_none, refl, ap, sym, subst, ◌∙◌, add-one, add-zero, inl, inr}
+use Rattle.std.proofs.Common.{◌≡◌, ℕ, zero, suc, ◌+◌, ◌-◌, ◌<◌, ◌≤◌, arith, Bool, true, false, cond, List, [], ◌∷◌, IfOk, Option, None, Some, Result, Ok, Err, is_none, refl, ap, sym, subst, ◌∙◌, add-one, add-zero, inl, inr}
 use Rattle.plain_store.specs.{Setup}
 use Rattle.record.specs.{Access, Mark}
 use Rattle.record.specs.declared.events.Event.TheVariants.{Step}
@@ -10,12 +10,12 @@ use Rattle.world.specs.flicks.{FlickState, after_flick, flick_of}
 use Rattle.world.specs.Shows.{Shows, WorldState}
 use Rattle.world.specs.Walks.{StepsQuietly, Walks, left_in}
 use Rattle.world.proofs.WorldWithin.{left-on}
-use Rattle.course.specs.{AddsMarks, ComesOn, ComesTo, CourseState, Follows, Happening, HearsFrom, HearsStep, IsAlone, IsNewest, IsQuiet, KnowsOr, MakesSteps, MaySteps, PassBy, PassWithin, PassesAlone, QuietTurns, Run, RunsTo, StepsWithin, TellsOf, TellsStep, Told, Tries, Turn, course, entry_made, is_there, left_told, made_turn, may_step, next_step, overlapped_in, past_after, past_in, rest_of, step_turn, stepped, tried, turn_of, turns_in}
+use Rattle.course.specs.{AddsMarks, ComesOn, ComesTo, CourseState, Follows, Happening, HearsFrom, HearsStep, IsAlone, IsNewest, IsQuiet, KnowsOr, MakesSteps, MaySteps, PassBy, PassWithin, PassesAlone, QuietTurns, Run, RunsTo, StepsWithin, TellsOf, TellsStep, Told, Tries, Turn, course, entry_made, is_there, left_told, made_turn, may_step, next_step, overlapped_in, past_after, past_in, step_turn, stepped, tried, turn_of}
 use Rattle.course.specs.declared.told.Told.TheVariants as told
 use Rattle.course.proofs.CourseTurns.{turn_next}
 use Rattle.course.proofs.Goes.{go_steps}
 use Rattle.course.proofs.Refusals.{entry_by, not_refused}
-use Rattle.course.proofs.Runnings.{IsStep, comes_as, comes_end, comes_then, drawn_run, one_on, one_stops, one_told, quiet_adds, turns_then}
+use Rattle.course.proofs.Runnings.{IsStep, comes_as, comes_end, comes_then, drawn_run, one_on, one_told, quiet_adds, turns_then}
 use Rattle.course.proofs.Within.{newest_made, overlapped_more, passes_then, steps_within}
 use Rattle.course.proofs.Wanders.{stage_quiet}
 
@@ -68,10 +68,6 @@ module _ (w w' : WorldState) (l : Line) (left p floor : ℕ) (flick : Bool) (run
   alone_on Hears was is h =
       one_on Hears w w' l left p flick run run.flicks flicks' (left - 1) was is (IsAlone p floor) (quiet_step h.step) h (after ∙ ap after_flick follows.flicks)
       (alone_still w.setup l p floor run run.flicks (quiet_adds w w' p flick run run.flicks h.step follows.shows by) next)
-
-  pub alone_stops : {L : Type 0} (Stops : L → Setup → List Happening → List Happening → Fault → L → Type 0) (was is : L) (fault : Fault) → ((a b : L) (s : Setup) (x y more : List Happening) (fault : Fault) → Stops a s x y fault b → Stops a s x (more ++ y) fault b) →
-      HearsStep (λ was s x y is. Stops was s x y fault is) w p flick w' was is → left ≤ turns_in l → Stops was w.setup run.happened (rest_of w.setup l left run).happened fault is
-  alone_stops Stops was is fault stops_before h few = one_stops Stops w w' l left p flick run run.flicks (left - 1) was is fault stops_before (quiet_step h.step) h few
 
   -- one that tells
   pub alone_told : {L : Type 0} (Hears : L → Setup → List Happening → List Happening → L → Type 0) (a : L) (answer : Told) (left' : ℕ) → (TellsOf w.setup (past_in w.setup run) (Tries (next_step p run)) answer → Hears a w.setup run.happened run.happened a) → TellsStep w p flick answer w' → left' ≡ left_told answer (left - 1) →

@@ -14,6 +14,7 @@ pub mod Movers
 pub mod Wanders
 pub mod Knowing
 pub mod Counted
+pub mod Lone
 pub mod Refusals
 pub mod InTurn
 -- What happens in a run, and its text

@@ -8,7 +8,7 @@ use Rattle.scenario.specs.files.{Fault}
 use Rattle.world.specs.flicks.{FlickState, after_flick, flick_of}
 use Rattle.world.specs.Shows.{Shows, WorldState}
 use Rattle.world.specs.{StepsQuietly}
-use Rattle.course.specs.{AddsMarks, ComesOn, ComesTo, CourseState, Follows, Happening, HearsFrom, HearsStep, IsQuiet, Makes, QuietTurns, Run, Tells, TellsOf, TellsStep, Told, Tries, Turn, course, made_turn, next_step, past_in, rest_of, stepped, tried, turn_of, turns_in}
+use Rattle.course.specs.{AddsMarks, ComesOn, ComesTo, CourseState, Follows, Happening, HearsFrom, HearsStep, IsQuiet, Makes, QuietTurns, Run, StopsBy, Tells, TellsOf, TellsStep, Told, Tries, Turn, course, made_turn, next_step, past_in, rest_of, stepped, tried, turn_of, turns_in}
 use Rattle.course.proofs.Grows.{Grows, rest_grows}
 use Rattle.course.proofs.TurnLaw.{turn_less, turn_on}
 
@@ -51,6 +51,23 @@ quiet_entry w w' p flick events q shows = q.adds events shows
 
 pub quiet_adds : (w w' : WorldState) (p : ℕ) (flick : Bool) (run : Run) (source : FlickState) → StepsQuietly w p flick w' → Shows w (tried run.happened) → flick ≡ flick_of source → AddsMarks w.setup (past_in w.setup run) (next_step p (drawn_run run source)) []
 quiet_adds w w' p flick run source q shows is = subst (λ b. AddsMarks w.setup (past_in w.setup run) (Step p b) []) is (Some q.access, quiet_entry w w' p flick (tried run.happened) q shows)
+
+-- Steps without a mark, and then others
+comes_both : {L : Type 0} (A B C : L → Setup → List Happening → List Happening → L → Type 0) (s : Setup) (line : Line) (had : ℕ) (start : Run) (was mid is : L) (course : CourseState) (Next : Setup → Line → Run → Type 0) → ComesOn A s line had start was mid course Next →
+    ((x y z : List Happening) → A was s x y mid → B mid s y z is → C was s x z is) → (course' : CourseState) (Then : Setup → Line → Run → Type 0) → ((run : Run) → Follows course run → Next course.world.setup line run → ComesOn B course.world.setup line course.left run mid is course' Then) →
+    ComesOn C s line had start was is course' Then
+comes_both A B C s line had start was mid is course Next u both course' Then on =
+    let here : Next course.world.setup line u.now = subst (λ (s : Setup). Next s line u.now) (sym u.setup) u.next in
+    let v : ComesOn B s line course.left u.now mid is course' Then = subst (λ s. ComesOn B s line course.left u.now mid is course' Then) u.setup (on u.now u.follows here) in
+    record {
+      quiet = u.quiet + v.quiet;
+      now = v.now;
+      turns = turns_then s line u.quiet v.quiet had start course.left u.now course'.left v.now u.turns v.turns;
+      hears = both start.happened u.now.happened v.now.happened u.hears v.hears;
+      follows = v.follows;
+      setup = v.setup;
+      next = v.next;
+    }
 
 module _ {L : Type 0} (Hears : L → Setup → List Happening → List Happening → L → Type 0) where
   -- Before the first.
@@ -130,23 +147,13 @@ module _ {L : Type 0} (Hears : L → Setup → List Happening → List Happening
       ComesOn (HearsFrom Hears P R) s line had start was is course Next
   comes_as P Q R s line had start was is course Next less u = record { quiet = u.quiet; now = u.now; turns = u.turns; hears = (u.hears.0, λ known. less u.now.happened (u.hears.1 known)); follows = u.follows; setup = u.setup; next = u.next }
 
-  -- Steps without a mark, and then others
+  -- the same, where what is known before is known after
   module _ (hears_on : (a b c : L) (s : Setup) (x y z : List Happening) → Hears a s x y b → Hears b s y z c → Hears a s x z c) (P Q : L → Setup → List Happening → Type 0) (s : Setup) (line : Line) (had : ℕ) (start : Run) (was mid is : L) (course : CourseState) (Next : Setup → Line → Run → Type 0) (u : ComesOn (HearsFrom Hears P Q) s line had start was mid course Next) where
     here : Next course.world.setup line u.now
     here = subst (λ (s : Setup). Next s line u.now) (sym u.setup) u.next
 
     pub comes_then : (R : L → Setup → List Happening → Type 0) (course' : CourseState) (Then : Setup → Line → Run → Type 0) → ((run : Run) → Follows course run → Next course.world.setup line run → ComesOn (HearsFrom Hears Q R) course.world.setup line course.left run mid is course' Then) → ComesOn (HearsFrom Hears P R) s line had start was is course' Then
-    comes_then R course' Then on =
-        let v : ComesOn (HearsFrom Hears Q R) s line course.left u.now mid is course' Then = subst (λ s. ComesOn (HearsFrom Hears Q R) s line course.left u.now mid is course' Then) u.setup (on u.now u.follows here) in
-        record {
-          quiet = u.quiet + v.quiet;
-          now = v.now;
-          turns = turns_then s line u.quiet v.quiet had start course.left u.now course'.left v.now u.turns v.turns;
-          hears = (hears_on was mid is s start.happened u.now.happened v.now.happened u.hears.0 v.hears.0, λ known. v.hears.1 (u.hears.1 known));
-          follows = v.follows;
-          setup = v.setup;
-          next = v.next;
-        }
+    comes_then R course' Then = comes_both (HearsFrom Hears P Q) (HearsFrom Hears Q R) (HearsFrom Hears P R) s line had start was mid is course Next u (λ x y z before then. (hears_on was mid is s x y z before.0 then.0, λ known. then.1 (before.1 known))) course' Then
 
     pub comes_to : (R : L → Setup → List Happening → Type 0) (course' : CourseState) (answer : Option Told) → ((run : Run) → Follows course run → Next course.world.setup line run → ComesTo (HearsFrom Hears Q R) course.world.setup line course.left run mid is answer course') → ComesTo (HearsFrom Hears P R) s line had start was is answer course'
     comes_to R course' answer on =
@@ -163,23 +170,15 @@ module _ {L : Type 0} (Hears : L → Setup → List Happening → List Happening
           setup = c.setup;
         }
 
-    pub comes_stop : (Stops : L → Setup → List Happening → List Happening → Fault → L → Type 0) → ((a b c : L) (s : Setup) (x y z : List Happening) (fault : Fault) → Hears a s x y b → Stops b s y z fault c → Stops a s x z fault c) → (fault : Fault) → had ≤ turns_in line →
-        ((run : Run) → Follows course run → Next course.world.setup line run → course.left ≤ turns_in line → Stops mid course.world.setup run.happened (rest_of course.world.setup line course.left run).happened fault is) → Stops was s start.happened (rest_of s line had start).happened fault is
-    comes_stop Stops stops_on fault few cut =
-        let q = rest_quiet s line u.quiet had start course.left u.now few u.turns in
-        subst (λ (r : Run). Stops was s start.happened r.happened fault is) (sym q.1)
-        (stops_on was mid is s start.happened u.now.happened (rest_of s line course.left u.now).happened fault u.hears.0
-        (subst (λ s. Stops mid s u.now.happened (rest_of s line course.left u.now).happened fault is) u.setup (cut u.now u.follows here q.0)))
+    -- and then a fault
+    pub comes_stop : (Stops : L → Setup → List Happening → List Happening → Fault → L → Type 0) → ((a b c : L) (s : Setup) (x y z : List Happening) (fault : Fault) → Hears a s x y b → Stops b s y z fault c → Stops a s x z fault c) → (fault : Fault) (course' : CourseState) (Then : Setup → Line → Run → Type 0) →
+        ((run : Run) → Follows course run → Next course.world.setup line run → ComesOn (StopsBy Stops fault) course.world.setup line course.left run mid is course' Then) → ComesOn (StopsBy Stops fault) s line had start was is course' Then
+    comes_stop Stops stops_on fault course' Then = comes_both (HearsFrom Hears P Q) (StopsBy Stops fault) (StopsBy Stops fault) s line had start was mid is course Next u (λ x y z before cut. stops_on was mid is s x y z fault before.0 cut) course' Then
 
--- a fault as a Step without a mark is heard
-pub one_stops : {L : Type 0} (Stops : L → Setup → List Happening → List Happening → Fault → L → Type 0) (w w' : WorldState) (line : Line) (left p : ℕ) (flick : Bool) (run : Run) (source : FlickState) (left' : ℕ) (was is : L) (fault : Fault) →
-    ((a b : L) (s : Setup) (x y more : List Happening) (fault : Fault) → Stops a s x y fault b → Stops a s x (more ++ y) fault b) → IsStep w line left p flick run source left' → HearsStep (λ was s x y is. Stops was s x y fault is) w p flick w' was is → left ≤ turns_in line →
-    Stops was w.setup run.happened (rest_of w.setup line left run).happened fault is
-one_stops Stops w w' line left p flick run source left' was is fault stops_before step h few =
-    let s : Setup = w.setup in
-    let t : Turn = turn_of s line left run in
-    let here : List Happening = Tries (Step p flick) ∷ run.happened in
-    let more : Grows t.run.happened (rest_of s line t.left t.run).happened = rest_grows s line t.left t.run in
-    let same : t.run.happened ≡ here = ap (λ (t : Turn). t.run.happened) step.turn ∙ ap (λ b. Tries (Step p b) ∷ run.happened) (sym step.by) in
-    let all : (rest_of s line left run).happened ≡ more.more ++ here = ap (λ (r : Run). r.happened) (turn_on s line left run few) ∙ more.is ∙ ap (λ l. more.more ++ l) same in
-    subst (λ l. Stops was s run.happened l fault is) (sym all) (stops_before was is s run.happened here more.more fault (h.hears run.happened step.shows))
+-- a fault as Steps without a mark are heard: a front of what the line makes was
+pub line_stops : {L : Type 0} (Stops : L → Setup → List Happening → List Happening → Fault → L → Type 0) (s : Setup) (line : Line) (had : ℕ) (run : Run) (was is : L) (fault : Fault) (course : CourseState) (Next : Setup → Line → Run → Type 0) →
+    ((a b : L) (s : Setup) (x y more : List Happening) (fault : Fault) → Stops a s x y fault b → Stops a s x (more ++ y) fault b) → ComesOn (StopsBy Stops fault) s line had run was is course Next → had ≤ turns_in line → Stops was s run.happened (rest_of s line had run).happened fault is
+line_stops Stops s line had run was is fault course Next stops_before u few =
+    let q = rest_quiet s line u.quiet had run course.left u.now few u.turns in
+    let more : Grows u.now.happened (rest_of s line course.left u.now).happened = rest_grows s line course.left u.now in
+    subst (λ l. Stops was s run.happened l fault is) (sym (ap (λ (r : Run). r.happened) q.1 ∙ more.is)) (stops_before was is s run.happened u.now.happened more.more fault u.hears)

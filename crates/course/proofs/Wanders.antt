@@ -1,17 +1,16 @@
 -- Steps of picked processes without a mark: who may be picked stays the same.
-use Rattle.std.proofs.Common.{◌≡◌, ℕ, zero, suc, arith, ◌-◌, ◌<◌, ◌≤◌, ◌==◌, Bool, true, false, cond, List, [], ◌∷◌, ◌++◌, filter, fold, length, slice_index, Option, None, Some, refl, ap, sym, subst, ◌∙◌}
+use Rattle.std.proofs.Common.{◌≡◌, ℕ, zero, suc, arith, ◌-◌, ◌<◌, ◌==◌, Bool, true, false, cond, List, [], ◌∷◌, filter, fold, length, slice_index, Option, None, Some, refl, ap, sym, subst, ◌∙◌}
 use Rattle.plain_store.specs.{Setup}
 use Rattle.record.specs.{Entry, Event, Past, past_of, processes, stage, stage_after}
 use Rattle.record.specs.declared.events.Event.TheVariants as event
 use Rattle.scenario.specs.{Line}
 use Rattle.scenario.specs.declared.lines.Line.TheVariants as line
-use Rattle.scenario.specs.files.{Fault}
 use Rattle.world.specs.flicks.{FlickState, flick_of, after_flick, pick_of, after_pick}
 use Rattle.world.specs.{WorldState}
-use Rattle.course.specs.{AddsMarks, ComesOn, ComesTo, Follows, Happening, HearsStep, KnowsOr, Makes, Run, TellsOf, TellsStep, Told, Tries, Turn, after_pick_in, course, ends, has_step, made_turn, movers, next_step, past_in, rest_of, tried, turn_of, wander_turn}
+use Rattle.course.specs.{AddsMarks, ComesOn, ComesTo, Follows, Happening, HearsStep, KnowsOr, Makes, Run, TellsOf, TellsStep, Told, Tries, Turn, after_pick_in, course, ends, has_step, made_turn, movers, next_step, past_in, tried, turn_of, wander_turn}
 use Rattle.course.proofs.CourseTurns.{turn_next}
 use Rattle.course.proofs.Refusals.{entry_by}
-use Rattle.course.proofs.Runnings.{IsStep, drawn_run, one_on, one_stops, one_told, quiet_adds}
+use Rattle.course.proofs.Runnings.{IsStep, drawn_run, one_on, one_told, quiet_adds}
 
 -- an entry without a mark leaves each process in its stage
 stage_kept : (p : ℕ) (e : Entry) (past : Past) → e.marks ≡ [] → stage p (e ∷ past) ≡ stage p past
@@ -68,10 +67,6 @@ module _ (w w' : WorldState) (steps left p : ℕ) (ps : List ℕ) (flick : Bool)
   picked_on Hears was is h =
       one_on Hears w w' (line.Wander steps) left p flick run source flicks' (left - 1) was is (ArePicked ps) picked_step h then
       (are ∙ sym (movers_quiet w.setup (tried run.happened) (event.Step p (flick_of source)) (quiet_adds w w' p flick run source h.step follows.shows by)))
-
-  pub picked_stops : {L : Type 0} (Stops : L → Setup → List Happening → List Happening → Fault → L → Type 0) (was is : L) (fault : Fault) → ((a b : L) (s : Setup) (x y more : List Happening) (fault : Fault) → Stops a s x y fault b → Stops a s x (more ++ y) fault b) →
-      HearsStep (λ was s x y is. Stops was s x y fault is) w p flick w' was is → left ≤ steps → Stops was w.setup run.happened (rest_of w.setup (line.Wander steps) left run).happened fault is
-  picked_stops Stops was is fault stops_before h few = one_stops Stops w w' (line.Wander steps) left p flick run source (left - 1) was is fault stops_before picked_step h few
 
   pub picked_told : {L : Type 0} (Hears : L → Setup → List Happening → List Happening → L → Type 0) (a : L) (answer : Told) → (TellsOf w.setup (past_in w.setup run) (Tries (next_step p (drawn_run run source))) answer → Hears a w.setup run.happened run.happened a) → TellsStep w p flick answer w' →
       ComesTo Hears w.setup (line.Wander steps) left run a a (Some answer) (course w' flicks' (left - 1))

@@ -1,5 +1,5 @@
 -- Who hears a run: what is told to it, and what it has heard once a line has made its turns.
-use Rattle.std.specs.Prelude.{◌≡◌, ◌⊎◌, ◌+◌, ◌<◌, ◌≤◌, ℕ, zero, suc, Bool, if◌then◌else◌, List, [], ◌∷◌, Option, None, Some, Ok}
+use Rattle.std.specs.Prelude.{◌≡◌, ◌⊎◌, ◌+◌, ◌<◌, ℕ, zero, suc, Bool, if◌then◌else◌, List, [], ◌∷◌, Option, None, Some, Ok}
 use Rattle.plain_store.specs.{Setup, checked}
 use Rattle.record.specs.{Access, AreGiven, Event, Past, Taken, entry_of, history, moves_of, past_of, refused}
 use Rattle.record.specs.declared.events.Event.TheVariants.{Step}
@@ -17,7 +17,7 @@ use Rattle.course.specs.Happenings.{Happening, Tries, past_after, tried}
 use Rattle.course.specs.Runs.{Run, past_in, run_after}
 use Rattle.course.specs.Steppers.{IsAlone}
 use Rattle.course.specs.Telling.{IsMarked, Tells, TellsOf}
-use Rattle.course.specs.Turns.{rest_of, turn_of, turns_in}
+use Rattle.course.specs.Turns.{rest_of, turn_of}
 use Rattle.course.specs.declared.told.Stepped.{Stepped}
 use Rattle.course.specs.declared.told.Told.{Told}
 use Rattle.course.specs.declared.told.Told.TheVariants.{Accepted}
@@ -215,12 +215,12 @@ StopsAmid Stops old line was is fault = InItsRun old (λ run. Stops was old.worl
 abbrev pub StopsLine : {L : Type 0} → (L → Setup → List Happening → List Happening → Fault → L → Type 0) → CourseState → Line → L → L → Fault → Type 0
 StopsLine Stops old line was is fault = InItsRun old (λ run. Stops was old.world.setup run.happened (run_after old.world.setup line run).happened fault is)
 
--- one process makes the Steps of a line, in each run that the course shows, or a listener stops amid them
+-- one process makes the Steps of a line, in each run that the course shows, or a listener stops at one without a mark
 abbrev pub RunsAlone : {L : Type 0} → (L → Setup → List Happening → List Happening → L → Type 0) → (L → Setup → List Happening → Type 0) → CourseState → ℕ → ℕ → CourseState → L → L → Option Told → Type 0
 RunsAlone Hears Knows old p floor new was is told = (line : Line) → InItsRun old (λ run. IsAlone p floor old.world.setup line run → RunsTo (HearsUpTo Hears Knows told) old.world.setup line old.left run was is p floor told new)
 
-abbrev pub StopsAlone : {L : Type 0} → (L → Setup → List Happening → List Happening → Fault → L → Type 0) → CourseState → ℕ → ℕ → L → L → Fault → Type 0
-StopsAlone Stops old p floor was is fault = (line : Line) → InItsRun old (λ run. IsAlone p floor old.world.setup line run → old.left ≤ turns_in line → Stops was old.world.setup run.happened (rest_of old.world.setup line old.left run).happened fault is)
+abbrev pub StopsAlone : {L : Type 0} → (L → Setup → List Happening → List Happening → Fault → L → Type 0) → CourseState → ℕ → ℕ → CourseState → L → L → Fault → Type 0
+StopsAlone Stops old p floor new was is fault = (line : Line) → InItsRun old (λ run. IsAlone p floor old.world.setup line run → ComesOn (StopsBy Stops fault) old.world.setup line old.left run was is new (IsAlone p floor))
 
 -- it passes Steps by: if before that the newest event is known, or none of its Steps is refused, it is so after
 abbrev pub PassesAlone : {L : Type 0} → (L → Setup → List Happening → List Happening → L → Type 0) → (L → Setup → List Happening → Type 0) → CourseState → ℕ → ℕ → CourseState → L → L → Type 0

@@ -1,8 +1,8 @@
--- Flicks that are passed over.
+-- Flicks and picks that are passed over.
 use Rattle.std.proofs.Common.{◌≡◌, ℕ, zero, suc, Bool, refl, sym, ◌∙◌, ap}
 use Rattle.rand_pcg.specs.Lcg.{next_state, state_after}
 use Rattle.rand_pcg.specs.Pcg.{multiplier_64}
-use Rattle.flicks.specs.{FlickState, Mode, after_flick, flicks_after}
+use Rattle.flicks.specs.{FlickState, Mode, after_flick, after_pick, flicks_after, picks_after}
 use Rattle.flicks.specs.declared.Mode.TheVariants.{Constant, Generator}
 
 abbrev pub state : Mode → ℕ → ℕ → FlickState
@@ -26,3 +26,8 @@ none increment s = refl
 pub generated : (n s increment : ℕ) → flicks_after n (state Generator s increment) ≡ state Generator (state_after 64 multiplier_64 increment n s) increment
 generated zero s increment = ap (λ x. state Generator x increment) (sym (none increment s))
 generated (suc n) s increment = ap after_flick (generated n s increment) ∙ ap (λ x. state Generator x increment) (sym (last_step n increment s))
+
+-- and a pick one by each mode
+pub picked : (n : ℕ) (mode : Mode) (s increment : ℕ) → picks_after n (state mode s increment) ≡ state mode (state_after 64 multiplier_64 increment n s) increment
+picked zero mode s increment = ap (λ x. state mode x increment) (sym (none increment s))
+picked (suc n) mode s increment = ap after_pick (picked n mode s increment) ∙ ap (λ x. state mode x increment) (sym (last_step n increment s))

@@ -1,7 +1,7 @@
 //! The lines that make Steps. A Step without a mark leaves every process where it is, so that only after one with
 //! marks a line has to look again who is where.
-ghost use Rattle.std.specs.Prelude.{◌≡◌, ◌<◌, ◌≤◌, ℕ, length, slice_index, IfErr, IfOk, None, Ok};
-ghost use Rattle.world.specs.flicks.{after_flick, after_pick, flick_of, pick_of};
+ghost use Rattle.std.specs.Prelude.{◌≡◌, ◌<◌, ◌≤◌, ◌∷◌, ℕ, [], length, slice_index, true, IfErr, IfOk, None, Ok};
+ghost use Rattle.world.specs.flicks.{after_flick, after_pick, flick_of, is_constant, pick_of};
 ghost use Rattle.record.specs.{stage};
 ghost use Rattle.record.specs.declared.Event.TheVariants.{Step};
 ghost use Rattle.scenario.specs.declared.lines.Line.TheVariants.{Go as GoLine, Wander as WanderLine};
@@ -37,7 +37,7 @@ impl Course {
         ensures room { IfOk result
             (LeavesRoom L.HasRoom listener.old self.old.left listener.new self.new.left) }
         ensures cut { IfErr result
-            (StopsAlone L.Stops self.old process floor listener.old listener.new) }
+            (StopsAlone L.Stops self.old process floor self.new listener.old listener.new) }
     {
         let mut quiet = 0;
         let mut told = None;
@@ -134,6 +134,9 @@ impl Course {
             return Ok(None);
         }
         let movers = movers.as_slice();
+        if movers.len() == 1 && self.flicks.is_constant() {
+            return self.run_lone(movers[0], listener);
+        }
         let mut within = [0_u32; 256];
         let mut left = self.left;
         let mut flicks = self.flicks.twin();
@@ -167,6 +170,35 @@ impl Course {
         self.left = left;
         self.flicks = flicks;
         Ok(None)
+    }
+
+    /// The same where one process alone has a Step to make, and the flicks are constant: its Steps as `run_alone` makes
+    /// them, many at once. Each pick can but find it, so that the words of the picks are skipped in the end.
+    fn run_lone<L: Listener>(
+        &mut self,
+        process: u8,
+        listener: &mut L,
+    ) -> Result<Option<Told>, Fault>
+        requires room { L.HasRoom listener.old self.old.left }
+        requires lone { InItsRun self.old (λ run.
+            movers self.old.world.setup (past_in self.old.world.setup run) ≡ process ∷ []) }
+        requires constant { is_constant self.old.flicks ≡ true }
+        ensures left { IfOk result (λ told. room_wanted told self.new.left ≤ self.old.left) }
+        ensures ok { IfOk result (λ told. (steps : ℕ) →
+            Comes L.Hears L.Knows self.old (WanderLine steps) self.new
+            listener.old listener.new told) }
+        ensures room { IfOk result
+            (LeavesRoom L.HasRoom listener.old self.old.left listener.new self.new.left) }
+        ensures cut { IfErr result (λ fault. (steps : ℕ) →
+            InItsRun self.old (λ run. self.old.left ≤ steps →
+            L.Stops listener.old self.old.world.setup run.happened
+            (rest_of self.old.world.setup (WanderLine steps) self.old.left run).happened
+            fault listener.new)) }
+    {
+        let had = self.left;
+        let told = self.run_alone(process, 0, listener)?;
+        self.flicks.skip_picks(had - self.left);
+        Ok(told)
     }
 
     /// The processes with a Step to make, ascending. They take no memory.

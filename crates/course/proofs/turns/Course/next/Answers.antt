@@ -1,10 +1,11 @@
-use Rattle.std.proofs.Common.{◌+◌, arith}
+use Rattle.std.proofs.Common.{◌+◌, arith, inl}
 use Rattle.scenario.specs.files.declared.faults.Fault.TheVariants.{Memory}
-use Rattle.course.specs.{Follows, HearsUpTo, Run, rest_of, room_wanted}
+use Rattle.course.specs.{Follows, HearsUpTo, IsAlone, Run, rest_of, room_wanted}
 use Rattle.course.proofs.Alone.{alone_whole}
+use Rattle.course.proofs.Endings.{if_err}
 use Rattle.course.proofs.Knowing.{nothing_yet}
 use Rattle.course.proofs.Played.{no_value, on_fault, unheard}
-use Rattle.course.proofs.Runnings.{at_once}
+use Rattle.course.proofs.Runnings.{at_once, line_stops}
 use Rattle.course.proofs.turns.Course.next.Goals as goal
 
 pub returns-in_err-make-clause-cut : goal.returns-in_err-make-clause-cut
@@ -36,3 +37,8 @@ returns-in_err-make-clause-ok g c = no_value c.from_residual.result Memory _ c.f
 
 pub returns-in_err-make-clause-room : goal.returns-in_err-make-clause-room
 returns-in_err-make-clause-room g c = no_value c.from_residual.result Memory _ c.from_residual.ensures.1
+
+pub returns-in-Step-clause-cut : goal.returns-in-Step-clause-cut
+returns-in-Step-clause-cut g c = if_err c.run_alone.result
+    (λ fault cut run follows. line_stops g.L.Listener.Stops c.args.self.now.world.setup c.args.line.now c.args.self.now.left run c.args.listener.now c.run_alone.new.listener fault c.run_alone.new.self (IsAlone c.in-Step.process 0) g.met.L.Listener.stops_before
+    (cut c.args.line.now run follows (inl (c.in-Step.field-1, c.in-Step.is))) c.requires.few) c.run_alone.ensures.cut

@@ -1,8 +1,7 @@
-use Rattle.std.proofs.Common.{Some, refl, ◌==◌, ◌≤◌, ◌+◌, ◌-◌, ◌∙◌, ℕ, ap, arith, inl, subst, sym}
-use Rattle.scenario.specs.{Line}
+use Rattle.std.proofs.Common.{Some, refl, ◌==◌, ◌+◌, ◌-◌, ◌∙◌, ℕ, ap, arith, inl, subst, sym}
 use Rattle.world.specs.flicks.{flick_of}
-use Rattle.course.specs.{ComesTo, CourseState, Follows, HearsFrom, HearsStep, IsAlone, KnowsEnough, KnowsOr, Learns, MakesStep, MaySteps, Run, RunsAlone, course, rest_of, tried, turns_in}
-use Rattle.course.proofs.Alone.{KnowsAlone, MakesMore, alone_ended, alone_on, alone_passed, alone_stops, alone_told}
+use Rattle.course.specs.{ComesTo, CourseState, HearsFrom, HearsStep, IsAlone, KnowsEnough, KnowsOr, Learns, MakesStep, MaySteps, RunsAlone, StopsAlone, StopsBy, course, tried}
+use Rattle.course.proofs.Alone.{KnowsAlone, MakesMore, alone_ended, alone_on, alone_passed, alone_told}
 use Rattle.course.proofs.Knowing.{quiet_steps, step_knows, step_needs, turns_above}
 use Rattle.course.proofs.Played.{no_value, on_fault}
 use Rattle.course.proofs.Runnings.{comes_start, comes_stop, comes_then, comes_to}
@@ -89,12 +88,12 @@ returns-in_err-step g c =
       ended = no_value c.from_residual.result fault _ c.from_residual.ensures.1;
       ok = no_value c.from_residual.result fault _ c.from_residual.ensures.1;
       room = no_value c.from_residual.result fault _ c.from_residual.ensures.1;
-      cut = on_fault c.from_residual.result fault (λ fault. (l : Line) (run : Run) → Follows c.args.self.now run → IsAlone p floor s l run → had ≤ turns_in l → Stops c.args.listener.now s run.happened (rest_of s l had run).happened fault c.step.new.listener) c.from_residual.ensures.1
-          (λ l run follows next few.
+      cut = on_fault c.from_residual.result fault (StopsAlone Stops c.args.self.now p floor (course c.step.new.world c.flick-flick.new.self (left - 1)) c.args.listener.now c.step.new.listener) c.from_residual.ensures.1
+          (λ l run follows next.
           let v = alone_passed Hears Knows s l had p floor run c.args.listener.now c.steps.listener (course i.world i.flicks i.left) (c.steps.invariant.on l run follows next) laws.hears_on (course w flicks left) c.pass_by.new.listener c.pass_by.ensures.on in
-          comes_stop Hears laws.hears_on Knows (KnowsOr Knows (MaySteps p)) s l had run c.args.listener.now c.pass_by.new.listener c.step.new.listener (course w flicks left) (IsAlone p floor) v Stops laws.stops_on fault few
-          (λ run follows next few. alone_stops w c.step.new.world l left p floor c.flick-flick.result run flicks c.flick-flick.new.self c.pass_by.ensures.above c.flick-flick.ensures.flick c.flick-flick.ensures.after follows next Stops c.pass_by.new.listener c.step.new.listener fault laws.stops_before
-          c.in_err-step.ensures.cut few));
+          comes_stop Hears laws.hears_on Knows (KnowsOr Knows (MaySteps p)) s l had run c.args.listener.now c.pass_by.new.listener c.step.new.listener (course w flicks left) (IsAlone p floor) v Stops laws.stops_on fault (course c.step.new.world c.flick-flick.new.self (left - 1)) (IsAlone p floor)
+          (λ run follows next. alone_on w c.step.new.world l left p floor c.flick-flick.result run flicks c.flick-flick.new.self c.pass_by.ensures.above c.flick-flick.ensures.flick c.flick-flick.ensures.after follows next (StopsBy Stops fault) c.pass_by.new.listener c.step.new.listener
+          c.in_err-step.ensures.cut));
     }
 
 pub returns-in-Some-clause-ok : goal.returns-in-Some-clause-ok

@@ -2,13 +2,14 @@ use Rattle.std.proofs.Common.{Some, refl, None, ◌≡◌, ◌==◌, ◌<◌, �
 use Rattle.scenario.specs.declared.lines.Line.TheVariants.{Wander as WanderLine}
 use Rattle.world.specs.flicks.{FlickState, after_flick, after_pick, flick_of, pick_of}
 use Rattle.world.specs.{left_in}
-use Rattle.course.specs.{Comes, ComesOn, ComesTo, CourseState, Follows, HearsFrom, HearsStep, HearsUpTo, IsCounted, KnowsEnough, Learns, Makes, MakesStep, MaySteps, Run, course, movers, past_in, rest_of, room_wanted, turn_of}
+use Rattle.course.specs.{Comes, ComesOn, ComesTo, CourseState, Follows, HearsFrom, HearsStep, HearsUpTo, IsCounted, KnowsEnough, Learns, Makes, MakesStep, MaySteps, Run, StopsBy, course, movers, past_in, rest_of, room_wanted, turn_of}
 use Rattle.course.proofs.Counted.{counted_put, none_known}
 use Rattle.course.proofs.Knowing.{nothing_yet, pick_steps, step_knows, step_needs, turns_above}
+use Rattle.course.proofs.Lone.{only_one}
 use Rattle.course.proofs.Movers.{none_left, some_left}
 use Rattle.course.proofs.Played.{no_value, on_fault}
-use Rattle.course.proofs.Runnings.{at_once, comes_as, comes_end, comes_start, comes_stop, comes_then, comes_to}
-use Rattle.course.proofs.Wanders.{ArePicked, KnowsWhile, picked_on, picked_stops, picked_told, wander_ends}
+use Rattle.course.proofs.Runnings.{at_once, comes_as, comes_end, comes_start, comes_stop, comes_then, comes_to, line_stops}
+use Rattle.course.proofs.Wanders.{ArePicked, KnowsWhile, picked_on, picked_told, wander_ends}
 use Rattle.course.proofs.turns.Course.run_random.Goals as goal
 
 pub returns-then-is_empty-clause-ok : goal.returns-then-is_empty-clause-ok
@@ -92,15 +93,17 @@ returns-in_err-step g c =
     let ps = c.as_slice-movers.result.now in
     let some : 0 < length ps = subst (λ (l : List ℕ). 0 < length l) (sym c.as_slice-movers.ensures) (some_left c.movers-movers.result.items (sym c.is_empty.ensures ∙ c.if-is_empty.false)) in
     let fault = c.in_err-step.field-0.0 in
+    let new : CourseState = course c.step.new.world c.copy_from.new.self (c.steps.left - 1) in
     record {
       left = no_value c.from_residual.result fault _ c.from_residual.ensures.1;
       ok = no_value c.from_residual.result fault _ c.from_residual.ensures.1;
       room = no_value c.from_residual.result fault _ c.from_residual.ensures.1;
       cut = on_fault c.from_residual.result fault (λ fault. (steps : ℕ) (run : Run) → Follows c.args.self.now run → had ≤ steps → Stops c.args.listener.now s run.happened (rest_of s (WanderLine steps) had run).happened fault c.step.new.listener) c.from_residual.ensures.1
           (λ steps run follows few.
-          comes_stop Hears laws.hears_on Knows (KnowsWhile Knows c.steps.left) s (WanderLine steps) had run c.args.listener.now c.steps.listener c.step.new.listener (course i.world c.steps.flicks c.steps.left) (ArePicked ps) (c.steps.invariant.on steps run follows) Stops laws.stops_on fault few
-          (λ run follows are few. picked_stops i.world c.step.new.world steps c.steps.left c.steps.next.0 ps c.steps.next.1 run c.steps.flicks c.copy_from.new.self (λ none. omega (arith, none, c.steps-test.true)) some c.steps.invariant.process c.steps.invariant.flick (c.copy_from.ensures ∙ c.steps.invariant.ahead)
-          follows are Stops c.steps.listener c.step.new.listener fault laws.stops_before c.in_err-step.ensures.cut few));
+          line_stops Stops s (WanderLine steps) had run c.args.listener.now c.step.new.listener fault new (ArePicked ps) laws.stops_before
+          (comes_stop Hears laws.hears_on Knows (KnowsWhile Knows c.steps.left) s (WanderLine steps) had run c.args.listener.now c.steps.listener c.step.new.listener (course i.world c.steps.flicks c.steps.left) (ArePicked ps) (c.steps.invariant.on steps run follows) Stops laws.stops_on fault new (ArePicked ps)
+          (λ run follows are. picked_on i.world c.step.new.world steps c.steps.left c.steps.next.0 ps c.steps.next.1 run c.steps.flicks c.copy_from.new.self (λ none. omega (arith, none, c.steps-test.true)) some c.steps.invariant.process c.steps.invariant.flick (c.copy_from.ensures ∙ c.steps.invariant.ahead)
+          follows are (StopsBy Stops fault) c.steps.listener c.step.new.listener c.in_err-step.ensures.cut)) few);
     }
 
 pub returns-in-Some-clause-ok : goal.returns-in-Some-clause-ok
@@ -176,3 +179,8 @@ returns-clause-left g c = c.steps.invariant.left
 
 pub returns-clause-room : goal.returns-clause-room
 returns-clause-room g c = c.steps.invariant.room
+
+pub run_lone-requires-clause-lone : goal.run_lone-requires-clause-lone
+run_lone-requires-clause-lone g c = λ run follows.
+    let ps = c.as_slice-movers.result.now in
+    sym (c.as_slice-movers.ensures ∙ c.movers-movers.ensures run follows) ∙ only_one ps (omega (arith, c.if-movers-eq1.true))

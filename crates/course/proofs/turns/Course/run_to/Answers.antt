@@ -7,7 +7,7 @@ use Rattle.course.proofs.CourseTurns.{go_ends, go_lacks, turn_ended, turn_made}
 use Rattle.course.proofs.Goes.{go_tires, is_away}
 use Rattle.course.proofs.Knowing.{nothing_yet}
 use Rattle.course.proofs.Played.{no_value, on_fault}
-use Rattle.course.proofs.Runnings.{at_once}
+use Rattle.course.proofs.Runnings.{at_once, line_stops}
 use Rattle.course.proofs.turns.Course.run_to.Goals as goal
 
 pub returns-then-self-eq0-clause-ok : goal.returns-then-self-eq0-clause-ok
@@ -48,7 +48,7 @@ returns-in_err-told-clause-cut g c =
     let alone : family c.args.self.now = subst family c.self.view_is
     (λ run follows. inr (target, refl, is_away i.world p target c.in-Some.stage (sym c.is_there.ensures ∙ c.if-is_there.false) (λ events shows. sym c.in-Some.is ∙ c.stage.ensures events shows) i.flicks i.left run follows, omega arith)) in
     on_fault c.from_residual.result c.in_err-told.field-0.0 (λ fault. (run : Run) → Follows c.args.self.now run → g.L.Listener.Stops c.args.listener.now s run.happened (rest_of s l c.args.self.now.left run).happened fault c.run_alone.new.listener) c.from_residual.ensures.1
-    (λ run follows. c.in_err-told.ensures.cut l run follows (alone run follows) c.requires.few)
+    (λ run follows. line_stops g.L.Listener.Stops s l c.args.self.now.left run c.args.listener.now c.run_alone.new.listener c.in_err-told.field-0.0 c.run_alone.new.self (IsAlone p 1) g.met.L.Listener.stops_before (c.in_err-told.ensures.cut l run follows (alone run follows)) c.requires.few)
 
 pub returns-in-Some-2-clause-ok : goal.returns-in-Some-2-clause-ok
 returns-in-Some-2-clause-ok g c = λ run follows.
