@@ -77,7 +77,7 @@ impl Auditor {
     /// breaks `Safe` breaks `Program` or `Unit` too; whether it does is looked up in the entries before. After an entry that
     /// broke a law nothing is known of the auditor.
     ///
-    /// An entry has room for three marks, and most have none: those of a run stand nowhere.
+    /// The marks are lent. An `Entry` has room for three, which would be cleared and moved for each Step, though few have one.
     #[inline]
     pub fn hear(&mut self, process: u8, access: &Option<Access>, marks: &[Mark]) -> Option<Law>
         ensures setup { result ≡ None → self.new.core.setup ≡ self.old.core.setup }

@@ -174,6 +174,7 @@ impl Course {
 
     /// The same where one process alone has a Step to make, and the flicks are constant: its Steps as `run_alone` makes
     /// them, many at once. Each pick can but find it, so that the words of the picks are skipped in the end.
+    #[inline(never)]
     fn run_lone<L: Listener>(
         &mut self,
         process: u8,
