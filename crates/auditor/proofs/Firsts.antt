@@ -1,18 +1,20 @@
 -- The first law that an entry breaks.
-use Rattle.std.proofs.Common.{◌≡◌, ℕ, suc, ◌<◌, List, [], ◌∷◌, ◌++◌, length, reverse, take, drop, slice_index_or, ap, ◌∙◌, arith, append_assoc}
+use Rattle.std.proofs.Common.{◌≡◌, ℕ, suc, ◌<◌, Bool, true, false, List, [], ◌∷◌, ◌++◌, length, reverse, take, drop, slice_index_or, ap, ◌∙◌, arith, append_assoc}
 use Rattle.std.proofs.lemmas.List.{reverse-append, length-reverse, length-take-le}
 use Rattle.plain_store.specs.{Setup}
 use Rattle.record.specs.{Entry, Past}
-use Rattle.read_law.specs.{KeepsSafe}
+use Rattle.read_law.specs.Safe.{TellsSafe}
 use Rattle.auditor.specs.{AllKeep, BreaksFirst, BreaksNext, IsBadAt, Keeps, Law, number_of}
 use Rattle.auditor.specs.declared.verdicts.Law.TheVariants as law
 use Rattle.auditor.proofs.Entries.{entries_split}
 
-pub breaks_safe : (s : Setup) (past : Past) (e : Entry) → (KeepsSafe s past e → ⊥) → BreaksFirst law.Safe s past e
-breaks_safe s past e wrong = record { broken = wrong; before = λ k l. absurd (omega (arith, l)) }
+pub breaks_safe : (s : Setup) (past : Past) (e : Entry) (told : Bool) → told ≡ false → TellsSafe told s past e → BreaksFirst law.Safe s past e
+breaks_safe s past e true is wrong = absurd (cc)
+breaks_safe s past e false is wrong = record { broken = wrong; before = λ k l. absurd (omega (arith, l)) }
 
-pub breaks_then : (s : Setup) (past : Past) (e : Entry) (l : Law) → KeepsSafe s past e → BreaksNext l s past e → BreaksFirst l s past e
-breaks_then s past e l safe next = record { broken = next.broken; before = before }
+pub breaks_then : (s : Setup) (past : Past) (e : Entry) (l : Law) (told : Bool) → told ≡ true → TellsSafe told s past e → BreaksNext l s past e → BreaksFirst l s past e
+breaks_then s past e l false is safe next = absurd (cc)
+breaks_then s past e l true is safe next = record { broken = next.broken; before = before }
   where
     before : (k : Law) → number_of k < number_of l → Keeps k s past e
     before law.Safe less = safe

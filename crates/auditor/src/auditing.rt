@@ -1,18 +1,19 @@
 ghost use Rattle.std.specs.Prelude.{◌≡◌, IfOk, Ok, reverse};
 ghost use Rattle.plain_store.specs.{checked};
+ghost use Rattle.read_law.specs.Safe.{TellsSafe};
 ghost use Rattle.auditor.specs.Hearing.{BreaksNext};
 ghost use Rattle.auditor.specs.declared.verdicts.Verdict.TheVariants.{Good};
-ghost use Rattle.auditor.specs.Verdicts.{BreaksFirst, IsGoodOfEvents, IsTrueRecord, IsVerdict};
+ghost use Rattle.auditor.specs.Verdicts.{AllKeep, BreaksFirst, IsGoodOfEvents, IsTrueRecord, IsVerdict};
 
 use crate::auditor::Auditor;
 use crate::verdicts::{Law, Verdict};
 use plain_store::Setup;
-use read_law::{is_unsafe, parts};
+use read_law::{Watch, parts};
 use record::{Entry, Record};
 use std::alloc::{AllocError, Global};
 
 /// The verdict on a record: the lowest entry that breaks a law, and the first law that it breaks. The one fault is want
-/// of memory. It takes the entries one by one, and looks back at most once. A good record is that of some list of
+/// of memory. It takes the entries one by one, and those before a bad one twice. A good record is that of some list of
 /// events, and the headline holds of each of its entries. The record of every list of events is good.
 pub fn audit(alloc: Global, setup: &Setup, given: &Record) -> Result<Verdict, AllocError>
     requires { checked setup.now ≡ Ok tt }
@@ -34,22 +35,50 @@ fn audit_all(alloc: Global, setup: &Setup, entries: &[Entry]) -> Result<Verdict,
         let (process, access, marks) = parts(entry);
         if let Some(law) = auditor.hear(process, access, marks) {
             let before = &entries[..number];
-            let first = first_law(setup, before, entry, law)?;
+            let first = first_law(alloc, setup, before, entry, law)?;
             return Ok(Verdict::Bad(number as u64, first));
         }
     }
     Ok(Verdict::Good)
 }
 
-/// The first law that an entry breaks, which breaks this one first after `Safe`.
-fn first_law(setup: &Setup, before: &[Entry], entry: &Entry, law: Law) -> Result<Law, AllocError>
+/// The first law that an entry breaks, which breaks this one first after `Safe`, behind entries that keep all laws.
+#[tactic(auto, using(crate::proofs::Firsts::breaks_safe, crate::proofs::Firsts::breaks_then))]
+fn first_law(
+    alloc: Global,
+    setup: &Setup,
+    before: &[Entry],
+    entry: &Entry,
+    law: Law,
+) -> Result<Law, AllocError>
     requires good { checked setup.now ≡ Ok tt }
+    requires kept { AllKeep setup.now (reverse before.now) }
     requires breaks { BreaksNext law setup.now (reverse before.now) entry.now }
     ensures { IfOk result (λ first. BreaksFirst first setup.now (reverse before.now) entry.now) }
 {
-    if is_unsafe(setup, before, entry)? {
-        Ok(Law::Safe)
-    } else {
+    if is_safe(alloc, setup, before, entry)? {
         Ok(law)
+    } else {
+        Ok(Law::Safe)
     }
+}
+
+/// Whether an entry keeps the law `Safe`, behind entries that keep all laws: a watch hears them all.
+fn is_safe(
+    alloc: Global,
+    setup: &Setup,
+    before: &[Entry],
+    entry: &Entry,
+) -> Result<bool, AllocError>
+    requires good { checked setup.now ≡ Ok tt }
+    requires kept { AllKeep setup.now (reverse before.now) }
+    ensures { IfOk result (λ told. TellsSafe told setup.now (reverse before.now) entry.now) }
+{
+    let mut watch = Watch::new(alloc, setup)?;
+    for earlier in before {
+        let (_, access, _) = parts(earlier);
+        watch.hear(access);
+    }
+    let (_, access, _) = parts(entry);
+    Ok(watch.hear(access))
 }

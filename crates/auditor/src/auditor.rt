@@ -12,7 +12,7 @@ use plain_store::Setup;
 use record::{Access, Event, Mark, Stage};
 use std::alloc::{AllocError, Global};
 use std::marker::Model;
-use world::{Core, Effect, StepTold};
+use world::{Core, Effect, Flicks, StepTold};
 
 /// An audit that goes on. It takes the entries of a record one at a time and keeps what a world keeps beside its
 /// history, and how many commands were taken: so it needs the same memory however long the record is.
@@ -102,8 +102,9 @@ impl Auditor {
         if self.core.left(process) == 0 {
             return self.hear_elsewhere(process, access);
         }
-        let made = self.core.make_step_within(process, flick_of(access));
-        different(made.access, access)
+        let mut flicks = Flicks::only(flick_of(access));
+        let made = self.core.run(process, &mut flicks, 1);
+        different(made.newest, access)
     }
 
     /// The same where its process is not within a number access.

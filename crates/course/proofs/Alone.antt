@@ -1,5 +1,5 @@
 -- One process makes the Steps of a line: `step`, and `go` while the process is not where it is to go.
-use Rattle.std.proofs.Common.{◌≡◌, ℕ, zero, suc, ◌+◌, ◌-◌, ◌<◌, ◌≤◌, arith, Bool, true, false, cond, List, [], ◌∷◌, IfOk, Option, None, Some, Result, Ok, Err, is_none, refl, ap, sym, subst, ◌∙◌, add-one, add-zero, inl, inr}
+use Rattle.std.proofs.Common.{◌≡◌, ℕ, zero, suc, ◌+◌, ◌-◌, ◌<◌, ◌≤◌, arith, Bool, true, false, cond, List, [], ◌∷◌, IfOk, Option, None, Some, Result, Ok, Err, is_none, refl, ap, sym, subst, ◌∙◌, add-one, inl, inr}
 use Rattle.plain_store.specs.{Setup}
 use Rattle.record.specs.{Access, Mark}
 use Rattle.record.specs.declared.events.Event.TheVariants.{Step}
@@ -8,9 +8,8 @@ use Rattle.scenario.specs.declared.lines.Line.TheVariants as line
 use Rattle.scenario.specs.files.{Fault}
 use Rattle.world.specs.flicks.{FlickState, after_flick, flick_of}
 use Rattle.world.specs.Shows.{Shows, WorldState}
-use Rattle.world.specs.Walks.{StepsQuietly, Walks, left_in}
-use Rattle.world.proofs.WorldWithin.{left-on}
-use Rattle.course.specs.{AddsMarks, ComesOn, ComesTo, CourseState, Follows, Happening, HearsFrom, HearsStep, IsAlone, IsNewest, IsQuiet, KnowsOr, MakesSteps, MaySteps, PassBy, PassWithin, PassesAlone, QuietTurns, Run, RunsTo, StepsWithin, TellsOf, TellsStep, Told, Tries, Turn, course, entry_made, is_there, left_told, made_turn, may_step, next_step, overlapped_in, past_after, past_in, step_turn, stepped, tried, turn_of}
+use Rattle.world.specs.Walks.{StepsQuietly, Walks}
+use Rattle.course.specs.{AddsMarks, ComesOn, ComesTo, CourseState, Follows, Happening, HearsFrom, HearsStep, IsAlone, IsNewest, IsQuiet, KnowsOr, MaySteps, PassBy, PassWithin, PassesAlone, QuietTurns, Run, RunsTo, StepsWithin, TellsOf, TellsStep, Told, Tries, Turn, course, entry_made, is_there, left_told, made_turn, may_step, next_step, overlapped_in, past_after, past_in, step_turn, stepped, tried, turn_of}
 use Rattle.course.specs.declared.told.Told.TheVariants as told
 use Rattle.course.proofs.CourseTurns.{turn_next}
 use Rattle.course.proofs.Goes.{go_steps}
@@ -77,31 +76,19 @@ module _ (w w' : WorldState) (l : Line) (left p floor : ℕ) (flick : Bool) (run
       one_told Hears w w' l left p flick run run.flicks flicks' left' a answer nothing
       (record { shows = follows.shows; by = by; turn = alone_turn w.setup l left p floor run more next ∙ step_turn_told w.setup p (left - 1) run answer tells ∙ ap (λ n. made_turn p n run) (sym fewer) }) t (after ∙ ap after_flick follows.flicks)
 
--- the access of the newest of so many Steps
-abbrev newest_access : (n overlapped : ℕ) (w w' : WorldState) (flicks flicks' : FlickState) (p : ℕ) → Walks w flicks p n overlapped w' flicks' → Option Access
-newest_access zero overlapped w w' flicks flicks' p same = None
-newest_access (suc n) overlapped w w' flicks flicks' p (w1, flicks1, count, walks, access, last, made, after, counts) = Some access
-
-same_some : (a b : Access) → Some a ≡ Some b → a ≡ b
-same_some a b is = cc
-
-never_some : (a : Access) → None ≡ Some a → ⊥
-never_some a is = absurd (cc)
-
 -- Steps that a world makes in a row without a mark
-record Walked (s : Setup) (l : Line) (left p floor n within_left overlapped : ℕ) (made : Option Access) (run : Run) (w' : WorldState) (flicks' : FlickState) : Type 0 where
+record Walked (s : Setup) (l : Line) (left p floor n : ℕ) (newest : Access) (overlapped : ℕ) (run : Run) (w' : WorldState) (flicks' : FlickState) : Type 0 where
   now : Run
   turns : QuietTurns s l n left run (left - n) now
   follows : Follows (course w' flicks' (left - n)) now
   setup : w'.setup ≡ s
   next : IsAlone p floor s l now
   within : PassWithin s p n run.happened now.happened
-  newest : (access : Access) → made ≡ Some access → IsNewest s p access now.happened
+  newest_is : 0 < n → IsNewest s p newest now.happened
   overlapped_are : overlapped ≡ overlapped_in n (past_after s now.happened)
-  rest : left_in w'.seats p + n ≡ within_left
 
-walked : (n overlapped : ℕ) (w w' : WorldState) (flicks flicks' : FlickState) (l : Line) (left p floor : ℕ) (run : Run) → n + floor < left → n ≤ left_in w.seats p → (walks : Walks w flicks p n overlapped w' flicks') → Follows (course w flicks left) run → IsAlone p floor w.setup l run → Walked w.setup l left p floor n (left_in w.seats p) overlapped (newest_access n overlapped w w' flicks flicks' p walks) run w' flicks'
-walked zero overlapped w w' flicks flicks' l left p floor run few some (same, same_flicks, nobody) follows next =
+walked : (n : ℕ) (newest : Access) (overlapped : ℕ) (w w' : WorldState) (flicks flicks' : FlickState) (l : Line) (left p floor : ℕ) (run : Run) → n + floor < left → Walks w flicks p n newest overlapped w' flicks' → Follows (course w flicks left) run → IsAlone p floor w.setup l run → Walked w.setup l left p floor n newest overlapped run w' flicks'
+walked zero newest overlapped w w' flicks flicks' l left p floor run few (same, same_flicks, nobody) follows next =
     let all : left - 0 ≡ left = omega arith in
     record {
       now = run;
@@ -110,19 +97,15 @@ walked zero overlapped w w' flicks flicks' l left p floor run few some (same, sa
       setup = ap (λ (w : WorldState). w.setup) same;
       next = next;
       within = refl;
-      newest = λ access none. absurd (never_some access none);
+      newest_is = λ some. absurd (omega (arith, some));
       overlapped_are = nobody;
-      rest = add-zero (left_in w'.seats p) ∙ ap (λ (w : WorldState). left_in w.seats p) same;
     }
-walked (suc n) overlapped w w' flicks flicks' l left p floor run few some (w1, flicks1, count, walks, access, last, made, after, counts) follows next =
+walked (suc n) newest overlapped w w' flicks flicks' l left p floor run few (w1, flicks1, access, count, walks, last, made, after, counts) follows next =
     let s : Setup = w.setup in
-    let q : StepsQuietly w1 p (flick_of flicks1) w' = made.0 in
-    let b : Walked s l left p floor n (left_in w.seats p) count (newest_access n count w w1 flicks flicks1 p walks) run w1 flicks1 = walked n count w w1 flicks flicks1 l left p floor run (omega (arith, few)) (omega (arith, some)) walks follows next in
-    let more : 0 < left_in w1.seats p = let rest = b.rest in omega (arith, rest, some) in
-    let fewer_left : left_in w'.seats p + 1 ≡ left_in w1.seats p = left-on w1 w' p (flick_of flicks1) (tried b.now.happened) q b.follows.shows more in
-    let step : StepsWithin s b.now.happened p (flick_of flicks1) = subst (λ (s : Setup). StepsWithin s b.now.happened p (flick_of flicks1)) b.setup (steps_within w1 w' p (flick_of flicks1) b.now.happened q b.follows.shows more) in
+    let b : Walked s l left p floor n access count run w1 flicks1 = walked n access count w w1 flicks flicks1 l left p floor run (omega (arith, few)) walks follows next in
+    let step : StepsWithin s b.now.happened p (flick_of flicks1) = subst (λ (s : Setup). StepsWithin s b.now.happened p (flick_of flicks1)) b.setup (steps_within w1 w' p (flick_of flicks1) newest last b.now.happened made b.follows.shows) in
     let is : flick_of flicks1 ≡ flick_of b.now.flicks = ap flick_of b.follows.flicks in
-    let adds : AddsMarks s (past_in s b.now) (next_step p b.now) [] = subst (λ (s : Setup). AddsMarks s (past_in s b.now) (next_step p b.now) []) b.setup (quiet_adds w1 w' p (flick_of flicks1) b.now b.now.flicks q b.follows.shows is) in
+    let adds : AddsMarks s (past_in s b.now) (next_step p b.now) [] = subst (λ (s : Setup). AddsMarks s (past_in s b.now) (next_step p b.now) []) b.setup (quiet_adds w1 w' p (flick_of flicks1) b.now b.now.flicks made.steps b.follows.shows is) in
     let now : Run = stepped p b.now in
     let happened : List Happening = b.now.happened in
     let fewer : left - n - 1 ≡ left - suc n = omega arith in
@@ -131,33 +114,23 @@ walked (suc n) overlapped w w' flicks flicks' l left p floor run few some (w1, f
     record {
       now = now;
       turns = subst (λ k. QuietTurns s l k left run (left - suc n) now) (add-one n) (turns_then s l n 1 left run (left - n) b.now (left - suc n) now b.turns one);
-      follows = record { shows = subst (λ b. Shows w' (Step p b ∷ tried happened)) is (q.shows (tried b.now.happened) b.follows.shows); flicks = after ∙ ap after_flick b.follows.flicks };
-      setup = q.setup ∙ b.setup;
+      follows = record { shows = subst (λ b. Shows w' (Step p b ∷ tried happened)) is (made.steps.shows (tried b.now.happened) b.follows.shows); flicks = after ∙ ap after_flick b.follows.flicks };
+      setup = made.steps.setup ∙ b.setup;
       next = alone_still s l p floor b.now b.now.flicks adds b.next;
-      newest = λ a same. subst (λ a. IsNewest s p a (Tries (Step p (flick_of b.now.flicks)) ∷ happened)) (same_some access a same)
-          (subst (λ (s : Setup). IsNewest s p access (Tries (Step p (flick_of b.now.flicks)) ∷ happened)) b.setup
-          (subst (λ f. IsNewest w1.setup p access (Tries (Step p f) ∷ happened)) is (newest_made w1 w' p (flick_of flicks1) access last happened made b.follows.shows)));
+      newest_is = λ some. subst (λ (s : Setup). IsNewest s p newest (Tries (Step p (flick_of b.now.flicks)) ∷ happened)) b.setup
+          (subst (λ f. IsNewest w1.setup p newest (Tries (Step p f) ∷ happened)) is (newest_made w1 w' p (flick_of flicks1) newest last happened made b.follows.shows));
       overlapped_are = counts ∙ subst (λ (s : Setup). count + cond last 1 0 ≡ overlapped_in (suc n) (past_after s (Tries (Step p (flick_of b.now.flicks)) ∷ happened))) b.setup
           (subst (λ f. count + cond last 1 0 ≡ overlapped_in (suc n) (past_after w1.setup (Tries (Step p f) ∷ happened))) is
-          (overlapped_more w1 w' p (flick_of flicks1) access last n count happened made b.follows.shows (subst (λ (s : Setup). count ≡ overlapped_in n (past_after s happened)) (sym b.setup) b.overlapped_are)));
+          (overlapped_more w1 w' p (flick_of flicks1) newest last n count happened made b.follows.shows (subst (λ (s : Setup). count ≡ overlapped_in n (past_after s happened)) (sym b.setup) b.overlapped_are)));
       within = subst (λ b. PassWithin s p (suc n) run.happened (Tries (Step p b) ∷ happened)) is (passes_then s p n run.happened happened b.within (flick_of flicks1) step);
-      rest = let rest = b.rest in omega (arith, rest, fewer_left);
     }
 
 -- they are passed by
-pub alone_pass : {L : Type 0} (Hears : L → Setup → List Happening → List Happening → L → Type 0) (n : ℕ) (w w' : WorldState) (flicks flicks' : FlickState) (access : Access) (overlapped : ℕ) (l : Line) (left left' p floor : ℕ) (run : Run) (was is : L) → left' ≡ left - n → n + floor < left → n ≤ left_in w.seats p → MakesSteps w flicks p n w' flicks' access overlapped →
-    ((s : Setup) (before after : List Happening) → PassBy s p n access overlapped before after → Hears was s before after is) → Follows (course w flicks left) run → IsAlone p floor w.setup l run → ComesOn Hears w.setup l left run was is (course w' flicks' left') (IsAlone p floor)
-alone_pass Hears n w w' flicks flicks' access overlapped l left left' p floor run was is fewer few some m pass follows next =
-    let s : Setup = w.setup in
-    let count = m.count in
-    let few_made : suc m.earlier + floor < left = omega (arith, count, few) in
-    let some_made : suc m.earlier ≤ left_in w.seats p = omega (arith, count, some) in
-    let b : Walked s l left p floor (suc m.earlier) (left_in w.seats p) overlapped (Some access) run w' flicks' =
-    walked (suc m.earlier) overlapped w w' flicks flicks' l left p floor run few_made some_made (m.world, m.source, m.overlapped_before, m.walks, access, m.last, m.newest, m.flicks_are, m.overlapped_are) follows next in
-    let by : PassBy s p n access overlapped run.happened b.now.happened = subst (λ n. PassBy s p n access overlapped run.happened b.now.happened) (sym count) (record { within = b.within; newest_is = b.newest access refl; overlapped_are = b.overlapped_are }) in
-    let all : left' ≡ left - suc m.earlier = omega (arith, fewer, count) in
-    subst (λ k. ComesOn Hears s l left run was is (course w' flicks' k) (IsAlone p floor)) (sym all)
-    (record { quiet = suc m.earlier; now = b.now; turns = b.turns; hears = pass s run.happened b.now.happened by; follows = b.follows; setup = b.setup; next = b.next })
+pub alone_pass : {L : Type 0} (Hears : L → Setup → List Happening → List Happening → L → Type 0) (n : ℕ) (w w' : WorldState) (flicks flicks' : FlickState) (newest : Access) (overlapped : ℕ) (l : Line) (left p floor : ℕ) (run : Run) (was is : L) → n + floor < left → 0 < n → Walks w flicks p n newest overlapped w' flicks' →
+    ((s : Setup) (before after : List Happening) → PassBy s p n newest overlapped before after → Hears was s before after is) → Follows (course w flicks left) run → IsAlone p floor w.setup l run → ComesOn Hears w.setup l left run was is (course w' flicks' (left - n)) (IsAlone p floor)
+alone_pass Hears n w w' flicks flicks' newest overlapped l left p floor run was is few some walks pass follows next =
+    let b = walked n newest overlapped w w' flicks flicks' l left p floor run few walks follows next in
+    record { quiet = n; now = b.now; turns = b.turns; hears = pass w.setup run.happened b.now.happened (record { within = b.within; newest_is = b.newest_is some; overlapped_are = b.overlapped_are }); follows = b.follows; setup = b.setup; next = b.next }
 
 module _ {L : Type 0} (Hears : L → Setup → List Happening → List Happening → L → Type 0) (Knows : L → Setup → List Happening → Type 0) (s : Setup) (l : Line) (had p floor : ℕ) (run : Run) (was mid : L) (course : CourseState) (u : ComesOn (HearsFrom Hears Knows (KnowsAlone Knows p floor course.left)) s l had run was mid course (IsAlone p floor)) where
   -- then some pass by
@@ -180,12 +153,9 @@ module _ {L : Type 0} (Hears : L → Setup → List Happening → List Happening
       ended x (inr makes) = absurd (let more = makes.0 in omega (arith, none, more))
 
 -- and leave the setup
-walks_setup : (n overlapped : ℕ) (w w' : WorldState) (flicks flicks' : FlickState) (p : ℕ) → Walks w flicks p n overlapped w' flicks' → w'.setup ≡ w.setup
-walks_setup zero overlapped w w' flicks flicks' p (same, same_flicks, none) = ap (λ (w : WorldState). w.setup) same
-walks_setup (suc n) overlapped w w' flicks flicks' p (w1, flicks1, count, walks, access, last, made, after, counts) = made.0.setup ∙ walks_setup n count w w1 flicks flicks1 p walks
-
-pub steps_setup : (w w' : WorldState) (flicks flicks' : FlickState) (p n : ℕ) (access : Access) (overlapped : ℕ) → MakesSteps w flicks p n w' flicks' access overlapped → w'.setup ≡ w.setup
-steps_setup w w' flicks flicks' p n access overlapped m = m.newest.0.setup ∙ walks_setup m.earlier m.overlapped_before w m.world flicks m.source p m.walks
+pub walks_setup : (n : ℕ) (newest : Access) (overlapped : ℕ) (w w' : WorldState) (flicks flicks' : FlickState) (p : ℕ) → Walks w flicks p n newest overlapped w' flicks' → w'.setup ≡ w.setup
+walks_setup zero newest overlapped w w' flicks flicks' p (same, same_flicks, none) = ap (λ (w : WorldState). w.setup) same
+walks_setup (suc n) newest overlapped w w' flicks flicks' p (w1, flicks1, access, count, walks, last, made, after, counts) = made.steps.setup ∙ walks_setup n access count w w1 flicks flicks1 p walks
 
 -- a line of Steps that has made them all has ended
 pub alone_whole : {L : Type 0} (Hears : Option Told → L → Setup → List Happening → List Happening → L → Type 0) (old new : CourseState) (l : Line) (p steps : ℕ) (was is : L) (result : Result (Option Told) Fault) → l ≡ line.Step p steps → IfOk result (λ told. told ≡ None → new.left ≡ 0) →

@@ -1,13 +1,15 @@
 -- Steps of picked processes without a mark: who may be picked stays the same.
-use Rattle.std.proofs.Common.{◌≡◌, ℕ, zero, suc, arith, ◌-◌, ◌<◌, ◌==◌, Bool, true, false, cond, List, [], ◌∷◌, filter, fold, length, slice_index, Option, None, Some, refl, ap, sym, subst, ◌∙◌}
+use Rattle.std.proofs.Common.{◌≡◌, ℕ, zero, suc, arith, ◌-◌, ◌<◌, ◌≤◌, ◌==◌, Bool, true, false, cond, List, [], ◌∷◌, filter, fold, length, slice_index, Option, None, Some, refl, ap, sym, subst, ◌∙◌}
 use Rattle.plain_store.specs.{Setup}
 use Rattle.record.specs.{Entry, Event, Past, past_of, processes, stage, stage_after}
 use Rattle.record.specs.declared.events.Event.TheVariants as event
 use Rattle.scenario.specs.{Line}
 use Rattle.scenario.specs.declared.lines.Line.TheVariants as line
-use Rattle.world.specs.flicks.{FlickState, flick_of, after_flick, pick_of, after_pick}
+use Rattle.world.specs.flicks.{FlickState, Mode, flick_of, after_flick, flicks_after, pick_of, after_pick, picks_after}
+use Rattle.world.specs.flicks.Flicks.{after_flick_by, after_word}
+use Rattle.world.specs.flicks.declared.Mode.TheVariants.{Constant, Generator}
 use Rattle.world.specs.{WorldState}
-use Rattle.course.specs.{AddsMarks, ComesOn, ComesTo, Follows, Happening, HearsStep, KnowsOr, Makes, Run, TellsOf, TellsStep, Told, Tries, Turn, after_pick_in, course, ends, has_step, made_turn, movers, next_step, past_in, tried, turn_of, wander_turn}
+use Rattle.course.specs.{AddsMarks, ComesOn, ComesTo, CourseState, Follows, Happening, HearsStep, KnowsOr, Makes, Run, TellsOf, TellsStep, Told, Tries, Turn, after_pick_in, course, ends, has_step, made_turn, movers, next_step, past_in, tried, turn_of, turns_drawn, wander_turn}
 use Rattle.course.proofs.CourseTurns.{turn_next}
 use Rattle.course.proofs.Refusals.{entry_by}
 use Rattle.course.proofs.Runnings.{IsStep, drawn_run, one_on, one_told, quiet_adds}
@@ -81,3 +83,38 @@ wander_ends w flicks left steps ps none run follows are =
     by : (left : ℕ) (run : Run) → movers w.setup (past_in w.setup run) ≡ [] → turn_of w.setup (line.Wander steps) left run ≡ ends run
     by zero run none = refl
     by (suc left) run none = ap (λ ps. wander_turn left run ps) none
+
+-- What the turns of `wander` draw.
+
+-- the flicks once all turns but so many of a course are made
+abbrev pub drawn_to : CourseState → ℕ → FlickState
+drawn_to course left = turns_drawn (course.left - left) course.flicks
+
+-- they are those of the course with so many turns left
+pub drawn_by : (old : CourseState) (flicks : FlickState) (had left : ℕ) → flicks ≡ old.flicks → had ≡ old.left → turns_drawn (had - left) flicks ≡ drawn_to old left
+drawn_by old flicks had left same all = λ i. turns_drawn (all i - left) (same i)
+
+-- none is made yet
+pub drawn_none : (old : CourseState) (flicks : FlickState) (left : ℕ) → flicks ≡ old.flicks → left ≡ old.left → drawn_to old left ≡ flicks
+drawn_none old flicks left same all = let none : old.left - left ≡ 0 = omega (arith, all) in ap (λ n. turns_drawn n old.flicks) none ∙ sym same
+
+-- one turn more
+pub drawn_more : (old : CourseState) (left : ℕ) → 0 < left → left ≤ old.left → drawn_to old (left - 1) ≡ after_flick (after_pick (drawn_to old left))
+drawn_more old left some few = let more : old.left - (left - 1) ≡ suc (old.left - left) = omega (arith, some, few) in ap (λ n. turns_drawn n old.flicks) more
+
+pick_by_flick : (f : FlickState) → after_pick (after_flick f) ≡ after_flick (after_pick f)
+pick_by_flick f = by f.mode
+  where
+    by : (m : Mode) → (let one : FlickState = record f { generator = after_word (after_flick_by m f.generator) } in one) ≡ (let other : FlickState = record f { generator = after_flick_by m (after_word f.generator) } in other)
+    by (Constant bit) = refl
+    by Generator = refl
+
+-- a pick may be drawn before flicks or behind them
+pick_first : (n : ℕ) (f : FlickState) → after_pick (flicks_after n f) ≡ flicks_after n (after_pick f)
+pick_first zero f = refl
+pick_first (suc n) f = pick_by_flick (flicks_after n f) ∙ ap after_flick (pick_first n f)
+
+-- so all picks may be drawn first
+pub picks_first : (n : ℕ) (f : FlickState) → flicks_after n (picks_after n f) ≡ turns_drawn n f
+picks_first zero f = refl
+picks_first (suc n) f = ap after_flick (sym (pick_first n (picks_after n f)) ∙ ap after_pick (picks_first n f))

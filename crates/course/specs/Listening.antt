@@ -10,8 +10,7 @@ use Rattle.world.specs.laws.{doing}
 use Rattle.world.specs.process.{left_at, number_read, process_after}
 use Rattle.world.specs.{GoesOn}
 use Rattle.world.specs.Shows.{Shows, WorldState}
-use Rattle.world.specs.Walks.{MakesQuietly, StepsQuietly, Walks, ends_overlapped, ends_overlapped_read}
-use Rattle.world.specs.flicks.{FlickState, after_flick, flick_of}
+use Rattle.world.specs.Walks.{StepsQuietly, ends_overlapped, ends_overlapped_read}
 use Rattle.course.specs.Courses.{CourseState, Follows, IsQuiet, QuietTurns}
 use Rattle.course.specs.Happenings.{Happening, Tries, past_after, tried}
 use Rattle.course.specs.Runs.{Run, past_in, run_after}
@@ -151,19 +150,6 @@ pub record Plays {L : Type 0} (Hears : L → Setup → List Happening → List H
 pub record HearsStep {L : Type 0} (Hears : L → Setup → List Happening → List Happening → L → Type 0) (old : WorldState) (p : ℕ) (flick : Bool) (new : WorldState) (was is : L) : Type 0 where
   pub step : StepsQuietly old p flick new
   pub hears : (before : List Happening) → Shows old (tried before) → Hears was old.setup before (Tries (Step p flick) ∷ before) is
-
--- so many Steps of p are made in a row, each by the flick that is next; the newest makes this access, and so many end a read that a write overlapped
-pub record MakesSteps (old : WorldState) (flicks : FlickState) (p steps : ℕ) (new : WorldState) (flicks_then : FlickState) (access : Access) (overlapped : ℕ) : Type 0 where
-  pub earlier : ℕ
-  pub count : steps ≡ suc earlier
-  pub world : WorldState
-  pub source : FlickState
-  pub overlapped_before : ℕ
-  pub walks : Walks old flicks p earlier overlapped_before world source
-  pub last : Bool
-  pub newest : MakesQuietly world p (flick_of source) access last new
-  pub flicks_are : flicks_then ≡ after_flick source
-  pub overlapped_are : overlapped ≡ overlapped_before + (if last then 1 else 0)
 
 -- a Step is made or refused, and told
 pub record TellsStep (old : WorldState) (p : ℕ) (flick : Bool) (answer : Told) (new : WorldState) : Type 0 where

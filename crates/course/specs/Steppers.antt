@@ -1,9 +1,10 @@
 -- Who makes the next Steps of a line, up to one that has a mark.
-use Rattle.std.specs.Prelude.{◌≡◌, ◌⊎◌, ◌≤◌, ℕ, true, false, nat_lt}
+use Rattle.std.specs.Prelude.{◌≡◌, ◌⊎◌, ◌≤◌, ℕ, zero, suc, true, false, nat_lt}
 use Rattle.plain_store.specs.{Setup}
 use Rattle.record.specs.{stage}
 use Rattle.scenario.specs.{Line, Target}
 use Rattle.scenario.specs.declared.lines.Line.TheVariants as line
+use Rattle.world.specs.flicks.{FlickState, after_flick, after_pick}
 use Rattle.course.specs.Runs.{Run, is_there, past_in}
 use Rattle.course.specs.declared.told.Told.{Told}
 use Rattle.course.specs.declared.told.Told.TheVariants as told
@@ -23,3 +24,8 @@ left_told (told.Accepted made) left = left
 left_told (told.Refused p refusal) left = 0
 left_told (told.Tired p) left = left
 left_told (told.Shown line) left = left
+
+-- the flicks after so many turns of `wander`, each of which takes a pick and a flick
+abbrev pub turns_drawn : ℕ → FlickState → FlickState
+turns_drawn zero flicks = flicks
+turns_drawn (suc n) flicks = after_flick (after_pick (turns_drawn n flicks))

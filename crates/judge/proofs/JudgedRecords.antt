@@ -28,8 +28,8 @@ first_bad s entries e l kept breaks = record {
 -- one more entry behind a good record, by what a watch and an auditor say of it
 pub found_is : (s : Setup) (entries : List Entry) (e : Entry) (is_safe : Bool) (heard : Option Law) (then : AuditorState) → AllKeep s (reverse entries) →
     MatchBool is_safe (KeepsSafe s (reverse entries) e) (KeepsSafe s (reverse entries) e → ⊥) → IsHeard s (reverse entries) e then heard → IsVerdict s (entries ++ e ∷ []) (found (length entries) is_safe heard)
-found_is s entries e false heard then kept safe is = first_bad s entries e law.Safe kept (breaks_safe s (reverse entries) e safe)
-found_is s entries e true (Some l) then kept safe is = first_bad s entries e l kept (breaks_then s (reverse entries) e l safe is)
+found_is s entries e false heard then kept safe is = first_bad s entries e law.Safe kept (breaks_safe s (reverse entries) e false refl safe)
+found_is s entries e true (Some l) then kept safe is = first_bad s entries e l kept (breaks_then s (reverse entries) e l true refl safe is)
 found_is s entries e true None then kept safe is = subst (AllKeep s) (sym (newest_first entries e)) (is.0, kept)
 
 -- it is good only if the auditor found no law broken

@@ -2,7 +2,7 @@
 use Rattle.std.proofs.Common.{◌≡◌, ℕ, ◌&&◌, ◌||◌, not, Bool, true, false, cond, List, [], ◌∷◌, ◌++◌, Option, Some, None, refl, sym, ap, subst, ◌∙◌, true≢false}
 use Rattle.std.specs.Prelude.{if◌then◌else◌}
 use Rattle.record.specs.reader_copies.Runs as copies
-use Rattle.record.specs.{Asks, AsksCommit, AsksImage, AsksStamp, Call, Clears, Field, IsAnswerTo, Mark, Next, Over, Part, Raises, Refuses, TakesTicket, Waits, WritesCommit, WritesImage, WritesStamp, entered_if_none, first_marks, is_commit, is_over, is_version, last_marks, lets_by, part_after, reply, stage_after, stage_of, store_read, waits_of, write_moved}
+use Rattle.record.specs.{AsksImage, Call, Clears, Field, IsAnswerTo, Mark, Next, Part, Refuses, Waits, WritesCommit, entered_if_none, first_marks, is_commit, is_over, is_version, last_marks, lets_by, part_after, reply, stage_after, stage_of, store_read, waits_of, write_moved}
 use Rattle.record.specs.declared.access.Field.TheVariants.{Commit}
 use Rattle.plain_store.specs.{Answer, Command, Reply, Setup, changes}
 use Rattle.plain_store.specs.declared.Answer.TheVariants as answer

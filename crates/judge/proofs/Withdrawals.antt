@@ -1,7 +1,7 @@
 -- Who withdrew, and who answers that.
 use Rattle.std.proofs.Common.{◌≡◌, ℕ, ◌+◌, ◌==◌, ◌||◌, Bool, true, false, cond, List, [], ◌∷◌, length, Option, Some, None, refl, sym, ap, subst, ◌∙◌, ne_eqb}
 use Rattle.std.specs.List.{list_any}
-use Rattle.record.specs.{Access, Asks, AsksCommit, AsksImage, AsksStamp, Call, Clears, Entry, Event, Over, Part, Past, Place, Raises, Refuses, TakesTicket, Version, Wait, Waits, WritesCommit, WritesImage, WritesStamp, bits_with, enter, first_full, greatest, has, history, is_called, is_last, is_over, last_write, lets_by, max_of, newest_stamp, others, own, part_after, past_of, place_after, processes, reply, run_after, since, store_read, to_b, to_c, to_d, to_e, unfinished, value_of, waits_of, write_moved}
+use Rattle.record.specs.{Access, Asks, AsksImage, AsksStamp, Call, Clears, Entry, Event, Part, Past, Place, Raises, Refuses, TakesTicket, Version, Wait, Waits, WritesImage, bits_with, enter, first_full, greatest, has, history, is_called, is_last, is_over, last_write, lets_by, max_of, newest_stamp, others, own, part_after, past_of, place_after, processes, reply, run_after, since, store_read, to_b, to_c, to_d, to_e, unfinished, value_of, waits_of, write_moved}
 use Rattle.plain_store.specs.declared.Answer.TheVariants as answer
 use Rattle.plain_store.specs.{Command, Setup, changes}
 use Rattle.record.specs.reader_copies.Runs as copies

@@ -8,11 +8,12 @@ use Rattle.plain_store.specs.{Reply, Setup}
 use Rattle.record.specs.{Access, Call, Field, Part, Place, ended, is_over, is_read, read_at, run_after, value_of, width, written_at}
 use Rattle.laws.specs.{Runs}
 use Rattle.registers.specs.{AreOf, CursorState, Fits, IsAtCopy, IsAtPart, NumberRun, ReadsAt, WritesAt, answered, applied, cell_at, cursor_after, ends_overlapped, is_settling, lane_of_access, move_by, moved, next_access, next_answered, overlapped_of, read_move, run_at, run_of}
+use Rattle.registers.specs.Accesses as registers
 use Rattle.registers.specs.declared.cursor.NumberRun.TheVariants as run
 use Rattle.registers.proofs.CursorRuns.{Moves, moves}
 use Rattle.registers.proofs.Openings.{setup-fits}
 use Rattle.registers.proofs.Runs.{same-by}
-use Rattle.process.specs.{KeepsPlace, PartState, ProcessState, ProcessWork, SettlesAt, answered_at, doing_at, given, left_at, left_of, may_step, overlapped_steps, overlaps_step, state_at, step_by, step_of, stepped, steps_of}
+use Rattle.process.specs.{KeepsPlace, PartState, ProcessState, ProcessWork, SettlesAt, answered_at, answered_next, doing_at, given, left_at, left_of, may_step, newest_of, overlapped_steps, overlaps_step, state_at, step_by, step_of, stepped, steps_of}
 use Rattle.process.specs.declared.work.ProcessWork.TheVariants as work
 use Rattle.process.proofs.Left.{left-fewer, left-runs, left-some, live-by, within}
 use Rattle.process.proofs.NextAt.{next-is}
@@ -183,10 +184,11 @@ pub record Served (made : ℕ) (k : PartState) (cur : CursorState) (memory : Lis
   pub keeps : KeepsPlace k work.Runs (run_of made (cur, memory, flicks)).0
   pub left : left_at (state_at k work.Runs (run_of made (cur, memory, flicks)).0) + made ≡ left_at (state_at k work.Runs cur)
   pub now : (let then : ProcessState × List (List Cell) × FlickState = (state_at k work.Runs (run_of made (cur, memory, flicks)).0, (run_of made (cur, memory, flicks)).1, (run_of made (cur, memory, flicks)).2) in then ≡ steps_of made (state_at k work.Runs cur, memory, flicks))
+  pub newest : registers.newest_of made (cur, memory, flicks) ≡ newest_of made (state_at k work.Runs cur, memory, flicks)
   pub overlapped : overlapped_of made (cur, memory, flicks) ≡ overlapped_steps made (state_at k work.Runs cur, memory, flicks)
 
 pub served : (made : ℕ) (k : PartState) (cur : CursorState) (memory : List (List Cell)) (flicks : FlickState) → KeepsPlace k work.Runs cur → made ≤ left_at (state_at k work.Runs cur) → Served made k cur memory flicks
-served zero k cur memory flicks keeps within = record { keeps = keeps; left = omega arith; now = refl; overlapped = refl }
+served zero k cur memory flicks keeps within = record { keeps = keeps; left = omega arith; now = refl; newest = answered-is k work.Runs cur memory (flick_of flicks) keeps refl; overlapped = refl }
 served (suc made) k cur memory flicks keeps within =
     let before : Served made k cur memory flicks = served made k cur memory flicks keeps (omega (arith, within)) in
     let x : CursorState × List (List Cell) × FlickState = run_of made (cur, memory, flicks) in
@@ -205,6 +207,7 @@ served (suc made) k cur memory flicks keeps within =
       now =
           (λ i. ((step i).0, (step i).1, after_flick x.2))
           ∙ ap step_of before.now;
+      newest = same ∙ ap answered_next before.now;
       overlapped =
           (λ i. before.overlapped i + cond (ends_overlapped (copies i) x.1 (same i)) 1 0)
           ∙ ap (λ y. overlapped_steps made start + cond (overlaps_step y) 1 0) before.now;

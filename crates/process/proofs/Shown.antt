@@ -3,14 +3,15 @@ use Rattle.std.proofs.Common.{◌≡◌, ◌<◌, ◌≤◌, ℕ, Bool, true, fa
 use Rattle.registers.specs.safe_bit.Cell.{Cell}
 use Rattle.flicks.specs.{FlickState}
 use Rattle.plain_store.specs.{Setup}
-use Rattle.record.specs.{Access, Call, Part, is_over, is_read, read_at, written_at}
+use Rattle.record.specs.{Call, Part, is_over, is_read, read_at, written_at}
 use Rattle.laws.specs.{Closes, Doing, Lies, Rests, Runs, reads_of}
-use Rattle.registers.specs.{AreOf, CursorState, Fits, ReadsAt, WritesAt, applied, cursor_after, first_lane, lane_number, next_answered, overlapped_of, rest_of, run_at, run_of, without_reads}
-use Rattle.process.specs.{KeepsPlace, PartState, ProcessState, ProcessWork, answered_at, dropped, left_at, left_of, may_step, overlapped_steps, state_at, step_by, steps_of}
+use Rattle.registers.specs.{AreOf, CursorState, Fits, ReadsAt, WritesAt, first_lane, is_settling, lane_number, next_answered, overlapped_of, rest_of, run_at, run_of, without_reads}
+use Rattle.registers.specs.Accesses as registers
+use Rattle.process.specs.{KeepsPlace, PartState, ProcessState, ProcessWork, answered_at, dropped, left_at, left_of, may_step, newest_of, overlapped_steps, state_at, steps_of}
 use Rattle.process.specs.declared.work.ProcessWork.TheVariants as work
 use Rattle.process.proofs.Left.{left-some, live-by}
 use Rattle.process.proofs.Rests.{rest-is}
-use Rattle.process.proofs.Serves.{answered-is, left-works, served, serves-one, serves-step, stands, stands-fit}
+use Rattle.process.proofs.Serves.{answered-is, left-works, runs-stand, served, stands, stands-fit}
 
 -- a process of which accesses are left goes
 goes-by : (now : ProcessState) (d : Doing) → 0 < left_at (record now { doing = d }) → may_step d ≡ true
@@ -40,38 +41,26 @@ shown-answered k w cur now memory flick keeps shown goes =
     answered-is k w cur memory flick keeps (ap (λ (x : ProcessState). may_step x.doing) shown ∙ goes)
     ∙ ap (λ x. answered_at x memory flick) shown
 
--- a step within a number access
-pub shown-step : (k : PartState) (w : ProcessWork) (cur : CursorState) (now : ProcessState) (memory : List (List Cell)) (flick : Bool) → KeepsPlace k w cur → state_at k w cur ≡ now → 0 < left_at now →
-    let a : Access = next_answered cur memory flick in
-    KeepsPlace k w (cursor_after cur a.how) × (let then : ProcessState × List (List Cell) = (state_at k w (cursor_after cur a.how), applied cur.copies memory a) in then ≡ step_by flick (now, memory))
-shown-step k w cur now memory flick keeps shown more =
-    let here : 0 < left_at (state_at k w cur) = omega (arith, more, ap left_at shown) in
-    let a : Access = next_answered cur memory flick in
-    let P : ProcessWork → Type 0 = λ w. KeepsPlace k w cur → 0 < left_at (state_at k w cur) →
-    KeepsPlace k w (cursor_after cur a.how) × (let then : ProcessState × List (List Cell) = (state_at k w (cursor_after cur a.how), applied cur.copies memory a) in then ≡ step_by flick (state_at k w cur, memory)) in
-    let runs : P work.Runs = λ keeps more. ((serves-one k cur memory flick keeps more).0, serves-step k cur memory flick keeps more) in
-    let one = subst P (sym (left-works k w cur here)) runs keeps here in
-    (one.0, one.1 ∙ ap (λ (x : ProcessState). step_by flick (x, memory)) shown)
+-- so many steps within a number access, by its cursor
+pub record RunsShown (steps : ℕ) (k : PartState) (w : ProcessWork) (cur : CursorState) (now : ProcessState) (memory : List (List Cell)) (flicks : FlickState) : Type 0 where
+  pub keeps : KeepsPlace k w (run_of steps (cur, memory, flicks)).0
+  pub now_is : (let x : CursorState × List (List Cell) × FlickState = run_of steps (cur, memory, flicks) in let then : ProcessState × List (List Cell) × FlickState = (state_at k w x.0, x.1, x.2) in then ≡ steps_of steps (now, memory, flicks))
+  pub kind : is_settling cur.run ≡ false
+  pub within : steps ≤ rest_of cur
+  pub newest : registers.newest_of steps (cur, memory, flicks) ≡ newest_of steps (now, memory, flicks)
+  pub overlapped : overlapped_of steps (cur, memory, flicks) ≡ overlapped_steps steps (now, memory, flicks)
 
--- and so many
-pub shown-run : (steps : ℕ) (k : PartState) (w : ProcessWork) (cur : CursorState) (now : ProcessState) (memory : List (List Cell)) (flicks : FlickState) → KeepsPlace k w cur → state_at k w cur ≡ now → 0 < steps → steps ≤ left_at now →
-    let x : CursorState × List (List Cell) × FlickState = run_of steps (cur, memory, flicks) in
-    KeepsPlace k w x.0 × (let then : ProcessState × List (List Cell) × FlickState = (state_at k w x.0, x.1, x.2) in then ≡ steps_of steps (now, memory, flicks)) × (steps ≤ rest_of cur)
-    × (overlapped_of steps (cur, memory, flicks) ≡ overlapped_steps steps (now, memory, flicks))
+pub shown-run : (steps : ℕ) (k : PartState) (w : ProcessWork) (cur : CursorState) (now : ProcessState) (memory : List (List Cell)) (flicks : FlickState) → KeepsPlace k w cur → state_at k w cur ≡ now → 0 < steps → steps ≤ left_at now → RunsShown steps k w cur now memory flicks
 shown-run steps k w cur now memory flicks keeps shown some within =
     let here : steps ≤ left_at (state_at k w cur) = omega (arith, within, ap left_at shown) in
-    let x : CursorState × List (List Cell) × FlickState = run_of steps (cur, memory, flicks) in
-    let P : ProcessWork → Type 0 = λ w. KeepsPlace k w cur → steps ≤ left_at (state_at k w cur) →
-    KeepsPlace k w x.0 × (let then : ProcessState × List (List Cell) × FlickState = (state_at k w x.0, x.1, x.2) in then ≡ steps_of steps (state_at k w cur, memory, flicks)) × (steps ≤ rest_of cur)
-    × (overlapped_of steps (cur, memory, flicks) ≡ overlapped_steps steps (state_at k w cur, memory, flicks)) in
+    let P : ProcessWork → Type 0 = λ w. KeepsPlace k w cur → steps ≤ left_at (state_at k w cur) → RunsShown steps k w cur (state_at k w cur) memory flicks in
     let runs : P work.Runs = λ keeps within.
     let all = served steps k cur memory flicks keeps within in
     let live = live-by (is_over k.part) (left_of k.call k.part (run_at cur)) (omega (arith, some, within)) in
     let left = left-some k.call k.part (run_at cur) live.1 in
     let same : left_at (state_at k work.Runs cur) ≡ left_of k.call k.part (run_at cur) = ap (λ b. cond b 0 (left_of k.call k.part (run_at cur))) live.0 in
-    (all.keeps, all.now, omega (arith, within, same, left.2, rest-is k.call k.part cur keeps.working.at), all.overlapped) in
-    let one = subst P (sym (left-works k w cur (omega (arith, some, here)))) runs keeps here in
-    (one.0, one.1 ∙ ap (λ (x : ProcessState). steps_of steps (x, memory, flicks)) shown, one.2, one.3 ∙ ap (λ (x : ProcessState). overlapped_steps steps (x, memory, flicks)) shown)
+    record { keeps = all.keeps; now_is = all.now; kind = (runs-stand k cur keeps).1; within = omega (arith, within, same, left.2, rest-is k.call k.part cur keeps.working.at); newest = all.newest; overlapped = all.overlapped } in
+    subst (λ now. RunsShown steps k w cur now memory flicks) shown (subst P (sym (left-works k w cur (omega (arith, some, here)))) runs keeps here)
 
 -- A DROPPED READ
 

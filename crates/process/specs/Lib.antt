@@ -20,7 +20,7 @@ pub use Newest.{newest_store, register_held, version_in, versions_in}
 pub use Others.{first_other, other_numbered, others_below, others_from}
 pub use Places.{ProcessState, WantsNoMemory, called, changes_at, changes_pending, changes_read, failed, is_full, is_told, left_at, left_of, marks_on, may_fail, may_step, next_number, process_after, refusal_of, rest_of, restarted, stage_doing, stepped, withdrawn}
 pub use Seen.{Fit, HasRoom, Holds, IsCall, KeepsPart, all_from, call_of, others_of, part_at, tickets_seen, versions, versions_seen, waits_from}
-pub use Serving.{answered_at, dropped, next_at, overlapped_steps, overlaps_step, step_by, step_of, steps_of}
+pub use Serving.{answered_at, answered_next, dropped, newest_of, next_at, overlapped_steps, overlaps_step, step_by, step_of, steps_of}
 pub use Telling.{act_of, changes_told, marks_of, marks_told}
 pub use Working.{AreMarksOn, HasMoved, IsOfCommit, IsStepped, KeepsPlace, SettlesAt, doing_at, given, is_torn_at, reply_taken, settling_at, state_at, taken_at, with_doing}
 pub use declared.told.Effect.{Effect}

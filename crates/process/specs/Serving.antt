@@ -17,6 +17,10 @@ next_at now flick = unwrap_or (next_of now.setup now.process now.doing flick) (r
 abbrev pub answered_at : ProcessState → List (List Cell) → Bool → Access
 answered_at now memory flick = answered now.setup.processes memory flick (next_at now flick)
 
+-- by the flick that is next
+abbrev pub answered_next : ProcessState × List (List Cell) × FlickState → Access
+answered_next (now, memory, flicks) = answered_at now memory (flick_of flicks)
+
 -- the process goes on by that access, and the memory by it
 abbrev pub going_by : ProcessState → List (List Cell) → Bool → Access → ProcessState × List (List Cell)
 going_by now memory flick a = (stepped now flick (value_of a.how), applied now.setup.processes memory a)
@@ -34,9 +38,14 @@ abbrev pub steps_of : ℕ → ProcessState × List (List Cell) × FlickState →
 steps_of zero now = now
 steps_of (suc k) now = step_of (steps_of k now)
 
+-- the access of the newest of them; of none that of the next one
+abbrev pub newest_of : ℕ → ProcessState × List (List Cell) × FlickState → Access
+newest_of zero now = answered_next now
+newest_of (suc k) now = answered_next (steps_of k now)
+
 -- the next step ends a read that a write overlapped
 abbrev pub overlaps_step : ProcessState × List (List Cell) × FlickState → Bool
-overlaps_step (now, memory, flicks) = ends_overlapped now.setup.processes memory (answered_at now memory (flick_of flicks))
+overlaps_step (now, memory, flicks) = ends_overlapped now.setup.processes memory (answered_next (now, memory, flicks))
 
 -- how many of so many steps do
 abbrev pub overlapped_steps : ℕ → ProcessState × List (List Cell) × FlickState → ℕ

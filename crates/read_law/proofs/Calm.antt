@@ -82,8 +82,3 @@ pub ends_by : (s : Setup) (past : Past) (e : Entry) (a : Access) (v : Bool) (r :
     MatchBool r (KeepsSafe s past e) (KeepsSafe s past e → ⊥)
 ends_by s past e a v true access how may = keeps_by s past e a access (λ u is. let same : v ≡ u = cc in subst (λ u. begins_read (moves_of a past) ≡ true → MayEndWith (opening_bit s a) (moves_of a past) u) same may)
 ends_by s past e a v false access how may = λ keeps. may (keeps a v access how)
-
--- an answer turned about
-pub turned : (r : Bool) (P Q : Type 0) → MatchBool r P Q → MatchBool (not r) Q P
-turned true P Q h = h
-turned false P Q h = h

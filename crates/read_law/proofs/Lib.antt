@@ -1,6 +1,5 @@
 pub use Rattle.laws.proofs as laws
 pub mod Calm
-pub mod Entries
 pub mod Hears
 pub mod Opened
 pub mod Openings

@@ -1,5 +1,5 @@
 -- What the moves of one bit leave, as far as the safe rule looks back at them.
-use Rattle.std.specs.Prelude.{◌≡◌, Bool, true, false, not, ◌&&◌, List, ◌∷◌, ◌++◌, cond, Option, None, Some}
+use Rattle.std.specs.Prelude.{◌≡◌, Bool, true, false, not, ◌&&◌, List, ◌∷◌, cond, Option, None, Some}
 use Rattle.record.specs.safe_bit.{Move, before_read, is_overlapped, is_write_open, last_begun, last_written}
 use Rattle.record.specs.safe_bit.declared.Move.TheVariants.{BeginRead, EndRead}
 use Rattle.record.specs.{begins_read}
@@ -46,10 +46,6 @@ ReadsOn end written then = LeftBy end (λ opening moves. written ≡ last_writte
 abbrev pub LookLeftBy : Look → (Bool → List Move → Type 0) → Type 0
 LookLeftBy l P = (opening : Bool) (moves : List Move) → l ≡ look_of opening moves → P opening moves
 
--- so it is after these moves, whatever the earlier ones were
-abbrev pub LooksOnBy : Look → List Move → Look → Type 0
-LooksOnBy l more then = LookLeftBy l (λ opening moves. then ≡ look_of opening (more ++ moves))
-
--- and after one more
+-- so it is after one more, whatever the earlier ones were
 abbrev pub LooksOn : Look → Move → Look → Type 0
 LooksOn l how then = LookLeftBy l (λ opening moves. then ≡ look_of opening (how ∷ moves))

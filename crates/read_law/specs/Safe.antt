@@ -25,7 +25,3 @@ Tells told P = MatchBool told P (P → ⊥)
 -- whether an entry keeps the law
 abbrev pub TellsSafe : Bool → Setup → Past → Entry → Type 0
 TellsSafe told s past e = Tells told (KeepsSafe s past e)
-
--- whether it breaks it
-abbrev pub TellsUnsafe : Bool → Setup → Past → Entry → Type 0
-TellsUnsafe told s past e = MatchBool told (KeepsSafe s past e → ⊥) (KeepsSafe s past e)

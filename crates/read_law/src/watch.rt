@@ -2,12 +2,12 @@ ghost use Rattle.std.specs.Prelude.{◌≡◌, ◌<◌, IfOk, Ok, Some, [], ◌�
 ghost use Rattle.plain_store.specs.{checked, opening_store};
 ghost use Rattle.store_image.specs.{image_of};
 ghost use Rattle.record.specs.{width};
+ghost use Rattle.record.specs.safe_number.{bit_in};
 ghost use Rattle.laws.specs.{IsThere};
 ghost use Rattle.read_law.specs.Safe.{TellsSafe};
 ghost use Rattle.read_law.specs.Watching.{HasHeard, IfAllThere, IfThere, IsOpened, OfHeard, OpenAs, PassesStray, TellsEndThere, TellsHeldThere, TellsLook};
 
 use crate::look::Look;
-use crate::opening::bit_of;
 use crate::packed::Looks;
 use crate::places::{FIELDS, copy_of, field_at, is_there, register_of, width};
 use plain_store::{Setup, opened};
@@ -170,4 +170,15 @@ fn open_copies(looks: &mut Looks, bytes: &[u8], width: usize)
     for k in 0..looks.len() {
         looks.set(k, Look::opening(bit_of(bytes, (k % width) as u16)));
     }
+}
+
+/// A bit of bytes, or false where there is none.
+fn bit_of(bytes: &[u8], bit: u16) -> bool
+    ensures { result ≡ bit_in bytes.now bit }
+{
+    let at = usize::from(bit);
+    if bytes.len() <= at / 8 {
+        return false;
+    }
+    (bytes[at / 8] >> (at % 8)) & 1 == 1
 }

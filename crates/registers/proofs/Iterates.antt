@@ -1,78 +1,59 @@
 -- Accesses one behind another.
-use Rattle.std.proofs.Common.{◌≡◌, ℕ, zero, suc, ◌+◌, Bool, true, false, not, cond, List, [], ◌∷◌, ◌++◌, refl, ◌∙◌, arith, ap}
-use Rattle.safe_bit.specs.Cell.{Cell, read_answer}
-use Rattle.safe_bit.specs.{Move}
-use Rattle.safe_bit.specs.declared.moves.Move.TheVariants.{BeginWrite, EndWrite}
-use Rattle.flicks.specs.{FlickState, flick_of, after_flick, flicks_after}
-use Rattle.record.specs.{ended, value_of}
-use Rattle.registers.specs.{CursorState, NumberRun, access_of, after_by, cell_at, first_lane, lane_number, memory_moved, move_by, read_access, read_move, reads_of, run_of, write_access, writes_of}
-use Rattle.registers.specs.declared.cursor.NumberRun.TheVariants.{Reads, Writes}
-
--- an access of a run of this kind, on this lane
-abbrev by : CursorState → List (List Cell) → FlickState → NumberRun → ℕ → CursorState × List (List Cell) × FlickState
-by c memory flicks run lane =
-    let how : Move = ended (read_answer (cell_at memory lane c.bit) (flick_of flicks)) (move_by run c (flick_of flicks)) in
-    (after_by run c how, memory_moved memory lane c.bit how, after_flick flicks)
-
--- what is read is what the memory answers
-answers : (c : CursorState) (memory : List (List Cell)) (flicks : FlickState) (lane : ℕ) (v flick : Bool) (begun : Bool) →
-    (let x : CursorState × List (List Cell) × FlickState = (record c { bit = cond begun (c.bit + 1) c.bit; begun = not begun; bits = cond begun (c.bits ++ value_of (ended v (read_move begun flick)) ∷ []) c.bits }, memory_moved memory lane c.bit (ended v (read_move begun flick)), flicks) in x)
-    ≡ (record c { bit = cond begun (c.bit + 1) c.bit; begun = not begun; bits = cond begun (c.bits ++ v ∷ []) c.bits }, memory_moved memory lane c.bit (read_move begun v), flicks)
-answers c memory flicks lane v flick true = refl
-answers c memory flicks lane v flick false = refl
-
-pub access-read : (c : CursorState) (memory : List (List Cell)) (flicks : FlickState) → c.run ≡ Reads → c.copy ≡ 0 → access_of (c, memory, flicks) ≡ read_access (c, memory, flicks)
-access-read c memory flicks reads first =
-    let lane : lane_number c.copies c.register (c.reader + c.copy) ≡ first_lane c = omega (arith, first) in
-    ap (λ r. by c memory flicks r (lane_number c.copies c.register (c.reader + c.copy))) reads
-    ∙ ap (by c memory flicks Reads) lane
-    ∙ answers c memory (after_flick flicks) (first_lane c) (read_answer (cell_at memory (first_lane c) c.bit) (flick_of flicks)) (flick_of flicks) c.begun
-
--- a write is not answered
-unanswered : (v x begun : Bool) → ended v (cond begun EndWrite (BeginWrite x)) ≡ cond begun EndWrite (BeginWrite x)
-unanswered v x true = refl
-unanswered v x false = refl
-
--- an access of a write, with the flick that it takes
-abbrev pub of_write : FlickState → CursorState × List (List Cell) → CursorState × List (List Cell) × FlickState
-of_write flicks (c, memory) = (c, memory, flicks)
-
-pub access-write : (c : CursorState) (memory : List (List Cell)) (flicks : FlickState) → c.run ≡ Writes → access_of (c, memory, flicks) ≡ of_write (after_flick flicks) (write_access (c, memory))
-access-write c memory flicks writes =
-    let lane : lane_number c.copies c.register (c.reader + c.copy) ≡ first_lane c + c.copy = omega arith in
-    ap (λ r. by c memory flicks r (lane_number c.copies c.register (c.reader + c.copy))) writes
-    ∙ ap (by c memory flicks Writes) lane
-    ∙ ap (λ how. of_write (after_flick flicks) (after_by Writes c how, memory_moved memory (first_lane c + c.copy) c.bit how)) (unanswered (read_answer (cell_at memory (first_lane c + c.copy) c.bit) (flick_of flicks)) _ c.begun)
-
--- reads and writes stay what they are
-pub reads-stay : (k : ℕ) (now : CursorState × List (List Cell) × FlickState) → ((reads_of k now).0.run ≡ now.0.run) × ((reads_of k now).0.copy ≡ now.0.copy)
-reads-stay zero now = (refl, refl)
-reads-stay (suc k) now = reads-stay k now
-
-pub writes-stay : (k : ℕ) (now : CursorState × List (List Cell)) → (writes_of k now).0.run ≡ now.0.run
-writes-stay zero now = refl
-writes-stay (suc k) now = writes-stay k now
-
--- accesses of a read
-pub run-reads : (k : ℕ) (now : CursorState × List (List Cell) × FlickState) → now.0.run ≡ Reads → now.0.copy ≡ 0 → run_of k now ≡ reads_of k now
-run-reads zero now reads first = refl
-run-reads (suc k) now reads first =
-    let at = reads_of k now in
-    let stay = reads-stay k now in
-    ap access_of (run-reads k now reads first) ∙ access-read at.0 at.1 at.2 (stay.0 ∙ reads) (stay.1 ∙ first)
-
--- accesses of a write
-pub run-writes : (k : ℕ) (flicks : FlickState) (now : CursorState × List (List Cell)) → now.0.run ≡ Writes → run_of k (of_write flicks now) ≡ of_write (flicks_after k flicks) (writes_of k now)
-run-writes zero flicks now writes = refl
-run-writes (suc k) flicks now writes =
-    let at = writes_of k now in
-    ap access_of (run-writes k flicks now writes) ∙ access-write at.0 at.1 (flicks_after k flicks) (writes-stay k now ∙ writes)
+use Rattle.std.proofs.Common.{◌≡◌, ℕ, zero, suc, ◌+◌, ◌≤◌, Bool, true, false, cond, List, refl, sym, ◌∙◌, arith, ap}
+use mir.Val.{bool_byte}
+use Rattle.safe_bit.specs.Cell.{Cell}
+use Rattle.flicks.specs.{FlickState, after_flick, flicks_after}
+use Rattle.registers.specs.{CursorState, LeadsTo, access_of, overlapped_of, overlaps_next, run_of}
 
 -- a run is one run behind another
 pub run-more : (a b : ℕ) (now : CursorState × List (List Cell) × FlickState) → run_of (a + b) now ≡ run_of b (run_of a now)
 run-more a zero now = ap (λ n. run_of n now) (let e : a + 0 ≡ a = omega arith in e)
 run-more a (suc b) now = let e : a + suc b ≡ suc (a + b) = omega arith in ap (λ n. run_of n now) e ∙ ap access_of (run-more a b now)
 
-pub writes-more : (a b : ℕ) (now : CursorState × List (List Cell)) → writes_of (a + b) now ≡ writes_of b (writes_of a now)
-writes-more a zero now = ap (λ n. writes_of n now) (let e : a + 0 ≡ a = omega arith in e)
-writes-more a (suc b) now = let e : a + suc b ≡ suc (a + b) = omega arith in ap (λ n. writes_of n now) e ∙ ap write_access (writes-more a b now)
+add-again : (x y z : ℕ) → x + y + z ≡ x + (y + z)
+add-again x y z = omega arith
+
+-- 1, if the next access ends a read that a write overlapped
+abbrev one : CursorState × List (List Cell) × FlickState → ℕ
+one now = cond (overlaps_next now) 1 0
+
+pub overlapped-more : (a b : ℕ) (now : CursorState × List (List Cell) × FlickState) → overlapped_of (a + b) now ≡ overlapped_of a now + overlapped_of b (run_of a now)
+overlapped-more a zero now = let e : a + 0 ≡ a = omega arith in ap (λ n. overlapped_of n now) e ∙ (let same : overlapped_of a now ≡ overlapped_of a now + 0 = omega arith in same)
+overlapped-more a (suc b) now =
+    let e : a + suc b ≡ suc (a + b) = omega arith in
+    ap (λ n. overlapped_of n now) e
+    ∙ (λ i. overlapped-more a b now i + one (run-more a b now i))
+    ∙ add-again (overlapped_of a now) (overlapped_of b (run_of a now)) (one (run_of b (run_of a now)))
+
+pub one-at_most : (b : Bool) → cond b 1 0 ≤ 1
+one-at_most true = omega arith
+one-at_most false = omega arith
+
+-- one more, or none
+pub byte-one : (b : Bool) → bool_byte b ≡ 0 + cond b 1 0
+byte-one true = refl
+byte-one false = refl
+
+-- each is one at most
+pub overlapped-few : (k : ℕ) (now : CursorState × List (List Cell) × FlickState) → overlapped_of k now ≤ k
+overlapped-few zero now = omega arith
+overlapped-few (suc k) now = omega (arith, overlapped-few k now, one-at_most (overlaps_next (run_of k now)))
+
+flicks-more : (a b : ℕ) (flicks : FlickState) → flicks_after b (flicks_after a flicks) ≡ flicks_after (a + b) flicks
+flicks-more a zero flicks = ap (λ n. flicks_after n flicks) (let e : a ≡ a + 0 = omega arith in e)
+flicks-more a (suc b) flicks = let e : suc (a + b) ≡ a + suc b = omega arith in ap after_flick (flicks-more a b flicks) ∙ ap (λ n. flicks_after n flicks) e
+
+-- ALL THE SAME WHATEVER THE FLICKS
+
+pub leads-more : (a b : ℕ) (c d e : CursorState) (before memory now : List (List Cell)) → LeadsTo a c before d memory → LeadsTo b d memory e now → LeadsTo (a + b) c before e now
+leads-more a b c d e before memory now first then = record {
+  run = λ f. run-more a b (c, before, f) ∙ ap (run_of b) (first.run f) ∙ then.run (flicks_after a f) ∙ (λ i. (e, now, flicks-more a b f i));
+  none = λ f. overlapped-more a b (c, before, f) ∙ (λ i. first.none f i + overlapped_of b (first.run f i)) ∙ ap (λ k. 0 + k) (then.none (flicks_after a f));
+}
+
+-- the same by other words
+pub leads-same : (n n' : ℕ) (c c' d d' : CursorState) (before before' now now' : List (List Cell)) → n ≡ n' → c ≡ c' → before ≡ before' → d ≡ d' → now ≡ now' → LeadsTo n c before d now → LeadsTo n' c' before' d' now'
+leads-same n n' c c' d d' before before' now now' number start from end to h = record {
+  run = λ f. (λ i. run_of (sym number i) (sym start i, sym from i, f)) ∙ h.run f ∙ (λ i. (end i, to i, flicks_after (number i) f));
+  none = λ f. (λ i. overlapped_of (sym number i) (sym start i, sym from i, f)) ∙ h.none f;
+}

@@ -7,7 +7,6 @@ pub mod Kept
 pub mod Numbers
 pub mod Openings
 pub mod Over
-pub mod Overlaps
 pub mod PlaceMoves
 pub mod Quiet
 pub mod Rows

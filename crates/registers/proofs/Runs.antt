@@ -1,14 +1,18 @@
 -- What every run keeps.
-use Rattle.std.proofs.Common.{◌≡◌, ◌<◌, ℕ, zero, suc, ◌+◌, Bool, List, refl, sym, arith, subst, inl, inr, length}
+use Rattle.std.proofs.Common.{◌≡◌, ◌<◌, ◌≤◌, ℕ, zero, suc, ◌+◌, ◌-◌, ◌*◌, Bool, false, cond, List, ap, refl, sym, ◌∙◌, arith, subst, inl, inr, length}
+use mir.Val.{bool_byte}
 use Rattle.std.proofs.lemmas.Bool.{cases_lt}
 use Rattle.std.proofs.lemmas.List.{set_past}
+use Rattle.std.proofs.Math.Nat.{mul-le-mul_left}
 use Rattle.safe_bit.specs.Cell.{Cell}
 use Rattle.safe_bit.specs.{Move}
-use Rattle.flicks.specs.{FlickState, flick_of}
-use Rattle.record.specs.{Access}
-use Rattle.registers.specs.{CursorState, Fits, HasLanes, IsAtCopy, NumberRun, RegisterName, after_by, answered, cursor_after, ends_copy, lane_number, lane_of_access, memory_moved, next_access, run_of}
+use Rattle.flicks.specs.{FlickState, after_flick, constant_flicks, flick_of, flicks_after}
+use Rattle.record.specs.{Access, value_of}
+use Rattle.registers.specs.{CursorState, Fits, HasLanes, IsAtCopy, LeadsTo, NumberRun, RegisterName, access_next, after_by, answered, applied, cursor_after, ends_copy, ends_overlapped, is_settling, lane_number, lane_of_access, memory_moved, newest_of, next_access, next_answered, overlapped_of, rest_by, rest_of, run_of}
+use Rattle.registers.specs.Accesses.{made_by}
 use Rattle.registers.specs.declared.cursor.NumberRun.TheVariants.{Reads, Writes, Settles}
-use Rattle.registers.proofs.Steps.{copy_inside, lanes-moved}
+use Rattle.registers.proofs.Iterates.{byte-one, overlapped-more, run-more}
+use Rattle.registers.proofs.Steps.{copy_inside, lanes-moved, read-counts, write-counts}
 
 -- also where there is no such lane
 pub lanes-moved_anywhere : (memory : List (List Cell)) (at bit lane copies width : ℕ) (how : Move) → HasLanes memory lane copies width → HasLanes (memory_moved memory at bit how) lane copies width
@@ -78,3 +82,99 @@ run-keeps (suc k) now d h =
     let flick : Bool = flick_of (run_of k now).2 in
     let a : Access = answered c.copies memory flick (next_access c flick) in
     fits-moved d memory (lane_of_access c.copies a) a.bit a.how (run-keeps k now d h)
+
+-- of a read or a write one access fewer is left
+run-by : (r : NumberRun) (c : CursorState) (how : Move) → is_settling r ≡ false → (after_by r c how).run ≡ c.run
+run-by Reads c how plain = refl
+run-by Writes c how plain = refl
+run-by (Settles cut value) c how plain = absurd (cc)
+
+rest-by : (r : NumberRun) (c : CursorState) (how : Move) → is_settling r ≡ false → c.reader + c.copy < c.copies → 0 < rest_by r c → rest_by r (after_by r c how) + 1 ≡ rest_by r c
+rest-by Reads c how plain inside some = omega (arith, read-counts c (value_of how), some)
+rest-by Writes c how plain inside some = omega (arith, write-counts c (omega (arith, inside)), some)
+rest-by (Settles cut value) c how plain inside some = absurd (cc)
+
+-- where accesses are left of it, bits are
+rest-going : (r : NumberRun) (c : CursorState) → is_settling r ≡ false → 0 < rest_by r c → c.bit < c.width
+rest-going Reads c plain some = omega (arith, some)
+rest-going Writes c plain some = elim (cases_lt c.bit c.width) [
+  | inl is ↦ is
+  | inr past ↦ absurd (let more : c.copies * c.width ≤ c.copies * c.bit = mul-le-mul_left c.copies past in omega (arith, more, some))
+]
+rest-going (Settles cut value) c plain some = absurd (cc)
+
+-- so many of them
+record RunsOn (k : ℕ) (now : CursorState × List (List Cell) × FlickState) : Type 0 where
+  plain : is_settling (run_of k now).0.run ≡ false
+  rest : rest_of (run_of k now).0 + k ≡ rest_of now.0
+
+runs-on : (k : ℕ) (now : CursorState × List (List Cell) × FlickState) → is_settling now.0.run ≡ false → Fits now.1 now.0 → k ≤ rest_of now.0 → RunsOn k now
+runs-on zero now plain fits within = record { plain = plain; rest = omega arith }
+runs-on (suc k) now plain fits within =
+    let before : RunsOn k now = runs-on k now plain fits (omega (arith, within)) in
+    let c : CursorState = (run_of k now).0 in
+    let how : Move = (access_next (run_of k now)).how in
+    let next : CursorState = cursor_after c how in
+    let same : next.run ≡ c.run = run-by c.run c how before.plain in
+    let one : rest_by c.run next + 1 ≡ rest_of c = rest-by c.run c how before.plain (run-fits k now fits).copy (omega (arith, before.rest, within)) in
+    record { plain = ap is_settling same ∙ before.plain; rest = omega (arith, ap (λ r. rest_by r next) same, one, before.rest) }
+
+-- whatever the flicks
+pub leads-fits : (n : ℕ) (c d : CursorState) (memory now : List (List Cell)) → LeadsTo n c memory d now → Fits memory c → Fits now d
+leads-fits n c d memory now h fits =
+    let P : CursorState × List (List Cell) × FlickState → Type 0 = λ x. Fits x.1 x.0 in
+    subst P (h.run (constant_flicks false)) (run-fits n (c, memory, constant_flicks false) fits)
+
+-- so many accesses have been made, of which so many ended a read that a write overlapped
+pub record HasRun (made overlapped : ℕ) (before now : CursorState × List (List Cell) × FlickState) : Type 0 where
+  pub now_is : now ≡ run_of made before
+  pub counts : overlapped ≡ overlapped_of made before
+
+-- one of a read or a write may be made, where not all that are left have been
+pub record MayStep (c : CursorState) (memory : List (List Cell)) : Type 0 where
+  pub kind : is_settling c.run ≡ false
+  pub going : c.bit < c.width
+  pub fits : Fits memory c
+
+pub may-step : (made overlapped : ℕ) (before : CursorState × List (List Cell) × FlickState) (c : CursorState) (memory : List (List Cell)) (flicks : FlickState) → is_settling before.0.run ≡ false → Fits before.1 before.0 → made < rest_of before.0 → HasRun made overlapped before (c, memory, flicks) → MayStep c memory
+may-step made overlapped before c memory flicks plain fits less h =
+    let on = runs-on made before plain fits (omega (arith, less)) in
+    let rest = on.rest in
+    let at : CursorState = (run_of made before).0 in
+    let P : CursorState × List (List Cell) × FlickState → Type 0 = λ x. MayStep x.0 x.1 in
+    subst P (sym h.now_is) (record { kind = on.plain; going = rest-going at.run at on.plain (omega (arith, rest, less)); fits = run-fits made before fits })
+
+-- and so many more
+run-on : (k more made overlapped : ℕ) (before now after : CursorState × List (List Cell) × FlickState) → HasRun made overlapped before now → after ≡ run_of k now → more ≡ overlapped_of k now → HasRun (made + k) (overlapped + more) before after
+run-on k more made overlapped before now after h after_is more_is = record {
+  now_is = after_is ∙ ap (run_of k) h.now_is ∙ sym (run-more made k before);
+  counts = (λ i. h.counts i + more_is i) ∙ ap (λ x. overlapped_of made before + overlapped_of k x) h.now_is ∙ sym (overlapped-more made k before);
+}
+
+-- one more
+pub step-on : (made overlapped : ℕ) (before : CursorState × List (List Cell) × FlickState) (c next : CursorState) (memory then : List (List Cell)) (flicks later : FlickState) (flick last : Bool) (a : Access) (byte : ℕ) → HasRun made overlapped before (c, memory, flicks) →
+    flick ≡ flick_of flicks → a ≡ next_answered c memory flick → next ≡ cursor_after c a.how → then ≡ applied c.copies memory a → later ≡ after_flick flicks → last ≡ ends_overlapped c.copies memory a → byte ≡ bool_byte last → HasRun (made + 1) (overlapped + byte) before (next, then, later)
+step-on made overlapped before c next memory then flicks later flick last a byte h flick_is made_is cursor_is memory_is flicks_are ends byte_is =
+    let is : a ≡ access_next (c, memory, flicks) = made_is ∙ ap (next_answered c memory) flick_is in
+    run-on 1 byte made overlapped before (c, memory, flicks) (next, then, later) h
+    ((λ i. (cursor_is i, memory_is i, flicks_are i)) ∙ ap (made_by c memory flicks) is)
+    (byte_is ∙ byte-one last ∙ ap (λ b. 0 + cond b 1 0) (ends ∙ ap (ends_overlapped c.copies memory) is))
+
+-- the one after so many but one is the newest
+pub newest-last : (steps : ℕ) (before now : CursorState × List (List Cell) × FlickState) → 0 < steps → now ≡ run_of (steps - 1) before → access_next now ≡ newest_of steps before
+newest-last zero before now some is = absurd (omega (arith, some))
+newest-last (suc k) before now some is = let one : suc k - 1 ≡ k = omega arith in ap access_next (is ∙ ap (λ n. run_of n before) one)
+
+pub leads-on : (n made overlapped : ℕ) (before : CursorState × List (List Cell) × FlickState) (c d : CursorState) (memory now : List (List Cell)) (flicks : FlickState) →
+    HasRun made overlapped before (c, memory, flicks) → LeadsTo n c memory d now → HasRun (made + n) overlapped before (d, now, flicks_after n flicks)
+leads-on n made overlapped before c d memory now flicks h leads =
+    let P : ℕ → Type 0 = λ k. HasRun (made + n) k before (d, now, flicks_after n flicks) in
+    subst P (let e : overlapped + 0 ≡ overlapped = omega arith in e) (run-on n 0 made overlapped before (c, memory, flicks) (d, now, flicks_after n flicks) h (sym (leads.run flicks)) (sym (leads.none flicks)))
+
+-- none more
+pub leads-nowhere : (n made overlapped : ℕ) (before : CursorState × List (List Cell) × FlickState) (c d : CursorState) (memory now : List (List Cell)) (flicks : FlickState) → n ≡ 0 →
+    HasRun made overlapped before (c, memory, flicks) → LeadsTo n c memory d now → HasRun made overlapped before (d, now, flicks)
+leads-nowhere n made overlapped before c d memory now flicks none h leads =
+    let P : ℕ → Type 0 = λ k. HasRun (made + k) overlapped before (d, now, flicks_after k flicks) in
+    let Q : ℕ → Type 0 = λ k. HasRun k overlapped before (d, now, flicks) in
+    subst Q (let e : made + 0 ≡ made = omega arith in e) (subst P none (leads-on n made overlapped before c d memory now flicks h leads))

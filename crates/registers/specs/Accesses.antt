@@ -1,13 +1,13 @@
 -- The single access of a cursor, and so many of them.
-use Rattle.std.specs.Prelude.{ℕ, zero, suc, ◌+◌, ◌==◌, ◌&&◌, ◌||◌, Bool, true, false, not, if◌then◌else◌, List, [], ◌∷◌, ◌++◌, Option, Some, unwrap_or, slice_index_or}
+use Rattle.std.specs.Prelude.{◌≡◌, ℕ, zero, suc, ◌+◌, ◌==◌, ◌&&◌, ◌||◌, Bool, true, false, not, if◌then◌else◌, List, [], ◌∷◌, ◌++◌, Option, Some, unwrap_or, slice_index_or}
 use Rattle.safe_bit.specs.Cell.{Cell, read_answer}
 use Rattle.safe_bit.specs.{Move}
 use Rattle.safe_bit.specs.declared.moves.Move.TheVariants.{BeginWrite, EndWrite, BeginRead, EndRead, Settle}
 use Rattle.reader_copies.specs.{is_open_at}
-use Rattle.flicks.specs.{FlickState, flick_of, after_flick}
+use Rattle.flicks.specs.{FlickState, flick_of, after_flick, flicks_after}
 use Rattle.record.specs.{Access, ended_with, value_of}
 use Rattle.registers.specs.Memory.{cell_at, memory_moved}
-use Rattle.registers.specs.Cursors.{CursorState, first_lane, lane_number}
+use Rattle.registers.specs.Cursors.{CursorState, lane_number}
 use Rattle.registers.specs.declared.cursor.NumberRun.{NumberRun}
 use Rattle.registers.specs.declared.cursor.NumberRun.TheVariants.{Reads, Writes, Settles}
 
@@ -113,8 +113,12 @@ cursor_after c how = after_by c.run c how
 abbrev pub made_by : CursorState → List (List Cell) → FlickState → Access → CursorState × List (List Cell) × FlickState
 made_by c memory flicks a = (cursor_after c a.how, applied c.copies memory a, after_flick flicks)
 
+-- by the flick that is next
+abbrev pub access_next : CursorState × List (List Cell) × FlickState → Access
+access_next (c, memory, flicks) = next_answered c memory (flick_of flicks)
+
 abbrev pub access_of : CursorState × List (List Cell) × FlickState → CursorState × List (List Cell) × FlickState
-access_of (c, memory, flicks) = made_by c memory flicks (next_answered c memory (flick_of flicks))
+access_of (c, memory, flicks) = made_by c memory flicks (access_next (c, memory, flicks))
 
 -- THE END OF A READ THAT A WRITE OVERLAPPED
 
@@ -133,41 +137,24 @@ ends_overlapped copies memory a = ends_touched (cell_at memory (lane_of_access c
 
 -- so does the next access
 abbrev pub overlaps_next : CursorState × List (List Cell) × FlickState → Bool
-overlaps_next (c, memory, flicks) = ends_overlapped c.copies memory (next_answered c memory (flick_of flicks))
+overlaps_next (c, memory, flicks) = ends_overlapped c.copies memory (access_next (c, memory, flicks))
 
 -- SO MANY
 abbrev pub run_of : ℕ → CursorState × List (List Cell) × FlickState → CursorState × List (List Cell) × FlickState
 run_of zero now = now
 run_of (suc k) now = access_of (run_of k now)
 
+-- the newest of them; of none the next one
+abbrev pub newest_of : ℕ → CursorState × List (List Cell) × FlickState → Access
+newest_of zero now = access_next now
+newest_of (suc k) now = access_next (run_of k now)
+
 -- how many of them end a read that a write overlapped
 abbrev pub overlapped_of : ℕ → CursorState × List (List Cell) × FlickState → ℕ
 overlapped_of zero now = 0
 overlapped_of (suc k) now = overlapped_of k now + (if overlaps_next (run_of k now) then 1 else 0)
 
--- THE SAME OF A READ ALONE, AND OF A WRITE
-
-abbrev pub answer_of : CursorState → List (List Cell) → Bool → Bool
-answer_of c memory flick = read_answer (cell_at memory (first_lane c) c.bit) flick
-
-abbrev pub read_access : CursorState × List (List Cell) × FlickState → CursorState × List (List Cell) × FlickState
-read_access (c, memory, flicks) = (read_after c (answer_of c memory (flick_of flicks)), memory_moved memory (first_lane c) c.bit (read_move c.begun (answer_of c memory (flick_of flicks))), after_flick flicks)
-
-abbrev pub write_access : CursorState × List (List Cell) → CursorState × List (List Cell)
-write_access (c, memory) = (write_after c, memory_moved memory (first_lane c + c.copy) c.bit (write_move c))
-
-abbrev pub reads_of : ℕ → CursorState × List (List Cell) × FlickState → CursorState × List (List Cell) × FlickState
-reads_of zero now = now
-reads_of (suc k) now = read_access (reads_of k now)
-
-abbrev pub writes_of : ℕ → CursorState × List (List Cell) → CursorState × List (List Cell)
-writes_of zero now = now
-writes_of (suc k) now = write_access (writes_of k now)
-
--- the next access of a read ends one that a write overlapped
-abbrev pub read_overlaps : CursorState → List (List Cell) → Bool
-read_overlaps c memory = c.begun && (cell_at memory (first_lane c) c.bit).touched
-
-abbrev pub overlapped_reads : ℕ → CursorState × List (List Cell) × FlickState → ℕ
-overlapped_reads zero now = 0
-overlapped_reads (suc k) now = overlapped_reads k now + (if read_overlaps (reads_of k now).0 (reads_of k now).1 then 1 else 0)
+-- so many accesses lead from here to there, whatever the flicks, and none of them ends a read that a write overlapped
+pub record LeadsTo (n : ℕ) (c : CursorState) (memory : List (List Cell)) (new : CursorState) (now : List (List Cell)) : Type 0 where
+  pub run : (f : FlickState) → run_of n (c, memory, f) ≡ (new, now, flicks_after n f)
+  pub none : (f : FlickState) → overlapped_of n (c, memory, f) ≡ 0

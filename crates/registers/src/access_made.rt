@@ -1,4 +1,4 @@
-//! One access that was made on the memory.
+//! Accesses that were made on the memory.
 
 use record::Access;
 
@@ -10,4 +10,13 @@ pub struct AccessMade {
     pub access: Access,
     /// Whether it ended such a read.
     pub overlapped: bool,
+}
+
+/// Accesses that were made one after another: the newest, and how many of them ended such a read.
+#[derive(Clone, Copy)]
+pub struct AccessesMade {
+    /// The newest.
+    pub newest: Access,
+    /// How many of them ended such a read.
+    pub overlapped: u32,
 }

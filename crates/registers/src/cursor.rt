@@ -255,7 +255,7 @@ impl Cursor {
         self.run
     }
 
-    /// How many accesses `BitMemory::run` may make: all that are left, but of a settling one at a time.
+    /// How many accesses may be made at once: all that are left, but of a settling one at a time.
     #[inline(always)]
     pub fn left(&self) -> u32
         ensures { result ≡ rest_of self.now }
@@ -284,13 +284,7 @@ impl Cursor {
         ensures { result ≡ next_access self.now flick }
     {
         let how = match self.run {
-            NumberRun::Reads => {
-                if self.begun {
-                    Move::EndRead(flick)
-                } else {
-                    Move::BeginRead
-                }
-            }
+            NumberRun::Reads => self.read_move(flick),
             NumberRun::Writes => self.write_move(),
             NumberRun::Settles { cut, value } => {
                 let value = match value {
@@ -306,13 +300,7 @@ impl Cursor {
                 }
             }
         };
-        Access {
-            owner: self.register.owner,
-            field: self.register.field,
-            bit: self.bit,
-            reader: self.reader + self.copy,
-            how,
-        }
+        self.made(how, false).access
     }
 
     /// Goes on by that access, whatever memory it was made on; a read's end has what it gave.

@@ -1,6 +1,6 @@
 //! The registers of all processes as one memory of safe bits, and the cursor of a number access. Whoever makes steps asks
-//! for a single access, told ([`BitMemory::make`]) or not ([`BitMemory::step`]), or for so many ([`BitMemory::run`]), which
-//! are the single access so many times. How quickly they go is their own affair.
+//! for a single access ([`BitMemory::make`]), or for so many of a read or a write ([`BitMemory::run`]), which are the single
+//! access so many times. How quickly they go is their own affair.
 #![tactic(auto)]
 
 mod access_made;
@@ -10,7 +10,7 @@ mod laws;
 mod memory;
 mod word_bytes;
 
-pub use access_made::AccessMade;
+pub use access_made::{AccessMade, AccessesMade};
 pub use cursor::{Cursor, NumberRun, given};
 pub use fields::{FIELDS, RegisterName, width_of};
 pub use laws::cursors_follow_places;

@@ -1,25 +1,22 @@
 -- What a method of a core leaves is the core after its event.
-use Rattle.std.proofs.Common.{◌≡◌, ℕ, zero, suc, ◌+◌, ◌<◌, ◌≤◌, ◌&&◌, Bool, true, false, List, None, Some, length, map, refl, sym, ap, subst, ◌∙◌, arith, eq-eqb}
+use Rattle.std.proofs.Common.{◌≡◌, ℕ, zero, suc, ◌<◌, ◌≤◌, ◌&&◌, Bool, true, false, List, None, Some, length, map, refl, sym, ap, subst, ◌∙◌, arith, eq-eqb}
 use Rattle.std.proofs.lemmas.Bool.Decides.{nat_tests}
 use Rattle.std.specs.Prelude.{nat_le, slice_get, slice_index_or, slice_set}
 use Rattle.plain_store.specs.{Command}
 use Rattle.record.specs.safe_bit.Cell.{Cell}
-use Rattle.record.specs.{Access, Event, Stage, is_waiting_stage, past_of, process_of, refused_at, value_of}
+use Rattle.record.specs.{Access, Event, Stage, is_waiting_stage, past_of, process_of, refused_at}
 use Rattle.record.specs.declared.events.Event.TheVariants as event
 use Rattle.record.specs.declared.stages.Stage.TheVariants as stages
 use Rattle.record.specs.Closings.{Closing, Withdraws, Settles, Frees, Lowers, Quit, Ended, closing_stage}
 use Rattle.record.proofs.World.{refused-idle}
 use Rattle.laws.specs.{cut_of}
 use Rattle.laws.proofs.FrameEvents.{is-waiting}
-use Rattle.process.specs.declared.told.Effect.TheVariants.{Steps}
-use Rattle.process.specs.declared.told.StepTold.TheVariants.{Nothing}
-use Rattle.process.specs.{answered_at, is_full, left_at, may_fail, may_step, overlapped_steps, stage_doing, steps_of}
-use Rattle.world.specs.{CoreGoes, CoreState, CoreWalks, HasOneFewer, KeepOthers, KeepsCore, Seat, core_after, is_waiting, left_in, registers_after, seat_after, seat_stepped, told}
-use Rattle.world.proofs.CoreKeeps.{IsNext, next-keeps}
+use Rattle.process.specs.{ProcessState, is_full, left_at, may_fail, may_step, newest_of, overlapped_steps, stage_doing, steps_of}
+use Rattle.world.specs.{CoreState, KeepsCore, Seat, core_after, is_waiting, left_in, registers_after, seat_after, seat_stepped, told}
+use Rattle.world.proofs.CoreKeeps.{IsNext}
 use Rattle.world.proofs.CoreRefused.{full-is, stage-told}
 use Rattle.flicks.specs.{FlickState}
-use Rattle.world.proofs.CoreWalks.{core_ran, has-run, left-core, next-others, told-same, within-after, within-fewer, within-goes, within-next}
-use Rattle.process.proofs.Left.{left-stays}
+use Rattle.world.proofs.CoreWalks.{HasRun, has-run, told-same}
 use Rattle.world.proofs.WorldOpen.{IsSeated, is-allowed, is-seated, seat-below, seat-indexed, seat-left, seat-there}
 use Rattle.world.proofs.WorldStages.{fails-may, steps-may}
 
@@ -27,25 +24,22 @@ use Rattle.world.proofs.WorldStages.{fails-may, steps-may}
 pub seated : (c : CoreState) (p : ℕ) (seat : Seat) → KeepsCore c → slice_get c.seats p ≡ Some seat → IsSeated c p seat
 seated c p seat k there = is-seated c k.taken k.events p seat k.shows there
 
--- one whose number access has accesses left
-pub record IsLeft (c : CoreState) (p : ℕ) (seat : Seat) : Type 0 where
+-- one whose number access has so many accesses left
+pub record IsLeft (c : CoreState) (p n : ℕ) (seat : Seat) : Type 0 where
   pub there : slice_get c.seats p ≡ Some seat
-  pub some : 0 < left_at seat.process
+  pub within : n ≤ left_at seat.process
 
-pub left-there : (c d : CoreState) (p : ℕ) → c ≡ d → 0 < left_in d.seats p → p < length c.seats
-left-there c d p view some = let some : 0 < left_in c.seats p = subst (λ (x : CoreState). 0 < left_in x.seats p) (sym view) some in below c.seats p some
-  where
-    below : (seats : List Seat) (p : ℕ) → 0 < left_in seats p → p < length seats
-    below seats p some = let found = seat-there seats p some in seat-below seats p found.0 found.1
+pub left-there : (c d : CoreState) (p n : ℕ) → c ≡ d → 0 < n → n ≤ left_in d.seats p → p < length c.seats
+left-there c d p n view some within = let found = seat-there c.seats p (omega (arith, ap (λ (x : CoreState). left_in x.seats p) view, some, within)) in seat-below c.seats p found.0 found.1
 
-pub is-left : (c d : CoreState) (p i : ℕ) (seat : Seat) → c ≡ d → 0 < left_in d.seats p → i ≡ p → seat ≡ slice_index_or c.seats i seat → IsLeft c p seat
-is-left c d p i seat view some index at = record {
+pub is-left : (c d : CoreState) (p i n : ℕ) (seat : Seat) → c ≡ d → 0 < n → n ≤ left_in d.seats p → i ≡ p → seat ≡ slice_index_or c.seats i seat → IsLeft c p n seat
+is-left c d p i n seat view some within index at = record {
   there = there;
-  some = let same = seat-left c.seats p seat there in let left = ap (λ (x : CoreState). left_in x.seats p) view in omega (arith, some, same, left);
+  within = let same = seat-left c.seats p seat there in let left = ap (λ (x : CoreState). left_in x.seats p) view in omega (arith, within, same, left);
 }
   where
     there : slice_get c.seats p ≡ Some seat
-    there = let l = left-there c d p view some in seat-indexed c.seats i p seat index (omega (arith, l, index)) at
+    there = let l = left-there c d p n view some within in seat-indexed c.seats i p seat index (omega (arith, l, index)) at
 
 -- What is known of the process of an event that is not refused.
 
@@ -117,59 +111,12 @@ pub untold-after : (c : CoreState) (what : Event) (seat then : Seat) (registers 
 untold-after c what seat then registers waits i p index own then_is registers_is was is =
     told-after c what seat then registers (slice_set c.seats i then) waits waits i p index own then_is registers_is was is (sym (told-same p waits (slice_set c.seats i then)))
 
--- of a step within a number access
-pub within-code : (c : CoreState) (p : ℕ) (flick : Bool) (seat : Seat) → 0 < left_at seat.process → (i : ℕ) (then : Seat) (registers : List (List Cell)) → i ≡ p → then ≡ seat_after c seat (event.Step p flick) → registers ≡ registers_after c seat (event.Step p flick) →
-    (let core : CoreState = record c { registers = registers; seats = slice_set c.seats i then } in core) ≡ core_after c seat (event.Step p flick)
-within-code c p flick seat some i then registers index then_is registers_is =
-    untold-after c (event.Step p flick) seat then registers (is_waiting seat) i p index refl then_is registers_is refl
-    (sym (left-stays seat.process flick (value_of (answered_at seat.process c.registers flick).how) some).0)
-
--- it leaves this
-pub record IsOne (d : CoreState) (p : ℕ) (flick : Bool) (access : Access) (new : CoreState) : Type 0 where
-  pub keeps : KeepsCore new
-  pub goes : CoreGoes d (event.Step p flick) (Steps Nothing) (Some access) new
-  pub fewer : HasOneFewer d.seats p new.seats
-  pub others : KeepOthers d.seats p new.seats
-
-pub is-one : (c d : CoreState) (p : ℕ) (flick : Bool) (seat : Seat) → KeepsCore c → c ≡ d → IsLeft c p seat → (i : ℕ) (then : Seat) (registers : List (List Cell)) (access : Access) →
-    i ≡ p → then ≡ seat_after c seat (event.Step p flick) → registers ≡ registers_after c seat (event.Step p flick) → access ≡ answered_at seat.process c.registers flick →
-    IsOne d p flick access (record c { registers = registers; seats = slice_set c.seats i then })
-is-one c d p flick seat k view l i then registers access index then_is registers_is access_is =
-    let new : CoreState = record c { registers = registers; seats = slice_set c.seats i then } in
-    let is : new ≡ core_after c seat (event.Step p flick) = within-code c p flick seat l.some i then registers index then_is registers_is in
-    record {
-      keeps = next-keeps c new (event.Step p flick) seat k (within-next c p flick seat l.there l.some) is;
-      goes = within-goes c d new p flick access seat view l.there l.some access_is is;
-      fewer = within-fewer c d p flick seat c.registers view l.there l.some ∙ ap (λ (x : CoreState). left_in x.seats p + 1) (within-after c p flick seat l.some ∙ sym is);
-      others = next-others c d new p flick seat view is;
-    }
-
--- Of so many of them.
-
-pub run-within : (c d : CoreState) (p : ℕ) (seat : Seat) (n : ℕ) → c ≡ d → slice_get c.seats p ≡ Some seat → n ≤ left_in d.seats p → n ≤ left_at seat.process
-run-within c d p seat n view there l = let same = seat-left c.seats p seat there in let left = ap (λ (x : CoreState). left_in x.seats p) view in omega (arith, l, same, left)
-
-module _ (c : CoreState) (p : ℕ) (seat : Seat) (f : FlickState) (there : slice_get c.seats p ≡ Some seat) where
-  pub run-code : (n : ℕ) → 0 < n → (i : ℕ) (then : Seat) (registers : List (List Cell)) → i ≡ p → then ≡ seat_stepped (steps_of n (seat.process, c.registers, f)).0 seat → registers ≡ (steps_of n (seat.process, c.registers, f)).1 →
-      (let core : CoreState = record c { registers = registers; seats = slice_set c.seats i then } in core) ≡ core_ran c p seat f there n
-  run-code zero some i then registers index then_is registers_is = absurd (omega (arith, some))
-  run-code (suc n) some i then registers index then_is registers_is = λ k. let core : CoreState = record c { registers = registers_is k; seats = slice_set c.seats (index k) (then_is k) } in core
-
-pub run-keeps : (c new : CoreState) (p : ℕ) (seat : Seat) (f : FlickState) (there : slice_get c.seats p ≡ Some seat) (n : ℕ) → KeepsCore c → n ≤ left_at seat.process → new ≡ core_ran c p seat f there n → KeepsCore new
-run-keeps c new p seat f there n k within is = subst KeepsCore (sym is) (has-run c p seat f there k n within).keeps
-
-pub run-walks : (c d new : CoreState) (p : ℕ) (seat : Seat) (f g : FlickState) (there : slice_get c.seats p ≡ Some seat) (n overlapped : ℕ) → KeepsCore c → c ≡ d → n ≤ left_at seat.process → new ≡ core_ran c p seat f there n →
-    g ≡ (steps_of n (seat.process, c.registers, f)).2 → overlapped ≡ overlapped_steps n (seat.process, c.registers, f) → CoreWalks d f p n overlapped new g
-run-walks c d new p seat f g there n overlapped k view within is flicks count =
-    let all : ℕ = overlapped_steps n (seat.process, c.registers, f) in
-    subst (λ (d : CoreState). CoreWalks d f p n overlapped new g) view (subst (λ m. CoreWalks c f p n m new g) (sym count) (subst (λ g. CoreWalks c f p n all new g) (sym flicks)
-    (subst (λ (new : CoreState). CoreWalks c f p n all new (steps_of n (seat.process, c.registers, f)).2) (sym is)
-    (has-run c p seat f there k n within).walks)))
-
-pub run-left : (c d new : CoreState) (p : ℕ) (seat : Seat) (f : FlickState) (there : slice_get c.seats p ≡ Some seat) (n : ℕ) → c ≡ d → n ≤ left_at seat.process → new ≡ core_ran c p seat f there n → left_in new.seats p + n ≡ left_in d.seats p
-run-left c d new p seat f there n view within is =
-    let was = seat-left c.seats p seat there in
-    let left = ap (λ (x : CoreState). left_in x.seats p) view in
-    let now = ap (λ (x : CoreState). left_in x.seats p) is in
-    let ran = left-core c p seat f there n within in
-    omega (arith, was, left, now, ran)
+-- Of so many steps within a number access: the seat was put in its place once it had made them.
+pub run-code : (c d : CoreState) (p i : ℕ) (seat then : Seat) (registers : List (List Cell)) (f g : FlickState) (n : ℕ) (newest : Access) (overlapped : ℕ) → KeepsCore c → c ≡ d → IsLeft c p n seat → 0 < n → i ≡ p →
+    (let ran : ProcessState × List (List Cell) × FlickState = steps_of n (seat.process, c.registers, f) in (then ≡ seat_stepped ran.0 seat) × (registers ≡ ran.1) × (g ≡ ran.2)) → newest ≡ newest_of n (seat.process, c.registers, f) → overlapped ≡ overlapped_steps n (seat.process, c.registers, f) →
+    HasRun d f p n newest overlapped (record c { registers = registers; seats = slice_set c.seats i then }) g
+run-code c d p i seat then registers f g zero newest overlapped k view left some index is newest_is count = absurd (omega (arith, some))
+run-code c d p i seat then registers f g (suc n) newest overlapped k view left some index is newest_is count =
+    subst (λ (x : CoreState × Access × ℕ × CoreState × FlickState). HasRun x.0 f p (suc n) x.1 x.2 x.3 x.4)
+    (λ j. (view j, sym newest_is j, sym count j, (let new : CoreState = record c { registers = sym is.1 j; seats = slice_set c.seats (sym index j) (sym is.0 j) } in new), sym is.2 j))
+    (has-run c p seat f left.there k (suc n) left.within)

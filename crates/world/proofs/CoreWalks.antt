@@ -3,21 +3,21 @@ use Rattle.std.proofs.Common.{◌≡◌, ℕ, zero, suc, ◌+◌, ◌<◌, ◌�
 use Rattle.std.specs.Prelude.{slice_get, slice_set}
 use Rattle.std.proofs.lemmas.List.{set-set}
 use Rattle.record.specs.safe_bit.Cell.{Cell}
-use Rattle.record.specs.{Access, is_queued, value_of}
+use Rattle.record.specs.{Access, Taken, is_queued, value_of}
 use Rattle.record.specs.declared.events.Event.TheVariants.{Step}
 use Rattle.flicks.specs.{FlickState, flick_of}
 use Rattle.process.specs.declared.told.Effect.TheVariants.{Steps}
 use Rattle.process.specs.declared.told.StepTold.TheVariants.{Nothing}
-use Rattle.process.specs.{ProcessState, answered_at, left_at, overlapped_steps, overlaps_step, stage_doing, step_by, steps_of}
+use Rattle.process.specs.{ProcessState, answered_at, answered_next, left_at, newest_of, overlapped_steps, overlaps_step, stage_doing, step_by, steps_of}
 use Rattle.process.specs.registers.{ends_overlapped}
-use Rattle.world.specs.{CoreGoes, CoreState, CoreStepsQuietly, CoreTellsOverlapped, CoreWalks, KeepOthers, KeepsCore, Seat, core_after, is_at_door, is_waiting, left_in, pending_in, seat_stepped, told, with_history}
+use Rattle.world.specs.{CoreGoes, CoreState, CoreTellsOverlapped, CoreWalks, KeepOthers, KeepsCore, Seat, StepsQuietly, core_after, is_at_door, is_waiting, left_in, pending_in, seat_stepped, told, with_history}
 use Rattle.world.proofs.CoreKeeps.{IsNext, next-goes, next-keeps}
 use Rattle.world.proofs.CoreOverlaps.{tells-overlapped}
 use Rattle.world.proofs.CoreRefused.{step-within}
 use Rattle.process.proofs.Left.{left-fewer, left-quiet, left-stays}
 use Rattle.world.proofs.WorldHeadline.{keeps_headline}
 use Rattle.world.proofs.WorldLists.{map-same}
-use Rattle.world.proofs.WorldOpen.{is-seated, seat-left}
+use Rattle.world.proofs.WorldOpen.{is-seated, seat-below, seat-left}
 
 -- How many accesses are left to another process.
 
@@ -47,11 +47,11 @@ told-same p true seats = map-same (told p true true) seats (λ seat. refl)
 told-same p false seats = map-same (told p false false) seats (λ seat. refl)
 
 -- the core after it
-abbrev pub core_within : CoreState → ℕ → Seat → List (List Cell) → CoreState
+abbrev core_within : CoreState → ℕ → Seat → List (List Cell) → CoreState
 core_within c p then registers = record c { registers = registers; seats = slice_set c.seats p then }
 
 -- is that after any step, since nobody goes on to wait
-pub within-after : (c : CoreState) (p : ℕ) (flick : Bool) (seat : Seat) → 0 < left_at seat.process →
+within-after : (c : CoreState) (p : ℕ) (flick : Bool) (seat : Seat) → 0 < left_at seat.process →
     core_within c p (seat_stepped (step_by flick (seat.process, c.registers)).0 seat) (step_by flick (seat.process, c.registers)).1 ≡ core_after c seat (Step p flick)
 within-after c p flick seat some = λ i. let core : CoreState = record c { registers = (step_by flick (seat.process, c.registers)).1; seats = sym seats i } in core
   where
@@ -65,23 +65,20 @@ within-after c p flick seat some = λ i. let core : CoreState = record c { regis
     seats = ap (λ b. map (told p (is_waiting seat) b) (slice_set c.seats p then)) (left-stays seat.process flick v some).0 ∙ told-same p (is_waiting seat) (slice_set c.seats p then)
 
 -- a step that tells nothing has no mark
-pub quietly-by : (c new : CoreState) (p : ℕ) (flick : Bool) (access : Access) → CoreGoes c (Step p flick) (Steps Nothing) (Some access) new → CoreStepsQuietly c p flick new
-quietly-by c new p flick access g = record {
-  steps = λ taken. record {
-    access = access;
-    adds = g.adds taken;
-    shows = g.makes.goes taken;
-    headline = keeps_headline (with_history c taken) (with_history new taken) (Step p flick) p _ (g.adds taken) (g.makes.goes taken) g.setup;
-    setup = g.setup;
-  };
-  pending = let fewer = g.pending refl in omega (arith, fewer);
+quietly-by : (c new : CoreState) (p : ℕ) (flick : Bool) (access : Access) → CoreGoes c (Step p flick) (Steps Nothing) (Some access) new → (taken : List Taken) → StepsQuietly (with_history c taken) p flick (with_history new taken)
+quietly-by c new p flick access g taken = record {
+  access = access;
+  adds = g.adds taken;
+  shows = g.makes.goes taken;
+  headline = keeps_headline (with_history c taken) (with_history new taken) (Step p flick) p _ (g.adds taken) (g.makes.goes taken) g.setup;
+  setup = g.setup;
 }
 
 -- such is one within a number access
-pub within-next : (c : CoreState) (p : ℕ) (flick : Bool) (seat : Seat) → slice_get c.seats p ≡ Some seat → 0 < left_at seat.process → IsNext c (Step p flick) seat
+within-next : (c : CoreState) (p : ℕ) (flick : Bool) (seat : Seat) → slice_get c.seats p ≡ Some seat → 0 < left_at seat.process → IsNext c (Step p flick) seat
 within-next c p flick seat there some = record { given = refl; there = there; allowed = step-within c p flick seat there some }
 
-pub within-goes : (c d new : CoreState) (p : ℕ) (flick : Bool) (access : Access) (seat : Seat) → c ≡ d → slice_get c.seats p ≡ Some seat → 0 < left_at seat.process → access ≡ answered_at seat.process c.registers flick →
+within-goes : (c d new : CoreState) (p : ℕ) (flick : Bool) (access : Access) (seat : Seat) → c ≡ d → slice_get c.seats p ≡ Some seat → 0 < left_at seat.process → access ≡ answered_at seat.process c.registers flick →
     new ≡ core_after c seat (Step p flick) → CoreGoes d (Step p flick) (Steps Nothing) (Some access) new
 within-goes c d new p flick access seat view there some access_is is =
     next-goes c d new (Step p flick) (Steps Nothing) (Some access) seat view (within-next c p flick seat there some) (ap Some access_is)
@@ -98,17 +95,14 @@ seat-again [] p seat is = cc
 seat-again (x ∷ seats) zero seat is = let item : seat ≡ x = let both : Some x ≡ Some seat = is in cc in ap (λ x. x ∷ seats) item
 seat-again (x ∷ seats) (suc p) seat is = ap (λ seats. x ∷ seats) (seat-again seats p seat is)
 
--- its process has one access less left
-pub within-fewer : (c d : CoreState) (p : ℕ) (flick : Bool) (seat : Seat) (registers : List (List Cell)) → c ≡ d → slice_get c.seats p ≡ Some seat → 0 < left_at seat.process →
-    left_in d.seats p ≡ left_in (core_within c p (seat_stepped (step_by flick (seat.process, c.registers)).0 seat) registers).seats p + 1
-within-fewer c d p flick seat registers view there some =
-    let then : Seat = seat_stepped (step_by flick (seat.process, c.registers)).0 seat in
-    let was = seat-left c.seats p seat there in
-    let now = seat-left (slice_set c.seats p then) p then (seat-set c.seats p then seat there) in
-    let fewer = left-fewer seat.process flick (value_of (answered_at seat.process c.registers flick).how) some in
-    subst (λ (d : CoreState). left_in d.seats p ≡ left_in (slice_set c.seats p then) p + 1) view (omega (arith, was, now, fewer))
-
 -- So many of them.
+
+-- they leave this
+pub record HasRun (c : CoreState) (f : FlickState) (p n : ℕ) (newest : Access) (overlapped : ℕ) (new : CoreState) (g : FlickState) : Type 0 where
+  pub keeps : KeepsCore new
+  pub runs : CoreWalks c f p n newest overlapped new g
+  pub fewer : left_in c.seats p ≡ left_in new.seats p + n
+  pub others : KeepOthers c.seats p new.seats
 
 module _ (c : CoreState) (p : ℕ) (seat : Seat) (f : FlickState) (there : slice_get c.seats p ≡ Some seat) where
   -- the process, the registers and the flicks after so many
@@ -169,71 +163,74 @@ module _ (c : CoreState) (p : ℕ) (seat : Seat) (f : FlickState) (there : slice
   core-zero : core_ran zero ≡ c
   core-zero = λ i. let core : CoreState = record c { seats = seat-again c.seats p seat there i } in core
 
+  seat-is : (n : ℕ) → slice_get (core_ran n).seats p ≡ Some (seat_ran n)
+  seat-is n = seat-set c.seats p (seat_ran n) seat there
+
   -- how many are left then
-  pub left-core : (n : ℕ) → n ≤ left_at seat.process → left_in (core_ran n).seats p + n ≡ left_at seat.process
+  left-core : (n : ℕ) → n ≤ left_at seat.process → left_in c.seats p ≡ left_in (core_ran n).seats p + n
   left-core n l =
-      let at = seat-left (core_ran n).seats p (seat_ran n) (seat-set c.seats p (seat_ran n) seat there) in
+      let was = seat-left c.seats p seat there in
+      let at = seat-left (core_ran n).seats p (seat_ran n) (seat-is n) in
       let same = ap left_at (seat-ran n) in
       let left = left-ran n l in
-      omega (arith, at, same, left)
+      omega (arith, was, at, same, left)
 
   -- each is a step without a mark
-  pub record HasRun (n : ℕ) : Type 0 where
-    pub keeps : KeepsCore (core_ran n)
-    pub walks : CoreWalks c f p n (overlapped_steps n (seat.process, c.registers, f)) (core_ran n) (ran n).2
+  abbrev pub IsRun : ℕ → Type 0
+  IsRun n = HasRun c f p n (newest_of n (seat.process, c.registers, f)) (overlapped_steps n (seat.process, c.registers, f)) (core_ran n) (ran n).2
 
-  run-more : (n : ℕ) → suc n ≤ left_at seat.process → HasRun n → HasRun (suc n)
+  run-more : (n : ℕ) → suc n ≤ left_at seat.process → IsRun n → IsRun (suc n)
   unfolding quietly-by
   run-more n l before = record {
-    keeps = next-keeps (core_ran n) (core_ran (suc n)) (Step p flick) (seat_ran n) before.keeps next (sym (core-more n l));
-    walks = record {
+    keeps = next-keeps (core_ran n) (core_ran (suc n)) (Step p flick) (seat_ran n) before.keeps (within-next (core_ran n) p flick (seat_ran n) (seat-is n) some) (sym (core-more n l));
+    runs = record {
+      there = seat-below (core_ran (suc n)).seats p (seat_ran (suc n)) (seat-is (suc n));
       walks = λ taken. (
         with_history (core_ran n) taken,
         (ran n).2,
+        newest_of n (seat.process, c.registers, f),
         overlapped_steps n (seat.process, c.registers, f),
-        before.walks.walks taken,
-        access,
+        before.runs.walks taken,
         overlaps_step (ran n),
-        (quietly.steps taken, refl, tells taken),
+        record { within = left; steps = quietly-by (core_ran n) (core_ran (suc n)) p flick access goes taken; access_is = refl; tells = tells taken },
         refl,
         refl,
       );
-      pending = let was = before.walks.pending in let now = quietly.pending in omega (arith, was, now);
+      pending = let was = before.runs.pending in let now = goes.pending refl in omega (arith, was, now);
     };
+    fewer = left-core (suc n) l;
+    others = left-other c.seats p (seat_ran (suc n));
   }
     where
       flick : Bool
       flick = flick_of (ran n).2
 
-      is : slice_get (core_ran n).seats p ≡ Some (seat_ran n)
-      is = seat-set c.seats p (seat_ran n) seat there
+      left : 0 < left_in (core_ran n).seats p
+      left = let fewer = left-core n (omega (arith, l)) in let was = seat-left c.seats p seat there in omega (arith, fewer, was, l)
 
       some : 0 < left_at (seat_ran n).process
-      some = let left = left-ran n (omega (arith, l)) in let same = ap left_at (seat-ran n) in omega (arith, left, same, l)
-
-      next : IsNext (core_ran n) (Step p flick) (seat_ran n)
-      next = within-next (core_ran n) p flick (seat_ran n) is some
+      some = let at = seat-left (core_ran n).seats p (seat_ran n) (seat-is n) in omega (arith, left, at)
 
       access : Access
-      access = answered_at (seat_ran n).process (core_ran n).registers flick
+      access = answered_next (ran n)
 
       goes : CoreGoes (core_ran n) (Step p flick) (Steps Nothing) (Some access) (core_ran (suc n))
-      goes = within-goes (core_ran n) (core_ran n) (core_ran (suc n)) p flick access (seat_ran n) refl is some refl (sym (core-more n l))
-
-      quietly : CoreStepsQuietly (core_ran n) p flick (core_ran (suc n))
-      quietly = quietly-by (core_ran n) (core_ran (suc n)) p flick access goes
+      goes = within-goes (core_ran n) (core_ran n) (core_ran (suc n)) p flick access (seat_ran n) refl (seat-is n) some (ap (λ now. answered_at now (ran n).1 flick) (sym (seat-ran n))) (sym (core-more n l))
 
       tells : CoreTellsOverlapped (core_ran n) access (overlaps_step (ran n))
       tells = tells-overlapped (core_ran n) (core_ran n) p flick access (Steps Nothing) (overlaps_step (ran n)) (seat_ran n).process.setup refl
-          (is-seated (core_ran n) before.keeps.taken before.keeps.events p (seat_ran n) before.keeps.shows is).setup
-          (ap (λ (now : ProcessState). ends_overlapped now.setup.processes (ran n).1 (answered_at now (ran n).1 flick)) (sym (seat-ran n))) goes.adds
+          (is-seated (core_ran n) before.keeps.taken before.keeps.events p (seat_ran n) before.keeps.shows (seat-is n)).setup
+          (ap (λ (now : ProcessState). ends_overlapped now.setup.processes (ran n).1 access) (sym (seat-ran n))) goes.adds
 
-  pub has-run : KeepsCore c → (n : ℕ) → n ≤ left_at seat.process → HasRun n
+  pub has-run : KeepsCore c → (n : ℕ) → n ≤ left_at seat.process → IsRun n
   has-run k zero l = record {
     keeps = subst KeepsCore (sym core-zero) k;
-    walks = record {
+    runs = record {
+      there = seat-below (core_ran zero).seats p (seat_ran zero) (seat-is zero);
       walks = λ taken. (ap (λ (x : CoreState). with_history x taken) core-zero, refl, refl);
       pending = let same = ap (λ (x : CoreState). pending_in x.seats) core-zero in omega (arith, same);
     };
+    fewer = left-core zero l;
+    others = left-other c.seats p (seat_ran zero);
   }
   has-run k (suc n) l = run-more n l (has-run k n (omega (arith, l)))

@@ -2,11 +2,11 @@
 use Rattle.std.proofs.Common.{◌≡◌, ℕ, zero, suc, ◌+◌, ◌≤◌, Bool, true, false, List, [], ◌∷◌, length, map, refl, sym, ap, subst, ◌∙◌, arith}
 use Rattle.std.specs.List.{range_with_len}
 use Rattle.plain_store.specs.{Setup}
-use Rattle.record.specs.{Event, Taken, is_call, process_of, reply_taken}
+use Rattle.record.specs.{Access, Event, Taken, is_call, process_of, reply_taken}
 use Rattle.record.specs.declared.events.Event.TheVariants.{Step}
 use Rattle.process.specs.{Effect, StepTold, marks_of, marks_told}
 use Rattle.process.specs.declared.told.Effect.TheVariants.{Steps}
-use Rattle.world.specs.{CoreMakes, CoreState, CoreSteps, CoreStepsQuietly, CoreWalks, KeepsWorld, call_in, pending_in, seat_of, taking, with_history, with_taken}
+use Rattle.world.specs.{CoreMakes, CoreState, CoreSteps, CoreWalks, KeepsWorld, call_in, pending_in, seat_of, taking, with_history, with_taken}
 use Rattle.flicks.specs.{FlickState, flick_of}
 use Rattle.world.specs.Shows.{Shows, WorldState}
 use Rattle.world.specs.Walks.{Walks}
@@ -61,18 +61,13 @@ pub step_keeps : (c new : CoreState) (h then : List Taken) (p : ℕ) (flick : Bo
 step_keeps c new h then p flick told capacity more keeps steps fewer is grown = let room = keeps.room in made_keeps c new h then (Step p flick) (Steps told) capacity more keeps steps (omega (arith, room, fewer, grown)) is
 
 -- after a walk
-walks-shown : (n overlapped : ℕ) (old new : WorldState) (f g : FlickState) (p : ℕ) (events : List Event) → Walks old f p n overlapped new g → Shows old events → (later : List Event) × Shows new later
-walks-shown zero overlapped old new f g p events (same, same_flicks, none) shows = (events, subst (λ w. Shows w events) (sym same) shows)
-walks-shown (suc n) overlapped old new f g p events (w, x, count, walks, access, last, made, after, counts) shows =
-    let before : (later : List Event) × Shows w later = walks-shown n count old w f x p events walks shows in
-    (Step p (flick_of x) ∷ before.0, made.0.shows before.0 before.1)
+walks-shown : (n : ℕ) (newest : Access) (overlapped : ℕ) (old new : WorldState) (f g : FlickState) (p : ℕ) (events : List Event) → Walks old f p n newest overlapped new g → Shows old events → (later : List Event) × Shows new later
+walks-shown zero newest overlapped old new f g p events (same, same_flicks, none) shows = (events, subst (λ w. Shows w events) (sym same) shows)
+walks-shown (suc n) newest overlapped old new f g p events (w, x, access, count, walks, last, made, after, counts) shows =
+    let before : (later : List Event) × Shows w later = walks-shown n access count old w f x p events walks shows in
+    (Step p (flick_of x) ∷ before.0, made.steps.shows before.0 before.1)
 
-pub walk_keeps : (n overlapped : ℕ) (c new : CoreState) (h : List Taken) (f g : FlickState) (p capacity : ℕ) → KeepsWorld (with_history c h) capacity → CoreWalks c f p n overlapped new g → KeepsWorld (with_history new h) capacity
-walk_keeps n overlapped c new h f g p capacity keeps walks =
-    let then : (later : List Event) × Shows (with_history new h) later = walks-shown n overlapped (with_history c h) (with_history new h) f g p keeps.events (walks.walks h) keeps.shows in
-    record { events = then.0; shows = then.1; room = let room = keeps.room in let fewer = walks.pending in omega (arith, room, fewer) }
-
--- after a step without a mark
-pub quietly_keeps : (c new : CoreState) (h : List Taken) (p : ℕ) (flick : Bool) (capacity : ℕ) → KeepsWorld (with_history c h) capacity → CoreStepsQuietly c p flick new → KeepsWorld (with_history new h) capacity
-quietly_keeps c new h p flick capacity keeps quietly =
-    record { events = Step p flick ∷ keeps.events; shows = (quietly.steps h).shows keeps.events keeps.shows; room = let room = keeps.room in let fewer = quietly.pending in omega (arith, room, fewer) }
+pub walk_keeps : (n : ℕ) (newest : Access) (overlapped : ℕ) (c new : CoreState) (h : List Taken) (f g : FlickState) (p capacity : ℕ) → KeepsWorld (with_history c h) capacity → CoreWalks c f p n newest overlapped new g → KeepsWorld (with_history new h) capacity
+walk_keeps n newest overlapped c new h f g p capacity keeps runs =
+    let then : (later : List Event) × Shows (with_history new h) later = walks-shown n newest overlapped (with_history c h) (with_history new h) f g p keeps.events (runs.walks h) keeps.shows in
+    record { events = then.0; shows = then.1; room = let room = keeps.room in let fewer = runs.pending in omega (arith, room, fewer) }

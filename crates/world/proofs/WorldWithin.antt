@@ -1,20 +1,21 @@
--- A process within a number access of its call: how many accesses are left after a step, and that none of them ends a number that is read.
-use Rattle.std.proofs.Common.{◌≡◌, ℕ, ◌+◌, ◌<◌, Bool, true, false, if◌then◌else◌, List, [], ◌∷◌, Option, None, Some, refl, ap, sym, subst, ◌∙◌, arith}
+-- A process within a number access of its call: how many accesses are left, a step alone, and that none of them ends a number that is read.
+use Rattle.std.specs.Prelude.{nat_lt}
+use Rattle.flicks.specs.{FlickState, flick_of}
+use Rattle.std.proofs.Common.{cond, ◌≡◌, ℕ, ◌+◌, ◌<◌, Bool, true, false, if◌then◌else◌, List, Some, refl, ap, sym, subst, ◌∙◌, arith}
 use Rattle.plain_store.specs.{Setup}
 use Rattle.record.specs.safe_bit.{Move}
 use Rattle.record.specs.safe_bit.declared.Move.TheVariants.{BeginWrite, EndWrite, BeginRead, EndRead, Settle}
-use Rattle.record.specs.{Access, Call, Entry, Event, Part, Past, Reading, Run, Writing, access_at, ended, entry_of, is_over, past_of, value_of, valued, width}
+use Rattle.record.specs.{Access, Call, Entry, Event, Part, Past, Reading, Run, Writing, access_at, ended, entry_of, is_over, past_of, valued, width}
 use Rattle.record.specs.declared.events.Event.TheVariants.{Step}
-use Rattle.record.proofs.Width.{IsGood, is_good}
+use Rattle.record.proofs.Width.{IsGood}
 use Rattle.laws.specs.{Closes, Doing, Lies, Rests, Runs, call, doing, next_of}
 use Rattle.laws.proofs.Steps.{StepIs, step_is}
 use Rattle.process.specs.{ProcessState, left_at, left_of, process_after, rest_of}
-use Rattle.process.proofs.Left.{left-fewer, left-some, live-by}
-use Rattle.world.specs.{Seat, StepsQuietly, left_in, seat_of}
+use Rattle.process.proofs.Left.{left-some, live-by}
+use Rattle.world.specs.{MakesQuietly, Seat, left_in}
+use Rattle.world.specs.Walks.{Walks}
 use Rattle.world.specs.Shows.{Shows, WorldState}
-use Rattle.world.proofs.WorldLists.{get-mapped}
-use Rattle.world.proofs.WorldOpen.{many-seats, seat-below, seat-left, seat-shown, seat-there}
-use Rattle.world.proofs.WorldShows.{past-after}
+use Rattle.world.proofs.WorldOpen.{seat-left, seat-shown, seat-there}
 
 -- HOW MANY ARE LEFT
 
@@ -24,31 +25,18 @@ left-shown w events p shows some =
     let there = seat-there w.seats p some in
     seat-left w.seats p there.0 there.1 ∙ ap (λ (x : Seat). left_at x.process) (seat-shown w events p there.0 shows there.1)
 
-left-then : (w : WorldState) (events : List Event) (p : ℕ) → Shows w events → p < w.setup.processes → left_in w.seats p ≡ left_at (process_after w.setup (past_of w.setup events) p)
-left-then w events p shows below =
-    ap (λ (w : WorldState). left_in w.seats p) shows.shown
-    ∙ ap (λ (o : Option Seat). elim o as (λ _. ℕ) [ None ↦ 0 | Some x ↦ left_at x.process ]) (get-mapped (seat_of w.setup (past_of w.setup events)) 0 w.setup.processes p p below (omega arith))
+-- ONE STEP
 
--- and one fewer after a step
-pub left-on : (w w' : WorldState) (p : ℕ) (flick : Bool) (events : List Event) → StepsQuietly w p flick w' → Shows w events → 0 < left_in w.seats p → left_in w'.seats p + 1 ≡ left_in w.seats p
-left-on w w' p flick events q shows some =
-    let s : Setup = w.setup in
-    let past : Past = past_of s events in
-    let now : ProcessState = process_after s past p in
-    let e : Entry = record { process = p; access = Some q.access; marks = [] } in
-    let adds : entry_of s past (Step p flick) ≡ Some e = q.adds events shows in
-    let is : StepIs s past p flick e = step_is s (is_good s shows.good) events p flick e adds in
-    let here : left_in w.seats p ≡ left_at now = left-shown w events p shows some in
-    let left : 0 < left_at now = omega (arith, here, some) in
-    let there = seat-there w.seats p some in
-    let below : p < s.processes = omega (arith, seat-below w.seats p there.0 there.1, many-seats w events shows) in
-    let after : left_in w'.seats p ≡ left_at (process_after s (e ∷ past) p) =
-    left-then w' (Step p flick ∷ events) p (q.shows events shows) (subst (λ (s : Setup). p < s.processes) (sym q.setup) below)
-    ∙ ap (λ (s : Setup). left_at (process_after s (past_of s (Step p flick ∷ events)) p)) q.setup
-    ∙ ap (λ (past : Past). left_at (process_after s past p)) (past-after s events (Step p flick) e adds) in
-    let does : left_at (process_after s (e ∷ past) p) + 1 ≡ left_at now =
-    ap (λ (d : Doing). left_at (record now { doing = d }) + 1) is.does ∙ left-fewer now flick (value_of (valued s past flick is.next).how) left in
-    omega (arith, here, after, does)
+-- it is what one of so many is
+one-last : (last : Bool) (before overlapped : ℕ) → before ≡ 0 → overlapped ≡ before + cond last 1 0 → (last ≡ nat_lt 0 overlapped) × (overlapped ≡ cond (nat_lt 0 overlapped) 1 0)
+one-last true before overlapped none counts = let one : overlapped ≡ 1 = omega (arith, none, counts) in (sym (ap (nat_lt 0) one), one ∙ sym (ap (λ n. cond (nat_lt 0 n) 1 0) one))
+one-last false before overlapped none counts = let one : overlapped ≡ 0 = omega (arith, none, counts) in (sym (ap (nat_lt 0) one), one ∙ sym (ap (λ n. cond (nat_lt 0 n) 1 0) one))
+
+pub walks-one : (old new : WorldState) (f g : FlickState) (p : ℕ) (flick : Bool) (access : Access) (overlapped : ℕ) → flick_of f ≡ flick → Walks old f p 1 access overlapped new g →
+    MakesQuietly old p flick access (nat_lt 0 overlapped) new × (overlapped ≡ cond (nat_lt 0 overlapped) 1 0)
+walks-one old new f g p flick access overlapped by (w, x, earlier, before, (same, same_flicks, none), last, made, after, counts) =
+    let ends = one-last last before overlapped none counts in
+    (subst (λ (y : WorldState × Bool × Bool). MakesQuietly y.0 p y.1 access y.2 new) (λ i. (same i, (ap flick_of same_flicks ∙ by) i, ends.0 i)) made, ends.1)
 
 -- NONE ENDS A NUMBER
 

@@ -14,7 +14,7 @@ use Rattle.world.specs.Events.{AddsEvent, GoesOn, InEachPast, IsRefused, IsTurne
 use Rattle.flicks.specs.{FlickState}
 use Rattle.world.specs.Seats.{Seat}
 use Rattle.world.specs.Shows.{Shows, WorldState}
-use Rattle.world.specs.Walks.{AddsQuietly, StepsQuietly, TellsOverlapped, Walks}
+use Rattle.world.specs.Walks.{TellsOverlapped, Walks}
 
 -- the registers, and what is kept of each process: of fixed size
 pub record CoreState : Type 0 where
@@ -61,15 +61,12 @@ taken_by seats p reply = record { process = p; command = (call_in seats p).0; re
 abbrev pub history_with : List Taken → CoreState → ℕ → Option Reply → List Taken
 history_with taken c p reply = with_taken taken p (call_in c.seats p).0 (call_in c.seats p).1 reply
 
--- with each history: the entry that an event adds, that of a step, and that of one without a mark
+-- with each history: the entry that an event adds, and that of a step
 abbrev pub CoreAdds : CoreState → Event → Effect → Option Access → Type 0
 CoreAdds c event effect access = (taken : List Taken) → AddsEvent (with_history c taken) event effect access
 
 abbrev pub CoreAddsStep : CoreState → ℕ → Bool → StepTold → Access → Type 0
 CoreAddsStep c p flick told access = CoreAdds c (Step p flick) (Steps told) (Some access)
-
-abbrev pub CoreAddsQuietly : CoreState → ℕ → Bool → Access → Type 0
-CoreAddsQuietly c p flick access = (taken : List Taken) → AddsQuietly (with_history c taken) p flick access
 
 -- and whether an access to come ends a read that a write overlapped
 abbrev pub CoreTellsOverlapped : CoreState → Access → Bool → Type 0
@@ -108,12 +105,8 @@ MakesRoomForCall event c old new = is_call event ≡ true → length old.items +
 abbrev pub HasRoomToTake : Option Reply → Vec Taken → Type 0
 HasRoomToTake reply history = (r : Reply) → reply ≡ Some r → vec_len history < vec_capacity history
 
--- a step by this flick that has no mark, with each history; no more calls are pending
-pub record CoreStepsQuietly (old : CoreState) (p : ℕ) (flick : Bool) (new : CoreState) : Type 0 where
-  pub steps : (taken : List Taken) → StepsQuietly (with_history old taken) p flick (with_history new taken)
-  pub pending : pending_in new.seats ≤ pending_in old.seats
-
--- so many steps without a mark, of which so many ended a read that a write overlapped, with each history; no more calls are pending
-pub record CoreWalks (old : CoreState) (flicks : FlickState) (p n overlapped : ℕ) (new : CoreState) (flicks_then : FlickState) : Type 0 where
-  pub walks : (taken : List Taken) → Walks (with_history old taken) flicks p n overlapped (with_history new taken) flicks_then
+-- so many steps without a mark of a process that there is, with each history; no more calls are pending
+pub record CoreWalks (old : CoreState) (flicks : FlickState) (p n : ℕ) (newest : Access) (overlapped : ℕ) (new : CoreState) (flicks_then : FlickState) : Type 0 where
+  pub there : p < length new.seats
+  pub walks : (taken : List Taken) → Walks (with_history old taken) flicks p n newest overlapped (with_history new taken) flicks_then
   pub pending : pending_in new.seats ≤ pending_in old.seats

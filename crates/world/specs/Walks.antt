@@ -1,5 +1,5 @@
 -- Steps of a process without a mark, one after another.
-use Rattle.std.specs.Prelude.{◌≡◌, ℕ, zero, suc, ◌+◌, Bool, false, if◌then◌else◌, List, [], None, Some, slice_get}
+use Rattle.std.specs.Prelude.{◌≡◌, ◌<◌, ℕ, zero, suc, ◌+◌, Bool, false, if◌then◌else◌, List, [], None, Some, slice_get}
 use Rattle.record.specs.safe_bit.{Move, is_overlapped}
 use Rattle.record.specs.safe_bit.declared.Move.TheVariants.{EndRead}
 use Rattle.record.specs.{Access, Entry, Past, moves_of}
@@ -35,25 +35,24 @@ pub record StepsQuietly (old : WorldState) (p : ℕ) (flick : Bool) (new : World
   pub headline : KeepsTheHeadline old p (record { access = Some access; marks = [] })
   pub setup : new.setup ≡ old.setup
 
--- the same, with this access; so is known whether it ended such a read
-abbrev pub MakesQuietly : WorldState → ℕ → Bool → Access → Bool → WorldState → Type 0
-MakesQuietly old p flick access overlapped new = (q : StepsQuietly old p flick new) × (q.access ≡ access) × TellsOverlapped old access overlapped
-
--- so many of them, each by the flick that is next; so many of these ended such a read
-abbrev pub Walks : WorldState → FlickState → ℕ → ℕ → ℕ → WorldState → FlickState → Type 0
-Walks old flicks p zero overlapped new flicks_then = (new ≡ old) × (flicks_then ≡ flicks) × (overlapped ≡ 0)
-Walks old flicks p (suc n) overlapped new flicks_then =
-    (w : WorldState) × (f : FlickState) × (before : ℕ) × Walks old flicks p n before w f
-    × (access : Access) × (last : Bool) × MakesQuietly w p (flick_of f) access last new × (flicks_then ≡ after_flick f) × (overlapped ≡ before + (if last then 1 else 0))
-
 -- how many of the next steps of a process are within a number access of its call; none, if there is no such process
 abbrev pub left_in : List Seat → ℕ → ℕ
 left_in seats p = elim (slice_get seats p) [ None ↦ 0 | Some seat ↦ left_at seat.process ]
 
--- it has one of them less
-abbrev pub HasOneFewer : List Seat → ℕ → List Seat → Type 0
-HasOneFewer seats p new = left_in seats p ≡ left_in new p + 1
-
 -- each process but p has as many as before
 abbrev pub KeepOthers : List Seat → ℕ → List Seat → Type 0
 KeepOthers seats p new = (q : ℕ) → (q ≡ p → ⊥) → left_in new q ≡ left_in seats q
+
+-- such a step within a number access, with this access; so is known whether it ended such a read
+pub record MakesQuietly (old : WorldState) (p : ℕ) (flick : Bool) (access : Access) (overlapped : Bool) (new : WorldState) : Type 0 where
+  pub within : 0 < left_in old.seats p
+  pub steps : StepsQuietly old p flick new
+  pub access_is : steps.access ≡ access
+  pub tells : TellsOverlapped old access overlapped
+
+-- so many of them, each by the flick that is next; the newest makes this access, and so many ended such a read
+abbrev pub Walks : WorldState → FlickState → ℕ → ℕ → Access → ℕ → WorldState → FlickState → Type 0
+Walks old flicks p zero newest overlapped new flicks_then = (new ≡ old) × (flicks_then ≡ flicks) × (overlapped ≡ 0)
+Walks old flicks p (suc n) newest overlapped new flicks_then =
+    (w : WorldState) × (f : FlickState) × (access : Access) × (before : ℕ) × Walks old flicks p n access before w f
+    × (last : Bool) × MakesQuietly w p (flick_of f) newest last new × (flicks_then ≡ after_flick f) × (overlapped ≡ before + (if last then 1 else 0))

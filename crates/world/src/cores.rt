@@ -1,16 +1,16 @@
 //! N processes over one set of registers, without a history.
-ghost use Rattle.std.specs.Prelude.{◌≡◌, ◌<◌, ◌≤◌, Bool, length, true, None, Some, IfOk, IfErr, IfSome, IsOk, OnErr, OnOk, Ok, [], option_map};
+ghost use Rattle.std.specs.Prelude.{◌≡◌, ◌<◌, ◌≤◌, ◌+◌, Bool, length, true, None, Some, IfOk, IfErr, IfSome, IsOk, OnErr, OnOk, Ok, [], option_map};
 ghost use Rattle.plain_store.specs.{checked, is_command};
 ghost use Rattle.record.specs.store_image.{image_of};
 ghost use Rattle.record.specs.declared.Event.TheVariants.{Call, Step, Fail, Withdraw, Restart};
 ghost use Rattle.record.specs.{ahead, newest};
 ghost use Rattle.process.specs.declared.told.Effect.TheVariants.{Calls, Fails, Restarts, Steps, Withdraws};
 ghost use Rattle.process.specs.{WantsNoMemory};
-ghost use Rattle.world.specs.Cores.{CoreAdds, CoreAddsQuietly, CoreAddsStep, CoreMakes, CoreRefuses, CoreRefusesStep, CoreSteps, CoreStepsQuietly, CoreTellsOverlapped, CoreWalks, InEachCorePast, PendedBefore, PendedUnlessCall, UnlessCoreRefuses, pending_with, taken_by, with_history};
+ghost use Rattle.world.specs.Cores.{CoreAdds, CoreAddsStep, CoreMakes, CoreRefuses, CoreRefusesStep, CoreSteps, CoreTellsOverlapped, CoreWalks, InEachCorePast, PendedBefore, PendedUnlessCall, UnlessCoreRefuses, pending_with, taken_by, with_history};
 ghost use Rattle.world.specs.Events.{stage_in};
 ghost use Rattle.world.specs.Going.{CoreGoes};
 ghost use Rattle.world.specs.Shows.{Shows};
-ghost use Rattle.world.specs.Walks.{HasOneFewer, KeepOthers, left_in};
+ghost use Rattle.world.specs.Walks.{KeepOthers, left_in};
 
 mod copies;
 mod looking;
@@ -18,10 +18,9 @@ mod looking;
 use crate::queue::listed;
 use crate::seat::Seat;
 use crate::seats::{is_occupied, tell, waiting};
-use crate::steps_made::StepsMade;
 use flicks::Flicks;
 use plain_store::{Command, NestedTypes, Reply, Setup};
-use process::{AccessMade, BitMemory, Effect, Image, StepTold, newest, open_memory};
+use process::{AccessMade, AccessesMade, BitMemory, Effect, Image, StepTold, newest, open_memory};
 use record::{Access, Event, Refusal, Stage, Taken};
 use smallvec::SmallVec;
 use std::alloc::{AllocError, Global};
@@ -184,7 +183,11 @@ impl Core {
     {
         if 0 < self.left(process) {
             *told = StepTold::Nothing;
-            return Ok(self.make_step_within(process, flick));
+            let made = self.run(process, &mut Flicks::only(flick), 1);
+            return Ok(AccessMade {
+                access: made.newest,
+                overlapped: made.overlapped > 0,
+            });
         }
         if let Some(refusal) = self.step_refusal(process) {
             return Err(refusal);
@@ -225,32 +228,18 @@ impl Core {
         made
     }
 
-    /// Steps of a process while they are within a number access of its call, at most so many: each as `step` makes it, by
-    /// the flick that is next, and without a mark. It answers how many it has made, and how many of them ended a read that a
-    /// write overlapped: none where the next access is the last of a number access, or has a mark, or is of the memory
-    /// unit, or where there is no such process.
-    #[inline]
-    pub fn run(&mut self, process: u8, flicks: &mut Flicks, most: u32) -> StepsMade
-        ensures most { result.steps ≤ most }
-        ensures runs { CoreWalks self.old flicks.old process result.steps result.overlapped self.new flicks.new }
-        ensures stops { result.steps < most → left_in self.new.seats process ≡ 0 }
+    /// So many steps of a process within a number access of its call: each as `step` makes it, by the flick that is next, and
+    /// without a mark. It answers the access of the newest, and how many of them ended a read that a write overlapped. So
+    /// few words are looked at for one that it is quicker than a step which may lead to something.
+    #[inline(always)]
+    pub fn run(&mut self, process: u8, flicks: &mut Flicks, steps: u32) -> AccessesMade
+        requires some { 0 < steps }
+        requires within { steps ≤ left_in self.old.seats process }
+        ensures runs { CoreWalks self.old flicks.old process steps result.newest result.overlapped self.new flicks.new }
+        ensures fewer { left_in self.old.seats process ≡ left_in self.new.seats process + steps }
+        ensures others { KeepOthers self.old.seats process self.new.seats }
     {
-        let steps = self.left(process).min(most);
-        if steps > 0 {
-            StepsMade {
-                steps,
-                overlapped: self.seats[usize::from(process)].run(
-                    &mut self.registers,
-                    flicks,
-                    steps,
-                ),
-            }
-        } else {
-            StepsMade {
-                steps,
-                overlapped: 0,
-            }
-        }
+        self.seats[usize::from(process)].run(&mut self.registers, flicks, steps)
     }
 
     /// How many of the next steps of a process are within a number access of its call, whatever other processes do: they
@@ -264,22 +253,6 @@ impl Core {
             return 0;
         }
         self.seats[at].process().left()
-    }
-
-    /// One step, by this flick, of a process that is within a number access, and its access: it has no mark. It answers too
-    /// whether it ended a read that a write overlapped. So few words are looked at that it is quicker than a step which may
-    /// lead to something.
-    #[inline(always)]
-    pub fn make_step_within(&mut self, process: u8, flick: bool) -> AccessMade
-        requires { 0 < left_in self.old.seats process }
-        ensures quietly { CoreStepsQuietly self.old process flick self.new }
-        ensures accepted { CoreAddsQuietly self.old process flick result.access }
-        ensures overlapped { CoreTellsOverlapped self.old result.access result.overlapped }
-        ensures there { process < length self.new.seats }
-        ensures fewer { HasOneFewer self.old.seats process self.new.seats }
-        ensures others { KeepOthers self.old.seats process self.new.seats }
-    {
-        self.seats[usize::from(process)].step_within(&mut self.registers, flick)
     }
 
     /// An event that is not refused, and in `effect` what it leads to; the access of a step.

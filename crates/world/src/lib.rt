@@ -23,7 +23,6 @@ mod marks;
 mod queue;
 mod seat;
 mod seats;
-mod steps_made;
 mod world;
 
 pub use cores::Core;
@@ -32,8 +31,8 @@ pub use history_laws;
 pub use laws;
 pub use marks::{event_marks, step_marks};
 pub use process::{
-    AccessMade, BitSeen, Effect, EventMade, Image, Process, Settling, StepTold, TicketKnown,
+    AccessMade, AccessesMade, BitSeen, Effect, EventMade, Image, Process, Settling, StepTold,
+    TicketKnown,
 };
 pub use record::{Act, Event, Mark, Refusal, Stage, Taken};
-pub use steps_made::StepsMade;
 pub use world::World;

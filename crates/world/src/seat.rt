@@ -4,13 +4,13 @@ ghost use Rattle.plain_store.specs.{checked};
 ghost use Rattle.record.specs.{value_of};
 ghost use Rattle.record.specs.declared.Stage.TheVariants.{Waiting};
 ghost use Rattle.process.specs.registers.{AreOf, applied, ends_overlapped};
-ghost use Rattle.process.specs.{answered_at, dropped, failed, left_at, marks_on, marks_told, may_fail, may_step, overlapped_steps, restarted, stage_doing, step_by, stepped, steps_of, withdrawn};
+ghost use Rattle.process.specs.{answered_at, dropped, failed, left_at, marks_on, marks_told, may_fail, may_step, newest_of, overlapped_steps, restarted, stage_doing, stepped, steps_of, withdrawn};
 ghost use Rattle.world.specs.Changes.{told};
 ghost use Rattle.world.specs.Seats.{is_at_door, is_waiting, seat_called, seat_of, seat_stepped, seat_with};
 
 use flicks::Flicks;
 use plain_store::{Command, Setup};
-use process::{AccessMade, BitMemory, Process, StepTold};
+use process::{AccessMade, AccessesMade, BitMemory, Process, StepTold};
 use std::marker::Model;
 
 /// One process of a world, whether the doorway of its last call has begun, and which of 16 processes wait in a
@@ -142,31 +142,23 @@ impl Seat {
         self.process.step(registers, flick, leads)
     }
 
-    /// Makes the next access, within a number access of a call, and tells whether it ended a read that a write overlapped.
+    /// Makes so many of the next accesses, within a number access of a call. It answers the newest, and how many of them
+    /// ended a read that a write overlapped.
     #[inline(always)]
-    pub fn step_within(&mut self, registers: &mut BitMemory, flick: bool) -> AccessMade
-        requires within { 0 < left_at self.old.process }
-        requires registers { AreOf self.old.process.setup registers.old }
-        ensures access { result.access ≡ answered_at self.old.process registers.old flick }
-        ensures overlapped { result.overlapped ≡
-            ends_overlapped self.old.process.setup.processes registers.old result.access }
-        ensures seat { self.new ≡ seat_stepped (step_by flick (self.old.process, registers.old)).0 self.old }
-        ensures registers { registers.new ≡ (step_by flick (self.old.process, registers.old)).1 }
-    {
-        self.begun = self.begun || self.process.is_at_door();
-        self.process.step_within(registers, flick)
-    }
-
-    /// Makes so many of the next accesses, one at least, within a number access of a call. It answers how many of them ended
-    /// a read that a write overlapped.
-    #[inline(always)]
-    pub fn run(&mut self, registers: &mut BitMemory, flicks: &mut Flicks, steps: u32) -> u32
+    pub fn run(
+        &mut self,
+        registers: &mut BitMemory,
+        flicks: &mut Flicks,
+        steps: u32,
+    ) -> AccessesMade
+        requires some { 0 < steps }
         requires within { steps ≤ left_at self.old.process }
         requires registers { AreOf self.old.process.setup registers.old }
         ensures seat { self.new ≡ seat_stepped (steps_of steps (self.old.process, registers.old, flicks.old)).0 self.old }
         ensures registers { registers.new ≡ (steps_of steps (self.old.process, registers.old, flicks.old)).1 }
         ensures flicks { flicks.new ≡ (steps_of steps (self.old.process, registers.old, flicks.old)).2 }
-        ensures overlapped { result ≡ overlapped_steps steps (self.old.process, registers.old, flicks.old) }
+        ensures newest { result.newest ≡ newest_of steps (self.old.process, registers.old, flicks.old) }
+        ensures overlapped { result.overlapped ≡ overlapped_steps steps (self.old.process, registers.old, flicks.old) }
     {
         self.begun = self.begun || self.process.is_at_door();
         self.process.run(registers, flicks, steps)

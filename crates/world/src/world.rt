@@ -1,4 +1,4 @@
-ghost use Rattle.std.specs.Prelude.{◌≡◌, ◌<◌, ◌≤◌, [], false, option_map, None, Some, IfOk, IfErr, OnOk, OnErr, IsOk, Ok, length, List};
+ghost use Rattle.std.specs.Prelude.{◌≡◌, ◌<◌, ◌≤◌, ◌+◌, [], false, option_map, None, Some, IfOk, IfErr, OnOk, OnErr, IsOk, Ok, length, List};
 ghost use Rattle.std.specs.Vec.{vec_capacity};
 ghost use Rattle.plain_store.specs.{checked};
 ghost use Rattle.record.specs.store_image.{image_of};
@@ -10,16 +10,15 @@ ghost use Rattle.world.specs.Cores.{CoreTurnsAway, HasRoomToTake, MakesRoomForCa
 ghost use Rattle.world.specs.Events.{Adds, AddsEvent, AddsStep, EventKeepsHeadline, GoesOn, InEachPast, IsRefused, IsTurnedAway, KeepsTheHeadline, StepKeepsHeadline, UnlessRefused, stage_in};
 ghost use Rattle.world.specs.Shows.{Shows};
 ghost use Rattle.process.specs.declared.told.Effect.TheVariants.{Steps};
-ghost use Rattle.world.specs.Walks.{HasOneFewer, KeepOthers, MakesQuietly, TellsOverlapped, Walks, left_in};
+ghost use Rattle.world.specs.Walks.{KeepOthers, TellsOverlapped, Walks, left_in};
 
 mod looking;
 
 use crate::cores::Core;
 use crate::marks::act_made;
-use crate::steps_made::StepsMade;
 use flicks::Flicks;
 use plain_store::{NestedTypes, Reply, Setup};
-use process::{AccessMade, Effect, EventMade, Image, StepTold};
+use process::{AccessMade, AccessesMade, Effect, EventMade, Image, StepTold};
 use record::{Access, Act, Event, Refusal, Stage, Taken};
 use smallvec::SmallVec;
 use std::alloc::{AllocError, Global};
@@ -145,17 +144,18 @@ impl World {
         }
     }
 
-    /// Steps of a process while they are within a number access of its call, at most so many: each as `step` makes it, by
-    /// the flick that is next, and without a mark; of each the headline holds. It answers how many it has made, and how many
-    /// of them ended a read that a write overlapped: none where the next access is the last of a number access, or has a
-    /// mark, or is of the memory unit, or where there is no such process.
-    #[inline(never)]
-    pub fn run(&mut self, process: u8, flicks: &mut Flicks, most: u32) -> StepsMade
-        ensures most { result.steps ≤ most }
-        ensures runs { Walks self.old flicks.old process result.steps result.overlapped self.new flicks.new }
-        ensures stops { result.steps < most → left_in self.new.seats process ≡ 0 }
+    /// So many steps of a process within a number access of its call: each as `step` makes it, by the flick that is next, and
+    /// without a mark; of each the headline holds. It answers the access of the newest, and how many of them ended a read
+    /// that a write overlapped, which costs nothing where nobody looks at it.
+    #[inline(always)]
+    pub fn run(&mut self, process: u8, flicks: &mut Flicks, steps: u32) -> AccessesMade
+        requires some { 0 < steps }
+        requires within { steps ≤ left_in self.old.seats process }
+        ensures runs { Walks self.old flicks.old process steps result.newest result.overlapped self.new flicks.new }
+        ensures fewer { left_in self.old.seats process ≡ left_in self.new.seats process + steps }
+        ensures others { KeepOthers self.old.seats process self.new.seats }
     {
-        self.core.run(process, flicks, most)
+        self.core.run(process, flicks, steps)
     }
 
     /// How many of the next steps of a process are within a number access of its call, whatever other processes do: they
@@ -165,19 +165,6 @@ impl World {
         ensures { result ≡ left_in self.now.seats process }
     {
         self.core.left(process)
-    }
-
-    /// One step, by this flick, of a process that is within a number access as those of `run` are: as `step` makes it, and
-    /// without a mark; of it the headline holds. It answers its access, and whether that ended a read that a write
-    /// overlapped, which costs nothing where nobody looks at it.
-    #[inline(always)]
-    pub fn make_step_within(&mut self, process: u8, flick: bool) -> AccessMade
-        requires { 0 < left_in self.old.seats process }
-        ensures quietly { MakesQuietly self.old process flick result.access result.overlapped self.new }
-        ensures fewer { HasOneFewer self.old.seats process self.new.seats }
-        ensures others { KeepOthers self.old.seats process self.new.seats }
-    {
-        self.core.make_step_within(process, flick)
     }
 
     /// There are events whose record the world shows. Nothing to do: it hands over what every other clause takes for

@@ -7,7 +7,7 @@ ghost use Rattle.record.specs.declared.Event.TheVariants.{Step};
 ghost use Rattle.scenario.specs.declared.lines.Line.TheVariants.{Go as GoLine, Wander as WanderLine};
 ghost use Rattle.course.specs.Listening.{Comes, InItsRun, LeavesRoom, RunsAlone, StopsAlone, StopsAmid, room_wanted};
 ghost use Rattle.course.specs.Runs.{has_step, is_there as is_target, movers, past_in};
-ghost use Rattle.course.specs.Steppers.{left_told};
+ghost use Rattle.course.specs.Steppers.{left_told, turns_drawn};
 ghost use Rattle.course.specs.Turns.{rest_of, turns_in};
 
 use super::Course;
@@ -139,14 +139,12 @@ impl Course {
         }
         let mut within = [0_u32; 256];
         let mut left = self.left;
-        let mut flicks = self.flicks.twin();
         let mut ahead = self.flicks.twin();
         let mut next = drawn(&mut ahead, movers);
         let mut told = None;
         'steps: while 0 < left {
             left -= 1;
             let (process, flick) = next;
-            flicks.copy_from(&ahead);
             next = drawn(&mut ahead, movers);
             let at = usize::from(process);
             let mut quiet = within[at];
@@ -162,13 +160,13 @@ impl Course {
             )?;
             within[at] = quiet;
             if let Some(_answer) = &told {
+                skip_turns(&mut self.flicks, self.left - left);
                 self.left = left;
-                self.flicks = flicks;
                 return Ok(told);
             }
         }
+        skip_turns(&mut self.flicks, self.left - left);
         self.left = left;
-        self.flicks = flicks;
         Ok(None)
     }
 
@@ -238,6 +236,15 @@ fn drawn(flicks: &mut Flicks, movers: &[u8]) -> (u8, bool)
 {
     let process = movers[flicks.pick(movers.len())];
     (process, flicks.flick())
+}
+
+/// The words of the picks and flicks of so many turns are taken.
+#[inline]
+fn skip_turns(flicks: &mut Flicks, turns: u32)
+    ensures { flicks.new ≡ turns_drawn turns flicks.old }
+{
+    flicks.skip_picks(turns);
+    flicks.skip(turns);
 }
 
 /// Whether a process in this stage runs, or its memory unit settles.

@@ -5,13 +5,13 @@ ghost use Rattle.world.specs.{KeepOthers, left_in};
 ghost use Rattle.world.specs.process.declared.told.StepTold.TheVariants.{Nothing};
 ghost use Rattle.world.specs.process.registers.declared.access_made.AccessMade.{AccessMade as MadeSeen};
 ghost use Rattle.course.specs.Courses.{course};
-ghost use Rattle.course.specs.Listening.{HearsStep, Learns, LeavesRoom, MakesStep, MakesSteps, PassesAlone, StopsBy};
+ghost use Rattle.course.specs.Listening.{HearsStep, Learns, LeavesRoom, MakesStep, PassesAlone, StopsBy};
 ghost use Rattle.course.specs.Telling.{told_step};
 
 use crate::listening::Listener;
 use crate::told::{Accepted, Stepped, Told};
 use plain_store::NestedTypes;
-use record::{Access, Event, Refusal};
+use record::{Event, Refusal};
 use scenario::Fault;
 use world::{AccessMade, Effect, Flicks, StepTold, World};
 
@@ -45,28 +45,10 @@ pub(super) fn pass_by<L: Listener>(
     if within == 0 {
         return;
     }
-    let made = run_within(world, flicks, process, within);
+    let made = world.run(process, flicks, within);
     *left -= within;
     *quiet = 0;
-    listener.pass(process, within, made.0.how, made.1);
-}
-
-/// So many Steps of a process, all of them within its number access: the access of the newest, and how many of them ended a
-/// read that a write overlapped.
-#[inline]
-fn run_within(world: &mut World, flicks: &mut Flicks, process: u8, steps: u32) -> (Access, u32)
-    requires some { 0 < steps }
-    requires within { steps ≤ left_in world.old.seats process }
-    ensures { MakesSteps world.old flicks.old process steps world.new flicks.new result.0 result.1 }
-{
-    world.shown();
-    let earlier = world.run(process, flicks, steps - 1);
-    let flick = flicks.flick();
-    let newest = world.make_step_within(process, flick);
-    (
-        newest.access,
-        earlier.overlapped + u32::from(newest.overlapped),
-    )
+    listener.pass(process, within, made.newest.how, made.overlapped);
 }
 
 /// A Step by this flick: it is heard or passed by, if it has no mark, and else it is told in `told`, which is written then
@@ -102,18 +84,18 @@ pub(super) fn step<L: Listener>(
         return any_step(world, process, flick, listener, told);
     }
     *quiet = known - 1;
-    let made = world.make_step_within(process, flick);
+    let made = world.run(process, &mut Flicks::only(flick), 1);
     if listener.hears_steps() {
         listener.step(Stepped {
             process,
             flick,
-            access: made.access,
-            overlapped: made.overlapped,
+            access: made.newest,
+            overlapped: made.overlapped > 0,
             number: None,
         })?;
         return Ok(());
     }
-    listener.pass(process, 1, made.access.how, u32::from(made.overlapped));
+    listener.pass(process, 1, made.newest.how, made.overlapped);
     Ok(())
 }
 

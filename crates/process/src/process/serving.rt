@@ -4,7 +4,7 @@ ghost use Rattle.record.specs.{value_of};
 ghost use Rattle.record.specs.declared.stages.Stage.TheVariants.{Waiting};
 ghost use Rattle.registers.specs.{AreOf, IsAtPart, applied, ends_overlapped, run_at};
 ghost use Rattle.process.specs.Places.{changes_read, failed, left_at, left_of, marks_on, may_fail, may_step, stage_doing, stepped, withdrawn};
-ghost use Rattle.process.specs.Serving.{answered_at, dropped, overlapped_steps, step_by, steps_of};
+ghost use Rattle.process.specs.Serving.{answered_at, dropped, newest_of, overlapped_steps, steps_of};
 ghost use Rattle.process.specs.Telling.{changes_told, marks_told};
 
 use super::Process;
@@ -12,7 +12,7 @@ use crate::call_part::CallPart;
 use crate::told::StepTold;
 use crate::work::ProcessWork;
 use flicks::Flicks;
-use registers::{AccessMade, BitMemory, Cursor, given};
+use registers::{AccessMade, AccessesMade, BitMemory, Cursor, given};
 
 impl Process {
     /// How many of its next accesses are within a number access of its call: they have no mark, and none is the first of the
@@ -45,31 +45,18 @@ impl Process {
         made
     }
 
-    /// The same within a number access, where it leads to nothing.
+    /// Makes so many steps within a number access, where they lead to nothing, each by the flick that is next. It answers the
+    /// access of the newest, and how many of them ended a read that a write overlapped.
     #[inline(always)]
-    pub fn step_within(&mut self, memory: &mut BitMemory, flick: bool) -> AccessMade
-        requires left { 0 < left_at self.old }
-        requires memory { AreOf self.old.setup memory.old }
-        ensures access { result.access ≡ answered_at self.old memory.old flick }
-        ensures overlapped { result.overlapped ≡ ends_overlapped self.old.setup.processes memory.old result.access }
-        ensures step { (self.new, memory.new) ≡ step_by flick (self.old, memory.old) }
-    {
-        memory.step(&mut self.cursor, flick)
-    }
-
-    /// So many steps within a number access, each by the flick that is next. It answers how many of them ended a read that
-    /// a write overlapped.
-    pub fn run(&mut self, memory: &mut BitMemory, flicks: &mut Flicks, steps: u32) -> u32
+    pub fn run(&mut self, memory: &mut BitMemory, flicks: &mut Flicks, steps: u32) -> AccessesMade
+        requires some { 0 < steps }
         requires left { steps ≤ left_at self.old }
         requires memory { AreOf self.old.setup memory.old }
         ensures steps { (self.new, memory.new, flicks.new) ≡ steps_of steps (self.old, memory.old, flicks.old) }
-        ensures overlapped { result ≡ overlapped_steps steps (self.old, memory.old, flicks.old) }
+        ensures newest { result.newest ≡ newest_of steps (self.old, memory.old, flicks.old) }
+        ensures overlapped { result.overlapped ≡ overlapped_steps steps (self.old, memory.old, flicks.old) }
     {
-        if steps > 0 {
-            memory.run(&mut self.cursor, flicks, steps)
-        } else {
-            0
-        }
+        memory.run(&mut self.cursor, flicks, steps)
     }
 
     /// It gives up waiting: its open read is dropped, and it will clear its ticket.

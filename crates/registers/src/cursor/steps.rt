@@ -1,9 +1,9 @@
 //! How a cursor goes on: by the single access of a read or of a write, and by whole words.
 ghost use Rattle.std.specs.Prelude.{◌≡◌, ℕ, ◌<◌, ◌≤◌, ◌+◌, ◌*◌, ◌/◌, ◌%◌, true, false, slice_index_or};
 ghost use Rattle.registers.specs.Accesses.{access_with, read_after, read_move, write_after, write_move};
-ghost use Rattle.registers.specs.Cursors.{IsAtCopy, first_lane};
+ghost use Rattle.registers.specs.Cursors.{first_lane, lanes_of};
 ghost use Rattle.reader_copies.specs.{flag_in};
-ghost use Rattle.registers.specs.Wordwise.{more_bits};
+ghost use Rattle.registers.specs.Wordwise.{AreAhead, more_bits};
 
 use super::{Cursor, NumberRun, word_at};
 use crate::access_made::AccessMade;
@@ -34,14 +34,17 @@ impl Cursor {
         self.begun
     }
 
+    /// On how many lanes it reads or writes each bit.
     #[inline(always)]
-    pub(crate) fn copies(&self) -> u32
-        ensures copies { result ≡ self.now.copies }
+    pub(crate) fn lanes(&self) -> u32
+        ensures lanes { result ≡ lanes_of self.now }
+        ensures some { 1 ≤ result }
         ensures most { result ≤ 16 }
-        ensures inside { self.now.reader + self.now.copy < self.now.copies }
-        ensures at { IsAtCopy self.now.run self.now.reader self.now.copy }
     {
-        self.copies as u32
+        match self.run {
+            NumberRun::Reads => 1,
+            _ => self.copies as u32,
+        }
     }
 
     /// The next access of a read, whose end gives `value`.
@@ -115,16 +118,20 @@ impl Cursor {
         self.begun = !self.begun;
     }
 
-    /// How many bits may be read at once, at most so many, within one word.
-    pub(crate) fn bits_ahead(&self, most: u32) -> u32
-        ensures most { result ≤ most }
-        ensures inside { self.now.bit + result ≤ self.now.width }
-        ensures word { self.now.bit % 64 + result ≤ 64 }
-        ensures closed { 0 < result → self.now.begun ≡ false }
+    /// How many bits may be gone through at once, within so many accesses and one word: none once one has begun.
+    #[inline(always)]
+    pub(crate) fn bits_ahead(&self, steps: u32) -> u32
+        ensures within { 2 * (lanes_of self.now * result) ≤ steps }
+        ensures ahead { 0 < result → AreAhead self.now result }
     {
-        if self.begun {
+        if self.begun || self.copy != 0 {
             return 0;
         }
+        let most = match self.run {
+            NumberRun::Reads => steps / 2,
+            NumberRun::Writes => steps / (2 * u32::from(self.copies)),
+            NumberRun::Settles { .. } => 0,
+        };
         let bit = u32::from(self.bit);
         most.min(u32::from(self.width) - bit).min(64 - bit % 64)
     }
@@ -132,28 +139,13 @@ impl Cursor {
     /// The next bits of a read are these.
     pub(crate) fn keep_word(&mut self, n: usize, word: u64)
         requires reads { self.old.run ≡ NumberRun.Reads }
-        requires some { 1 ≤ n }
-        requires inside { self.old.bit + n ≤ self.old.width }
-        requires word { self.old.bit % 64 + n ≤ 64 }
+        requires ahead { AreAhead self.old n }
         ensures { self.new ≡ record self.old { bit = self.old.bit + n; bits = more_bits n (λ j. flag_in word ((self.old.bit + j) % 64)) self.old.bits } }
     {
         let bit = self.bit as usize;
         let old = word_at(&self.words, bit);
         self.words[bit / 64] = choose(mask(bit % 64, n), word, old);
         self.bit += n as u16;
-    }
-
-    /// How many bits may be written at once, within so many accesses and one word.
-    pub(crate) fn whole_ahead(&self, steps: u32) -> u32
-        ensures within { 2 * (self.now.copies * result) ≤ steps }
-        ensures inside { self.now.bit + result ≤ self.now.width }
-        ensures word { self.now.bit % 64 + result ≤ 64 }
-        ensures closed { 0 < result → (self.now.begun ≡ false) × (self.now.copy ≡ 0) × (0 < self.now.copies) }
-    {
-        if self.copy != 0 {
-            return 0;
-        }
-        self.bits_ahead(steps / (2 * u32::from(self.copies)))
     }
 
     /// The word of a write's value that the next bit stands in.

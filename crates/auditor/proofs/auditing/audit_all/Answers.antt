@@ -3,7 +3,7 @@ use Rattle.std.proofs.lemmas.List.{take_all}
 use Rattle.plain_store.specs.{Setup}
 use Rattle.record.specs.{Entry, Past}
 use Rattle.auditor.specs.{AllKeep, BreaksNext, HasHeard, IsHeard, KeepsAll}
-use Rattle.read_law.proofs.Entries.{entries_more}
+use Rattle.auditor.proofs.Entries.{entries_more}
 use Rattle.auditor.proofs.Firsts.{is_bad_at}
 use Rattle.auditor.proofs.Whole.{good_of_events, true_record}
 use Rattle.auditor.proofs.auditing.audit_all.Goals as goal

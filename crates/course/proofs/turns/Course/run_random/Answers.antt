@@ -9,7 +9,7 @@ use Rattle.course.proofs.Lone.{only_one}
 use Rattle.course.proofs.Movers.{none_left, some_left}
 use Rattle.course.proofs.Played.{no_value, on_fault}
 use Rattle.course.proofs.Runnings.{at_once, comes_as, comes_end, comes_start, comes_stop, comes_then, comes_to, line_stops}
-use Rattle.course.proofs.Wanders.{ArePicked, KnowsWhile, picked_on, picked_told, wander_ends}
+use Rattle.course.proofs.Wanders.{ArePicked, KnowsWhile, drawn_by, drawn_more, drawn_none, drawn_to, picked_on, picked_told, wander_ends}
 use Rattle.course.proofs.turns.Course.run_random.Goals as goal
 
 pub returns-then-is_empty-clause-ok : goal.returns-then-is_empty-clause-ok
@@ -27,13 +27,16 @@ steps-init g c =
     let i = c.self.inside in
     let ps = c.as_slice-movers.result.now in
     let left = ap (λ (old : CourseState). old.left) c.self.view_is in
+    let flicks = ap (λ (old : CourseState). old.flicks) c.self.view_is in
+    let none : drawn_to c.args.self.now i.left ≡ i.flicks = drawn_none c.args.self.now i.flicks i.left flicks left in
     record {
-      on = λ steps run follows. subst (λ (f : FlickState). ComesOn (HearsFrom g.L.Listener.Hears g.L.Listener.Knows (KnowsWhile g.L.Listener.Knows i.left)) c.args.self.now.world.setup (WanderLine steps) c.args.self.now.left run c.args.listener.now c.args.listener.now (course i.world f i.left) (ArePicked ps)) (sym c.twin-flicks.ensures) (comes_start (HearsFrom g.L.Listener.Hears g.L.Listener.Knows (KnowsWhile g.L.Listener.Knows i.left)) (WanderLine steps) run c.args.self.now (course i.world i.flicks i.left) c.args.listener.now (ArePicked ps) (g.met.L.Listener.hears_nothing c.args.listener.now c.args.self.now.world.setup run.happened, λ known. inl known) c.self.view_is follows (c.as_slice-movers.ensures ∙ c.movers-movers.ensures run follows));
+      on = λ steps run follows. subst (λ (f : FlickState). ComesOn (HearsFrom g.L.Listener.Hears g.L.Listener.Knows (KnowsWhile g.L.Listener.Knows i.left)) c.args.self.now.world.setup (WanderLine steps) c.args.self.now.left run c.args.listener.now c.args.listener.now (course i.world f i.left) (ArePicked ps)) (sym none) (comes_start (HearsFrom g.L.Listener.Hears g.L.Listener.Knows (KnowsWhile g.L.Listener.Knows i.left)) (WanderLine steps) run c.args.self.now (course i.world i.flicks i.left) c.args.listener.now (ArePicked ps) (g.met.L.Listener.hears_nothing c.args.listener.now c.args.self.now.world.setup run.happened, λ known. inl known) c.self.view_is follows (c.as_slice-movers.ensures ∙ c.movers-movers.ensures run follows));
+      same = (flicks, left);
       kept = record { are = c.self.invariant.are; few = c.self.invariant.few };
       left = omega (arith, left);
-      process = c.drawn-next.ensures.process ∙ ap (λ (f : FlickState). slice_index ps (pick_of (length ps) f)) (c.twin-ahead.ensures ∙ sym c.twin-flicks.ensures);
-      flick = c.drawn-next.ensures.flick ∙ ap (λ (f : FlickState). flick_of (after_pick f)) (c.twin-ahead.ensures ∙ sym c.twin-flicks.ensures);
-      ahead = c.drawn-next.ensures.after ∙ ap (λ (f : FlickState). after_flick (after_pick f)) (c.twin-ahead.ensures ∙ sym c.twin-flicks.ensures);
+      process = c.drawn-next.ensures.process ∙ ap (λ (f : FlickState). slice_index ps (pick_of (length ps) f)) (c.twin-ahead.ensures ∙ sym none);
+      flick = c.drawn-next.ensures.flick ∙ ap (λ (f : FlickState). flick_of (after_pick f)) (c.twin-ahead.ensures ∙ sym none);
+      ahead = c.drawn-next.ensures.after ∙ ap (λ (f : FlickState). after_flick (after_pick f)) (c.twin-ahead.ensures ∙ sym none);
       counted = λ p. let none = none_known 256 p in omega (arith, none);
       untold = refl;
       room = λ more room. g.met.L.Listener.room_less c.args.listener.now (more + i.left) (more + c.args.self.now.left) (omega (arith, left)) room;
@@ -61,14 +64,15 @@ steps-preserved g c =
     step_knows Hears Knows i.world c.step.new.world c.steps.next.0 c.steps.next.1 c.steps.listener c.step.new.listener (KnowsWhile Knows c.steps.left) (λ s x. 0 < c.steps.left - 1) (c.steps.left - 1 == 0) heard
     (λ last. subst (λ told. MakesStep (Learns Knows) i.world c.steps.next.0 c.steps.next.1 told c.step.new.world c.steps.listener c.step.new.listener) c.in_default.is (c.in_ok-step.ensures.knows last))
     (λ more before shows. turns_above 0 c.steps.left c.steps-test.true more) in
-    let same : c.steps.ahead ≡ c.copy_from.new.self = sym c.copy_from.ensures in
+    let same : c.steps.ahead ≡ drawn_to c.args.self.now (c.steps.left - 1) = c.steps.invariant.ahead ∙ sym (drawn_more c.args.self.now c.steps.left c.steps-test.true c.steps.invariant.left) in
     let ps = c.as_slice-movers.result.now in
     let some : 0 < length ps = subst (λ (l : List ℕ). 0 < length l) (sym c.as_slice-movers.ensures) (some_left c.movers-movers.result.items (sym c.is_empty.ensures ∙ c.if-is_empty.false)) in
     record {
       on = λ steps run follows.
-          comes_then Hears laws.hears_on Knows (KnowsWhile Knows c.steps.left) c.args.self.now.world.setup (WanderLine steps) c.args.self.now.left run c.args.listener.now c.steps.listener c.step.new.listener (course i.world c.steps.flicks c.steps.left) (ArePicked ps) (c.steps.invariant.on steps run follows) (KnowsWhile Knows (c.steps.left - 1)) (course c.step.new.world c.copy_from.new.self (c.steps.left - 1)) (ArePicked ps)
-          (λ run follows are. picked_on i.world c.step.new.world steps c.steps.left c.steps.next.0 ps c.steps.next.1 run c.steps.flicks c.copy_from.new.self (λ none. omega (arith, none, c.steps-test.true)) some c.steps.invariant.process c.steps.invariant.flick (c.copy_from.ensures ∙ c.steps.invariant.ahead)
+          comes_then Hears laws.hears_on Knows (KnowsWhile Knows c.steps.left) c.args.self.now.world.setup (WanderLine steps) c.args.self.now.left run c.args.listener.now c.steps.listener c.step.new.listener (course i.world (drawn_to c.args.self.now c.steps.left) c.steps.left) (ArePicked ps) (c.steps.invariant.on steps run follows) (KnowsWhile Knows (c.steps.left - 1)) (course c.step.new.world (drawn_to c.args.self.now (c.steps.left - 1)) (c.steps.left - 1)) (ArePicked ps)
+          (λ run follows are. picked_on i.world c.step.new.world steps c.steps.left c.steps.next.0 ps c.steps.next.1 run (drawn_to c.args.self.now c.steps.left) (drawn_to c.args.self.now (c.steps.left - 1)) (λ none. omega (arith, none, c.steps-test.true)) some c.steps.invariant.process c.steps.invariant.flick (drawn_more c.args.self.now c.steps.left c.steps-test.true c.steps.invariant.left)
           follows are (HearsFrom Hears (KnowsWhile Knows c.steps.left) (KnowsWhile Knows (c.steps.left - 1))) c.steps.listener c.step.new.listener knows);
+      same = c.steps.invariant.same;
       kept = record { are = c.steps.invariant.kept.are ∙ ap (λ s. s.processes) (sym c.step.ensures.setup); few = c.steps.invariant.kept.few };
       left = omega (arith, c.steps-test.true, c.steps.invariant.left);
       process = c.drawn-next-in-steps.ensures.process ∙ ap (λ (f : FlickState). slice_index ps (pick_of (length ps) f)) same;
@@ -93,7 +97,7 @@ returns-in_err-step g c =
     let ps = c.as_slice-movers.result.now in
     let some : 0 < length ps = subst (λ (l : List ℕ). 0 < length l) (sym c.as_slice-movers.ensures) (some_left c.movers-movers.result.items (sym c.is_empty.ensures ∙ c.if-is_empty.false)) in
     let fault = c.in_err-step.field-0.0 in
-    let new : CourseState = course c.step.new.world c.copy_from.new.self (c.steps.left - 1) in
+    let new : CourseState = course c.step.new.world (drawn_to c.args.self.now (c.steps.left - 1)) (c.steps.left - 1) in
     record {
       left = no_value c.from_residual.result fault _ c.from_residual.ensures.1;
       ok = no_value c.from_residual.result fault _ c.from_residual.ensures.1;
@@ -101,13 +105,13 @@ returns-in_err-step g c =
       cut = on_fault c.from_residual.result fault (λ fault. (steps : ℕ) (run : Run) → Follows c.args.self.now run → had ≤ steps → Stops c.args.listener.now s run.happened (rest_of s (WanderLine steps) had run).happened fault c.step.new.listener) c.from_residual.ensures.1
           (λ steps run follows few.
           line_stops Stops s (WanderLine steps) had run c.args.listener.now c.step.new.listener fault new (ArePicked ps) laws.stops_before
-          (comes_stop Hears laws.hears_on Knows (KnowsWhile Knows c.steps.left) s (WanderLine steps) had run c.args.listener.now c.steps.listener c.step.new.listener (course i.world c.steps.flicks c.steps.left) (ArePicked ps) (c.steps.invariant.on steps run follows) Stops laws.stops_on fault new (ArePicked ps)
-          (λ run follows are. picked_on i.world c.step.new.world steps c.steps.left c.steps.next.0 ps c.steps.next.1 run c.steps.flicks c.copy_from.new.self (λ none. omega (arith, none, c.steps-test.true)) some c.steps.invariant.process c.steps.invariant.flick (c.copy_from.ensures ∙ c.steps.invariant.ahead)
+          (comes_stop Hears laws.hears_on Knows (KnowsWhile Knows c.steps.left) s (WanderLine steps) had run c.args.listener.now c.steps.listener c.step.new.listener (course i.world (drawn_to c.args.self.now c.steps.left) c.steps.left) (ArePicked ps) (c.steps.invariant.on steps run follows) Stops laws.stops_on fault new (ArePicked ps)
+          (λ run follows are. picked_on i.world c.step.new.world steps c.steps.left c.steps.next.0 ps c.steps.next.1 run (drawn_to c.args.self.now c.steps.left) (drawn_to c.args.self.now (c.steps.left - 1)) (λ none. omega (arith, none, c.steps-test.true)) some c.steps.invariant.process c.steps.invariant.flick (drawn_more c.args.self.now c.steps.left c.steps-test.true c.steps.invariant.left)
           follows are (StopsBy Stops fault) c.steps.listener c.step.new.listener c.in_err-step.ensures.cut)) few);
     }
 
 pub returns-in-Some-clause-ok : goal.returns-in-Some-clause-ok
-returns-in-Some-clause-ok g c = subst (λ told. (steps : ℕ) → Comes g.L.Listener.Hears g.L.Listener.Knows c.args.self.now (WanderLine steps) (course c.step.new.world c.copy_from.new.self (c.steps.left - 1)) c.args.listener.now c.step.new.listener told) (sym c.in-Some.is) (λ steps run follows.
+returns-in-Some-clause-ok g c = subst (λ told. (steps : ℕ) → Comes g.L.Listener.Hears g.L.Listener.Knows c.args.self.now (WanderLine steps) (course c.step.new.world c.skip_turns.new.flicks (c.steps.left - 1)) c.args.listener.now c.step.new.listener told) (sym c.in-Some.is) (λ steps run follows.
     let laws = g.met.L.Listener in
     let Hears = g.L.Listener.Hears in
     let Knows = g.L.Listener.Knows in
@@ -117,10 +121,12 @@ returns-in-Some-clause-ok g c = subst (λ told. (steps : ℕ) → Comes g.L.List
     let both = rw c.in-Some.is at c.in_ok-step.ensures.ok in
     let ps = c.as_slice-movers.result.now in
     let some : 0 < length ps = subst (λ (l : List ℕ). 0 < length l) (sym c.as_slice-movers.ensures) (some_left c.movers-movers.result.items (sym c.is_empty.ensures ∙ c.if-is_empty.false)) in
-    let new : CourseState = course c.step.new.world c.copy_from.new.self (c.steps.left - 1) in
-    comes_to Hears laws.hears_on Knows (KnowsWhile Knows c.steps.left) s (WanderLine steps) had run c.args.listener.now c.steps.listener c.step.new.listener (course i.world c.steps.flicks c.steps.left) (ArePicked ps) (c.steps.invariant.on steps run follows) (KnowsEnough Knows (Some c.in-Some._answer)) new (Some c.in-Some._answer)
+    let drawn : c.skip_turns.new.flicks ≡ after_flick (after_pick (drawn_to c.args.self.now c.steps.left)) =
+    c.skip_turns.ensures ∙ drawn_by c.args.self.now i.flicks i.left (c.steps.left - 1) c.steps.invariant.same.0 c.steps.invariant.same.1 ∙ drawn_more c.args.self.now c.steps.left c.steps-test.true c.steps.invariant.left in
+    let new : CourseState = course c.step.new.world c.skip_turns.new.flicks (c.steps.left - 1) in
+    comes_to Hears laws.hears_on Knows (KnowsWhile Knows c.steps.left) s (WanderLine steps) had run c.args.listener.now c.steps.listener c.step.new.listener (course i.world (drawn_to c.args.self.now c.steps.left) c.steps.left) (ArePicked ps) (c.steps.invariant.on steps run follows) (KnowsEnough Knows (Some c.in-Some._answer)) new (Some c.in-Some._answer)
     (λ run follows are. subst (λ b. ComesTo (HearsFrom Hears (KnowsWhile Knows c.steps.left) (KnowsEnough Knows (Some c.in-Some._answer))) i.world.setup (WanderLine steps) c.steps.left run c.steps.listener b (Some c.in-Some._answer) new) (sym both.1)
-    (picked_told i.world c.step.new.world steps c.steps.left c.steps.next.0 ps c.steps.next.1 run c.steps.flicks c.copy_from.new.self (λ none. omega (arith, none, c.steps-test.true)) some c.steps.invariant.process c.steps.invariant.flick (c.copy_from.ensures ∙ c.steps.invariant.ahead)
+    (picked_told i.world c.step.new.world steps c.steps.left c.steps.next.0 ps c.steps.next.1 run (drawn_to c.args.self.now c.steps.left) c.skip_turns.new.flicks (λ none. omega (arith, none, c.steps-test.true)) some c.steps.invariant.process c.steps.invariant.flick drawn
     follows are (HearsFrom Hears (KnowsWhile Knows c.steps.left) (KnowsEnough Knows (Some c.in-Some._answer))) c.steps.listener c.in-Some._answer
     (λ tells. (
       laws.hears_nothing c.steps.listener i.world.setup run.happened,
@@ -132,9 +138,11 @@ pub returns-clause-ok : goal.returns-clause-ok
 returns-clause-ok g c = λ steps run follows.
     let i = c.steps.self-inside in
     let ps = c.as_slice-movers.result.now in
-    comes_end (HearsUpTo g.L.Listener.Hears g.L.Listener.Knows None) c.args.self.now.world.setup (WanderLine steps) c.args.self.now.left run c.args.listener.now c.steps.listener (course i.world c.steps.flicks c.steps.left) (ArePicked ps) (omega (arith, c.steps-test.false))
-    (comes_as g.L.Listener.Hears g.L.Listener.Knows (KnowsWhile g.L.Listener.Knows c.steps.left) g.L.Listener.Knows c.args.self.now.world.setup (WanderLine steps) c.args.self.now.left run c.args.listener.now c.steps.listener (course i.world c.steps.flicks c.steps.left) (ArePicked ps)
-    (λ x known. elim known [ inl known ↦ known | inr more ↦ absurd (omega (arith, more, c.steps-test.false)) ]) (c.steps.invariant.on steps run follows))
+    let drawn : c.skip_turns-2.new.flicks ≡ drawn_to c.args.self.now c.steps.left = c.skip_turns-2.ensures ∙ drawn_by c.args.self.now i.flicks i.left c.steps.left c.steps.invariant.same.0 c.steps.invariant.same.1 in
+    subst (λ (f : FlickState). ComesTo (HearsUpTo g.L.Listener.Hears g.L.Listener.Knows None) c.args.self.now.world.setup (WanderLine steps) c.args.self.now.left run c.args.listener.now c.steps.listener None (course i.world f c.steps.left)) (sym drawn)
+    (comes_end (HearsUpTo g.L.Listener.Hears g.L.Listener.Knows None) c.args.self.now.world.setup (WanderLine steps) c.args.self.now.left run c.args.listener.now c.steps.listener (course i.world (drawn_to c.args.self.now c.steps.left) c.steps.left) (ArePicked ps) (omega (arith, c.steps-test.false))
+    (comes_as g.L.Listener.Hears g.L.Listener.Knows (KnowsWhile g.L.Listener.Knows c.steps.left) g.L.Listener.Knows c.args.self.now.world.setup (WanderLine steps) c.args.self.now.left run c.args.listener.now c.steps.listener (course i.world (drawn_to c.args.self.now c.steps.left) c.steps.left) (ArePicked ps)
+    (λ x known. elim known [ inl known ↦ known | inr more ↦ absurd (omega (arith, more, c.steps-test.false)) ]) (c.steps.invariant.on steps run follows)))
 
 pub invariant_of-self : goal.invariant_of-self
 invariant_of-self g c = record { are = c.self.invariant.are; few = c.self.invariant.few }

@@ -2,7 +2,7 @@ use Rattle.std.proofs.Common.{None, ◌≡◌, ◌+◌, ◌≤◌, ℕ, length, 
 use Rattle.scenario.specs.declared.lines.Line.TheVariants.{Wander as WanderLine}
 use Rattle.world.specs.flicks.{after_flick, after_pick, flick_of, pick_of}
 use Rattle.course.specs.{ComesOn, Follows, HearsFrom, IsCounted, KeepsCourse, Run, course}
-use Rattle.course.proofs.Wanders.{ArePicked, KnowsWhile}
+use Rattle.course.proofs.Wanders.{ArePicked, KnowsWhile, drawn_to}
 use Rattle.course.proofs.turns.Course.run_random.Given as goal
 
 -- so far each Step was made without a mark and was heard, the newest is known or others are left, and the same processes may be picked; what comes next is
@@ -10,12 +10,13 @@ use Rattle.course.proofs.turns.Course.run_random.Given as goal
 abbrev pub invariant-steps : goal.invariant-steps
 invariant-steps g l = record {
   on : (steps : ℕ) (run : Run) → Follows l.fn.self run →
-      ComesOn (HearsFrom g.L.Listener.Hears g.L.Listener.Knows (KnowsWhile g.L.Listener.Knows l.left)) l.fn.self.world.setup (WanderLine steps) l.fn.self.left run l.fn.listener l.listener (course l.self-inside.world l.flicks l.left) (ArePicked l.movers);
+      ComesOn (HearsFrom g.L.Listener.Hears g.L.Listener.Knows (KnowsWhile g.L.Listener.Knows l.left)) l.fn.self.world.setup (WanderLine steps) l.fn.self.left run l.fn.listener l.listener (course l.self-inside.world (drawn_to l.fn.self l.left) l.left) (ArePicked l.movers);
+  same : (l.self-inside.flicks ≡ l.fn.self.flicks) × (l.self-inside.left ≡ l.fn.self.left);
   kept : KeepsCourse l.self-inside.processes l.self-inside.world;
   left : l.left ≤ l.fn.self.left;
-  process : l.next.0 ≡ slice_index l.movers (pick_of (length l.movers) l.flicks);
-  flick : l.next.1 ≡ flick_of (after_pick l.flicks);
-  ahead : l.ahead ≡ after_flick (after_pick l.flicks);
+  process : l.next.0 ≡ slice_index l.movers (pick_of (length l.movers) (drawn_to l.fn.self l.left));
+  flick : l.next.1 ≡ flick_of (after_pick (drawn_to l.fn.self l.left));
+  ahead : l.ahead ≡ after_flick (after_pick (drawn_to l.fn.self l.left));
   counted : IsCounted l.within l.self-inside.world.seats;
   untold : l.told ≡ None;
   room : (more : ℕ) → g.L.Listener.HasRoom l.fn.listener (more + l.fn.self.left) → g.L.Listener.HasRoom l.listener (more + l.left);

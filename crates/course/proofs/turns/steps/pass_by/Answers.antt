@@ -1,7 +1,7 @@
 use Rattle.std.proofs.Common.{◌+◌, ◌-◌, ◌<◌, ◌∙◌, ℕ, List, arith, inr, refl, sym}
 use Rattle.plain_store.specs.{Setup}
 use Rattle.course.specs.{Happening, HearsFrom, IsAlone, KnowsOr, MaySteps, course}
-use Rattle.course.proofs.Alone.{alone_pass, steps_setup}
+use Rattle.course.proofs.Alone.{alone_pass, walks_setup}
 use Rattle.course.proofs.Knowing.{passed_steps}
 use Rattle.course.proofs.Runnings.{comes_start}
 use Rattle.course.proofs.turns.steps.pass_by.Goals as goal
@@ -24,15 +24,15 @@ pub pass-requires-clause-room : goal.pass-requires-clause-room
 pass-requires-clause-room g c = g.met.L.Listener.room_less c.args.listener.now c.min-within.result c.args.left.now (omega (arith, c.requires.floor, c.min-within.ensures)) c.requires.room
 
 pub returns-clause-setup : goal.returns-clause-setup
-returns-clause-setup g c = steps_setup c.args.world.now c.run_within-made.new.world c.args.flicks.now c.run_within-made.new.flicks c.args.process c.min-within.result c.run_within-made.result.0 c.run_within-made.result.1 c.run_within-made.ensures
+returns-clause-setup g c = walks_setup c.min-within.result c.run-made.result.newest c.run-made.result.overlapped c.args.world.now c.run-made.new.self c.args.flicks.now c.run-made.new.flicks c.args.process c.run-made.ensures.runs
 
 pub returns-clause-on : goal.returns-clause-on
 returns-clause-on g c = λ l run follows next.
-    let made = c.run_within-made in
+    let made = c.run-made in
     let some : 0 < c.min-within.result = omega (arith, c.if-within-eq0.false) in
-    alone_pass (Alert g.L.Listener.Hears g.L.Listener.Knows c.args.process) c.min-within.result c.args.world.now made.new.world c.args.flicks.now made.new.flicks made.result.0 made.result.1 l c.args.left.now _ c.args.process c.args.floor run c.args.listener.now c.pass.new.self refl
-    (omega (arith, c.requires.floor, c.min-within.ensures)) (omega (arith, c.min-within.ensures, c.left.ensures)) made.ensures
-    (λ s before after by. (c.pass.ensures.ok (sym c.hears_steps.ensures ∙ c.if-hears_steps.false) s before after made.result.0 refl by, λ known. inr (passed_steps s c.args.process c.min-within.result before after some by.within))) follows next
+    alone_pass (Alert g.L.Listener.Hears g.L.Listener.Knows c.args.process) c.min-within.result c.args.world.now made.new.self c.args.flicks.now made.new.flicks made.result.newest made.result.overlapped l c.args.left.now c.args.process c.args.floor run c.args.listener.now c.pass.new.self
+    (omega (arith, c.requires.floor, c.min-within.ensures)) some made.ensures.runs
+    (λ s before after by. (c.pass.ensures.ok (sym c.hears_steps.ensures ∙ c.if-hears_steps.false) s before after made.result.newest refl by, λ known. inr (passed_steps s c.args.process c.min-within.result before after some by.within))) follows next
 
 pub returns-clause-room : goal.returns-clause-room
 returns-clause-room g c = λ more room.

@@ -1,39 +1,43 @@
-use Rattle.std.proofs.Common.{◌∙◌, ◌∷◌, arith, refl, sym}
+use Rattle.std.proofs.Common.{◌∙◌, ◌∷◌, refl, sym}
 use Rattle.record.specs.declared.events.Event.TheVariants.{Step}
+use Rattle.world.proofs.WorldWithin.{walks-one}
 use Rattle.course.specs.{HearsStep, Tries}
 use Rattle.course.proofs.Played.{not_ok, on_fault, untold}
-use Rattle.course.proofs.Within.{byte_is, on_within, pass_one}
+use Rattle.course.proofs.Within.{on_within, pass_one}
 use Rattle.course.proofs.turns.steps.step.Goals as goal
 
 pub returns-then-hears_steps-clause-ok : goal.returns-then-hears_steps-clause-ok
 returns-then-hears_steps-clause-ok g c =
-    let made = c.make_step_within-made in
+    let r = c.run-made in
     let w = c.args.world.now in
-    untold g.L.Listener.Hears w c.args.process c.args.flick c.args.told.now made.new.self c.args.listener.now c.step.new.self c.requires.untold
+    let made = (walks-one w r.new.self c.only.result r.new.flicks c.args.process c.args.flick r.result.newest r.result.overlapped c.only.ensures r.ensures.runs).0 in
+    untold g.L.Listener.Hears w c.args.process c.args.flick c.args.told.now r.new.self c.args.listener.now c.step.new.self c.requires.untold
     (record {
-      step = made.ensures.quietly.0;
-      hears = λ before shows. c.in_ok-step.ensures.ok w.setup before (on_within w made.new.self c.args.process c.args.flick made.result.access made.result.overlapped before made.ensures.quietly shows (omega (arith, c.quiet_known-known.ensures, c.if-known-eq0.false)));
+      step = made.steps;
+      hears = λ before shows. c.in_ok-step.ensures.ok w.setup before (on_within w r.new.self c.args.process c.args.flick r.result.newest _ before made shows);
     })
 
 pub returns-in_err-step-clause-cut : goal.returns-in_err-step-clause-cut
 returns-in_err-step-clause-cut g c =
-    let made = c.make_step_within-made in
+    let r = c.run-made in
     let w = c.args.world.now in
-    on_fault c.from_residual.result c.in_err-step.field-0.0 (λ fault. HearsStep (λ was s x y is. g.L.Listener.Stops was s x y fault is) w c.args.process c.args.flick made.new.self c.args.listener.now c.step.new.self) c.from_residual.ensures.1
+    let made = (walks-one w r.new.self c.only.result r.new.flicks c.args.process c.args.flick r.result.newest r.result.overlapped c.only.ensures r.ensures.runs).0 in
+    on_fault c.from_residual.result c.in_err-step.field-0.0 (λ fault. HearsStep (λ was s x y is. g.L.Listener.Stops was s x y fault is) w c.args.process c.args.flick r.new.self c.args.listener.now c.step.new.self) c.from_residual.ensures.1
     (record {
-      step = made.ensures.quietly.0;
-      hears = λ before shows. c.in_err-step.ensures.cut w.setup before (on_within w made.new.self c.args.process c.args.flick made.result.access made.result.overlapped before made.ensures.quietly shows (omega (arith, c.quiet_known-known.ensures, c.if-known-eq0.false)));
+      step = made.steps;
+      hears = λ before shows. c.in_err-step.ensures.cut w.setup before (on_within w r.new.self c.args.process c.args.flick r.result.newest _ before made shows);
     })
 
 pub returns-clause-ok : goal.returns-clause-ok
 returns-clause-ok g c =
-    let made = c.make_step_within-made in
+    let r = c.run-made in
     let w = c.args.world.now in
-    untold g.L.Listener.Hears w c.args.process c.args.flick c.args.told.now made.new.self c.args.listener.now c.pass.new.self c.requires.untold
+    let one = walks-one w r.new.self c.only.result r.new.flicks c.args.process c.args.flick r.result.newest r.result.overlapped c.only.ensures r.ensures.runs in
+    untold g.L.Listener.Hears w c.args.process c.args.flick c.args.told.now r.new.self c.args.listener.now c.pass.new.self c.requires.untold
     (record {
-      step = made.ensures.quietly.0;
-      hears = λ before shows. c.pass.ensures.ok (sym c.hears_steps.ensures ∙ c.if-hears_steps.false) w.setup before (Tries (Step c.args.process c.args.flick) ∷ before) made.result.access refl
-          (pass_one w made.new.self c.args.process c.args.flick made.result.access made.result.overlapped c.from.result before made.ensures.quietly shows (omega (arith, c.quiet_known-known.ensures, c.if-known-eq0.false)) (c.from.ensures ∙ byte_is made.result.overlapped));
+      step = one.0.steps;
+      hears = λ before shows. c.pass.ensures.ok (sym c.hears_steps.ensures ∙ c.if-hears_steps.false) w.setup before (Tries (Step c.args.process c.args.flick) ∷ before) r.result.newest refl
+          (pass_one w r.new.self c.args.process c.args.flick r.result.newest _ r.result.overlapped before one.0 shows one.1);
     })
 
 pub returns-in_err-step-clause-ok : goal.returns-in_err-step-clause-ok

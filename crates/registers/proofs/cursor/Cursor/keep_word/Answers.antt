@@ -14,8 +14,8 @@ returns c =
     let bit_is : r.bit ≡ c.args.self.now.bit = ap (λ (x : CursorState). x.bit) c.self.view_is in
     let width_is : r.width ≡ c.args.self.now.width = ap (λ (x : CursorState). x.width) c.self.view_is in
     let reads : r.run ≡ Reads = ap (λ (x : CursorState). x.run) c.self.view_is ∙ c.requires.reads in
-    let there : r.bit / 64 < length words = omega (arith, c.self.invariant.room, c.self.invariant.few_bits, c.requires.inside, c.requires.some) in
-    let fits : r.bit % 64 + n ≤ 64 = omega (arith, c.requires.word) in
+    let there : r.bit / 64 < length words = omega (arith, c.self.invariant.room, c.self.invariant.few_bits, c.requires.ahead.inside, c.requires.ahead.some) in
+    let fits : r.bit % 64 + n ≤ 64 = omega (arith, c.requires.ahead.word) in
     let new = set words (r.bit / 64) c.choose.result in
     let kept : bits_of_words new (r.bit + n) ≡ more_bits n f (bits_of_words words r.bit) =
     bits-chosen words r.bit n c.word_at-old.result c.choose.result c.args.word c.mask.result there fits c.word_at-old.ensures c.mask.ensures c.choose.ensures in

@@ -1,50 +1,58 @@
-use Rattle.std.proofs.Common.{◌≡◌, List, subst, sym, ◌∙◌, ap}
+use Rattle.std.proofs.Common.{◌≡◌, ◌+◌, ◌-◌, List, ap, ◌∙◌, subst, sym, arith}
 use Rattle.safe_bit.specs.Cell.{Cell}
-use Rattle.flicks.specs.{FlickState, flicks_after}
-use Rattle.registers.specs.{CursorState, Fits, IsAtCopy, NumberRun}
-use Rattle.registers.specs.declared.cursor.NumberRun.TheVariants.{Reads, Writes}
-use Rattle.registers.proofs.Iterates.{of_write, run-reads, run-writes}
-use Rattle.registers.proofs.Overlaps.{overlapped-read, overlapped-write}
-use Rattle.registers.proofs.Runs.{run-fits}
+use Rattle.flicks.specs.{FlickState}
+use Rattle.registers.specs.{CursorState, Fits, next_answered}
+use Rattle.registers.proofs.Iterates.{byte-one, one-at_most, overlapped-few}
+use Rattle.registers.proofs.Runs.{HasRun, MayStep, may-step, newest-last, run-fits, step-on}
 use Rattle.registers.proofs.memory.BitMemory.run.Goals as goal
+use Rattle.registers.proofs.memory.BitMemory.run.Goals.{After-flick, After-from}
 
-pub returns-in-Reads-clause-run : goal.returns-in-Reads-clause-run
-returns-in-Reads-clause-run c =
-    let cursor = c.args.cursor.now in
-    let reads : cursor.run ≡ Reads = sym c.run.ensures ∙ c.in-Reads.is in
-    let P : NumberRun → Type 0 = λ r. IsAtCopy r cursor.reader cursor.copy in
-    c.read_on.ensures.now ∙ sym (run-reads c.args.steps (cursor, c.args.self.now, c.args.flicks.now) reads (subst P reads c.requires.fits.at))
+-- before the newest
+earlier : (c : After-flick) → HasRun (c.args.steps - 1) c.run_on-earlier.result (c.args.cursor.now, c.args.self.now, c.args.flicks.now) (c.run_on-earlier.new.cursor, c.run_on-earlier.new.self, c.run_on-earlier.new.flicks)
+earlier c = record { now_is = c.run_on-earlier.ensures.run; counts = c.run_on-earlier.ensures.overlapped }
 
-pub returns-in-Reads-clause-fits : goal.returns-in-Reads-clause-fits
-returns-in-Reads-clause-fits c =
+may : (c : After-flick) → MayStep c.run_on-earlier.new.cursor c.run_on-earlier.new.self
+may c = may-step (c.args.steps - 1) c.run_on-earlier.result (c.args.cursor.now, c.args.self.now, c.args.flicks.now) c.run_on-earlier.new.cursor c.run_on-earlier.new.self c.run_on-earlier.new.flicks c.requires.kind c.requires.fits (omega (arith, c.requires.some, c.requires.within)) (earlier c)
+
+pub step-made-requires-clause-kind : goal.step-made-requires-clause-kind
+step-made-requires-clause-kind c = (may c).kind
+
+pub step-made-requires-clause-going : goal.step-made-requires-clause-going
+step-made-requires-clause-going c = (may c).going
+
+pub step-made-requires-clause-fits : goal.step-made-requires-clause-fits
+step-made-requires-clause-fits c = (may c).fits
+
+pub overflow_add-result : goal.overflow_add-result
+overflow_add-result c =
+    let few = overlapped-few (c.args.steps - 1) (c.args.cursor.now, c.args.self.now, c.args.flicks.now) in
+    let byte = byte-one c.step-made.result.overlapped in
+    let most = one-at_most c.step-made.result.overlapped in
+    omega (arith, few, byte, most, c.from.ensures, c.run_on-earlier.ensures.overlapped, c.requires.some, c.ranges.steps.fits)
+
+-- with it
+made : (c : After-from) → HasRun c.args.steps (c.run_on-earlier.result + c.from.result) (c.args.cursor.now, c.args.self.now, c.args.flicks.now) (c.step-made.new.cursor, c.step-made.new.self, c.flick.new.self)
+made c =
     let before : CursorState × List (List Cell) × FlickState = (c.args.cursor.now, c.args.self.now, c.args.flicks.now) in
-    let P : CursorState × List (List Cell) × FlickState → Type 0 = λ now. Fits now.1 now.0 in
-    subst P (sym (returns-in-Reads-clause-run c)) (run-fits c.args.steps before c.requires.fits)
+    let r = c.run_on-earlier in
+    let m = c.step-made in
+    let all : c.args.steps - 1 + 1 ≡ c.args.steps = omega (arith, c.requires.some) in
+    subst (λ n. HasRun n (r.result + c.from.result) before (m.new.cursor, m.new.self, c.flick.new.self)) all
+    (step-on (c.args.steps - 1) r.result before r.new.cursor m.new.cursor r.new.self m.new.self r.new.flicks c.flick.new.self c.flick.result m.result.overlapped m.result.access c.from.result (record { now_is = r.ensures.run; counts = r.ensures.overlapped })
+    c.flick.ensures.flick m.ensures.access m.ensures.cursor m.ensures.memory c.flick.ensures.after m.ensures.overlapped c.from.ensures)
 
-pub returns-in-Writes-clause-run : goal.returns-in-Writes-clause-run
-returns-in-Writes-clause-run c =
-    let cursor = c.args.cursor.now in
-    let writes : cursor.run ≡ Writes = sym c.run.ensures ∙ c.in-Writes.is in
-    let F : FlickState → CursorState × List (List Cell) × FlickState = λ f. (c.write_on.new.cursor, c.write_on.new.self, f) in
-    ap F c.skip.ensures
-    ∙ ap (of_write (flicks_after c.args.steps c.args.flicks.now)) c.write_on.ensures
-    ∙ sym (run-writes c.args.steps c.args.flicks.now (cursor, c.args.self.now) writes)
+pub returns-clause-run : goal.returns-clause-run
+returns-clause-run c = (made c).now_is
 
-pub returns-in-Writes-clause-fits : goal.returns-in-Writes-clause-fits
-returns-in-Writes-clause-fits c =
-    let before : CursorState × List (List Cell) × FlickState = (c.args.cursor.now, c.args.self.now, c.args.flicks.now) in
-    let P : CursorState × List (List Cell) × FlickState → Type 0 = λ now. Fits now.1 now.0 in
-    subst P (sym (returns-in-Writes-clause-run c)) (run-fits c.args.steps before c.requires.fits)
+pub returns-clause-fits : goal.returns-clause-fits
+returns-clause-fits c =
+    subst (λ (x : CursorState × List (List Cell) × FlickState). Fits x.1 x.0) (sym (made c).now_is) (run-fits c.args.steps (c.args.cursor.now, c.args.self.now, c.args.flicks.now) c.requires.fits)
 
-pub returns-in-Reads-clause-overlapped : goal.returns-in-Reads-clause-overlapped
-returns-in-Reads-clause-overlapped c =
-    let cursor = c.args.cursor.now in
-    let reads : cursor.run ≡ Reads = sym c.run.ensures ∙ c.in-Reads.is in
-    let P : NumberRun → Type 0 = λ r. IsAtCopy r cursor.reader cursor.copy in
-    c.read_on.ensures.overlapped ∙ sym (overlapped-read c.args.steps (cursor, c.args.self.now, c.args.flicks.now) reads (subst P reads c.requires.fits.at))
+pub returns-clause-newest : goal.returns-clause-newest
+returns-clause-newest c =
+    let r = c.run_on-earlier in
+    c.step-made.ensures.access ∙ ap (next_answered r.new.cursor r.new.self) c.flick.ensures.flick
+    ∙ newest-last c.args.steps (c.args.cursor.now, c.args.self.now, c.args.flicks.now) (r.new.cursor, r.new.self, r.new.flicks) c.requires.some r.ensures.run
 
-pub returns-in-Writes-clause-overlapped : goal.returns-in-Writes-clause-overlapped
-returns-in-Writes-clause-overlapped c =
-    let cursor = c.args.cursor.now in
-    let writes : cursor.run ≡ Writes = sym c.run.ensures ∙ c.in-Writes.is in
-    sym (overlapped-write c.args.steps c.args.flicks.now (cursor, c.args.self.now) writes)
+pub returns-clause-overlapped : goal.returns-clause-overlapped
+returns-clause-overlapped c = (made c).counts

@@ -1,0 +1,10 @@
+use Rattle.std.proofs.Common.{◌≡◌, reverse, take}
+use Rattle.read_law.specs.{HasHeard}
+use Rattle.auditor.proofs.auditing.is_safe.Given as goal
+
+-- the entries before the present one are heard
+abbrev pub invariant-loop-earlier : goal.invariant-loop-earlier
+invariant-loop-earlier l = record {
+  setup : l.watch.setup ≡ l.setup;
+  heard : HasHeard l.watch (reverse (take l.earlier-index l.before));
+}
