@@ -20,6 +20,8 @@ SCRIPTS = [
     *["record_files", "changed_records", "short_files", "other_locks", "fault_places", "any_lock_second", "lock_search", "run_script", "readme"],
     *["lessons", "races", "boards", "refused_threads", "inspected"],
 ]
+# bytes of memory: the program's check takes the most
+MOST_OF_A_CHECK = 4_000_000_000
 RUNS = [
     *([sys.executable, f"tests/gate/{name}.py"] for name in SCRIPTS),
     [sys.executable, "tests/hostile/run.py", "short"],
@@ -32,8 +34,21 @@ def words_of_ci(words):
     return words if "--anew" in rt.read_text() else [word for word in words if word != "--anew"]
 
 
+def share_no_check():
+    """Has `rt ci` give each check one processor, where memory holds so many: a check that two share takes a third more of them."""
+    try:
+        rt = proved.kit()
+        processors = rt.processors()
+        is_enough = rt.free() >= processors * MOST_OF_A_CHECK
+    except (AttributeError, OSError):
+        return
+    if is_enough:
+        os.environ.setdefault("RT_JOBS", str(processors))
+
+
 def main():
     counter = Counter()
+    share_no_check()
     counter.add(*shown_counts(["rt", "ci", *words_of_ci(sys.argv[1:])], TOP))
     if counter.failed == 0:
         proved.note()

@@ -41,12 +41,12 @@ def room_for(name, under, rooms):
     return room / "crates" / name
 
 
-def prove(name, under, rooms, jobs):
+def prove(name, under, rooms):
     """Proves a library, and takes what it leaves into the repository; answers whether it is proved, and what rt printed."""
     begun = time.time()
     room = room_for(name, under, rooms)
     ran = subprocess.run(
-        ["rt", "lib", "--jobs", str(jobs)],
+        ["rt", "lib", "--jobs", "1"],
         cwd=room,
         stdin=subprocess.DEVNULL,
         stdout=subprocess.PIPE,
@@ -79,19 +79,13 @@ def prove_all(below, rooms):
     behind = work_behind({it: below[it] for it in [PROGRAM, *left]})
     with ThreadPoolExecutor(CORES) as pool:
         while left or running:
-            # each crate gets a core, since a check that is shared by two takes a third more; the one that begins the longest
-            # chain gets those that the others leave
+            # each crate gets one core: a check that two share takes a third more of the processor
             ready = sorted((it for it in left if proved.issuperset(below[it])), key=lambda it: -behind[it])
-            idle = CORES - sum(jobs for _, jobs in running.values())
-            for at, name in enumerate(ready):
-                if idle == 0:
-                    break
-                jobs = 1 if at else max(1, idle + 1 - len(ready))
-                idle -= jobs
+            for name in ready[: CORES - len(running)]:
                 left.remove(name)
-                running[pool.submit(prove, name, below[name], rooms, jobs)] = name, jobs
+                running[pool.submit(prove, name, below[name], rooms)] = name
             for done in wait(running, return_when=FIRST_COMPLETED).done:
-                name, _ = running.pop(done)
+                name = running.pop(done)
                 is_proved, printed = done.result()
                 if not is_proved:
                     tell(printed)

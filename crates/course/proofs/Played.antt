@@ -1,12 +1,11 @@
 -- A line that is being played: what was heard of it, and what is left.
 use Rattle.std.specs.Prelude.{OnOk}
-use Rattle.std.proofs.Common.{◌≡◌, ℕ, Bool, ◌<◌, ◌≤◌, List, [], ◌∷◌, ◌++◌, map, Option, None, Some, Result, Ok, Err, IfErr, IfOk, IsErrAnd, refl, ap, sym, subst, ◌∙◌, arith}
+use Rattle.std.proofs.Common.{◌≡◌, ℕ, ◌<◌, ◌≤◌, List, [], ◌∷◌, ◌++◌, map, Option, None, Some, Result, Ok, Err, IfErr, IfOk, IsErrAnd, refl, ap, sym, subst, ◌∙◌, arith}
 use Rattle.plain_store.specs.{Setup, checked}
 use Rattle.record.specs.{AreGiven, Event, Taken, history}
 use Rattle.scenario.specs.{Line}
 use Rattle.scenario.specs.files.{Fault}
-use Rattle.world.specs.{WorldState}
-use Rattle.course.specs.{ComesTo, CourseState, Follows, Happening, Happens, HearsStep, HearsUpTo, Keeps, LearnsTold, MakesStep, Plays, Run, Tells, Told, Tries, Turn, past_after, past_in, rest_of, room_wanted, run_after, run_at_start, runs, tried, turn_of, turns_in}
+use Rattle.course.specs.{ComesTo, CourseState, Follows, Happening, Happens, HearsUpTo, Keeps, LearnsTold, Plays, Run, Tells, Told, Tries, Turn, past_after, past_in, rest_of, room_wanted, run_after, run_at_start, runs, tried, turn_of, turns_in}
 use Rattle.course.proofs.Grows.{Grows, rest_grows}
 use Rattle.course.proofs.Runnings.{rest_quiet}
 use Rattle.course.proofs.TurnLaw.{rest_none, rest_whole, turn_on}
@@ -202,10 +201,6 @@ no_value (Err x) e P is = tt
 pub not_ok : {A : Type 0} (r : Result A Fault) (e : Fault) (P : Type 0) → IsErrAnd r (λ x. x ≡ e) → OnOk r P
 not_ok (Ok a) e P is = absurd is
 not_ok (Err x) e P is = tt
-
--- a Step that tells nothing is heard
-pub untold : {L : Type 0} (Hears : L → Setup → List Happening → List Happening → L → Type 0) (old : WorldState) (p : ℕ) (flick : Bool) (told : Option Told) (new : WorldState) (was is : L) → told ≡ None → HearsStep Hears old p flick new was is → MakesStep Hears old p flick told new was is
-untold Hears old p flick told new was is none heard = subst (λ told. MakesStep Hears old p flick told new was is) (sym none) heard
 
 -- events alone are what was tried
 pub tried_all : (events : List Event) → tried (map Tries events) ≡ events

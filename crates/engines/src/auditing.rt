@@ -7,8 +7,8 @@ ghost use Rattle.engines.specs.Sinks.{Wrote, WroteFront};
 ghost use Rattle.scenario.specs.files.{ReadsFront};
 ghost use Rattle.scenario.specs.{script};
 ghost use Rattle.engines.specs.Audits.{InputTellsVerdict, IsRunVerdict, TellsVerdict, audit_text, audited, run_length};
-ghost use Rattle.course.specs.{Audits, Follows, ended, happenings, past_after, run_at_start};
-ghost use Rattle.course.specs.Writing.{Counts, IsWriteFault, failed_write};
+ghost use Rattle.course.specs.{Audits, Follows, ended, run_at_start};
+ghost use Rattle.course.specs.Writing.{IsWriteFault, failed_write};
 
 use crate::writing::write_line;
 use course::{Audit, Course, Overheard, Summary};
@@ -77,11 +77,7 @@ fn audit_run<L: Onlooker>(
     let audit = Audit::new(alloc, &scenario.setup)?;
     let listener = Summary::new();
     let mut judged = Overheard { listener, audit };
-    audit_lines(file, scenario, &mut course, &mut judged, onlooker)?;
-    Ok(Audited {
-        verdict: judged.audit.verdict(),
-        entries: judged.listener.events,
-    })
+    audit_lines(file, scenario, &mut course, &mut judged, onlooker)
 }
 
 /// The same, lent a course and an auditor that have just begun. It is a function of its own, since values that are dropped
@@ -92,14 +88,14 @@ fn audit_lines<L: Onlooker>(
     course: &mut Course,
     judged: &mut Overheard<Summary>,
     onlooker: &mut L,
-) -> Result<(), AllocError>
+) -> Result<Audited, AllocError>
     requires setup { course.old.world.setup ≡ scenario.now.setup }
     requires follows { Follows course.old run_at_start }
     requires counts { judged.old.listener ≡ record { events = 0; taken = 0; refused = 0 } }
     requires audits { Audits scenario.now.setup [] judged.old.audit }
-    ensures counts { OnOk result (Counts scenario.now.setup (happenings (script scenario.now)) judged.new.listener) }
-    ensures audits { OnOk result (Audits scenario.now.setup (past_after scenario.now.setup (happenings (script scenario.now))) judged.new.audit) }
-    ensures good { OnOk result (IsRunVerdict (script scenario.now) Good) }
+    ensures verdict { IfOk result (λ audited. IsRunVerdict (script scenario.now) audited.verdict) }
+    ensures good { IfOk result (λ audited. audited.verdict ≡ Good) }
+    ensures entries { IfOk result (λ audited. audited.entries ≡ run_length (script scenario.now)) }
 {
     let mut place = LinePlace::before(file, scenario.lines.len());
     for line in &scenario.lines {
@@ -108,5 +104,8 @@ fn audit_lines<L: Onlooker>(
             return Err(AllocError);
         };
     }
-    Ok(())
+    Ok(Audited {
+        verdict: judged.audit.verdict(),
+        entries: judged.listener.events,
+    })
 }

@@ -1,5 +1,6 @@
 //! The command `plain`: the calls of a file on one store, in order.
-ghost use Rattle.std.specs.Prelude.{◌≡◌, ◌^◌, ◌-◌, ◌<◌, ◌≤◌, length, IfOk, OnOk, Ok};
+ghost use Rattle.std.specs.Prelude.{◌≡◌, ◌^◌, ◌-◌, ◌<◌, ◌≤◌, ◌++◌, length, IfOk, OnOk, Ok};
+ghost use Rattle.std.specs.String.{string_bytes};
 ghost use Rattle.plain_store.specs.{checked, reply_text};
 ghost use Rattle.scenario.specs.files.Engines.{Ran, streams};
 ghost use Rattle.scenario.specs.{script};
@@ -36,11 +37,12 @@ impl PlainRun {
         requires { checked setup.now ≡ Ok tt }
         ensures { IfOk result (λ run. run ≡ run_at_start setup.now) }
     {
+        let counts = vec![in alloc; 0; usize::from(setup.processes)]?;
         let empty = PlainStore::new(alloc, setup.slots, setup.callers());
         Ok(PlainRun {
             store: opened(empty, setup)?,
             place: 0,
-            counts: vec![in alloc; 0; usize::from(setup.processes)]?,
+            counts,
         })
     }
 
@@ -134,11 +136,26 @@ fn text_of(alloc: Global, scenario: &Scenario) -> Result<String, AllocError>
 {
     let mut run = PlainRun::new(alloc, &scenario.setup)?;
     let mut text = String::new(alloc);
+    push_lines(alloc, scenario, &mut run, &mut text)?;
+    Ok(text)
+}
+
+/// The same behind a text, lent a run that has just begun. It is a function of its own, since values that are dropped at each
+/// way out of a function are dear to prove.
+fn push_lines(
+    alloc: Global,
+    scenario: &Scenario,
+    run: &mut PlainRun,
+    text: &mut String,
+) -> Result<(), AllocError>
+    requires { run.old ≡ run_at_start scenario.now.setup }
+    ensures { OnOk result (string_bytes text.new ≡ string_bytes text.old ++ printed (script scenario.now)) }
+{
     for line in &scenario.lines {
         let printed = run.line(alloc, &scenario.setup, line)?;
         text.push_str(printed.as_str())?;
     }
-    Ok(text)
+    Ok(())
 }
 
 /// Reads a whole scenario file, and then writes a line for each call and each `show`; other lines do nothing.

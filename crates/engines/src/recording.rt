@@ -9,7 +9,7 @@ ghost use Rattle.judge.specs.record_file.{RecordsAreReadAgain, RecordsFitLines, 
 ghost use Rattle.scenario.specs.{script};
 ghost use Rattle.engines.specs.RecordedRuns.{InputWritesRecord, RecordedRunsAreReadAgain};
 ghost use Rattle.engines.specs.Recordings.{CopiesLine, CutsCopy, entries_longer, entries_text, entry_told, recorded, recording_text, step_line};
-ghost use Rattle.course.specs.{IsWriteFault, Took, TookPart, ended, failed_write, part_before, part_on, part_unheard, took_none, took_on};
+ghost use Rattle.course.specs.{Follows, IsWriteFault, Took, TookPart, ended, failed_write, part_before, part_on, part_unheard, run_at_start, took_none, took_on};
 
 use course::{Course, Entry, Listener, Move, Stepped, Taken, Told};
 use judge::{StepLine, print_entry, print_setup};
@@ -60,16 +60,46 @@ fn record_scenario<W: Sink, L: Onlooker>(
     ensures failures { W.failures output.new ≡ W.failures output.old + failed_write result }
 {
     let mut course = Course::new(alloc, &scenario.setup)?;
-    write_bytes(output, print_setup(alloc, &scenario.setup))?;
-    let mut place = LinePlace::before(file, scenario.lines.len());
     let mut room = Room {
         events: 0,
         text: Vec::new(alloc),
         printed: StepLine::new(),
     };
+    record_lines(
+        alloc,
+        file,
+        scenario,
+        &mut course,
+        &mut room,
+        output,
+        onlooker,
+    )
+}
+
+/// The same, lent a course that has just begun, and room. It is a function of its own, since values that are dropped at each
+/// way out of a function are dear to prove.
+fn record_lines<W: Sink, L: Onlooker>(
+    alloc: Global,
+    file: &[u8],
+    scenario: &Scenario,
+    course: &mut Course,
+    room: &mut Room,
+    output: &mut W,
+    onlooker: &mut L,
+) -> Result<(), Fault>
+    requires setup { course.old.world.setup ≡ scenario.now.setup }
+    requires follows { Follows course.old run_at_start }
+    requires writes { W.failures output.old < 2 ^ 64 - 1 }
+    ensures ok { Wrote W.taken result output.old output.new (recorded (script scenario.now)) }
+    ensures front { WroteFront W.taken output.old output.new (recorded (script scenario.now)) }
+    ensures fault { IfErr result IsWriteFault }
+    ensures failures { W.failures output.new ≡ W.failures output.old + failed_write result }
+{
+    write_bytes(output, print_setup(alloc, &scenario.setup))?;
+    let mut place = LinePlace::before(file, scenario.lines.len());
     for line in &scenario.lines {
         onlooker.reached(place.begin_line(room.events));
-        record_line(alloc, &mut course, line, &mut room, output)?;
+        record_line(alloc, course, line, room, output)?;
     }
     Ok(())
 }

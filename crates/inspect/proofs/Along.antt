@@ -5,7 +5,7 @@ use Rattle.std.proofs.Math.Seq.{drop-append_seam}
 use Rattle.std.proofs.lemmas.Bool.Decides.{nat_tests}
 use Rattle.std.proofs.lemmas.List.{length-append}
 use Rattle.plain_store.specs.{Setup, checked}
-use Rattle.record.specs.{Entry, Past, entry_of, processes, refused, stage}
+use Rattle.record.specs.{Entry, Past, entry_of, refused, stage}
 use Rattle.record.proofs.Accepted.{accepted_adds}
 use Rattle.record.proofs.Width.{is_good}
 use Rattle.scenario.specs.{Line, Target}

@@ -1,11 +1,11 @@
 //! The engine `calls`: a line for each call of a scenario's run, written as it ends; at the end the calls that go on.
-ghost use Rattle.std.specs.Prelude.{◌≡◌, ◌+◌, ◌-◌, ◌^◌, ◌<◌, ◌≤◌, flat_map, length, IfErr, IfOk, OnErr, OnOk};
+ghost use Rattle.std.specs.Prelude.{◌≡◌, ◌+◌, ◌-◌, ◌^◌, ◌<◌, ◌≤◌, [], flat_map, length, IfErr, IfOk, OnErr, OnOk};
 ghost use Rattle.std.specs.Io.KnownBytes.{Appends};
 ghost use Rattle.record.specs.{Past};
 ghost use Rattle.scenario.specs.files.Engines.{Ran, streams};
 ghost use Rattle.scenario.specs.files.{ReadsFront, WritesFront};
 ghost use Rattle.scenario.specs.{script};
-ghost use Rattle.course.specs.{IsWriteFault, ended, failed_write};
+ghost use Rattle.course.specs.{Follows, IsWriteFault, ended, failed_write, run_at_start};
 ghost use Rattle.snapshot.specs.calls.{HasHeard, header, line_of, open_call, open_lines};
 ghost use Rattle.inspect.specs.Tables.{CutsTable, TablesLine, calls_text, tabled};
 
@@ -54,13 +54,45 @@ fn table_scenario<W: Sink, L: Onlooker>(
 {
     let mut course = Course::new(alloc, &scenario.setup)?;
     let mut table = CallTable::new(alloc, &scenario.setup)?;
+    table_lines(
+        alloc,
+        file,
+        scenario,
+        &mut course,
+        &mut table,
+        output,
+        onlooker,
+    )
+}
+
+/// The same, lent a course and a table that have just begun. It is a function of its own, since values that are dropped at
+/// each way out of a function are dear to prove.
+fn table_lines<W: Sink, L: Onlooker>(
+    alloc: Global,
+    file: &[u8],
+    scenario: &Scenario,
+    course: &mut Course,
+    table: &mut CallTable,
+    output: &mut W,
+    onlooker: &mut L,
+) -> Result<(), Fault>
+    requires setup { course.old.world.setup ≡ scenario.now.setup }
+    requires follows { Follows course.old run_at_start }
+    requires tables { table.old.setup ≡ scenario.now.setup }
+    requires heard { HasHeard table.old [] }
+    requires writes { W.failures output.old < 2 ^ 64 - 1 }
+    ensures ok { OnOk result (Appends (W.taken output.old) (W.taken output.new) (tabled (script scenario.now))) }
+    ensures front { WritesFront (W.taken output.old) (W.taken output.new) (tabled (script scenario.now)) }
+    ensures fault { IfErr result IsWriteFault }
+    ensures failures { W.failures output.new ≡ W.failures output.old + failed_write result }
+{
     write_header(output)?;
     let mut place = LinePlace::before(file, scenario.lines.len());
     for line in &scenario.lines {
         onlooker.reached(place.begin_line(table.entries()));
-        table_line(alloc, &mut course, line, &mut table, output)?;
+        table_line(alloc, course, line, table, output)?;
     }
-    write_open(alloc, &scenario.setup, &table, output)
+    write_open(alloc, &scenario.setup, table, output)
 }
 
 /// Writes the first line.

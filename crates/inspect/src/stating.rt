@@ -3,7 +3,8 @@ ghost use Rattle.std.specs.Prelude.{◌≡◌, ◌-◌, ◌^◌, ◌<◌, ◌++�
 ghost use Rattle.scenario.specs.files.Engines.{Ran, streams};
 ghost use Rattle.scenario.specs.files.{ReadsFront};
 ghost use Rattle.scenario.specs.{Script, script};
-ghost use Rattle.inspect.specs.States.{IsPartOf, events_said as said_by, state_text, stated};
+ghost use Rattle.course.specs.{run_at_start};
+ghost use Rattle.inspect.specs.States.{IsAt, IsPartOf, events_said as said_by, state_text, stated};
 
 use crate::part_of_run::PartOfRun;
 use fault_place::progress::{LinePlace, Onlooker};
@@ -68,30 +69,24 @@ fn state_text<L: Onlooker>(
     ensures { IfOk result (λ text. (made : List ℕ)
         × (text.items ≡ stated events made (script scenario.now))) }
 {
-    let stated = run_part(alloc, events, file, scenario, onlooker)?;
-    stated.text(alloc, file)
+    let mut part = PartOfRun::new(alloc, &scenario.setup, events)?;
+    lines_text(alloc, file, scenario, &mut part, onlooker)
 }
 
-/// A run up to an event, and the line that made the newest one.
-#[derive(Drop)]
-struct StatedRun {
-    part: PartOfRun,
-    newest: Option<MakingLine>,
-}
-
-/// Makes so many events of the run of a file's scenario.
-fn run_part<L: Onlooker>(
+/// The same, lent a part of the run that has no event yet. It is a function of its own, since values that are dropped at each
+/// way out of a function are dear to prove.
+fn lines_text<L: Onlooker>(
     alloc: Global,
-    events: u64,
     file: &[u8],
     scenario: &Scenario,
+    part: &mut PartOfRun,
     onlooker: &mut L,
-) -> Result<StatedRun, AllocError>
-    ensures made { IfOk result (λ made. IsPartOf events (script scenario.now) made.part) }
-    ensures setup { IfOk result (λ made.
-        made.part.course.world.setup ≡ made.part.heard.snapshot.setup) }
+) -> Result<Vec<u8>, AllocError>
+    requires entries { part.old.heard.snapshot.entries ≡ 0 }
+    requires at { IsAt scenario.now.setup part.old run_at_start }
+    ensures { IfOk result (λ text. (made : List ℕ)
+        × (text.items ≡ stated part.old.most made (script scenario.now))) }
 {
-    let mut part = PartOfRun::new(alloc, &scenario.setup, events)?;
     let mut newest = None;
     let mut place = LinePlace::before(file, scenario.lines.len());
     let mut behind = scenario.lines.len();
@@ -108,22 +103,25 @@ fn run_part<L: Onlooker>(
             });
         }
     }
-    Ok(StatedRun { part, newest })
+    part_text(alloc, file, part, &newest)
 }
 
-impl StatedRun {
-    /// The state there.
-    fn text(&self, alloc: Global, file: &[u8]) -> Result<Vec<u8>, AllocError>
-        requires { self.now.part.course.world.setup ≡ self.now.part.heard.snapshot.setup }
-        ensures { IfOk result (λ text. (n : ℕ) (said : Script) → IsPartOf n said self.now.part
-            → (made : List ℕ) × (text.items ≡ stated n made said)) }
-    {
-        let mut text = Vec::new(alloc);
-        self.part.heard.print_head(&mut text)?;
-        push_made(alloc, file, &self.newest, self.part.events(), &mut text)?;
-        self.part.print(alloc, &mut text)?;
-        Ok(text)
-    }
+/// The state after the events of a part of a run, the newest of which this line made.
+fn part_text(
+    alloc: Global,
+    file: &[u8],
+    part: &PartOfRun,
+    newest: &Option<MakingLine>,
+) -> Result<Vec<u8>, AllocError>
+    requires { part.now.course.world.setup ≡ part.now.heard.snapshot.setup }
+    ensures { IfOk result (λ text. (n : ℕ) (said : Script) → IsPartOf n said part.now
+        → (made : List ℕ) × (text.items ≡ stated n made said)) }
+{
+    let mut text = Vec::new(alloc);
+    part.heard.print_head(&mut text)?;
+    push_made(alloc, file, newest, part.events(), &mut text)?;
+    part.print(alloc, &mut text)?;
+    Ok(text)
 }
 
 /// Writes the line that made the newest of so many events, if there is one.
@@ -136,23 +134,10 @@ fn push_made(
 ) -> Result<(), AllocError>
     ensures { OnOk result ((made : List ℕ) × (text.new.items ≡ text.old.items ++ made)) }
 {
-    match newest {
-        None => Ok(()),
-        Some(newest) => push_line(alloc, file, newest, events, text),
-    }
-}
-
-/// Writes the line that made the newest of so many events.
-fn push_line(
-    alloc: Global,
-    file: &[u8],
-    newest: &MakingLine,
-    events: u64,
-    text: &mut Vec<u8>,
-) -> Result<(), AllocError>
-    ensures { OnOk result ((made : List ℕ) × (text.new.items ≡ text.old.items ++ made)) }
-{
     let _nested: NestedTypes = None;
+    let Some(newest) = newest else {
+        return Ok(());
+    };
     let number = line_number(file, newest.behind);
     let made = events.saturating_sub(newest.before);
     let line = newest.line;

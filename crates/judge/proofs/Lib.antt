@@ -14,6 +14,7 @@ pub mod Texts
 pub mod VerdictLines
 -- Reasons
 pub mod LinesAt
+pub mod Written
 -- A judge
 pub mod JudgedRecords
 -- What is told

@@ -132,14 +132,14 @@ ends_are bytes some few =
     let at : length bytes - 4 + (8 - length bytes) ≡ 4 = omega (arith, some, few) in
     sym (take-append-drop 4 bytes) ∙ ap (λ bs. take 4 bytes ++ bs) (sym (drop-drop (8 - length bytes) (length bytes - 4) bytes ∙ ap (λ k. drop k bytes) at))
 
--- what is behind a word and a space, from the space on
-pub from_end : (bytes word behind : List ℕ) → bytes ≡ word ++ (32 ∷ behind) →
+-- what is behind a word and the byte that ends it, from that byte on
+pub from_end : (bytes word behind : List ℕ) (end : ℕ) → bytes ≡ word ++ (end ∷ behind) →
     bytes ≡ word ++ take (length bytes - (length bytes - length behind - 1)) (drop (length bytes - length behind - 1) bytes)
-from_end bytes word behind is =
-    let long : length bytes ≡ length word + length (32 ∷ behind) = ap length is ∙ length-append word (32 ∷ behind) in
+from_end bytes word behind end is =
+    let long : length bytes ≡ length word + length (end ∷ behind) = ap length is ∙ length-append word (end ∷ behind) in
     let at : length bytes - length behind - 1 ≡ length word = omega (arith, long) in
     is
-    ∙ ap (λ rest. word ++ rest) (sym (drop-append_seam word (32 ∷ behind)) ∙ ap (λ bs. drop (length word) bs) (sym is) ∙ ap (λ k. drop k bytes) (sym at) ∙ sym (take_rest bytes (length bytes - length behind - 1)))
+    ∙ ap (λ rest. word ++ rest) (sym (drop-append_seam word (end ∷ behind)) ∙ ap (λ bs. drop (length word) bs) (sym is) ∙ ap (λ k. drop k bytes) (sym at) ∙ sym (take_rest bytes (length bytes - length behind - 1)))
 
 pub more_digits : (bytes rest : List ℕ) (n m : ℕ) → bytes ≡ decimal n ++ rest → 1 ≤ length rest → slice_index_or rest 0 0 ≡ 48 + m → m < 10 → 0 < n → n ≤ 6553 → bytes ≡ decimal (n * 10 + m) ++ take (length rest - 1) (drop 1 rest)
 more_digits bytes [] n m so_far more is small some few = absurd (omega (arith, more))

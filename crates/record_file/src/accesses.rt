@@ -33,7 +33,7 @@ pub fn access(words: &[&[u8]]) -> Result<Option<Access>, FaultKind>
         return Err(FaultKind::Unknown);
     };
     let how = move_named(name, operands)?;
-    Ok(Some(access_to(parts, field, how)?))
+    access_to(parts, field, how).map(Some)
 }
 
 /// The parts of the word of a copy: its owner, its field, its bit and its reader.
@@ -93,11 +93,11 @@ fn move_named(name: BitWord, words: &[&[u8]]) -> Result<Move, FaultKind>
     ensures { result ≡ move_of name (texts words.now) }
 {
     match name {
-        BitWord::Write => Ok(Move::BeginWrite(one_bit(words)?)),
+        BitWord::Write => one_bit(words).map(Move::BeginWrite),
         BitWord::End => alone(Move::EndWrite, words),
         BitWord::Read => alone(Move::BeginRead, words),
-        BitWord::Value => Ok(Move::EndRead(one_bit(words)?)),
-        BitWord::Settle => Ok(Move::Settle(one_bit(words)?)),
+        BitWord::Value => one_bit(words).map(Move::EndRead),
+        BitWord::Settle => one_bit(words).map(Move::Settle),
         BitWord::Bits | BitWord::Drop => Err(FaultKind::Unknown),
     }
 }

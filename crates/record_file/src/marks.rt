@@ -39,7 +39,7 @@ fn named_mark(name: MarkWord, words: &[&[u8]]) -> Result<Mark, FaultKind>
         MarkWord::Leave => lone_mark(&Mark::Left, words),
         MarkWord::Answer => answered(words),
         MarkWord::Fail => lone_mark(&Mark::Failed, words),
-        MarkWord::Settled => Ok(Mark::Settled(one_bit(words)?)),
+        MarkWord::Settled => one_bit(words).map(Mark::Settled),
         MarkWord::Down => lone_mark(&Mark::Down, words),
         MarkWord::Withdraw => lone_mark(&Mark::Withdrew, words),
         MarkWord::Restart => lone_mark(&Mark::Restarted, words),
@@ -105,10 +105,7 @@ fn check_sum(verb: Verb, operands: &[&[u8]]) -> Result<(), FaultKind>
 fn taken(words: &[&[u8]]) -> Result<Mark, FaultKind>
     ensures { result ≡ taken_of (texts words.now) }
 {
-    let [place, behind @ ..] = words else {
-        return Err(FaultKind::Words);
-    };
-    let [name, operands @ ..] = behind else {
+    let [place, name, operands @ ..] = words else {
         return Err(FaultKind::Words);
     };
     let Some(name) = ReplyWord::of(name) else {
@@ -143,14 +140,14 @@ fn answer(name: AnswerWord, words: &[&[u8]]) -> Result<Answer, FaultKind>
     requires { length words.now ≡ answer_count name }
     ensures { result ≡ answer_of name (texts words.now) }
 {
-    Ok(match name {
-        AnswerWord::Reply(name) => Answer::Reply(reply(name, words)?),
-        AnswerWord::TicketsFull => Answer::TicketsFull {
+    match name {
+        AnswerWord::Reply(name) => Ok(Answer::Reply(reply(name, words)?)),
+        AnswerWord::TicketsFull => Ok(Answer::TicketsFull {
             process: process(words[0])?,
-        },
-        AnswerWord::StampsFull => Answer::StampsFull,
-        AnswerWord::Withdrawn => Answer::Withdrawn,
-    })
+        }),
+        AnswerWord::StampsFull => Ok(Answer::StampsFull),
+        AnswerWord::Withdrawn => Ok(Answer::Withdrawn),
+    }
 }
 
 /// A reply, by its first word and the words behind it, as many as it takes.
@@ -158,18 +155,18 @@ fn reply(name: ReplyWord, words: &[&[u8]]) -> Result<Reply, FaultKind>
     requires { length words.now ≡ reply_count name }
     ensures { result ≡ reply_of name (texts words.now) }
 {
-    Ok(match name {
-        ReplyWord::Value => Reply::Value(value(words[0])?),
-        ReplyWord::Done => Reply::Done,
-        ReplyWord::Sum => Reply::Sum(integer(words[0])?),
-        ReplyWord::Swapped => Reply::Swapped,
-        ReplyWord::Kept => Reply::Kept(value(words[0])?),
-        ReplyWord::NoName => Reply::NoName,
-        ReplyWord::NotCounter => Reply::NotCounter,
-        ReplyWord::Overflow => Reply::Overflow,
-        ReplyWord::StoreFull => Reply::StoreFull,
-        ReplyWord::Last => Reply::Last(number(words[0], 65_535)? as u16),
-    })
+    match name {
+        ReplyWord::Value => value(words[0]).map(Reply::Value),
+        ReplyWord::Done => Ok(Reply::Done),
+        ReplyWord::Sum => integer(words[0]).map(Reply::Sum),
+        ReplyWord::Swapped => Ok(Reply::Swapped),
+        ReplyWord::Kept => value(words[0]).map(Reply::Kept),
+        ReplyWord::NoName => Ok(Reply::NoName),
+        ReplyWord::NotCounter => Ok(Reply::NotCounter),
+        ReplyWord::Overflow => Ok(Reply::Overflow),
+        ReplyWord::StoreFull => Ok(Reply::StoreFull),
+        ReplyWord::Last => Ok(Reply::Last(number(words[0], 65_535)? as u16)),
+    }
 }
 
 impl ReplyWord {

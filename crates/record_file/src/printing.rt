@@ -17,7 +17,6 @@ use std::alloc::{AllocError, Global};
 /// The lines before the entries: the version, the four headings, all of them, and the opening pairs. With the lines of
 /// any entries behind them, each of which fits its line, they are read as that setup and those entries; and what is
 /// printed for whatever setup and entries that fit is read as these.
-#[tactic(auto, using(crate::proofs::RecordsAgain::record_again))]
 pub fn print_setup(alloc: Global, setup: &Setup) -> Result<Vec<u8>, AllocError>
     ensures lines { IfOk result (λ b. b.items ≡ flat_map printed_line (head_words setup.now)) }
     ensures read_again { GivesBeginning result setup.now }
@@ -56,7 +55,6 @@ fn push_words(process: u8, access: &Option<Access>, text: &mut Vec<u8>) -> Resul
 }
 
 /// Writes the marks, each behind its sign.
-#[tactic(auto, using(crate::proofs::Printed::marks_more))]
 fn push_marks(alloc: Global, marks: &[Mark], line: &mut Vec<u8>) -> Result<(), AllocError>
     ensures { OnOk result (line.new.items ≡ line.old.items ++ marks_text marks.now) }
 {

@@ -43,7 +43,6 @@ fn step_in(line: &[u8]) -> Option<(u8, Access)>
 
 /// The same where both processes have one digit.
 #[inline(always)]
-#[tactic(auto, using(crate::proofs::StepWords::near_is))]
 fn near_step_in(line: &[u8]) -> Option<(u8, Access)>
     ensures { IfSome result (λ read. line.now ≡ decimal read.0 ++ (32 ∷ access_text read.1)) }
 {
@@ -59,7 +58,6 @@ fn near_step_in(line: &[u8]) -> Option<(u8, Access)>
 /// The same of processes of any number. It is a call: as a part of its caller it would make that so large that the caller is no
 /// part of the loop any more.
 #[inline(never)]
-#[tactic(auto, using(crate::proofs::StepWords::far_is))]
 fn far_step_in(line: &[u8]) -> Option<(u8, Access)>
     ensures { IfSome result (λ read. line.now ≡ decimal read.0 ++ (32 ∷ access_text read.1)) }
 {
@@ -71,7 +69,6 @@ fn far_step_in(line: &[u8]) -> Option<(u8, Access)>
 
 /// The access to a register of this process whose other words these bytes are, from the first dot on.
 #[inline(always)]
-#[tactic(auto, using(crate::proofs::StepWords::access_is))]
 fn access_behind(owner: u8, bytes: &[u8]) -> Option<Access>
     ensures { IfSome result (λ access. decimal owner ++ bytes.now ≡ access_text access) }
 {
@@ -103,7 +100,6 @@ fn process_before(bytes: &[u8], end: u8) -> Option<(u8, &[u8])>
 /// The number of a bit before a dot, and what is behind that. Most have one to three digits, and how many is no branch. A fourth
 /// is one: making it ready too for each line takes longer.
 #[inline(always)]
-#[tactic(auto, using(crate::proofs::StepWords::digits_and_dot, crate::proofs::StepWords::fourth_digit))]
 fn bit_before_dot(bytes: &[u8]) -> Option<(u16, &[u8])>
     ensures { IfSome result (λ read. bytes.now ≡ decimal read.0 ++ (46 ∷ read.1.now)) }
 {
@@ -238,7 +234,6 @@ fn digit(byte: u8) -> Option<u32>
 
 /// The register that is named between two dots, and what is behind them.
 #[inline(always)]
-#[tactic(auto, using(crate::proofs::StepWords::between_dots))]
 fn field_between_dots(bytes: &[u8]) -> Option<(Field, &[u8])>
     ensures { IfSome result (λ read. bytes.now ≡ 46 ∷ (field_word read.0 ++ (46 ∷ read.1.now))) }
 {
@@ -300,7 +295,6 @@ fn are_eight(bytes: &[u8; 8], word: &[u8; 8]) -> bool
 
 /// The number of a process before such a byte, and what is behind that, from the byte on.
 #[inline(always)]
-#[tactic(auto, using(crate::proofs::StepWords::one_digit, crate::proofs::StepWords::from_end))]
 fn process_at(bytes: &[u8], end: u8) -> Option<(u8, &[u8])>
     ensures { IfSome result (λ read. bytes.now ≡ decimal read.0 ++ read.1.now) }
 {

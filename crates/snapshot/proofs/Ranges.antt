@@ -82,6 +82,10 @@ words_more text f g k =
     ∙ ap (λ l. text ++ l) (flat_map-append f (map g (range_with_len 0 k)) (g k ∷ []) ∙ ap (λ l. flat_map f (map g (range_with_len 0 k)) ++ l) (append-nil (f (g k))))
     ∙ sym (append_assoc text (flat_map f (map g (range_with_len 0 k))) (f (g k)))
 
+-- the same once the word of one more is written
+pub words_written : (text : List ℕ) (f : ℕ → List ℕ) (g : ℕ → ℕ) (k : ℕ) (now next word : List ℕ) → now ≡ text ++ flat_map f (map g (range_with_len 0 k)) → word ≡ f (g k) → next ≡ now ++ word → next ≡ text ++ flat_map f (map g (range_with_len 0 (k + 1)))
+words_written text f g k now next word so_far is wrote = wrote ∙ (λ i. so_far i ++ is i) ∙ sym (words_more text f g k)
+
 -- three pieces, one after the other
 pub three_written : (old one two new a b c : List ℕ) → one ≡ old ++ a → two ≡ one ++ b → new ≡ two ++ c → new ≡ old ++ (a ++ (b ++ c))
 three_written old one two new a b c first second third = third ∙ ap (λ l. l ++ c) (second ∙ ap (λ l. l ++ b) first) ∙ simp append_assoc

@@ -113,9 +113,7 @@ fn behind_process(alloc: Global, entry: &Entry) -> Result<Vec<u8>, AllocError>
     let digits = format!(in alloc; "{process}")?;
     let mut line = Vec::new(alloc);
     print_entry(alloc, entry, &mut line)?;
-    let mut words = Vec::new(alloc);
-    words.extend_from_slice(behind(line.as_slice(), digits.len()))?;
-    Ok(words)
+    behind(line.as_slice(), digits.len()).to_vec(alloc)
 }
 
 /// What stands in a line behind so many bytes, and one more.

@@ -113,10 +113,15 @@ fn push_call(
     let marks = &called.marks;
     let words = call_words(alloc, called)?;
     push_words(alloc, process, words, text)?;
-    let doorway = span_words(alloc, "doorway", called.accesses.doorway, marks.door_end)?;
-    push_line_if(alloc, process, doorway, text)?;
-    let inside = span_words(alloc, "inside", marks.entered, marks.left)?;
-    push_line_if(alloc, process, inside, text)?;
+    push_span(
+        alloc,
+        process,
+        "doorway",
+        called.accesses.doorway,
+        marks.door_end,
+        text,
+    )?;
+    push_span(alloc, process, "inside", marks.entered, marks.left, text)?;
     let taken = taken_words(alloc, history, marks.place, marks.taken)?;
     push_line_if(alloc, process, taken, text)?;
     let withdrew = withdrew_words(alloc, marks.withdrew)?;
@@ -134,23 +139,26 @@ fn call_words(alloc: Global, called: &Called) -> Result<String, AllocError>
     format!(in alloc; "call {call} {command} at {at}")
 }
 
-/// From which event something goes on, and up to which, if it has begun.
-fn span_words(
+/// Writes from which event something goes on, and up to which, if it has begun.
+fn push_span(
     alloc: Global,
+    process: u8,
     what: &str,
     from: Option<u64>,
     to: Option<u64>,
-) -> Result<Option<String>, AllocError>
-    ensures { IfOk result (λ words. option_map string_bytes words
-        ≡ span_words what.now from to) }
+    text: &mut Vec<u8>,
+) -> Result<(), AllocError>
+    ensures { OnOk result (text.new.items ≡ text.old.items
+        ++ line_if process (span_words what.now from to)) }
 {
     let Some(from) = from else {
-        return Ok(None);
+        return Ok(());
     };
-    Ok(Some(since_words(alloc, what, from, to)?))
+    let words = since_words(alloc, what, from, to)?;
+    push_words(alloc, process, words, text)
 }
 
-/// The same of what has begun.
+/// The words of what has begun.
 fn since_words(alloc: Global, what: &str, from: u64, to: Option<u64>) -> Result<String, AllocError>
     ensures { IfOk result (λ words. Some (string_bytes words)
         ≡ span_words what.now (Some from) to) }

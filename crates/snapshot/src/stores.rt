@@ -42,7 +42,6 @@ fn has_numbers<S: Store>(callers: u8, store: &S) -> bool
 }
 
 /// Writes the numbers of so many callers.
-#[tactic(auto, using(crate::proofs::Ranges::words_more))]
 fn push_numbers<S: Store>(
     alloc: Global,
     callers: u8,

@@ -3,7 +3,7 @@ ghost use Rattle.std.specs.Prelude.{◌≡◌, ◌+◌, ◌*◌, ◌^◌, ◌<�
 ghost use Rattle.plain_store.specs.{checked};
 ghost use Rattle.sweeper.specs.Runners.{due};
 ghost use Rattle.sweeper.specs.Sweeps.{AreAllGood, AreDownInTime, IsSwept, SweptKeepHeadline};
-ghost use Rattle.sweeper.specs.Tallies.{AreFew, CountsRun, SweepsNone, SweepsOn};
+ghost use Rattle.sweeper.specs.Tallies.{AreFew, CountsRun, SweepsNone, SweepsOn, SweptBy};
 
 use crate::runner::Runner;
 use crate::swept::Swept;
@@ -53,13 +53,7 @@ pub fn sweep_seen<L: Onlooker>(
         return Err(AllocError);
     }
     let mut sweeper = Sweeper::new(alloc, setup)?;
-    for event in events {
-        onlooker.reached(Reached::Swept {
-            events: sweeper.number,
-            of: events.len() as u64,
-        });
-        sweeper.event(event, calls);
-    }
+    sweeper.events(events, calls, onlooker);
     Ok(sweeper.found)
 }
 
@@ -88,6 +82,25 @@ impl Sweeper {
             number: 0,
             found: Swept::none(),
         })
+    }
+
+    /// Goes along all events, before an onlooker.
+    fn events<L: Onlooker>(&mut self, events: &[Event], calls: &[(u8, Command)], onlooker: &mut L)
+        requires events { length events.now ≤ 2 ^ 56 }
+        requires calls { length calls.now ≤ 2 ^ 56 }
+        requires due { due self.old.walker ≤ 16 }
+        requires number { self.old.number ≡ 0 }
+        requires few { AreFew 0 self.old.found }
+        requires swept { SweepsNone self.old.walker.core.setup self.old }
+        ensures { SweptBy self.old.walker.core.setup calls.now (reverse events.now) self.new }
+    {
+        for event in events {
+            onlooker.reached(Reached::Swept {
+                events: self.number,
+                of: events.len() as u64,
+            });
+            self.event(event, calls);
+        }
     }
 
     /// The runner goes along one more event, and the runs that are cut after it are made.

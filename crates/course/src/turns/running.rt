@@ -11,7 +11,7 @@ ghost use Rattle.course.specs.Steppers.{left_told, turns_drawn};
 ghost use Rattle.course.specs.Turns.{rest_of, turns_in};
 
 use super::Course;
-use super::steps::{pass_by, step};
+use super::steps::{any_step, pass_by, quiet_known, quiet_step};
 use crate::listening::Listener;
 use crate::told::Told;
 use record::{Refusal, Stage};
@@ -40,7 +40,6 @@ impl Course {
             (StopsAlone L.Stops self.old process floor self.new listener.old listener.new) }
     {
         let mut quiet = 0;
-        let mut told = None;
         'steps: while floor < self.left {
             pass_by(
                 &mut self.world,
@@ -53,19 +52,15 @@ impl Course {
             );
             self.left -= 1;
             let flick = self.flicks.flick();
-            let is_last = self.left == floor;
-            step(
-                &mut self.world,
-                &mut quiet,
-                process,
-                flick,
-                is_last,
-                listener,
-                &mut told,
-            )?;
-            if let Some(answer) = &told {
-                self.left = left_after(answer, self.left);
-                return Ok(told);
+            quiet = quiet_known(&self.world, quiet, process, self.left == floor);
+            if quiet > 0 {
+                quiet -= 1;
+                quiet_step(&mut self.world, process, flick, listener)?;
+                continue;
+            }
+            if let Some(told) = any_step(&mut self.world, process, flick, listener)? {
+                self.left = left_after(&told, self.left);
+                return Ok(Some(told));
             }
         }
         Ok(None)
@@ -107,10 +102,7 @@ impl Course {
         Ok(Some(Told::Tired(process)))
     }
 
-    /// Turns of `wander`: Steps of picked ones, if there is one to pick. Whose Step comes next is drawn before this one is
-    /// made: nobody can foretell where in its access a picked process is, and so a processor that has foretold it wrongly
-    /// begins with what comes after anew, but not with that draw. For the same reason a process is asked once how many
-    /// of its next Steps are within its number access, and these are counted down: most Steps ask nothing.
+    /// Turns of `wander`: Steps of picked ones, if there is one to pick.
     pub(super) fn run_random<L: Listener>(
         &mut self,
         listener: &mut L,
@@ -129,40 +121,62 @@ impl Course {
             fault listener.new)) }
     {
         let movers = self.movers();
+        let movers = movers.as_slice();
         if movers.is_empty() {
             self.left = 0;
             return Ok(None);
         }
-        let movers = movers.as_slice();
         if movers.len() == 1 && self.flicks.is_constant() {
             return self.run_lone(movers[0], listener);
         }
+        self.run_among(movers, listener)
+    }
+
+    /// The same where these processes have a Step to make. Whose Step comes next is drawn before this one is made: nobody can
+    /// foretell where in its access a picked process is, and so a processor that has foretold it wrongly begins with what
+    /// comes after anew, but not with that draw. For the same reason a process is asked once how many of its next Steps are
+    /// within its number access, and these are counted down: most Steps ask nothing.
+    fn run_among<L: Listener>(
+        &mut self,
+        among: &[u8],
+        listener: &mut L,
+    ) -> Result<Option<Told>, Fault>
+        requires room { L.HasRoom listener.old self.old.left }
+        requires some { 0 < length among.now }
+        requires movers { InItsRun self.old (λ run.
+            among.now ≡ movers self.old.world.setup (past_in self.old.world.setup run)) }
+        ensures left { IfOk result (λ told. room_wanted told self.new.left ≤ self.old.left) }
+        ensures ok { IfOk result (λ told. (steps : ℕ) →
+            Comes L.Hears L.Knows self.old (WanderLine steps) self.new
+            listener.old listener.new told) }
+        ensures room { IfOk result
+            (LeavesRoom L.HasRoom listener.old self.old.left listener.new self.new.left) }
+        ensures cut { IfErr result (λ fault. (steps : ℕ) →
+            InItsRun self.old (λ run. self.old.left ≤ steps →
+            L.Stops listener.old self.old.world.setup run.happened
+            (rest_of self.old.world.setup (WanderLine steps) self.old.left run).happened
+            fault listener.new)) }
+    {
         let mut within = [0_u32; 256];
         let mut left = self.left;
         let mut ahead = self.flicks.twin();
-        let mut next = drawn(&mut ahead, movers);
-        let mut told = None;
+        let mut next = drawn(&mut ahead, among);
         'steps: while 0 < left {
             left -= 1;
             let (process, flick) = next;
-            next = drawn(&mut ahead, movers);
+            next = drawn(&mut ahead, among);
             let at = usize::from(process);
-            let mut quiet = within[at];
-            let is_last = left == 0;
-            step(
-                &mut self.world,
-                &mut quiet,
-                process,
-                flick,
-                is_last,
-                listener,
-                &mut told,
-            )?;
-            within[at] = quiet;
-            if let Some(_answer) = &told {
+            let known = quiet_known(&self.world, within[at], process, left == 0);
+            if known > 0 {
+                within[at] = known - 1;
+                quiet_step(&mut self.world, process, flick, listener)?;
+                continue;
+            }
+            within[at] = 0;
+            if let Some(told) = any_step(&mut self.world, process, flick, listener)? {
                 skip_turns(&mut self.flicks, self.left - left);
                 self.left = left;
-                return Ok(told);
+                return Ok(Some(told));
             }
         }
         skip_turns(&mut self.flicks, self.left - left);

@@ -5,7 +5,7 @@ ghost use Rattle.world.specs.{KeepOthers, left_in};
 ghost use Rattle.world.specs.process.declared.told.StepTold.TheVariants.{Nothing};
 ghost use Rattle.world.specs.process.registers.declared.access_made.AccessMade.{AccessMade as MadeSeen};
 ghost use Rattle.course.specs.Courses.{course};
-ghost use Rattle.course.specs.Listening.{HearsStep, Learns, LeavesRoom, MakesStep, PassesAlone, StopsBy};
+ghost use Rattle.course.specs.Listening.{HearsStep, Learns, LeavesRoom, MakesStep, PassesAlone, StopsBy, TakesRoom};
 ghost use Rattle.course.specs.Telling.{told_step};
 
 use crate::listening::Listener;
@@ -51,39 +51,26 @@ pub(super) fn pass_by<L: Listener>(
     listener.pass(process, within, made.newest.how, made.overlapped);
 }
 
-/// A Step by this flick: it is heard or passed by, if it has no mark, and else it is told in `told`, which is written then
-/// alone: it is large. The last one of its line is heard: so a listener knows the newest access where a line ends. `quiet`: so
-/// many of the process's next Steps, at least, are within its number access, of which this Step is one.
+/// A Step by this flick within a number access, which has no mark: it is heard, or passed by. It is not the last one of its
+/// line, of which a listener learns the access.
 #[inline(always)]
-pub(super) fn step<L: Listener>(
+pub(super) fn quiet_step<L: Listener>(
     world: &mut World,
-    quiet: &mut u32,
     process: u8,
     flick: bool,
-    is_last: bool,
     listener: &mut L,
-    told: &mut Option<Told>,
 ) -> Result<(), Fault>
     requires room { L.HasRoom listener.old 1 }
-    requires within { quiet.old ≤ left_in world.old.seats process }
-    requires untold { told.old ≡ None }
-    ensures within { quiet.new ≤ left_in world.new.seats process }
+    requires within { 0 < left_in world.old.seats process }
+    ensures fewer { left_in world.old.seats process ≡ left_in world.new.seats process + 1 }
     ensures ok { OnOk result
-        (MakesStep L.Hears world.old process flick told.new world.new listener.old listener.new) }
-    ensures knows { OnOk result (is_last ≡ true → MakesStep (Learns L.Knows) world.old process flick
-        told.new world.new listener.old listener.new) }
-    ensures room { OnOk result (LeavesRoom L.HasRoom listener.old 1 listener.new 0 told.new) }
+        (HearsStep L.Hears world.old process flick world.new listener.old listener.new) }
+    ensures room { OnOk result (TakesRoom L.HasRoom listener.old 1 listener.new) }
     ensures cut { IfErr result (λ fault.
         HearsStep (StopsBy L.Stops fault) world.old process flick world.new listener.old listener.new) }
     ensures setup { world.new.setup ≡ world.old.setup }
     ensures others { KeepOthers world.old.seats process world.new.seats }
 {
-    let known = quiet_known(world, *quiet, process, is_last);
-    if known == 0 {
-        *quiet = 0;
-        return any_step(world, process, flick, listener, told);
-    }
-    *quiet = known - 1;
     let made = world.run(process, &mut Flicks::only(flick), 1);
     if listener.hears_steps() {
         listener.step(Stepped {
@@ -102,7 +89,7 @@ pub(super) fn step<L: Listener>(
 /// So many of a process's next Steps, at least, are within its number access: the world is asked, if none is known. Of the last
 /// Step of its line none is taken for one.
 #[inline(always)]
-fn quiet_known(world: &World, known: u32, process: u8, is_last: bool) -> u32
+pub(super) fn quiet_known(world: &World, known: u32, process: u8, is_last: bool) -> u32
     requires { known ≤ left_in world.now.seats process }
     ensures within { result ≤ left_in world.now.seats process }
     ensures last { is_last ≡ true → result ≡ 0 }
@@ -116,22 +103,20 @@ fn quiet_known(world: &World, known: u32, process: u8, is_last: bool) -> u32
     known
 }
 
-/// A Step by this flick, wherever its process is: it is heard, if it has no mark, and else it is told in `told`.
+/// A Step by this flick, wherever its process is: it is heard, if it has no mark, and else what it tells is answered.
 #[inline(never)]
-fn any_step<L: Listener>(
+pub(super) fn any_step<L: Listener>(
     world: &mut World,
     process: u8,
     flick: bool,
     listener: &mut L,
-    told: &mut Option<Told>,
-) -> Result<(), Fault>
-    requires room { L.HasRoom listener.old 1 }
-    requires untold { told.old ≡ None }
-    ensures ok { OnOk result
-        (MakesStep L.Hears world.old process flick told.new world.new listener.old listener.new) }
-    ensures knows { OnOk result (MakesStep (Learns L.Knows) world.old process flick told.new world.new
-        listener.old listener.new) }
-    ensures room { OnOk result (LeavesRoom L.HasRoom listener.old 1 listener.new 0 told.new) }
+) -> Result<Option<Told>, Fault>
+    requires { L.HasRoom listener.old 1 }
+    ensures ok { IfOk result (λ told.
+        MakesStep L.Hears world.old process flick told world.new listener.old listener.new) }
+    ensures knows { IfOk result (λ told. MakesStep (Learns L.Knows) world.old process flick told
+        world.new listener.old listener.new) }
+    ensures room { IfOk result (λ told. LeavesRoom L.HasRoom listener.old 1 listener.new 0 told) }
     ensures cut { IfErr result (λ fault.
         HearsStep (StopsBy L.Stops fault) world.old process flick world.new listener.old listener.new) }
     ensures setup { world.new.setup ≡ world.old.setup }
@@ -142,8 +127,7 @@ fn any_step<L: Listener>(
     let place = world.history().len() as u64;
     let stepped = world.step(process, flick, &mut leads);
     let Some(made) = unmarked(&stepped, &leads) else {
-        *told = Some(told_of(process, flick, place, &stepped, &leads));
-        return Ok(());
+        return Ok(Some(told_of(process, flick, place, &stepped, &leads)));
     };
     listener.step(Stepped {
         process,
@@ -152,7 +136,7 @@ fn any_step<L: Listener>(
         overlapped: made.overlapped,
         number,
     })?;
-    Ok(())
+    Ok(None)
 }
 
 /// The access of a Step that was made, if it has no mark.

@@ -1,12 +1,14 @@
-use Rattle.std.proofs.Common.{◌≡◌, ◌+◌, ◌-◌, ◌*◌, ◌^◌, ◌<◌, ℕ, List, [], ◌∷◌, length, drop, arith, ap, subst}
+use Rattle.std.proofs.Common.{◌≡◌, ◌+◌, ◌-◌, ◌*◌, ◌^◌, ◌<◌, ℕ, List, [], ◌∷◌, length, drop, arith, ap, sym, subst, ◌∙◌}
 use Rattle.std.proofs.lemmas.List.{drop_all}
 use Rattle.plain_store.specs.{Setup}
 use Rattle.scenario.specs.{Line, script}
 use Rattle.scenario.proofs.Places.{drop_in}
 use Rattle.course.specs.{Audit, Audits, Happening, Summary, past_after}
 use Rattle.course.specs.Writing.{Counts}
-use Rattle.course.proofs.Listeners.{run_is_good}
+use Rattle.judge.specs.auditor.{Verdict}
+use Rattle.course.proofs.Listeners.{run_is_good, run_length}
 use Rattle.course.proofs.Played.{Between, between_all, between_good, between_on, between_start}
+use Rattle.engines.specs.{IsRunVerdict}
 use Rattle.engines.proofs.auditing.audit_lines.Goals as goal
 
 abbrev Counted : Setup → Summary → Audit → List Happening → Type 0
@@ -56,6 +58,12 @@ returns g c =
     let was = c.loop-line.judged in
     let P : List Happening → Type 0 = Counted s was.listener was.audit in
     let end : Between s lines [] c.loop-line.course P = subst (λ (rest : List Line). Between s lines rest c.loop-line.course P) (drop_all c.loop-line.line-index lines (omega arith)) c.loop-line.invariant.between in
+    let said = script c.args.scenario.now in
     let heard = between_all s lines c.loop-line.course P end in
-    let good = between_good s lines c.loop-line.course P end in
-    record { counts = heard.0; audits = heard.1; good = run_is_good (script c.args.scenario.now) good.0 good.1 }
+    let given = between_good s lines c.loop-line.course P end in
+    let good = c.verdict.ensures s _ heard.1 in
+    record {
+      verdict = subst (λ (v : Verdict). IsRunVerdict said v) (sym good) (run_is_good said given.0 given.1);
+      good = good;
+      entries = heard.0.events ∙ sym (run_length said);
+    }

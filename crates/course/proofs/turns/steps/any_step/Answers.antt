@@ -1,6 +1,6 @@
-use Rattle.std.proofs.Common.{◌+◌, ◌∙◌, Some, arith, length, refl, subst, sym}
-use Rattle.course.specs.{HearsStep, Learns, LeavesRoom, tried}
-use Rattle.course.proofs.Played.{not_ok, on_fault, untold}
+use Rattle.std.proofs.Common.{◌+◌, ◌∙◌, Some, arith, length, refl}
+use Rattle.course.specs.{HearsStep, tried}
+use Rattle.course.proofs.Played.{no_value, on_fault}
 use Rattle.course.proofs.StepsTold.{overlaps_of, step_quiet, step_setup, step_told}
 use Rattle.course.proofs.Within.{some_is, steps_on}
 use Rattle.course.proofs.turns.steps.any_step.Goals as goal
@@ -26,11 +26,10 @@ returns-clause-ok g c =
     let s = c.step-stepped in
     let made = c.in-Some.ensures.some in
     let quiet = step_quiet w s.new.self c.args.process c.args.flick s.new.told s.result s.ensures.accepted s.ensures.shows s.ensures.setup c.in-Some.made made.0 made.1 s.ensures.headline in
-    untold g.L.Listener.Hears w c.args.process c.args.flick c.args.told.now s.new.self c.args.listener.now c.step.new.self c.requires.untold
-    (record {
+    record {
       step = quiet;
       hears = λ before shows. c.in_ok-step.ensures.ok w.setup before (steps_on w s.new.self c.args.process c.args.flick (Some c.number_read.result) before quiet shows (λ n is. some_is c.number_read.result n is ∙ c.number_read.ensures (tried before) shows) (λ none. absurd (cc)) c.in-Some.made.overlapped (overlaps_of w s.result c.in-Some.made made.0 s.ensures.overlapped));
-    })
+    }
 
 pub returns-clause-knows : goal.returns-clause-knows
 returns-clause-knows g c =
@@ -38,14 +37,13 @@ returns-clause-knows g c =
     let s = c.step-stepped in
     let made = c.in-Some.ensures.some in
     let quiet = step_quiet w s.new.self c.args.process c.args.flick s.new.told s.result s.ensures.accepted s.ensures.shows s.ensures.setup c.in-Some.made made.0 made.1 s.ensures.headline in
-    untold (Learns g.L.Listener.Knows) w c.args.process c.args.flick c.args.told.now s.new.self c.args.listener.now c.step.new.self c.requires.untold
-    (record {
+    record {
       step = quiet;
       hears = λ before shows. c.in_ok-step.ensures.knows w.setup before (steps_on w s.new.self c.args.process c.args.flick (Some c.number_read.result) before quiet shows (λ n is. some_is c.number_read.result n is ∙ c.number_read.ensures (tried before) shows) (λ none. absurd (cc)) c.in-Some.made.overlapped (overlaps_of w s.result c.in-Some.made made.0 s.ensures.overlapped));
-    })
+    }
 
 pub returns-clause-room : goal.returns-clause-room
-returns-clause-room g c = subst (λ told. LeavesRoom g.L.Listener.HasRoom c.args.listener.now 1 c.step.new.self 0 told) (sym c.requires.untold) (λ more room. g.met.L.Listener.room_less c.step.new.self (more + 0) more (omega arith) (c.in_ok-step.ensures.room more room))
+returns-clause-room g c = λ more room. g.met.L.Listener.room_less c.step.new.self (more + 0) more (omega arith) (c.in_ok-step.ensures.room more room)
 
 pub returns-in_err-step-clause-setup : goal.returns-in_err-step-clause-setup
 returns-in_err-step-clause-setup g c = step_setup c.args.world.now c.step-stepped.new.self c.step-stepped.result c.step-stepped.ensures.setup c.step-stepped.ensures.unchanged
@@ -63,10 +61,10 @@ returns-in_err-step-clause-cut g c =
     })
 
 pub returns-in_err-step-clause-ok : goal.returns-in_err-step-clause-ok
-returns-in_err-step-clause-ok g c = not_ok c.from_residual.result c.in_err-step.field-0.0 _ c.from_residual.ensures.1
+returns-in_err-step-clause-ok g c = no_value c.from_residual.result c.in_err-step.field-0.0 _ c.from_residual.ensures.1
 
 pub returns-in_err-step-clause-knows : goal.returns-in_err-step-clause-knows
-returns-in_err-step-clause-knows g c = not_ok c.from_residual.result c.in_err-step.field-0.0 _ c.from_residual.ensures.1
+returns-in_err-step-clause-knows g c = no_value c.from_residual.result c.in_err-step.field-0.0 _ c.from_residual.ensures.1
 
 pub returns-in_err-step-clause-room : goal.returns-in_err-step-clause-room
-returns-in_err-step-clause-room g c = not_ok c.from_residual.result c.in_err-step.field-0.0 _ c.from_residual.ensures.1
+returns-in_err-step-clause-room g c = no_value c.from_residual.result c.in_err-step.field-0.0 _ c.from_residual.ensures.1
