@@ -9,7 +9,7 @@ times=${2:-20000}
 cd "$(dirname "$0")/../crates/workloads"
 rt run >/dev/null 2>&1
 /usr/bin/time -f 'peak %M' out/workloads board "$calls" "$times" 2>&1 >/dev/null | awk '
-  $1 == "largest" && NF == 3 { printf "largest board, %d ports: %.1f ms\n", $2, $3 / 1e6; seen++ }
-  ($1 == "alone" || $1 == "together") && NF == 5 { printf "%s of %d, slots %d: %.1f ns on average over %d word steps\n", $1, $2, $3, $5 / $4, $4; seen++ }
+  /largest board$/ { printf "largest board, %d ports: %.1f ms\n", $1, $2 / 1e6; seen++ }
+  match($0, /(alone|together) of .*/) { printf "%s: %.1f ns on average over %d word steps\n", substr($0, RSTART), $2 / $1, $1; seen++ }
   $1 == "peak" { printf "memory: %.1f MiB\n", $2 / 1024; seen++ }
   END { if (seen != 8) { print "workloads told no times" > "/dev/stderr"; exit 1 } }'

@@ -5,5 +5,5 @@ set -euo pipefail
 times=${1:-1000}
 cd "$(dirname "$0")/../crates/workloads"
 rt run -- registers "$times" 2>&1 | awk '
-  $1 == "write_step" || $1 == "read_step" { printf "%s: %.1f ns on average over %d steps\n", $1, $3 / $2, $2; seen++ }
+  /^[0-9]+ [0-9]+ (write|read) steps$/ { printf "%s_step: %.1f ns on average over %d steps\n", $3, $2 / $1, $1; seen++ }
   END { if (seen != 2) { print "workloads told no times" > "/dev/stderr"; exit 1 } }'

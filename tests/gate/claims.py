@@ -9,7 +9,7 @@ lemma that the pages on the two proofs name.
 
 docs/CLAIMS.md has each promise of README.md, word for word and in its order. Each of its rows says how strong it is; one that is
 proved names a clause, and one that is tested a script or a test that is there. docs/PLANTS.md names each must-fail edit, and no
-other.
+other, and what an edit changes is there.
 """
 
 import os
@@ -23,6 +23,7 @@ from lib.counting import Counter
 from lib.crates import crates
 from lib.places import TOP
 from lib.sources import FOLDER, definition_at, facts_of, functions_named, names, tests_named, words_in
+from lib.wrong_bodies import wrong_bodies
 
 CLAIMS = TOP / "docs" / "CLAIMS.md"
 CLAUSES = re.compile(r"\[`(?P<path>\w+(?:::\w+)+)`(?P<words>(?:, (?:`\w+`|its clause|its test))*)\]\((?P<link>[^()\s]*)\)")
@@ -150,10 +151,12 @@ def check_claims(counter):
 
 
 def check_edits(counter):
-    """Whether docs/PLANTS.md names each must-fail edit, and no other."""
+    """Whether docs/PLANTS.md names each wrong body of tests/must-fail/, and no other; and whether what each changes is there."""
     named = set(EDIT.findall((TOP / "docs" / "PLANTS.md").read_text()))
-    there = {(path.parent.parent.name, path.stem) for path in FOLDER.glob("*/must-fail/*.edit")}
+    there = {(body.crate, body.name) for body in wrong_bodies()}
     counter.count(named == there, f"PLANTS.md and the must-fail edits differ in {sorted(named ^ there)}")
+    for body in wrong_bodies():
+        counter.count(body.refused and body.changed({}), f"{body}: an old text does not stand once in its file")
 
 
 def main():

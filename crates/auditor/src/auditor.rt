@@ -1,8 +1,9 @@
-ghost use Rattle.std.specs.Prelude.{◌≡◌, ◌↔◌, false, IfOk, IfSome, IsTrue, Ok, Some, None, []};
+ghost use Rattle.std.specs.Prelude.{◌≡◌, ◌↔◌, ◌<◌, false, IfOk, IfSome, IsTrue, Ok, Some, None, []};
 ghost use Rattle.std.specs.List.{list_any};
 ghost use Rattle.plain_store.specs.{checked};
 ghost use Rattle.record.specs.declared.stages.Stage.TheVariants.{Settling};
 ghost use Rattle.read_law.specs.{entry_by};
+ghost use Rattle.world.specs.{left_in};
 ghost use Rattle.auditor.specs.Hearing.{HasHeard, Hears, HearsEvent, TellsSettling, event_in, law_of_misplaced, law_of_wrong};
 ghost use Rattle.auditor.specs.Verdicts.{tells_event};
 
@@ -86,34 +87,23 @@ impl Auditor {
         let Some(told) = access else {
             return self.hear_without_access(process, access, marks);
         };
-        if marks.is_empty() {
-            return self.hear_access(process, *told);
+        if marks.is_empty() && self.core.left(process) > 0 {
+            return self.hear_within(process, *told);
         }
         self.hear_step(process, access, marks)
     }
 
-    /// The same of an entry with this access and no mark, as nearly all are. Within a number access its process has
-    /// nothing else to do than a step, and does not settle: the step is made, and its access alone is compared.
+    /// The same of an entry with this access and no mark, as nearly all are, whose process is within a number access. It
+    /// has nothing else to do than a step, and does not settle: the step is made, and its access alone is compared.
     #[inline]
-    fn hear_access(&mut self, process: u8, access: Access) -> Option<Law>
+    fn hear_within(&mut self, process: u8, access: Access) -> Option<Law>
+        requires { 0 < left_in self.old.core.seats process }
         ensures setup { result ≡ None → self.new.core.setup ≡ self.old.core.setup }
         ensures heard { Hears self.old (entry_by process (Some access) []) self.new result }
     {
-        if self.core.left(process) == 0 {
-            return self.hear_elsewhere(process, access);
-        }
         let mut flicks = Flicks::only(flick_of(access));
         let made = self.core.run(process, &mut flicks, 1);
         different(made.newest, access)
-    }
-
-    /// The same where its process is not within a number access.
-    #[inline(never)]
-    fn hear_elsewhere(&mut self, process: u8, access: Access) -> Option<Law>
-        ensures setup { result ≡ None → self.new.core.setup ≡ self.old.core.setup }
-        ensures heard { Hears self.old (entry_by process (Some access) []) self.new result }
-    {
-        self.hear_step(process, &Some(access), &[])
     }
 
     /// An entry without an access, which no step adds.
@@ -146,6 +136,7 @@ impl Auditor {
     }
 
     /// An entry that tells no event but a step.
+    #[inline(never)]
     fn hear_step(&mut self, process: u8, access: &Option<Access>, marks: &[Mark]) -> Option<Law>
         requires { event_in (entry_by process access.now marks.now) ≡ None }
         ensures setup { result ≡ None → self.new.core.setup ≡ self.old.core.setup }

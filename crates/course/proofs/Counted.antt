@@ -1,35 +1,32 @@
 -- What is known of how far processes are within their number accesses, from Step to Step.
-use Rattle.std.proofs.Common.{◌≡◌, ◌≤◌, ℕ, List, length, replicate, set, slice_index, ap, arith, inl, inr}
-use Rattle.std.proofs.lemmas.Bool.{cases_eq, cases_lt}
-use Rattle.std.proofs.lemmas.List.{get_or-replicate, get_or-set_other, get_or-set_same, get_or_past, length-replicate, length-set}
+use Rattle.std.proofs.Common.{◌≡◌, ◌<◌, ◌≤◌, ℕ, suc, List, replicate, set, slice_index, ap, ◌∙◌, arith, inl, inr}
+use Rattle.std.proofs.lemmas.Bool.{cases_eq}
+use Rattle.std.proofs.lemmas.List.{get_or-replicate, get_or-set_other, get_or-set_same, length-replicate, length-set}
 use Rattle.world.specs.{KeepOthers, Seat, left_in}
 use Rattle.course.specs.{IsCounted}
 
 -- at first nothing is known
-pub none_known : (n p : ℕ) → slice_index (replicate n 0) p ≡ 0
-none_known n p = elim (cases_lt p n) [ inl inside ↦ get_or-replicate n p 0 0 inside | inr past ↦ get_or_past (replicate n 0) p 0 (omega (arith, length-replicate {A = ℕ} n 0, past)) ]
-
--- one is put down
-put_same : (within : List ℕ) (p quiet : ℕ) → slice_index (set within p quiet) p ≤ quiet
-put_same within p quiet = elim (cases_lt p (length within)) [
-  | inl inside ↦ let is : slice_index (set within p quiet) p ≡ quiet = get_or-set_same within p quiet 0 inside in omega (arith, is)
-  | inr past ↦
-      let long = length-set within p quiet in
-      let none : slice_index (set within p quiet) p ≡ 0 = get_or_past (set within p quiet) p 0 (omega (arith, long, past)) in
-      omega (arith, none)
-]
+pub none_known : (seats : List Seat) → IsCounted (replicate 256 1) seats
+none_known seats = record { all = length-replicate {A = ℕ} 256 1; some = λ p inside. let is = one p inside in omega (arith, is); known = λ p inside. let is = one p inside in omega (arith, is) }
+  where
+    one : (p : ℕ) → p < 256 → slice_index (replicate 256 1) p ≡ 1
+    one p inside = get_or-replicate 256 p 1 0 inside
 
 -- after a Step of a process of which so much is known
-pub counted_put : (within : List ℕ) (p quiet : ℕ) (old new : List Seat) → IsCounted within old → quiet ≤ left_in new p → KeepOthers old p new → IsCounted (set within p quiet) new
-counted_put within p quiet old new known few others q = elim (cases_eq q p) [
-  | inl is ↦
-      let here : slice_index (set within p quiet) q ≡ slice_index (set within p quiet) p = ap (slice_index (set within p quiet)) is in
-      let same : left_in new q ≡ left_in new p = ap (left_in new) is in
-      let most = put_same within p quiet in
-      omega (arith, here, same, most, few)
-  | inr apart ↦
-      let there : slice_index (set within p quiet) q ≡ slice_index within q = get_or-set_other within p q quiet 0 apart in
-      let more = others q apart in
-      let before = known q in
-      omega (arith, there, more, before)
-]
+pub counted_put : (within : List ℕ) (p quiet : ℕ) (old new : List Seat) → IsCounted within old → 0 < quiet → quiet ≤ suc (left_in new p) → KeepOthers old p new → IsCounted (set within p quiet) new
+counted_put within p quiet old new counted some few others = record { all = length-set within p quiet ∙ counted.all; some = λ q inside. (by q inside).0; known = λ q inside. (by q inside).1 }
+  where
+    by : (q : ℕ) → q < 256 → (0 < slice_index (set within p quiet) q) × (slice_index (set within p quiet) q ≤ suc (left_in new q))
+    by q inside = elim (cases_eq q p) [
+      | inl is ↦
+          let here : slice_index (set within p quiet) q ≡ slice_index (set within p quiet) p = ap (slice_index (set within p quiet)) is in
+          let put : slice_index (set within p quiet) p ≡ quiet = get_or-set_same within p quiet 0 (omega (arith, is, inside, counted.all)) in
+          let same : left_in new q ≡ left_in new p = ap (left_in new) is in
+          (omega (arith, here, put, some), omega (arith, here, put, same, few))
+      | inr apart ↦
+          let other : slice_index (set within p quiet) q ≡ slice_index within q = get_or-set_other within p q quiet 0 apart in
+          let more = others q apart in
+          let was = counted.some q inside in
+          let before = counted.known q inside in
+          (omega (arith, other, was), omega (arith, other, more, before))
+    ]

@@ -1,7 +1,9 @@
 -- What is known of how far processes are within their number accesses.
-use Rattle.std.specs.Prelude.{ℕ, ◌≤◌, List, slice_index}
+use Rattle.std.specs.Prelude.{ℕ, suc, ◌≡◌, ◌<◌, ◌≤◌, List, length, slice_index}
 use Rattle.world.specs.{Seat, left_in}
 
--- so many of the next steps of each process, at least, are within its number access
-abbrev pub IsCounted : List ℕ → List Seat → Type 0
-IsCounted within seats = (p : ℕ) → slice_index within p ≤ left_in seats p
+-- of each of 256 processes one less than so many next steps, at least, are within its number access
+pub record IsCounted (within : List ℕ) (seats : List Seat) : Type 0 where
+  pub all : length within ≡ 256
+  pub some : (p : ℕ) → p < 256 → 0 < slice_index within p
+  pub known : (p : ℕ) → p < 256 → slice_index within p ≤ suc (left_in seats p)

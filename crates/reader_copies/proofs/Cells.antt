@@ -1,11 +1,11 @@
 -- Copies, sixty-four to a place, as a list of cells.
-use Rattle.std.proofs.Common.{◌≡◌, ◌≢◌, ℕ, ◌+◌, ◌-◌, ◌*◌, ◌/◌, ◌%◌, ◌<◌, ◌≤◌, false, List, map, set, get_or, length, replicate, sym, subst, ◌∙◌, arith, ap, inl, inr}
+use Rattle.std.proofs.Common.{◌≡◌, ◌≢◌, ℕ, ◌+◌, ◌-◌, ◌*◌, ◌/◌, ◌%◌, ◌<◌, ◌≤◌, Bool, true, false, cond, List, map, set, get_or, length, replicate, sym, subst, ◌∙◌, arith, ap, inl, inr}
 use Rattle.safe_bit.specs.Cell.{Cell, new_cell, without_read}
 use Rattle.std.proofs.lemmas.Bool.{cases_eq, cases_lt}
 use Rattle.std.proofs.lemmas.List.{get_or-set_same, get_or-set_other, get_or-replicate, length-replicate, length-map, get_or-map, get_or_default, ext_get_or}
 use Rattle.std.proofs.lemmas.List.FromFn.{length-map-range_with_len, get_or-map-range_with_len}
 use Rattle.reader_copies.specs.declared.flag_words.Flags.{Flags}
-use Rattle.reader_copies.specs.{ChangesAt, bits_of_words, cell_among, cell_in, cell_in_flags, cells_of, flag_in, no_flags, open_flags, over}
+use Rattle.reader_copies.specs.{ChangesAt, IsMask, bits_of_words, cell_among, cell_in, cell_in_flags, cells_of, flag_in, no_flags, open_flags, over}
 use Rattle.std.specs.List.{range_with_len}
 use Rattle.reader_copies.proofs.Words.{bit-found, length-bits}
 use Rattle.reader_copies.proofs.Over.{length-over, over-inside, over-outside}
@@ -65,41 +65,40 @@ cells-new flags m n is fits =
     ∙ no-flags (k % 64)
     ∙ sym (get_or-replicate n k (new_cell false) (new_cell false) inside))
 
-at_index : (flags : List Flags) (len k n : ℕ) (f : ℕ → Cell → Cell) (at now : Flags) (cells : List Cell) (j : ℕ) →
+at_index : (flags : List Flags) (len k n : ℕ) (f : ℕ → Cell → Cell) (at now : Flags) (cells : List Cell) (mask j : ℕ) →
     (j / 64 ≡ k / 64 → cell_in (cells_of (set flags (k / 64) now) len) j ≡ cell_in_flags now (j % 64)) →
     (j / 64 ≡ k / 64 → cell_in_flags at (j % 64) ≡ cell_in cells j) →
     (j / 64 ≢ k / 64 → cell_in (cells_of (set flags (k / 64) now) len) j ≡ cell_in cells j) →
-    k % 64 + n ≤ 64 → k + n ≤ length cells →
-    ((i : ℕ) → i < 64 → k % 64 ≤ i → i < k % 64 + n → cell_in_flags now i ≡ f (64 * (k / 64) + i) (cell_in_flags at i)) →
-    ((i : ℕ) → i < 64 → i < k % 64 → cell_in_flags now i ≡ cell_in_flags at i) →
-    ((i : ℕ) → i < 64 → k % 64 + n ≤ i → cell_in_flags now i ≡ cell_in_flags at i) →
+    k % 64 + n ≤ 64 → k + n ≤ length cells → IsMask (k % 64) n mask →
+    ((i : ℕ) → i < 64 → cell_in_flags now i ≡ cond (flag_in mask i) (f (64 * (k / 64) + i) (cell_in_flags at i)) (cell_in_flags at i)) →
     cell_in (cells_of (set flags (k / 64) now) len) j ≡ cell_in (over n f k cells) j
-at_index flags len k n f at now cells j new_is cell_is far_is word there inside below above = elim (cases_lt j k) [
-  | inl low ↦ elim (cases_eq (j / 64) (k / 64)) [
-    | inl e ↦ new_is e ∙ below (j % 64) (omega arith) (omega arith) ∙ cell_is e ∙ sym (over-outside n f k j cells (λ x h. omega arith))
-    | inr e ↦ far_is e ∙ sym (over-outside n f k j cells (λ x h. omega arith))
-  ]
-  | inr high ↦ elim (cases_lt j (k + n)) [
-    | inl here ↦
-        let e : j / 64 ≡ k / 64 = omega arith in
-        let number : 64 * (k / 64) + j % 64 ≡ j = omega arith in
-        let step : k + (j - k) ≡ j = omega arith in
-        new_is e ∙ inside (j % 64) (omega arith) (omega arith) (omega arith) ∙ ap (λ c. f (64 * (k / 64) + j % 64) c) (cell_is e) ∙ ap (λ x. f x (cell_in cells j)) number
-        ∙ ap (λ x. f x (cell_in cells x)) (sym step) ∙ sym (over-inside n f k (j - k) cells (omega arith) there) ∙ ap (λ x. cell_in (over n f k cells) x) step
-    | inr far ↦ elim (cases_eq (j / 64) (k / 64)) [
-      | inl e ↦ new_is e ∙ above (j % 64) (omega arith) (omega arith) ∙ cell_is e ∙ sym (over-outside n f k j cells (λ x h. omega arith))
-      | inr e ↦ far_is e ∙ sym (over-outside n f k j cells (λ x h. omega arith))
+at_index flags len k n f at now cells mask j new_is cell_is far_is word there masks changed =
+    let i : ℕ = j % 64 in
+    let now_is = λ (here : Bool) (e : flag_in mask i ≡ here). changed i (omega arith) ∙ ap (λ b. cond b (f (64 * (k / 64) + i) (cell_in_flags at i)) (cell_in_flags at i)) e in
+    elim (cases_lt j k) [
+      | inl low ↦ elim (cases_eq (j / 64) (k / 64)) [
+        | inl e ↦ new_is e ∙ now_is false (masks.below i (omega arith)) ∙ cell_is e ∙ sym (over-outside n f k j cells (λ x h. omega arith))
+        | inr e ↦ far_is e ∙ sym (over-outside n f k j cells (λ x h. omega arith))
+      ]
+      | inr high ↦ elim (cases_lt j (k + n)) [
+        | inl here ↦
+            let e : j / 64 ≡ k / 64 = omega arith in
+            let number : 64 * (k / 64) + i ≡ j = omega arith in
+            let step : k + (j - k) ≡ j = omega arith in
+            new_is e ∙ now_is true (masks.inside i (omega arith) (omega arith)) ∙ ap (λ c. f (64 * (k / 64) + i) c) (cell_is e) ∙ ap (λ x. f x (cell_in cells j)) number
+            ∙ ap (λ x. f x (cell_in cells x)) (sym step) ∙ sym (over-inside n f k (j - k) cells (omega arith) there) ∙ ap (λ x. cell_in (over n f k cells) x) step
+        | inr far ↦ elim (cases_eq (j / 64) (k / 64)) [
+          | inl e ↦ new_is e ∙ now_is false (masks.above i (omega arith)) ∙ cell_is e ∙ sym (over-outside n f k j cells (λ x h. omega arith))
+          | inr e ↦ far_is e ∙ sym (over-outside n f k j cells (λ x h. omega arith))
+        ]
+      ]
     ]
-  ]
-]
 
--- bits of one word change
-pub cells-over : (flags : List Flags) (len k n : ℕ) (f : ℕ → Cell → Cell) (at now : Flags) (cells : List Cell) → cells_of flags len ≡ cells → length flags ≡ (len + 63) / 64 → k % 64 + n ≤ 64 → k + n ≤ length cells → 1 ≤ n → at ≡ get_or flags (k / 64) at →
-    ((i : ℕ) → i < 64 → k % 64 ≤ i → i < k % 64 + n → cell_in_flags now i ≡ f (64 * (k / 64) + i) (cell_in_flags at i)) →
-    ((i : ℕ) → i < 64 → i < k % 64 → cell_in_flags now i ≡ cell_in_flags at i) →
-    ((i : ℕ) → i < 64 → k % 64 + n ≤ i → cell_in_flags now i ≡ cell_in_flags at i) →
+-- bits of one word change, those of the mask
+pub cells-over : (flags : List Flags) (len k n : ℕ) (f : ℕ → Cell → Cell) (at now : Flags) (cells : List Cell) (mask : ℕ) → cells_of flags len ≡ cells → length flags ≡ (len + 63) / 64 → k % 64 + n ≤ 64 → k + n ≤ length cells → 1 ≤ n → at ≡ get_or flags (k / 64) at → IsMask (k % 64) n mask →
+    ((i : ℕ) → i < 64 → cell_in_flags now i ≡ cond (flag_in mask i) (f (64 * (k / 64) + i) (cell_in_flags at i)) (cell_in_flags at i)) →
     cells_of (set flags (k / 64) now) len ≡ over n f k cells
-cells-over flags len k n f at now cells seen many word there some read inside below above =
+cells-over flags len k n f at now cells mask seen many word there some read masks changed =
     let long : length cells ≡ len = omega (arith, length_cells flags len, ap length seen) in
     let place : k / 64 < length flags = omega (arith, many) in
     let is : at ≡ get_or flags (k / 64) no_flags = read ∙ get_or_default flags (k / 64) at no_flags place in
@@ -112,7 +111,7 @@ cells-over flags len k n f at now cells seen many word there some read inside be
     ext_get_or (new_cell false) _ _ (length_cells (set flags (k / 64) now) len ∙ sym long ∙ sym (length-over n f k cells))
     (λ j h.
     let inside_len : j < len = omega (arith, length_cells (set flags (k / 64) now) len) in
-    at_index flags len k n f at now cells j (λ e. new_is j inside_len e) (λ e. cell_is j inside_len e) (λ e. far_is j inside_len e) word there inside below above)
+    at_index flags len k n f at now cells mask j (λ e. new_is j inside_len e) (λ e. cell_is j inside_len e) (λ e. far_is j inside_len e) word there masks changed)
 
 -- another bit of the word that was read
 pub cell-in_place : (flags : List Flags) (len k i : ℕ) (at : Flags) (cells : List Cell) → cells_of flags len ≡ cells → length flags ≡ (len + 63) / 64 → i < length cells → i / 64 ≡ k / 64 → at ≡ get_or flags (k / 64) at → cell_in_flags at (i % 64) ≡ cell_in cells i

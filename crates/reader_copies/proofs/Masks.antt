@@ -22,8 +22,8 @@ left_false false y e t = refl
 left_false true y e t = sym t ∙ e
 
 -- no flag is in both words
-pub none-both : (a b i : ℕ) → bit_and a b ≡ 0 → flag_in b i ≡ true → flag_in a i ≡ false
-none-both a b i none there = left_false (flag_in a i) (flag_in b i) (sym (flag-both a b i) ∙ ap (λ w. flag_in w i) none ∙ flag-zero i) there
+pub none_both : (a b i : ℕ) → bit_and a b ≡ 0 → flag_in b i ≡ true → flag_in a i ≡ false
+none_both a b i none there = left_false (flag_in a i) (flag_in b i) (sym (flag-both a b i) ∙ ap (λ w. flag_in w i) none ∙ flag-zero i) there
 
 -- the word that the code makes
 pub mask-word : (from n : ℕ) → from + n ≤ 64 → 18446744073709551615 / 2 ^ (64 - n) * 2 ^ from % 18446744073709551616 ≡ 2 ^ (from + n) - 2 ^ from

@@ -1,4 +1,4 @@
-ghost use Rattle.std.specs.Prelude.{◌≡◌, ℕ, ◌<◌, ◌≤◌, ◌+◌, ◌*◌, ◌/◌, ◌%◌, true, false, length, map, replicate, slice_set, if◌then◌else◌, IfOk};
+ghost use Rattle.std.specs.Prelude.{◌≡◌, ℕ, ◌<◌, ◌≤◌, ◌+◌, ◌*◌, ◌/◌, ◌%◌, true, false, length, map, replicate, slice_set, if◌then◌else◌, IfNone, IfOk, IfSome, OnSome};
 ghost use Rattle.safe_bit.specs.{new_cell, cell_after, read_answer, without_read};
 ghost use Rattle.reader_copies.specs.Flags.{flag_in};
 ghost use Rattle.reader_copies.specs.Wordwise.{after_read, after_write, over};
@@ -113,14 +113,18 @@ impl Copies {
         self.flags[k / 64].read_next(k % 64, begun);
     }
 
-    /// So many bits of one word go on by begin and end of a read.
-    pub fn read_word(&mut self, k: usize, n: usize)
+    /// So many bits of one word go on by begin and end of a read, and the word is answered. Where one of them is being written,
+    /// it answers none and does nothing.
+    pub fn read_word(&mut self, k: usize, n: usize) -> Option<u64>
         requires some { 1 ≤ n }
         requires word { k % 64 + n ≤ 64 }
         requires there { k + n ≤ length self.old }
-        ensures { self.new ≡ over n (λ i c. after_read c) k self.old }
+        ensures none { IfNone result (self.new ≡ self.old) }
+        ensures quiet { OnSome result ((j : ℕ) → j < n → (cell_in self.old (k + j)).writing ≡ false) }
+        ensures word { IfSome result (λ word. (j : ℕ) → j < n → flag_in word ((k + j) % 64) ≡ (cell_in self.old (k + j)).value) }
+        ensures read { OnSome result (self.new ≡ over n (λ i c. after_read c) k self.old) }
     {
-        self.flags[k / 64].read_where(mask(k % 64, n));
+        self.flags[k / 64].read_where(mask(k % 64, n))
     }
 
     /// So many bits of one word go on by begin and end of a write of these.
@@ -131,16 +135,6 @@ impl Copies {
         ensures { self.new ≡ over n (λ i c. after_write (flag_in word (i % 64)) c) k self.old }
     {
         self.flags[k / 64].write_where(mask(k % 64, n), word);
-    }
-
-    /// Whether no write is open on so many bits of one word. Where it answers `false` it says nothing.
-    pub fn is_quiet(&self, k: usize, n: usize) -> bool
-        requires some { 1 ≤ n }
-        requires word { k % 64 + n ≤ 64 }
-        requires there { k + n ≤ length self.now }
-        ensures { result ≡ true → (j : ℕ) → j < n → (cell_in self.now (k + j)).writing ≡ false }
-    {
-        self.flags[k / 64].is_quiet(mask(k % 64, n))
     }
 
     /// The word that bit `k` stands in.

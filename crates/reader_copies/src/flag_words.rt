@@ -1,5 +1,5 @@
 //! The flags of sixty-four copies, side by side.
-ghost use Rattle.std.specs.Prelude.{◌≡◌, ◌≢◌, ℕ, ◌<◌, ◌≤◌, ◌+◌, true, false, if◌then◌else◌};
+ghost use Rattle.std.specs.Prelude.{◌≡◌, ◌≢◌, ℕ, ◌<◌, ◌≤◌, ◌+◌, true, false, if◌then◌else◌, IfNone, IfSome, OnSome};
 ghost use Rattle.safe_bit.specs.{cell_after, new_cell, read_answer, without_read};
 ghost use Rattle.reader_copies.specs.Flags.{ChangesAt, IsMask, SetsFlag, cell_in_flags, flag_in, no_flags, open_flags};
 ghost use Rattle.reader_copies.specs.Seeing.{bit_seen};
@@ -119,12 +119,21 @@ impl Flags {
         self.reading = choose(here, begins, self.reading);
     }
 
-    /// Copies of the mask go on by begin and end of a read.
-    pub fn read_where(&mut self, mask: u64)
-        ensures { (i : ℕ) → i < 64 → cell_in_flags self.new i ≡ (if flag_in mask i then after_read (cell_in_flags self.old i) else cell_in_flags self.old i) }
+    /// Copies of the mask go on by begin and end of a read, and the word of all copies is answered. Where one of them is
+    /// being written, it answers none and does nothing.
+    #[tactic(auto, using(crate::proofs::Masks::none_both))]
+    pub fn read_where(&mut self, mask: u64) -> Option<u64>
+        ensures none { IfNone result (self.new ≡ self.old) }
+        ensures quiet { OnSome result ((i : ℕ) → i < 64 → flag_in mask i ≡ true → (cell_in_flags self.old i).writing ≡ false) }
+        ensures word { IfSome result (λ word. (i : ℕ) → flag_in word i ≡ (cell_in_flags self.old i).value) }
+        ensures read { OnSome result ((i : ℕ) → i < 64 → cell_in_flags self.new i ≡ (if flag_in mask i then after_read (cell_in_flags self.old i) else cell_in_flags self.old i)) }
     {
+        if self.writing & mask != 0 {
+            return None;
+        }
         self.touched = choose(mask, self.writing, self.touched);
         self.reading = choose(mask, 0, self.reading);
+        Some(self.value)
     }
 
     /// Copies of the mask go on by begin and end of a write of the word.
@@ -134,13 +143,6 @@ impl Flags {
         self.value = choose(mask, word, self.value);
         self.writing = choose(mask, 0, self.writing);
         self.touched = choose(mask, u64::MAX, self.touched);
-    }
-
-    /// Whether no write is open on a copy of the mask.
-    pub fn is_quiet(&self, mask: u64) -> bool
-        ensures { result ≡ true → (i : ℕ) → i < 64 → flag_in mask i ≡ true → (cell_in_flags self.now i).writing ≡ false }
-    {
-        self.writing & mask == 0
     }
 
     /// What all copies are.

@@ -25,7 +25,7 @@ overlapped-more a (suc b) now =
     ∙ (λ i. overlapped-more a b now i + one (run-more a b now i))
     ∙ add-again (overlapped_of a now) (overlapped_of b (run_of a now)) (one (run_of b (run_of a now)))
 
-pub one-at_most : (b : Bool) → cond b 1 0 ≤ 1
+one-at_most : (b : Bool) → cond b 1 0 ≤ 1
 one-at_most true = omega arith
 one-at_most false = omega arith
 
@@ -45,8 +45,8 @@ flicks-more a (suc b) flicks = let e : suc (a + b) ≡ a + suc b = omega arith i
 
 -- ALL THE SAME WHATEVER THE FLICKS
 
-pub leads-more : (a b : ℕ) (c d e : CursorState) (before memory now : List (List Cell)) → LeadsTo a c before d memory → LeadsTo b d memory e now → LeadsTo (a + b) c before e now
-leads-more a b c d e before memory now first then = record {
+pub leads_more : (a b : ℕ) (c d e : CursorState) (before memory now : List (List Cell)) → LeadsTo a c before d memory → LeadsTo b d memory e now → LeadsTo (a + b) c before e now
+leads_more a b c d e before memory now first then = record {
   run = λ f. run-more a b (c, before, f) ∙ ap (run_of b) (first.run f) ∙ then.run (flicks_after a f) ∙ (λ i. (e, now, flicks-more a b f i));
   none = λ f. overlapped-more a b (c, before, f) ∙ (λ i. first.none f i + overlapped_of b (first.run f i)) ∙ ap (λ k. 0 + k) (then.none (flicks_after a f));
 }

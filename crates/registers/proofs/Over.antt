@@ -2,7 +2,7 @@
 use Rattle.std.proofs.Common.{◌≡◌, ◌≢◌, ℕ, zero, suc, ◌+◌, ◌<◌, ◌≤◌, Bool, List, [], ◌∷◌, ◌++◌, set, length, refl, sym, ◌∙◌, arith, ap}
 use Rattle.std.proofs.lemmas.List.{get_or-set_same, get_or-set_other, length-set, set-set, set_comm, set-get_or}
 use Rattle.safe_bit.specs.Cell.{Cell}
-use Rattle.registers.specs.{HasLanes, lane_of, more_bits, over_lanes}
+use Rattle.registers.specs.{HasLanes, lane_of, more_bits}
 use Rattle.registers.proofs.Steps.{lanes-set}
 
 pub more-same : (n : ℕ) (f g : ℕ → Bool) (bits : List Bool) → ((j : ℕ) → j < n → f j ≡ g j) → more_bits n f bits ≡ more_bits n g bits
@@ -10,6 +10,11 @@ more-same zero f g bits same = refl
 more-same (suc n) f g bits same = let last : f n ≡ g n = same n (omega arith) in let before : more_bits n f bits ≡ more_bits n g bits = more-same n f g bits (λ j h. same j (omega arith)) in λ i. before i ++ last i ∷ []
 
 -- LANES
+
+-- n lanes from one on, each changed
+abbrev pub over_lanes : ℕ → (List Cell → List Cell) → ℕ → List (List Cell) → List (List Cell)
+over_lanes zero g lane memory = memory
+over_lanes (suc n) g lane memory = set (over_lanes n g lane memory) (lane + n) (g (lane_of (over_lanes n g lane memory) (lane + n)))
 
 pub length-over_lanes : (n : ℕ) (g : List Cell → List Cell) (lane : ℕ) (memory : List (List Cell)) → length (over_lanes n g lane memory) ≡ length memory
 length-over_lanes zero g lane memory = refl

@@ -9,7 +9,7 @@ use Rattle.reader_copies.specs.{after_read, cell_in, over}
 use Rattle.registers.specs.{CursorState, LeadsTo, cell_at, lane_number, lane_of, memory_moved, more_bits}
 use Rattle.registers.specs.declared.cursor.NumberRun.TheVariants.{Reads}
 use Rattle.reader_copies.proofs.Over.{length-over, over-outside}
-use Rattle.registers.proofs.Iterates.{leads-more, leads-same}
+use Rattle.registers.proofs.Iterates.{leads_more, leads-same}
 
 -- a cell that was changed
 cell-moved : (memory : List (List Cell)) (lane bit : ℕ) (how : Move) → lane < length memory → bit < length (lane_of memory lane) → cell_at (memory_moved memory lane bit how) lane bit ≡ cell_after (cell_at memory lane bit) how
@@ -68,4 +68,4 @@ reads-quiet (suc n) c bit bits memory there inside quiet =
     (ap (λ b. reading_at c b (so_far ++ (cell_at before lane (bit + n)).value ∷ [])) (let e : bit + n + 1 ≡ bit + suc n = omega arith in e)
     ∙ ap (λ (x : Cell). reading_at c (bit + suc n) (so_far ++ x.value ∷ [])) cell_there)
     (ap (λ x. set before lane (set x (bit + n) (after_read (cell_in x (bit + n))))) lane_is ∙ set-set memory lane done (set done (bit + n) (after_read (cell_in done (bit + n)))))
-    (leads-more (2 * n) 2 _ _ _ _ _ _ (reads-quiet n c bit bits memory there (omega arith) (λ j h. quiet j (omega arith))) pair)
+    (leads_more (2 * n) 2 _ _ _ _ _ _ (reads-quiet n c bit bits memory there (omega arith) (λ j h. quiet j (omega arith))) pair)

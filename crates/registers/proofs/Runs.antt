@@ -1,5 +1,5 @@
 -- What every run keeps.
-use Rattle.std.proofs.Common.{◌≡◌, ◌<◌, ◌≤◌, ℕ, zero, suc, ◌+◌, ◌-◌, ◌*◌, Bool, false, cond, List, ap, refl, sym, ◌∙◌, arith, subst, inl, inr, length}
+use Rattle.std.proofs.Common.{◌≡◌, ◌<◌, ◌≤◌, ℕ, zero, suc, ◌+◌, ◌*◌, Bool, false, cond, List, ap, refl, sym, ◌∙◌, arith, subst, inl, inr, length}
 use mir.Val.{bool_byte}
 use Rattle.std.proofs.lemmas.Bool.{cases_lt}
 use Rattle.std.proofs.lemmas.List.{set_past}
@@ -120,8 +120,8 @@ runs-on (suc k) now plain fits within =
     record { plain = ap is_settling same ∙ before.plain; rest = omega (arith, ap (λ r. rest_by r next) same, one, before.rest) }
 
 -- whatever the flicks
-pub leads-fits : (n : ℕ) (c d : CursorState) (memory now : List (List Cell)) → LeadsTo n c memory d now → Fits memory c → Fits now d
-leads-fits n c d memory now h fits =
+pub leads_fits : (n : ℕ) (c d : CursorState) (memory now : List (List Cell)) → LeadsTo n c memory d now → Fits memory c → Fits now d
+leads_fits n c d memory now h fits =
     let P : CursorState × List (List Cell) × FlickState → Type 0 = λ x. Fits x.1 x.0 in
     subst P (h.run (constant_flicks false)) (run-fits n (c, memory, constant_flicks false) fits)
 
@@ -160,21 +160,13 @@ step-on made overlapped before c next memory then flicks later flick last a byte
     ((λ i. (cursor_is i, memory_is i, flicks_are i)) ∙ ap (made_by c memory flicks) is)
     (byte_is ∙ byte-one last ∙ ap (λ b. 0 + cond b 1 0) (ends ∙ ap (ends_overlapped c.copies memory) is))
 
--- the one after so many but one is the newest
-pub newest-last : (steps : ℕ) (before now : CursorState × List (List Cell) × FlickState) → 0 < steps → now ≡ run_of (steps - 1) before → access_next now ≡ newest_of steps before
-newest-last zero before now some is = absurd (omega (arith, some))
-newest-last (suc k) before now some is = let one : suc k - 1 ≡ k = omega arith in ap access_next (is ∙ ap (λ n. run_of n before) one)
+-- the last one is the newest
+pub newest-last : (k steps : ℕ) (before now : CursorState × List (List Cell) × FlickState) → now ≡ run_of k before → steps ≡ k + 1 → access_next now ≡ newest_of steps before
+newest-last k steps before now is last = ap access_next is ∙ ap (λ n. newest_of n before) (let e : suc k ≡ steps = omega arith in e)
 
-pub leads-on : (n made overlapped : ℕ) (before : CursorState × List (List Cell) × FlickState) (c d : CursorState) (memory now : List (List Cell)) (flicks : FlickState) →
-    HasRun made overlapped before (c, memory, flicks) → LeadsTo n c memory d now → HasRun (made + n) overlapped before (d, now, flicks_after n flicks)
-leads-on n made overlapped before c d memory now flicks h leads =
-    let P : ℕ → Type 0 = λ k. HasRun (made + n) k before (d, now, flicks_after n flicks) in
-    subst P (let e : overlapped + 0 ≡ overlapped = omega arith in e) (run-on n 0 made overlapped before (c, memory, flicks) (d, now, flicks_after n flicks) h (sym (leads.run flicks)) (sym (leads.none flicks)))
-
--- none more
-pub leads-nowhere : (n made overlapped : ℕ) (before : CursorState × List (List Cell) × FlickState) (c d : CursorState) (memory now : List (List Cell)) (flicks : FlickState) → n ≡ 0 →
-    HasRun made overlapped before (c, memory, flicks) → LeadsTo n c memory d now → HasRun made overlapped before (d, now, flicks)
-leads-nowhere n made overlapped before c d memory now flicks none h leads =
-    let P : ℕ → Type 0 = λ k. HasRun (made + k) overlapped before (d, now, flicks_after k flicks) in
-    let Q : ℕ → Type 0 = λ k. HasRun k overlapped before (d, now, flicks) in
-    subst Q (let e : made + 0 ≡ made = omega arith in e) (subst P none (leads-on n made overlapped before c d memory now flicks h leads))
+-- words more
+pub leads-on : (n made overlapped : ℕ) (before : CursorState × List (List Cell) × FlickState) (c d : CursorState) (memory now : List (List Cell)) (flicks later : FlickState) →
+    HasRun made overlapped before (c, memory, flicks) → LeadsTo n c memory d now → later ≡ flicks_after n flicks → HasRun (made + n) overlapped before (d, now, later)
+leads-on n made overlapped before c d memory now flicks later h leads later_is =
+    let P : ℕ → Type 0 = λ k. HasRun (made + n) k before (d, now, later) in
+    subst P (let e : overlapped + 0 ≡ overlapped = omega arith in e) (run-on n 0 made overlapped before (c, memory, flicks) (d, now, later) h ((λ i. (d, now, later_is i)) ∙ sym (leads.run flicks)) (sym (leads.none flicks)))

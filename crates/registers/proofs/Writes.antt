@@ -7,11 +7,11 @@ use Rattle.safe_bit.specs.Cell.{Cell}
 use Rattle.safe_bit.specs.declared.moves.Move.TheVariants.{BeginWrite, EndWrite}
 use Rattle.flicks.specs.{after_flick}
 use Rattle.reader_copies.specs.{after_write, cell_in, over}
-use Rattle.registers.specs.{CursorState, HasLanes, LeadsTo, first_lane, lane_number, lane_of, over_lanes}
+use Rattle.registers.specs.{CursorState, HasLanes, LeadsTo, first_lane, lane_number, lane_of}
 use Rattle.registers.specs.declared.cursor.NumberRun.TheVariants.{Writes}
-use Rattle.registers.proofs.Iterates.{leads-more, leads-same}
+use Rattle.registers.proofs.Iterates.{leads_more, leads-same}
 use Rattle.reader_copies.proofs.Over.{length-over}
-use Rattle.registers.proofs.Over.{lanes-kept, lanes-nothing, lanes-twice}
+use Rattle.registers.proofs.Over.{lanes-kept, lanes-nothing, lanes-twice, over_lanes}
 use Rattle.registers.proofs.Quiet.{moved-twice}
 
 -- a write that has come to a copy of a bit
@@ -49,7 +49,7 @@ copies-written (suc n) c bit memory below inside h =
     let more : (n + 1 == c.copies) ≡ false = ne_eqb (n + 1) c.copies (omega arith) in
     leads-same _ _ _ _ _ _ _ _ _ _ (let e : 2 * n + 2 ≡ 2 * suc n = omega arith in e) refl refl
     (ap (λ b. writing_at c (cond b (bit + 1) bit) (cond b 0 (n + 1))) more ∙ ap (λ k. writing_at c bit k) (add-one n)) refl
-    (leads-more (2 * n) 2 _ _ _ _ _ _ (copies-written n c bit memory (omega arith) inside h) (write-pair c bit n now (omega arith) inside kept))
+    (leads_more (2 * n) 2 _ _ _ _ _ _ (copies-written n c bit memory (omega arith) inside h) (write-pair c bit n now (omega arith) inside kept))
 
 -- on all copies: n and one more
 bit-written : (n : ℕ) (c : CursorState) (bit : ℕ) (memory : List (List Cell)) → c.copies ≡ suc n → bit < c.width → HasLanes memory (first_lane c) c.copies c.width →
@@ -62,7 +62,7 @@ bit-written n c bit memory all inside h =
     let last : (n + 1 == c.copies) ≡ true = eq-eqb (n + 1) c.copies (omega arith) in
     leads-same _ _ _ _ _ _ _ _ _ _ (let e : 2 * n + 2 ≡ 2 * c.copies = omega arith in e) refl refl
     (ap (λ b. writing_at c (cond b (bit + 1) bit) (cond b 0 (n + 1))) last) (ap (λ k. over_lanes k (written bit v) lane memory) (sym all))
-    (leads-more (2 * n) 2 _ _ _ _ _ _ (copies-written n c bit memory (omega arith) inside h) (write-pair c bit n now (omega arith) inside kept))
+    (leads_more (2 * n) 2 _ _ _ _ _ _ (copies-written n c bit memory (omega arith) inside h) (write-pair c bit n now (omega arith) inside kept))
 
 -- what a write makes of a bit
 abbrev pub of_value : List Bool → ℕ → Cell → Cell
@@ -84,4 +84,4 @@ writes-whole (suc n) m c bit memory some inside h =
     leads-same _ _ _ _ _ _ _ _ _ _ number refl refl
     (ap (λ b. writing_at c b 0) (let e : bit + n + 1 ≡ bit + suc n = omega arith in e))
     (lanes-twice c.copies G (written (bit + n) (get_or c.bits (bit + n) false)) lane memory h.lanes)
-    (leads-more (2 * (c.copies * n)) (2 * c.copies) _ _ _ _ _ _ (writes-whole n m c bit memory some (omega arith) h) (bit-written m c (bit + n) now some (omega arith) kept))
+    (leads_more (2 * (c.copies * n)) (2 * c.copies) _ _ _ _ _ _ (writes-whole n m c bit memory some (omega arith) h) (bit-written m c (bit + n) now some (omega arith) kept))

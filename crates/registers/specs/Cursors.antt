@@ -32,14 +32,6 @@ lane_number copies register reader = (7 * register.owner + field_number register
 abbrev pub first_lane : CursorState → ℕ
 first_lane c = lane_number c.copies c.register c.reader
 
--- on how many lanes each bit is read or written: a reader's copies are one lane
-abbrev pub lanes_by : NumberRun → ℕ → ℕ
-lanes_by Reads copies = 1
-lanes_by _ copies = copies
-
-abbrev pub lanes_of : CursorState → ℕ
-lanes_of c = lanes_by c.run c.copies
-
 -- a read has one copy, and a write begins with reader 0's
 abbrev pub IsAtCopy : NumberRun → ℕ → ℕ → Type 0
 IsAtCopy Reads reader copy = copy ≡ 0

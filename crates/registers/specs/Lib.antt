@@ -14,12 +14,12 @@ pub mod Words
 pub use Accesses.{LeadsTo, access_next, access_of, after_by, answered, applied, cursor_after, ends_bit, ends_copy, ends_overlapped, ends_settling, ends_touched, lane_of_access, move_by, newest_of, next_access, next_answered, overlapped_of, overlaps_next, read_after, read_move, run_of, value_written, write_after, write_move}
 pub use AtParts.{IsAtPart, IsDone, ReadsAt, WritesAt, entered, marks_moved, moved, place_at, place_moved, run_at, run_by}
 pub use Begins.{is_fresh, is_settling, is_torn, is_writing, made_of_bit, reading, settling, settling_from, torn_bit, writing}
-pub use Cursors.{CursorState, Fits, IsAtCopy, bits_kept, first_lane, is_over, lane_number, lanes_by, lanes_of, made_of_read, made_of_write, rest_by, rest_of}
+pub use Cursors.{CursorState, Fits, IsAtCopy, bits_kept, first_lane, is_over, lane_number, made_of_read, made_of_write, rest_by, rest_of}
 pub use Memory.{HasLanes, cell_at, lane_of, memory_moved, without_reads}
 pub use Openings.{AreOf, AreOfOneSetup, field_numbered, opening_lane, opening_memory}
 pub use Rows.{bit_begun, register_number, settling_kept, values_held, write_kept}
 pub use Words.{byte_of_word}
-pub use Wordwise.{AreAhead, more_bits, over_lanes}
+pub use Wordwise.{AreAhead, more_bits}
 pub use declared.access_made.AccessMade.{AccessMade}
 pub use declared.cursor.NumberRun.{NumberRun}
 pub use declared.fields.RegisterName.{RegisterName}

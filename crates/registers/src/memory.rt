@@ -4,11 +4,10 @@ ghost use Rattle.plain_store.specs.{checked};
 ghost use Rattle.record.specs.{width};
 ghost use Rattle.registers.specs.Accesses.{LeadsTo, applied, cursor_after, ends_overlapped, newest_of, next_answered, overlapped_of, run_of};
 ghost use Rattle.registers.specs.Begins.{is_settling};
-ghost use Rattle.registers.specs.Cursors.{Fits, first_lane, lanes_of, rest_of};
-ghost use Rattle.reader_copies.specs.{after_write, bits_of_words, flag_in, over};
-ghost use Rattle.registers.specs.Memory.{HasLanes, cell_at, without_reads};
+ghost use Rattle.registers.specs.Cursors.{Fits, first_lane, rest_of};
+ghost use Rattle.reader_copies.specs.{bits_of_words};
+ghost use Rattle.registers.specs.Memory.{without_reads};
 ghost use Rattle.registers.specs.Openings.{AreOfOneSetup, field_numbered, opening_lane, opening_memory};
-ghost use Rattle.registers.specs.Wordwise.{AreAhead, over_lanes};
 
 mod held;
 mod seeing;
@@ -69,11 +68,22 @@ impl BitMemory {
         ensures newest { result.newest ≡ newest_of steps (cursor.old, self.old, flicks.old) }
         ensures overlapped { result.overlapped ≡ overlapped_of steps (cursor.old, self.old, flicks.old) }
     {
-        let earlier = self.run_on(cursor, flicks, steps - 1);
-        let made = self.step(cursor, flicks.flick());
-        AccessesMade {
-            newest: made.access,
-            overlapped: earlier + u32::from(made.overlapped),
+        let (mut made, mut overlapped) = (0, 0);
+        // The newest access is told, so words end before it.
+        'steps: loop {
+            let words = self.run_words(cursor, steps - 1 - made);
+            if words > 0 {
+                flicks.skip(words);
+            }
+            let one = self.step(cursor, flicks.flick());
+            made += words + 1;
+            overlapped += u32::from(one.overlapped);
+            if made == steps {
+                return AccessesMade {
+                    newest: one.access,
+                    overlapped,
+                };
+            }
         }
     }
 
@@ -123,31 +133,6 @@ impl BitMemory {
         self.lanes[cursor.lane()].drop_reads();
     }
 
-    /// So many accesses of a read or a write, each by the flick that is next. It answers how many of them ended a read that a
-    /// write overlapped.
-    #[inline(always)]
-    fn run_on(&mut self, cursor: &mut Cursor, flicks: &mut Flicks, steps: u32) -> u32
-        requires kind { is_settling cursor.old.run ≡ false }
-        requires within { steps ≤ rest_of cursor.old }
-        requires fits { Fits self.old cursor.old }
-        ensures run { (cursor.new, self.new, flicks.new) ≡ run_of steps (cursor.old, self.old, flicks.old) }
-        ensures overlapped { result ≡ overlapped_of steps (cursor.old, self.old, flicks.old) }
-    {
-        let (mut made, mut overlapped) = (0, 0);
-        'steps: while made < steps {
-            let words = self.run_words(cursor, steps - made);
-            if words > 0 {
-                flicks.skip(words);
-                made += words;
-            } else {
-                let one = self.step(cursor, flicks.flick());
-                overlapped += u32::from(one.overlapped);
-                made += 1;
-            }
-        }
-        overlapped
-    }
-
     /// Makes the next access of a read or a write, by this flick, and tells it, and whether it ended a read that a write
     /// overlapped; the cursor goes on. A read has no branch on whether it is a begin or an end.
     #[inline(always)]
@@ -181,6 +166,7 @@ impl BitMemory {
     /// Goes through whole bits, a word at once, as long as none that is read is being written. It answers how many accesses
     /// that is, so many at most, whose flicks are left to the caller: they are skipped together.
     #[inline(always)]
+    #[tactic(auto, using(crate::proofs::Iterates::leads_more, crate::proofs::Runs::leads_fits))]
     fn run_words(&mut self, cursor: &mut Cursor, steps: u32) -> u32
         requires fits { Fits self.old cursor.old }
         ensures within { result ≤ steps }
@@ -188,49 +174,45 @@ impl BitMemory {
     {
         let mut made = 0;
         'words: while made < steps {
-            let bits = cursor.bits_ahead(steps - made);
-            let reads = matches!(cursor.run(), NumberRun::Reads);
-            if bits == 0
-                || reads && !self.lanes[cursor.lane()].is_quiet(cursor.bit(), bits as usize)
-            {
+            let word = self.run_word(cursor, steps - made);
+            made += word;
+            if word == 0 {
                 return made;
             }
-            made += self.run_word(cursor, bits);
         }
         made
     }
 
-    /// Goes through so many bits of one word at once, on each of their lanes. It answers how many accesses that is.
-    fn run_word(&mut self, cursor: &mut Cursor, bits: u32) -> u32
-        requires ahead { AreAhead cursor.old bits }
+    /// Goes through the next bits of one word at once, on each of their lanes. It answers how many accesses that is, so many at
+    /// most: none once a bit has begun, and none where one that is to be read is being written.
+    #[inline(always)]
+    fn run_word(&mut self, cursor: &mut Cursor, steps: u32) -> u32
         requires fits { Fits self.old cursor.old }
-        requires quiet { cursor.old.run ≡ NumberRun.Reads → (j : ℕ) → j < bits → (cell_at self.old (first_lane cursor.old) (cursor.old.bit + j)).writing ≡ false }
-        ensures count { result ≡ 2 * (lanes_of cursor.old * bits) }
+        ensures within { result ≤ steps }
         ensures leads { LeadsTo result cursor.old self.old cursor.new self.new }
     {
-        let (lane, bit, lanes) = (cursor.lane(), cursor.bit(), cursor.lanes());
-        if let NumberRun::Reads = cursor.run() {
-            let copies = &mut self.lanes[lane];
-            let word = copies.word(bit);
-            copies.read_word(bit, bits as usize);
-            cursor.keep_word(bits as usize, word);
-        } else {
-            let word = cursor.word();
-            self.write_lanes(lane, lanes as usize, bit, bits as usize, word);
-            cursor.skip(bits as u16);
+        let bits = cursor.bits_ahead(steps);
+        if bits == 0 {
+            return 0;
         }
-        2 * (lanes * bits)
-    }
-
-    /// Bits of one word on lanes side by side.
-    fn write_lanes(&mut self, lane: usize, copies: usize, bit: usize, n: usize, word: u64)
-        requires some { 1 ≤ n }
-        requires word { bit % 64 + n ≤ 64 }
-        requires there { HasLanes self.old lane copies (bit + n) }
-        ensures { self.new ≡ over_lanes copies (over n (λ i c. after_write (flag_in word (i % 64)) c) bit) lane self.old }
-    {
-        for copy in 0..copies {
-            self.lanes[lane + copy].write_word(bit, n, word);
+        let (lane, bit, n) = (cursor.lane(), cursor.bit(), bits as usize);
+        match cursor.run() {
+            NumberRun::Reads => {
+                let Some(word) = self.lanes[lane].read_word(bit, n) else {
+                    return 0;
+                };
+                cursor.keep_word(n, word);
+                2 * bits
+            }
+            NumberRun::Writes => {
+                let (copies, word) = (cursor.copies(), cursor.word());
+                for copy in 0..copies as usize {
+                    self.lanes[lane + copy].write_word(bit, n, word);
+                }
+                cursor.skip(bits as u16);
+                2 * (copies * bits)
+            }
+            NumberRun::Settles { .. } => 0,
         }
     }
 }

@@ -6,14 +6,22 @@ ghost use Rattle.board_runs.specs.board.{IsOf, PortState};
 mod calls;
 
 use crate::counters::{counter, counting};
+use crate::timing::tell;
 use anyhow::{Result, bail};
 use board_runs::{Board, Port};
-use calls::{all_call, calls_alone, steps_of_a_call};
-use plain_store::{Command, Setup};
-use std::io;
+use calls::{calls_again, calls_alone, steps_of_a_call};
+use plain_store::Command;
 use std::rt::Clock;
-use std::thread::Threads;
+use std::thread::{self, Threads};
 use std::time::Instant;
+
+/// The boards of which one port makes calls: their processes and slots.
+const ALONE: [(&str, u8, u8); 4] = [
+    ("word steps alone of 2, slots 1", 2, 1),
+    ("word steps alone of 2, slots 8", 2, 8),
+    ("word steps alone of 16, slots 1", 16, 1),
+    ("word steps alone of 16, slots 8", 16, 8),
+];
 
 /// Prints what each run leaves: of so many calls of a port alone, and of ports on threads, each of which is given turns so
 /// many times.
@@ -23,42 +31,35 @@ pub fn times<T: Print + Eprint + Clock + AllocGlobal + Threads + Sync>(
     times: u32,
 ) -> Result<()> {
     largest(rt)?;
-    for (processes, slots) in [(2, 1), (2, 8), (16, 1), (16, 8)] {
-        alone(rt, processes, slots, calls)?;
+    for (run, processes, slots) in ALONE {
+        alone(rt, run, processes, slots, calls)?;
     }
-    for slots in [1, 8] {
-        together(rt, 2, slots, times)?;
-    }
-    Ok(())
+    together(rt, "ports together of 2, slots 1", 1, times)?;
+    together(rt, "ports together of 2, slots 8", 8, times)
 }
 
-/// The making of the largest board.
+/// The making of the largest board: how many ports it has.
 fn largest<T: Print + Eprint + Clock + AllocGlobal>(rt: &T) -> Result<()> {
-    let setup = counting(16, 32, 8)?;
+    let setup = counting(2, 16, 32, 8)?;
     let start = Instant::now(rt)?;
     let (_board, ports) = Board::new(rt.alloc(), &setup)?;
-    tell_largest(rt, &start, ports.len())
-}
-
-/// Tells how many ports the largest board has, whose making began then.
-fn tell_largest<T: Print + Eprint + Clock>(rt: &T, start: &Instant, ports: usize) -> Result<()> {
-    let passed = start.elapsed(rt)?;
-    println!(rt; "largest: {ports} ports")?;
-    eprintln!(rt; "largest {ports} {}", passed.as_nanos())?;
+    let made = ports.len() as u64;
+    tell(rt, "ports of the largest board", &made, made, &start)?;
     Ok(())
 }
 
 /// Calls of port 0 of so many.
 fn alone<T: Print + Eprint + Clock + AllocGlobal>(
     rt: &T,
+    run: &str,
     processes: u8,
     slots: u8,
     calls: u32,
 ) -> Result<()> {
-    let setup = counting(processes, 32, slots)?;
+    let setup = counting(2, processes, 32, slots)?;
     let (board, mut ports) = Board::new(rt.alloc(), &setup)?;
     match ports.get_mut(0) {
-        Some(port) => timed_alone(rt, &setup, &board, port, calls),
+        Some(port) => timed_alone(rt, run, &board, port, calls),
         None => bail!("there is no port"),
     }
 }
@@ -66,7 +67,7 @@ fn alone<T: Print + Eprint + Clock + AllocGlobal>(
 /// So many calls of a port: how many word steps each of them takes, and how long all take.
 fn timed_alone<T: Print + Eprint + Clock>(
     rt: &T,
-    setup: &Setup,
+    run: &str,
     board: &Board,
     port: &mut Port,
     calls: u32,
@@ -81,45 +82,28 @@ fn timed_alone<T: Print + Eprint + Clock>(
     if !calls_alone(board, port, &adds, steps, calls) {
         bail!("a call takes another number of steps");
     }
-    let left = (steps, "word steps a call");
     let all = steps.saturating_mul(u64::from(calls));
-    tell(rt, "alone", setup, left, all, &start)?;
+    tell(rt, run, &steps, all, &start)?;
     Ok(())
 }
 
-/// Tells what was run since then: what it leaves, and how many word steps it made.
-fn tell<T: Print + Eprint + Clock>(
-    rt: &T,
-    run: &str,
-    setup: &Setup,
-    left: (u64, &str),
-    steps: u64,
-    start: &Instant,
-) -> io::Result<()> {
-    let (number, what) = left;
-    let nanos = start.elapsed(rt)?.as_nanos();
-    let (processes, slots) = (setup.processes, setup.slots);
-    println!(rt; "{run} of {processes}, slots {slots}: {number} {what}")?;
-    eprintln!(rt; "{run} {processes} {slots} {steps} {nanos}")
-}
-
-/// So many ports, each on a thread of its own.
-#[tactic(auto, using(crate::proofs::PortsOf::each_is_of))]
+/// Two ports, each on a thread of its own.
 fn together<T: Print + Eprint + Clock + AllocGlobal + Threads + Sync>(
     rt: &T,
-    processes: u8,
+    run: &str,
     slots: u8,
     times: u32,
 ) -> Result<()> {
-    let setup = counting(processes, 32, slots)?;
+    let setup = counting(2, 2, 32, slots)?;
     let (board, ports) = Board::new(rt.alloc(), &setup)?;
-    timed_together(rt, &setup, &board, ports, times)
+    timed_together(rt, run, &board, ports, times)
 }
 
-/// The same of these ports.
+/// So many times some turns of each of these ports, on threads: how many ports they are, and the least number of word steps
+/// that one counts.
 fn timed_together<T: Print + Eprint + Clock + Threads + Sync>(
     rt: &T,
-    setup: &Setup,
+    run: &str,
     board: &Board,
     ports: Vec<Port>,
     times: u32,
@@ -128,8 +112,14 @@ fn timed_together<T: Print + Eprint + Clock + Threads + Sync>(
 {
     let adds = Command::Add(counter(), 1);
     let start = Instant::now(rt)?;
-    let (ports, least) = all_call(rt, board, ports, &adds, times)?;
-    let left = (ports as u64, "ports");
-    tell(rt, "together", setup, left, least, &start)?;
+    let counts = thread::map_vec(
+        rt,
+        ports,
+        &|port: Port| -> u64
+            requires { IsOf board.now port }
+        { calls_again(board, port, &adds, times) },
+    )?;
+    let least = counts.iter().copied().min().unwrap_or(0);
+    tell(rt, run, &counts.len(), least, &start)?;
     Ok(())
 }

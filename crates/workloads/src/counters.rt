@@ -10,14 +10,16 @@ pub fn counter() -> Name {
     Name::new(b"a").unwrap()
 }
 
-/// A setup of version 2 with so many ticket and stamp bits, whose store opens with the counter at 0. Fails where a number is
-/// out of its range.
-pub fn counting(processes: u8, bits: u8, slots: u8) -> Result<Setup>
+/// A setup with so many ticket and stamp bits, whose store opens with the counter at 0 in version 2, and with none in version 1.
+/// Fails where a number is out of its range.
+pub fn counting(version: u8, processes: u8, bits: u8, slots: u8) -> Result<Setup>
     ensures { IfOk result (λ setup. checked setup ≡ Ok tt) }
 {
     let mut setup = Setup::one(processes, bits, bits, slots);
-    setup.version = 2;
-    setup.opening.add(counter(), Value::Count(0))?;
+    if version == 2 {
+        setup.version = 2;
+        setup.opening.add(counter(), Value::Count(0))?;
+    }
     setup.check()?;
     Ok(setup)
 }

@@ -1,8 +1,8 @@
 //! How long a command on a full image takes.
+use crate::timing::tell;
 use anyhow::Result;
 use call_check::Image;
 use plain_store::{Caller, Command, Name, NestedTypes, Reply, Store, Value};
-use std::alloc::AllocError;
 use std::rt::Clock;
 use std::time::Instant;
 
@@ -10,15 +10,23 @@ const NAMES: [&str; 8] = [
     "first", "second", "third", "fourth", "fifth", "sixth", "seventh", "eighth",
 ];
 
-/// Makes so many rounds of 8 adds, and prints what they left.
+/// Makes so many rounds of 8 adds, and prints the last reply.
 pub fn times<T: Print + Eprint + Clock>(rt: &T, rounds: u32) -> Result<()> {
+    let _nested: NestedTypes = None;
     let mut image = Image::empty(8, 16);
     let adds = fill(&mut image)?;
     let start = Instant::now(rt)?;
-    let sum = rounds_of_adds(&mut image, &adds, rounds)?;
-    let passed = start.elapsed(rt)?;
-    println!(rt; "last sum {sum}, last number {}", image.last(0))?;
-    eprintln!(rt; "{rounds} rounds of 8 adds in {passed:?}")?;
+    let mut last = Reply::Done;
+    let mut number = 0u16;
+    for _ in 0..rounds {
+        number = number.wrapping_add(1);
+        let caller = Caller { process: 0, number };
+        for add in &adds {
+            last = image.apply(add, caller)?;
+        }
+    }
+    tell(rt, "rounds of 8 adds", &last, u64::from(rounds), &start)?;
+    println!(rt; "last number {}", image.last(0))?;
     Ok(())
 }
 
@@ -36,21 +44,4 @@ fn fill(image: &mut Image) -> Result<[Command; 8]> {
         adds[place] = Command::Add(name, 1);
     }
     Ok(adds)
-}
-
-/// Makes each add in each round, and gives the last sum.
-fn rounds_of_adds(image: &mut Image, adds: &[Command], rounds: u32) -> Result<i64, AllocError> {
-    let _nested: NestedTypes = None;
-    let mut last_sum = 0;
-    let mut number = 0u16;
-    for _ in 0..rounds {
-        number = number.wrapping_add(1);
-        let caller = Caller { process: 0, number };
-        for add in adds {
-            if let Reply::Sum(sum) = image.apply(add, caller)? {
-                last_sum = sum;
-            }
-        }
-    }
-    Ok(last_sum)
 }

@@ -7,6 +7,7 @@ mod boards;
 mod counters;
 mod images;
 mod rounds;
+mod timing;
 mod weighing;
 
 use anyhow::{Result, bail};

@@ -1,5 +1,5 @@
 //! How long weighing takes, of the largest lists of finished calls.
-ghost use Rattle.std.specs.Prelude.{◌≡◌, ◌≤◌, All, IfOk, IsTrue, List, Ok, length};
+ghost use Rattle.std.specs.Prelude.{◌≡◌, ◌≤◌, All, IsTrue, List, Ok, length};
 ghost use Rattle.plain_store.specs.{checked};
 ghost use Rattle.record.specs.declared.calls.Placed.{Placed as Finished};
 ghost use Rattle.record.specs.{lists_of};
@@ -7,12 +7,12 @@ ghost use Rattle.record.specs.{lists_of};
 mod histories;
 
 use crate::counters::counting;
+use crate::timing::tell;
 use anyhow::{Result, bail};
-use call_check::{Image, Weighed, weigh};
-use histories::{Calls, History, called_in_turn};
+use call_check::{Image, weigh};
+use histories::{History, called_in_turn};
 use plain_store::Setup;
 use record::Placed;
-use std::io;
 use std::rt::Clock;
 use std::time::Instant;
 
@@ -24,31 +24,31 @@ const HISTORIES: [History; 5] = [
     History {
         name: "adds",
         version: 2,
-        calls: Calls::Adds,
+        adds: [true, true],
         is_spoiled: false,
     },
     History {
         name: "reads",
         version: 2,
-        calls: Calls::Reads,
+        adds: [false, false],
         is_spoiled: false,
     },
     History {
         name: "adds and reads",
         version: 2,
-        calls: Calls::Mixed,
+        adds: [true, false],
         is_spoiled: false,
     },
     History {
         name: "adds of version 1",
         version: 1,
-        calls: Calls::Adds,
+        adds: [true, true],
         is_spoiled: false,
     },
     History {
         name: "adds, the last one bad",
         version: 2,
-        calls: Calls::Adds,
+        adds: [true, true],
         is_spoiled: true,
     },
 ];
@@ -61,25 +61,12 @@ pub fn times<T: Print + Eprint + Clock + AllocGlobal>(
     only: Option<u32>,
 ) -> Result<()> {
     let rounds = calls.unwrap_or(MOST_CALLS);
-    let mut number = 0u32;
-    for history in &HISTORIES {
+    for number in 0..5u32 {
         if only.unwrap_or(number) == number {
-            weighed(rt, history, rounds)?;
+            weighed(rt, &HISTORIES[number as usize], rounds)?;
         }
-        number = number.wrapping_add(1);
     }
     Ok(())
-}
-
-/// 16 processes, or the 8 that version 1 has at most.
-fn setup_of(version: u8) -> Result<Setup>
-    ensures { IfOk result (λ setup. checked setup ≡ Ok tt) }
-{
-    if version == 2 {
-        counting(16, 2, 1)
-    } else {
-        Ok(Setup::one(8, 2, 2, 1))
-    }
 }
 
 /// Weighs a history of so many calls of each process.
@@ -88,10 +75,14 @@ fn weighed<T: Print + Eprint + Clock + AllocGlobal>(
     history: &History,
     rounds: u32,
 ) -> Result<()> {
-    let setup = setup_of(history.version)?;
-    let rounds = rounds.saturating_mul(if history.version == 1 { 2 } else { 1 });
+    let (processes, rounds) = if history.version == 1 {
+        (8, rounds.saturating_mul(2))
+    } else {
+        (16, rounds)
+    };
+    let setup = counting(history.version, processes, 2, 1)?;
+    let calls = u64::from(processes).saturating_mul(u64::from(rounds));
     let (lists, image) = called_in_turn(rt.alloc(), &setup, history, rounds)?;
-    let calls = u32::from(setup.processes).saturating_mul(rounds);
     timed(rt, &setup, &lists, &image, history.name, calls)
 }
 
@@ -102,7 +93,7 @@ fn timed<T: Print + Eprint + Clock + AllocGlobal>(
     lists: &[Vec<Placed>],
     image: &Image,
     name: &str,
-    calls: u32,
+    calls: u64,
 ) -> Result<()>
     requires { checked setup.now ≡ Ok tt }
 {
@@ -111,21 +102,8 @@ fn timed<T: Print + Eprint + Clock + AllocGlobal>(
     }
     let start = Instant::now(rt)?;
     let verdict = weigh(rt.alloc(), setup, lists, image)?;
-    tell(rt, name, calls, &verdict, &start)?;
+    tell(rt, name, &verdict, calls, &start)?;
     Ok(())
-}
-
-/// Tells the verdict on so many calls, whose weighing began then.
-fn tell<T: Print + Eprint + Clock>(
-    rt: &T,
-    name: &str,
-    calls: u32,
-    verdict: &Weighed,
-    start: &Instant,
-) -> io::Result<()> {
-    let passed = start.elapsed(rt)?;
-    println!(rt; "{name}: {verdict}")?;
-    eprintln!(rt; "{calls} {} {name}", passed.as_nanos())
 }
 
 /// Whether no list has more calls than a process of version 2 may have.
@@ -133,5 +111,10 @@ fn tell<T: Print + Eprint + Clock>(
 fn are_short(lists: &[Vec<Placed>]) -> bool
     ensures { IsTrue result → All (λ (list : List Finished). length list ≤ 65535) (lists_of lists.now) }
 {
-    lists.iter().all(|list| list.len() <= 65_535)
+    for list in lists {
+        if list.len() > 65_535 {
+            return false;
+        }
+    }
+    true
 }

@@ -12,11 +12,11 @@ use Rattle.record.proofs.World.{refused-idle}
 use Rattle.laws.specs.{cut_of}
 use Rattle.laws.proofs.FrameEvents.{is-waiting}
 use Rattle.process.specs.{ProcessState, is_full, left_at, may_fail, may_step, newest_of, overlapped_steps, stage_doing, steps_of}
-use Rattle.world.specs.{CoreState, KeepsCore, Seat, core_after, is_waiting, left_in, registers_after, seat_after, seat_stepped, told}
+use Rattle.world.specs.{CoreState, KeepsCore, Seat, core_after, is_waiting, left_in, registers_after, seat_after, seat_with, told}
 use Rattle.world.proofs.CoreKeeps.{IsNext}
 use Rattle.world.proofs.CoreRefused.{full-is, stage-told}
 use Rattle.flicks.specs.{FlickState}
-use Rattle.world.proofs.CoreWalks.{HasRun, has-run, told-same}
+use Rattle.world.proofs.CoreWalks.{HasRun, has-run, left-begun, told-same}
 use Rattle.world.proofs.WorldOpen.{IsSeated, is-allowed, is-seated, seat-below, seat-indexed, seat-left, seat-there}
 use Rattle.world.proofs.WorldStages.{fails-may, steps-may}
 
@@ -113,10 +113,10 @@ untold-after c what seat then registers waits i p index own then_is registers_is
 
 -- Of so many steps within a number access: the seat was put in its place once it had made them.
 pub run-code : (c d : CoreState) (p i : ℕ) (seat then : Seat) (registers : List (List Cell)) (f g : FlickState) (n : ℕ) (newest : Access) (overlapped : ℕ) → KeepsCore c → c ≡ d → IsLeft c p n seat → 0 < n → i ≡ p →
-    (let ran : ProcessState × List (List Cell) × FlickState = steps_of n (seat.process, c.registers, f) in (then ≡ seat_stepped ran.0 seat) × (registers ≡ ran.1) × (g ≡ ran.2)) → newest ≡ newest_of n (seat.process, c.registers, f) → overlapped ≡ overlapped_steps n (seat.process, c.registers, f) →
+    (let ran : ProcessState × List (List Cell) × FlickState = steps_of n (seat.process, c.registers, f) in (then ≡ seat_with ran.0 seat) × (registers ≡ ran.1) × (g ≡ ran.2)) → newest ≡ newest_of n (seat.process, c.registers, f) → overlapped ≡ overlapped_steps n (seat.process, c.registers, f) →
     HasRun d f p n newest overlapped (record c { registers = registers; seats = slice_set c.seats i then }) g
 run-code c d p i seat then registers f g zero newest overlapped k view left some index is newest_is count = absurd (omega (arith, some))
 run-code c d p i seat then registers f g (suc n) newest overlapped k view left some index is newest_is count =
     subst (λ (x : CoreState × Access × ℕ × CoreState × FlickState). HasRun x.0 f p (suc n) x.1 x.2 x.3 x.4)
     (λ j. (view j, sym newest_is j, sym count j, (let new : CoreState = record c { registers = sym is.1 j; seats = slice_set c.seats (sym index j) (sym is.0 j) } in new), sym is.2 j))
-    (has-run c p seat f left.there k (suc n) left.within)
+    (has-run c p seat f left.there (left-begun c p seat k left.there (omega (arith, left.within))) k (suc n) left.within)

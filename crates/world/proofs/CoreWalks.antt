@@ -1,23 +1,26 @@
 -- Steps of a process within a number access, and the core that they leave.
-use Rattle.std.proofs.Common.{◌≡◌, ℕ, zero, suc, ◌+◌, ◌<◌, ◌≤◌, ◌||◌, Bool, true, false, List, [], ◌∷◌, Some, map, refl, sym, ap, subst, ◌∙◌, arith}
-use Rattle.std.specs.Prelude.{slice_get, slice_set}
+use Rattle.std.proofs.Common.{◌≡◌, ℕ, zero, suc, ◌+◌, ◌<◌, ◌≤◌, ◌&&◌, ◌||◌, Bool, true, false, cond, List, [], ◌∷◌, Some, map, refl, sym, ap, subst, ◌∙◌, arith}
+use Rattle.std.specs.Prelude.{is_some, slice_get, slice_set}
 use Rattle.std.proofs.lemmas.List.{set-set}
 use Rattle.record.specs.safe_bit.Cell.{Cell}
-use Rattle.record.specs.{Access, Taken, is_queued, value_of}
+use Rattle.record.specs.{Access, Part, Past, Raises, Taken, doorway_begin, is_fresh, is_over, past_of, value_of}
+use Rattle.record.proofs.Width.{is_good}
+use Rattle.laws.specs.{Closes, Doing, Lies, Rests, Runs, doing}
+use Rattle.laws.proofs.DoorwayParts.{has_begun}
 use Rattle.record.specs.declared.events.Event.TheVariants.{Step}
 use Rattle.flicks.specs.{FlickState, flick_of}
 use Rattle.process.specs.declared.told.Effect.TheVariants.{Steps}
 use Rattle.process.specs.declared.told.StepTold.TheVariants.{Nothing}
-use Rattle.process.specs.{ProcessState, answered_at, answered_next, left_at, newest_of, overlapped_steps, overlaps_step, stage_doing, step_by, steps_of}
-use Rattle.process.specs.registers.{ends_overlapped}
-use Rattle.world.specs.{CoreGoes, CoreState, CoreTellsOverlapped, CoreWalks, KeepOthers, KeepsCore, Seat, StepsQuietly, core_after, is_at_door, is_waiting, left_in, pending_in, seat_stepped, told, with_history}
+use Rattle.process.specs.{ProcessState, answered_at, answered_next, left_at, newest_of, overlapped_steps, is_told, overlaps_step, process_after, step_by, steps_of}
+use Rattle.world.specs.{CoreGoes, CoreState, CoreTellsOverlapped, CoreWalks, KeepOthers, KeepsCore, Seat, StepsQuietly, core_after, is_at_door, is_waiting, left_in, pending_in, seat_of, seat_stepped, seat_with, told, with_history}
 use Rattle.world.proofs.CoreKeeps.{IsNext, next-goes, next-keeps}
 use Rattle.world.proofs.CoreOverlaps.{tells-overlapped}
 use Rattle.world.proofs.CoreRefused.{step-within}
 use Rattle.process.proofs.Left.{left-fewer, left-quiet, left-stays}
 use Rattle.world.proofs.WorldHeadline.{keeps_headline}
 use Rattle.world.proofs.WorldLists.{map-same}
-use Rattle.world.proofs.WorldOpen.{is-seated, seat-below, seat-left}
+use Rattle.world.proofs.QueueBegun.{begun-at}
+use Rattle.world.proofs.WorldOpen.{is-seated, seat-below, seat-left, seat-shown}
 
 -- How many accesses are left to another process.
 
@@ -95,6 +98,33 @@ seat-again [] p seat is = cc
 seat-again (x ∷ seats) zero seat is = let item : seat ≡ x = let both : Some x ≡ Some seat = is in cc in ap (λ x. x ∷ seats) item
 seat-again (x ∷ seats) (suc p) seat is = ap (λ seats. x ∷ seats) (seat-again seats p seat is)
 
+-- Its doorway has begun.
+
+untold-begun : (x : Part) (fresh : Bool) → (fresh && is_told x) ≡ false → has_begun x fresh ≡ true
+untold-begun Raises true h = absurd (cc)
+untold-begun Raises false h = refl
+untold-begun _ fresh h = refl
+
+untold : (over told : Bool) (n : ℕ) → 0 < cond over 0 (cond told 0 n) → told ≡ false
+untold true told n some = absurd (omega (arith, some))
+untold false true n some = absurd (omega (arith, some))
+untold false false n some = refl
+
+pub left-begun : (c : CoreState) (p : ℕ) (seat : Seat) → KeepsCore c → slice_get c.seats p ≡ Some seat → 0 < left_at seat.process → seat.begun ≡ true
+left-begun c p seat k there some = ap (λ (x : Seat). x.begun) shown ∙ by (doing c.setup p past) refl (subst (λ (x : Seat). 0 < left_at x.process) shown some)
+  where
+    past : Past
+    past = past_of c.setup k.events
+
+    shown : seat ≡ seat_of c.setup past p
+    shown = seat-shown (with_history c k.taken) k.events p seat k.shows there
+
+    by : (d : Doing) → doing c.setup p past ≡ d → 0 < left_at (record (process_after c.setup past p) { doing = d }) → is_some (doorway_begin p past) ≡ true
+    by Rests is some = absurd (omega (arith, some))
+    by Lies is some = absurd (omega (arith, some))
+    by (Closes command number at) is some = absurd (omega (arith, some))
+    by (Runs command number at) is some = begun-at c.setup (is_good c.setup k.shows.good) k.events p command number at is (untold-begun at.part (is_fresh at.run) (untold (is_over at.part) _ _ some))
+
 -- So many of them.
 
 -- they leave this
@@ -104,22 +134,17 @@ pub record HasRun (c : CoreState) (f : FlickState) (p n : ℕ) (newest : Access)
   pub fewer : left_in c.seats p ≡ left_in new.seats p + n
   pub others : KeepOthers c.seats p new.seats
 
-module _ (c : CoreState) (p : ℕ) (seat : Seat) (f : FlickState) (there : slice_get c.seats p ≡ Some seat) where
+module _ (c : CoreState) (p : ℕ) (seat : Seat) (f : FlickState) (there : slice_get c.seats p ≡ Some seat) (begun : seat.begun ≡ true) where
   -- the process, the registers and the flicks after so many
   abbrev ran : ℕ → ProcessState × List (List Cell) × FlickState
   ran n = steps_of n (seat.process, c.registers, f)
 
-  -- the seat: once a step was made, the doorway has begun where it was at the door
+  -- the seat: its doorway had begun
   abbrev seat_ran : ℕ → Seat
-  seat_ran zero = seat
-  seat_ran (suc n) = seat_stepped (ran (suc n)).0 seat
+  seat_ran n = seat_with (ran n).0 seat
 
   abbrev pub core_ran : ℕ → CoreState
   core_ran n = core_within c p (seat_ran n) (ran n).1
-
-  seat-ran : (n : ℕ) → (seat_ran n).process ≡ (ran n).0
-  seat-ran zero = refl
-  seat-ran (suc n) = refl
 
   pub left-ran : (n : ℕ) → n ≤ left_at seat.process → left_at (ran n).0 + n ≡ left_at seat.process
   left-ran zero l = omega arith
@@ -129,36 +154,22 @@ module _ (c : CoreState) (p : ℕ) (seat : Seat) (f : FlickState) (there : slice
       let fewer = left-fewer (ran n).0 flick (value_of (answered_at (ran n).0 (ran n).1 flick).how) (omega (arith, before, l)) in
       omega (arith, before, fewer)
 
-  door-ran : (n : ℕ) → n ≤ left_at seat.process → is_queued (stage_doing (ran n).0.doing) ≡ is_at_door seat
-  door-ran zero l = refl
-  door-ran (suc n) l =
-      let before = left-ran n (omega (arith, l)) in
-      let flick = flick_of (ran n).2 in
-      (left-stays (ran n).0 flick (value_of (answered_at (ran n).0 (ran n).1 flick).how) (omega (arith, before, l))).1 ∙ door-ran n (omega (arith, l))
-
-  -- the doorway has begun once one of its steps was made
-  begun-again : (begun d e : Bool) → e ≡ d → (begun || d) || e ≡ begun || d
-  begun-again true d e same = refl
-  begun-again false true e same = refl
-  begun-again false false e same = same
-
-  seat-more : (n : ℕ) → n ≤ left_at seat.process → seat_stepped (ran (suc n)).0 (seat_ran n) ≡ seat_ran (suc n)
-  seat-more zero l = refl
-  seat-more (suc n) l = λ i. let x : Seat = record seat { process = (ran (suc (suc n))).0; begun = begun-again seat.begun (is_at_door seat) (is_queued (stage_doing (ran (suc n)).0.doing)) (door-ran (suc n) l) i } in x
+  seat-more : (n : ℕ) → seat_stepped (ran (suc n)).0 (seat_ran n) ≡ seat_ran (suc n)
+  seat-more n = λ i. let x : Seat = record seat { process = (ran (suc n)).0; begun = (ap (λ b. b || is_at_door (seat_ran n)) begun ∙ sym begun) i } in x
 
   -- one more step
   core-more : (n : ℕ) → suc n ≤ left_at seat.process → core_after (core_ran n) (seat_ran n) (Step p (flick_of (ran n).2)) ≡ core_ran (suc n)
-  core-more n l = sym (within-after (core_ran n) p flick (seat_ran n) some) ∙ (λ i. let core : CoreState = record c { registers = (step_by flick (seat-ran n i, (ran n).1)).1; seats = seats i } in core)
+  core-more n l = sym (within-after (core_ran n) p flick (seat_ran n) some) ∙ (λ i. let core : CoreState = record c { registers = (ran (suc n)).1; seats = seats i } in core)
     where
       flick : Bool
       flick = flick_of (ran n).2
 
       some : 0 < left_at (seat_ran n).process
-      some = let before = left-ran n (omega (arith, l)) in let same = ap left_at (seat-ran n) in omega (arith, before, same, l)
+      some = let before = left-ran n (omega (arith, l)) in omega (arith, before, l)
 
       seats : slice_set (slice_set c.seats p (seat_ran n)) p (seat_stepped (step_by flick ((seat_ran n).process, (ran n).1)).0 (seat_ran n)) ≡ slice_set c.seats p (seat_ran (suc n))
       seats = set-set c.seats p (seat_ran n) (seat_stepped (step_by flick ((seat_ran n).process, (ran n).1)).0 (seat_ran n))
-          ∙ ap (slice_set c.seats p) (ap (λ now. seat_stepped (step_by flick (now, (ran n).1)).0 (seat_ran n)) (seat-ran n) ∙ seat-more n (omega (arith, l)))
+          ∙ ap (slice_set c.seats p) (seat-more n)
 
   core-zero : core_ran zero ≡ c
   core-zero = λ i. let core : CoreState = record c { seats = seat-again c.seats p seat there i } in core
@@ -171,9 +182,8 @@ module _ (c : CoreState) (p : ℕ) (seat : Seat) (f : FlickState) (there : slice
   left-core n l =
       let was = seat-left c.seats p seat there in
       let at = seat-left (core_ran n).seats p (seat_ran n) (seat-is n) in
-      let same = ap left_at (seat-ran n) in
       let left = left-ran n l in
-      omega (arith, was, at, same, left)
+      omega (arith, was, at, left)
 
   -- each is a step without a mark
   abbrev pub IsRun : ℕ → Type 0
@@ -215,12 +225,12 @@ module _ (c : CoreState) (p : ℕ) (seat : Seat) (f : FlickState) (there : slice
       access = answered_next (ran n)
 
       goes : CoreGoes (core_ran n) (Step p flick) (Steps Nothing) (Some access) (core_ran (suc n))
-      goes = within-goes (core_ran n) (core_ran n) (core_ran (suc n)) p flick access (seat_ran n) refl (seat-is n) some (ap (λ now. answered_at now (ran n).1 flick) (sym (seat-ran n))) (sym (core-more n l))
+      goes = within-goes (core_ran n) (core_ran n) (core_ran (suc n)) p flick access (seat_ran n) refl (seat-is n) some refl (sym (core-more n l))
 
       tells : CoreTellsOverlapped (core_ran n) access (overlaps_step (ran n))
       tells = tells-overlapped (core_ran n) (core_ran n) p flick access (Steps Nothing) (overlaps_step (ran n)) (seat_ran n).process.setup refl
           (is-seated (core_ran n) before.keeps.taken before.keeps.events p (seat_ran n) before.keeps.shows (seat-is n)).setup
-          (ap (λ (now : ProcessState). ends_overlapped now.setup.processes (ran n).1 access) (sym (seat-ran n))) goes.adds
+          refl goes.adds
 
   pub has-run : KeepsCore c → (n : ℕ) → n ≤ left_at seat.process → IsRun n
   has-run k zero l = record {

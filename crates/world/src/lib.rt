@@ -26,7 +26,7 @@ mod seats;
 mod world;
 
 pub use cores::Core;
-pub use flicks::{Flick, Flicks};
+pub use flicks::{Divisor, Flick, Flicks};
 pub use history_laws;
 pub use laws;
 pub use marks::{event_marks, step_marks};

@@ -142,8 +142,8 @@ impl Seat {
         self.process.step(registers, flick, leads)
     }
 
-    /// Makes so many of the next accesses, within a number access of a call. It answers the newest, and how many of them
-    /// ended a read that a write overlapped.
+    /// Makes so many of the next accesses, within a number access of a call, whose doorway has begun before. It answers the newest,
+    /// and how many of them ended a read that a write overlapped.
     #[inline(always)]
     pub fn run(
         &mut self,
@@ -154,13 +154,12 @@ impl Seat {
         requires some { 0 < steps }
         requires within { steps ≤ left_at self.old.process }
         requires registers { AreOf self.old.process.setup registers.old }
-        ensures seat { self.new ≡ seat_stepped (steps_of steps (self.old.process, registers.old, flicks.old)).0 self.old }
+        ensures seat { self.new ≡ seat_with (steps_of steps (self.old.process, registers.old, flicks.old)).0 self.old }
         ensures registers { registers.new ≡ (steps_of steps (self.old.process, registers.old, flicks.old)).1 }
         ensures flicks { flicks.new ≡ (steps_of steps (self.old.process, registers.old, flicks.old)).2 }
         ensures newest { result.newest ≡ newest_of steps (self.old.process, registers.old, flicks.old) }
         ensures overlapped { result.overlapped ≡ overlapped_steps steps (self.old.process, registers.old, flicks.old) }
     {
-        self.begun = self.begun || self.process.is_at_door();
         self.process.run(registers, flicks, steps)
     }
 

@@ -11,13 +11,13 @@ ghost use Rattle.course.specs.Steppers.{left_told, turns_drawn};
 ghost use Rattle.course.specs.Turns.{rest_of, turns_in};
 
 use super::Course;
-use super::steps::{any_step, pass_by, quiet_known, quiet_step};
+use super::steps::{any_step, is_quiet, pass_by, quiet_step};
 use crate::listening::Listener;
 use crate::told::Told;
 use record::{Refusal, Stage};
 use scenario::{Fault, Target};
 use smallvec::SmallVec;
-use world::Flicks;
+use world::{Divisor, Flicks};
 
 impl Course {
     /// Steps of this process, while more than so many turns are left, up to the first that is told; one that is
@@ -39,22 +39,20 @@ impl Course {
         ensures cut { IfErr result
             (StopsAlone L.Stops self.old process floor self.new listener.old listener.new) }
     {
-        let mut quiet = 0;
+        let mut known = 1;
         'steps: while floor < self.left {
             pass_by(
                 &mut self.world,
                 &mut self.flicks,
                 &mut self.left,
-                &mut quiet,
+                &mut known,
                 process,
                 floor,
                 listener,
             );
             self.left -= 1;
             let flick = self.flicks.flick();
-            quiet = quiet_known(&self.world, quiet, process, self.left == floor);
-            if quiet > 0 {
-                quiet -= 1;
+            if is_quiet(&self.world, &mut known, process, self.left == floor) {
                 quiet_step(&mut self.world, process, flick, listener)?;
                 continue;
             }
@@ -120,6 +118,9 @@ impl Course {
             (rest_of self.old.world.setup (WanderLine steps) self.old.left run).happened
             fault listener.new)) }
     {
+        if self.left == 0 {
+            return Ok(None);
+        }
         let movers = self.movers();
         let movers = movers.as_slice();
         if movers.is_empty() {
@@ -142,7 +143,9 @@ impl Course {
         listener: &mut L,
     ) -> Result<Option<Told>, Fault>
         requires room { L.HasRoom listener.old self.old.left }
+        requires more { 0 < self.old.left }
         requires some { 0 < length among.now }
+        requires few { length among.now ≤ 16 }
         requires movers { InItsRun self.old (λ run.
             among.now ≡ movers self.old.world.setup (past_in self.old.world.setup run)) }
         ensures left { IfOk result (λ told. room_wanted told self.new.left ≤ self.old.left) }
@@ -157,30 +160,33 @@ impl Course {
             (rest_of self.old.world.setup (WanderLine steps) self.old.left run).happened
             fault listener.new)) }
     {
-        let mut within = [0_u32; 256];
-        let mut left = self.left;
+        let mut within = [1_u32; 256];
+        let had = self.left;
+        let count = Divisor::new(among.len() as u32);
         let mut ahead = self.flicks.twin();
-        let mut next = drawn(&mut ahead, among);
-        'steps: while 0 < left {
-            left -= 1;
+        let mut next = drawn(&mut ahead, among, &count);
+        'steps: loop {
             let (process, flick) = next;
-            next = drawn(&mut ahead, among);
+            next = drawn(&mut ahead, among, &count);
+            self.left -= 1;
             let at = usize::from(process);
-            let known = quiet_known(&self.world, within[at], process, left == 0);
-            if known > 0 {
-                within[at] = known - 1;
+            if is_quiet(&self.world, &mut within[at], process, self.left == 0) {
                 quiet_step(&mut self.world, process, flick, listener)?;
                 continue;
             }
-            within[at] = 0;
-            if let Some(told) = any_step(&mut self.world, process, flick, listener)? {
-                skip_turns(&mut self.flicks, self.left - left);
-                self.left = left;
-                return Ok(Some(told));
+            match any_step(&mut self.world, process, flick, listener) {
+                Ok(None) => {}
+                Ok(Some(told)) => {
+                    skip_turns(&mut self.flicks, had - self.left);
+                    return Ok(Some(told));
+                }
+                Err(fault) => return Err(fault),
+            }
+            if self.left == 0 {
+                break;
             }
         }
-        skip_turns(&mut self.flicks, self.left - left);
-        self.left = left;
+        skip_turns(&mut self.flicks, had);
         Ok(None)
     }
 
@@ -216,8 +222,9 @@ impl Course {
 
     /// The processes with a Step to make, ascending. They take no memory.
     fn movers(&self) -> SmallVec<u8, 16>
-        ensures { InItsRun self.now (λ run.
+        ensures movers { InItsRun self.now (λ run.
             result.items ≡ movers self.now.world.setup (past_in self.now.world.setup run)) }
+        ensures few { length result.items ≤ 16 }
     {
         let mut movers = SmallVec::new(self.alloc);
         for process in 0..self.processes {
@@ -240,15 +247,16 @@ impl Course {
     }
 }
 
-/// Who is picked among these, and the flick of its Step.
+/// Who is picked among these, of whom there are so many, and the flick of its Step.
 #[inline]
-fn drawn(flicks: &mut Flicks, movers: &[u8]) -> (u8, bool)
-    requires { 0 < length movers.now }
+fn drawn(flicks: &mut Flicks, movers: &[u8], count: &Divisor) -> (u8, bool)
+    requires some { 0 < length movers.now }
+    requires count { count.now ≡ length movers.now }
     ensures process { result.0 ≡ slice_index movers.now (pick_of (length movers.now) flicks.old) }
     ensures flick { result.1 ≡ flick_of (after_pick flicks.old) }
     ensures after { flicks.new ≡ after_flick (after_pick flicks.old) }
 {
-    let process = movers[flicks.pick(movers.len())];
+    let process = movers[flicks.pick(count)];
     (process, flicks.flick())
 }
 

@@ -1,5 +1,5 @@
 //! Steps of a run: they pass a listener by, are heard by it, or are told.
-ghost use Rattle.std.specs.Prelude.{◌≡◌, ◌+◌, ◌<◌, ◌≤◌, IfErr, IfOk, IfSome, None, Ok, OnOk, true};
+ghost use Rattle.std.specs.Prelude.{◌≡◌, ◌+◌, ◌<◌, ◌≤◌, IfErr, IfOk, IfSome, None, Ok, OnOk, false, true};
 ghost use Rattle.record.specs.declared.Event.TheVariants.{Step};
 ghost use Rattle.world.specs.{KeepOthers, left_in};
 ghost use Rattle.world.specs.process.declared.told.StepTold.TheVariants.{Nothing};
@@ -22,15 +22,17 @@ pub(super) fn pass_by<L: Listener>(
     world: &mut World,
     flicks: &mut Flicks,
     left: &mut u32,
-    quiet: &mut u32,
+    known: &mut u32,
     process: u8,
     floor: u32,
     listener: &mut L,
 )
     requires floor { floor < left.old }
     requires room { L.HasRoom listener.old left.old }
-    requires within { quiet.old ≤ left_in world.old.seats process }
-    ensures within { quiet.new ≤ left_in world.new.seats process }
+    requires some { 0 < known.old }
+    requires known { known.old ≤ left_in world.old.seats process + 1 }
+    ensures some { 0 < known.new }
+    ensures known { known.new ≤ left_in world.new.seats process + 1 }
     ensures fewer { left.new ≤ left.old }
     ensures above { floor < left.new }
     ensures setup { world.new.setup ≡ world.old.setup }
@@ -47,7 +49,7 @@ pub(super) fn pass_by<L: Listener>(
     }
     let made = world.run(process, flicks, within);
     *left -= within;
-    *quiet = 0;
+    *known = 1;
     listener.pass(process, within, made.newest.how, made.overlapped);
 }
 
@@ -86,21 +88,28 @@ pub(super) fn quiet_step<L: Listener>(
     Ok(())
 }
 
-/// So many of a process's next Steps, at least, are within its number access: the world is asked, if none is known. Of the last
-/// Step of its line none is taken for one.
+/// Whether a process's next Step is within its number access, where one less than so many are known to be: the world is asked, if
+/// none is. The last Step of a line is taken for none. It only counts down where it need not ask, in place.
 #[inline(always)]
-pub(super) fn quiet_known(world: &World, known: u32, process: u8, is_last: bool) -> u32
-    requires { known ≤ left_in world.now.seats process }
-    ensures within { result ≤ left_in world.now.seats process }
-    ensures last { is_last ≡ true → result ≡ 0 }
+pub(super) fn is_quiet(world: &World, known: &mut u32, process: u8, is_last: bool) -> bool
+    requires some { 0 < known.old }
+    requires known { known.old ≤ left_in world.now.seats process + 1 }
+    ensures some { 0 < known.new }
+    ensures within { result ≡ true → known.new ≤ left_in world.now.seats process }
+    ensures last { result ≡ true → is_last ≡ false }
+    ensures none { result ≡ false → known.new ≡ 1 }
 {
     if is_last {
-        return 0;
+        *known = 1;
+        return false;
     }
-    if known == 0 {
-        return world.left(process);
+    *known -= 1;
+    if *known == 0 {
+        let left = world.left(process);
+        *known = left.max(1);
+        return left > 0;
     }
-    known
+    true
 }
 
 /// A Step by this flick, wherever its process is: it is heard, if it has no mark, and else what it tells is answered.

@@ -1,7 +1,7 @@
 //! How a cursor goes on: by the single access of a read or of a write, and by whole words.
 ghost use Rattle.std.specs.Prelude.{◌≡◌, ℕ, ◌<◌, ◌≤◌, ◌+◌, ◌*◌, ◌/◌, ◌%◌, true, false, slice_index_or};
 ghost use Rattle.registers.specs.Accesses.{access_with, read_after, read_move, write_after, write_move};
-ghost use Rattle.registers.specs.Cursors.{first_lane, lanes_of};
+ghost use Rattle.registers.specs.Cursors.{first_lane};
 ghost use Rattle.reader_copies.specs.{flag_in};
 ghost use Rattle.registers.specs.Wordwise.{AreAhead, more_bits};
 
@@ -34,17 +34,13 @@ impl Cursor {
         self.begun
     }
 
-    /// On how many lanes it reads or writes each bit.
+    /// How many copies each bit has.
     #[inline(always)]
-    pub(crate) fn lanes(&self) -> u32
-        ensures lanes { result ≡ lanes_of self.now }
-        ensures some { 1 ≤ result }
+    pub(crate) fn copies(&self) -> u32
+        ensures copies { result ≡ self.now.copies }
         ensures most { result ≤ 16 }
     {
-        match self.run {
-            NumberRun::Reads => 1,
-            _ => self.copies as u32,
-        }
+        self.copies as u32
     }
 
     /// The next access of a read, whose end gives `value`.
@@ -118,10 +114,12 @@ impl Cursor {
         self.begun = !self.begun;
     }
 
-    /// How many bits may be gone through at once, within so many accesses and one word: none once one has begun.
+    /// How many bits of a read or a write may be gone through at once, within so many accesses and one word: none once one
+    /// has begun.
     #[inline(always)]
     pub(crate) fn bits_ahead(&self, steps: u32) -> u32
-        ensures within { 2 * (lanes_of self.now * result) ≤ steps }
+        ensures reads { self.now.run ≡ NumberRun.Reads → 2 * result ≤ steps }
+        ensures writes { self.now.run ≡ NumberRun.Writes → 2 * (self.now.copies * result) ≤ steps }
         ensures ahead { 0 < result → AreAhead self.now result }
     {
         if self.begun || self.copy != 0 {
@@ -129,8 +127,7 @@ impl Cursor {
         }
         let most = match self.run {
             NumberRun::Reads => steps / 2,
-            NumberRun::Writes => steps / (2 * u32::from(self.copies)),
-            NumberRun::Settles { .. } => 0,
+            _ => steps / (2 * u32::from(self.copies)),
         };
         let bit = u32::from(self.bit);
         most.min(u32::from(self.width) - bit).min(64 - bit % 64)

@@ -1,13 +1,10 @@
-//! Calls of one port, and what ports do on threads.
-ghost use Rattle.std.specs.Prelude.{◌≡◌, ℕ, Some, slice_get};
-ghost use Rattle.board_runs.specs.board.{IsOf, PortState, SamePort};
+//! Calls of one port.
+ghost use Rattle.board_runs.specs.board.{IsOf, SamePort};
 
 use board_runs::{Board, Driven, Port};
 use flicks::Flicks;
 use plain_store::Command;
 use record::Refusal;
-use std::alloc::AllocError;
-use std::thread::{self, Threads};
 
 /// The most word steps of a call that waits for nobody, and some more.
 const STEPS: u64 = 65_536;
@@ -62,7 +59,7 @@ pub fn calls_alone(
 
 /// So many times some turns of a port, which calls again and again. Answers how many word steps were made at least: of
 /// the turns in which a call is answered one is counted.
-fn calls_again(board: &Board, mut port: Port, command: &Command, times: u32) -> u64
+pub fn calls_again(board: &Board, mut port: Port, command: &Command, times: u32) -> u64
     requires { IsOf board.now port }
 {
     let mut flicks = Flicks::constant(false);
@@ -80,24 +77,4 @@ fn calls_again(board: &Board, mut port: Port, command: &Command, times: u32) -> 
         steps = steps.saturating_add(made);
     }
     steps
-}
-
-/// The same of each of these ports, each on a thread of its own: how many they are, and the least that one answers.
-pub fn all_call<R: Threads + Sync>(
-    rt: &R,
-    board: &Board,
-    ports: Vec<Port>,
-    command: &Command,
-    times: u32,
-) -> Result<(usize, u64), AllocError>
-    requires { (k : ℕ) (port : PortState) → slice_get ports.items k ≡ Some port → IsOf board.now port }
-{
-    let made = thread::map_vec(
-        rt,
-        ports,
-        &|port: Port| -> u64
-            requires { IsOf board.now port }
-        { calls_again(board, port, command, times) },
-    )?;
-    Ok((made.len(), made.iter().copied().min().unwrap_or(0)))
 }

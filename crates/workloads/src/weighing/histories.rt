@@ -8,24 +8,14 @@ use plain_store::{Answer, Caller, Command, NestedTypes, Reply, Setup, Store, Val
 use record::Placed;
 use std::alloc::{AllocError, Global};
 
-/// What the processes of a history call.
-#[derive(Clone, Copy)]
-pub enum Calls {
-    /// Each call adds 1 to the counter.
-    Adds,
-    /// Each call reads the counter.
-    Reads,
-    /// Each process adds 1 and reads, by turns.
-    Mixed,
-}
-
 /// What the processes of a setup call in turn. The counter opens at 0 in version 2; in version 1 there is none, and the first call
 /// of all writes 1.
 #[derive(Drop)]
 pub struct History {
     pub name: &'static str,
     pub version: u8,
-    pub calls: Calls,
+    /// Whether a process adds 1 to the counter in the first round, the third and so on, and in the others; else it reads it.
+    pub adds: [bool; 2],
     /// Whether the last call of all has a reply that no store gives.
     pub is_spoiled: bool,
 }
@@ -42,37 +32,13 @@ pub fn called_in_turn(
     let mut image = opened(Image::empty(setup.slots, setup.callers()), setup)?;
     let mut lists = empty_lists(alloc, setup.processes, rounds)?;
     call_all(history, rounds, &mut image, &mut lists)?;
-    if history.is_spoiled {
-        spoil(&mut lists);
+    if history.is_spoiled
+        && let Some(list) = lists.last_mut()
+        && let Some(call) = list.last_mut()
+    {
+        call.answer = Some(Answer::Reply(Reply::Sum(-1)));
     }
     Ok((lists, image))
-}
-
-/// Makes the calls.
-fn call_all(
-    history: &History,
-    rounds: u32,
-    image: &mut Image,
-    lists: &mut Vec<Vec<Placed>>,
-) -> Result<(), AllocError> {
-    let _nested: NestedTypes = None;
-    let mut changes = 0;
-    let mut number = 0u16;
-    for round in 0..rounds {
-        number = number.wrapping_add(1);
-        let mut process = 0u8;
-        for list in lists.iter_mut() {
-            let command = if history.version == 1 && changes == 0 {
-                Command::Write(counter(), Value::Count(1))
-            } else {
-                command_in(history.calls, round)
-            };
-            let caller = Caller { process, number };
-            process = process.wrapping_add(1);
-            list.push(finished(image, command, caller, &mut changes)?)?;
-        }
-    }
-    Ok(())
 }
 
 /// A list for each process, with room for so many calls.
@@ -85,13 +51,33 @@ fn empty_lists(alloc: Global, processes: u8, calls: u32) -> Result<Vec<Vec<Place
     Ok(lists)
 }
 
-/// What is called in a round.
-fn command_in(calls: Calls, round: u32) -> Command {
-    match calls {
-        Calls::Adds => Command::Add(counter(), 1),
-        Calls::Mixed if round % 2 == 0 => Command::Add(counter(), 1),
-        _ => Command::Read(counter()),
+/// Makes the calls.
+fn call_all(
+    history: &History,
+    rounds: u32,
+    image: &mut Image,
+    lists: &mut Vec<Vec<Placed>>,
+) -> Result<(), AllocError> {
+    let _nested: NestedTypes = None;
+    let mut changes = 0u32;
+    let mut number = 0u16;
+    for round in 0..rounds {
+        number = number.wrapping_add(1);
+        let mut process = 0u8;
+        for list in lists.iter_mut() {
+            let command = if history.version == 1 && changes == 0 {
+                Command::Write(counter(), Value::Count(1))
+            } else if history.adds[(round % 2) as usize] {
+                Command::Add(counter(), 1)
+            } else {
+                Command::Read(counter())
+            };
+            let caller = Caller { process, number };
+            process = process.wrapping_add(1);
+            list.push(finished(image, command, caller, &mut changes)?)?;
+        }
     }
+    Ok(())
 }
 
 /// A call that is carried out on the image, behind so many changes.
@@ -111,13 +97,4 @@ fn finished(
         answer: Some(Answer::Reply(reply)),
         place: Some(place),
     })
-}
-
-/// Gives the last call of all a reply that no store gives.
-fn spoil(lists: &mut Vec<Vec<Placed>>) {
-    if let Some(list) = lists.last_mut()
-        && let Some(call) = list.last_mut()
-    {
-        call.answer = Some(Answer::Reply(Reply::Sum(-1)));
-    }
 }

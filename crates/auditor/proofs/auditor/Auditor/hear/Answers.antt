@@ -11,12 +11,12 @@ empty (m ∷ ms) h = let none = eqb-true (length (m ∷ ms)) 0 h in absurd (omeg
 pub returns-in_default : goal.returns-in_default
 returns-in_default c = record { setup = c.hear_without_access.ensures.setup; heard = c.hear_without_access.ensures.heard }
 
-pub returns-then-is_empty : goal.returns-then-is_empty
-returns-then-is_empty c = record {
-  setup = c.hear_access.ensures.setup;
+pub returns-then-left-gt0 : goal.returns-then-left-gt0
+returns-then-left-gt0 c = record {
+  setup = c.hear_within.ensures.setup;
   heard =
       let none = empty c.args.marks.now (sym c.is_empty.ensures ∙ c.if-is_empty.true) in
-      subst (λ (e : Entry). Hears c.args.self.now e c.hear_access.new.self c.hear_access.result) (λ i. entry_by c.args.process (sym c.in-Some.is i) (sym none i)) c.hear_access.ensures.heard;
+      subst (λ (e : Entry). Hears c.args.self.now e c.hear_within.new.self c.hear_within.result) (λ i. entry_by c.args.process (sym c.in-Some.is i) (sym none i)) c.hear_within.ensures.heard;
 }
 
 pub returns : goal.returns

@@ -1,4 +1,4 @@
-use Rattle.std.proofs.Common.{Some, ◌==◌, ◌+◌, ◌-◌, ◌∙◌, ℕ, ap, arith, inl, subst, sym}
+use Rattle.std.proofs.Common.{true≢false, Some, ◌==◌, ◌+◌, ◌-◌, ◌∙◌, ℕ, ap, arith, inl, subst, sym}
 use Rattle.world.specs.flicks.{flick_of}
 use Rattle.course.specs.{ComesTo, CourseState, HearsFrom, HearsStep, IsAlone, KnowsEnough, KnowsOr, Learns, MakesStep, MaySteps, StopsAlone, StopsBy, course, tried}
 use Rattle.course.proofs.Alone.{KnowsAlone, MakesMore, alone_ended, alone_on, alone_passed, alone_told}
@@ -16,7 +16,8 @@ steps-init g c =
       kept = record { are = c.self.invariant.are; few = c.self.invariant.few };
       left = omega (arith, left);
       floor = omega (arith, left, c.requires.floor);
-      quiet = omega arith;
+      some = omega arith;
+      known = omega arith;
       room = λ more room. g.met.L.Listener.room_less c.args.listener.now (more + i.left) (more + c.args.self.now.left) (omega (arith, left)) room;
     }
 
@@ -39,8 +40,8 @@ any_step-requires g c =
     laws.room_less c.pass_by.new.listener 1 (0 + left) (omega (arith, c.pass_by.ensures.above))
     (c.pass_by.ensures.room 0 (c.steps.invariant.room 0 (laws.room_less c.args.listener.now (0 + c.args.self.now.left) c.args.self.now.left (omega arith) c.requires.room)))
 
-pub steps-preserved-then-quiet-gt0 : goal.steps-preserved-then-quiet-gt0
-steps-preserved-then-quiet-gt0 g c =
+pub steps-preserved-then-is_quiet : goal.steps-preserved-then-is_quiet
+steps-preserved-then-is_quiet g c =
     let laws = g.met.L.Listener in
     let Hears = g.L.Listener.Hears in
     let Knows = g.L.Listener.Knows in
@@ -56,7 +57,7 @@ steps-preserved-then-quiet-gt0 g c =
     let setup = c.quiet_step.ensures.setup ∙ c.pass_by.ensures.setup in
     let knows : HearsStep (HearsFrom Hears (KnowsOr Knows (MaySteps p)) (KnowsAlone Knows p floor (left - 1))) w p c.flick-flick.result c.quiet_step.new.world c.pass_by.new.listener c.quiet_step.new.listener =
     step_knows Hears Knows w c.quiet_step.new.world p c.flick-flick.result c.pass_by.new.listener c.quiet_step.new.listener (KnowsOr Knows (MaySteps p)) (MakesMore p floor (left - 1)) (left - 1 == floor) heard
-    (λ last. absurd (omega (arith, c.quiet_known-quiet.ensures.last last, c.if-quiet-gt0.true)))
+    (λ last. absurd (true≢false (sym last ∙ c.is_quiet.ensures.last c.if-is_quiet.true)))
     (λ more before shows. (turns_above floor left c.pass_by.ensures.above more, quiet_steps w.setup p c.flick-flick.result before (Some heard.step.access, heard.step.adds (tried before) shows))) in
     record {
       on = λ line run follows next.
@@ -67,7 +68,8 @@ steps-preserved-then-quiet-gt0 g c =
       kept = record { are = c.steps.invariant.kept.are ∙ ap (λ s. s.processes) (sym setup); few = c.steps.invariant.kept.few };
       left = omega (arith, c.pass_by.ensures.fewer, c.steps.invariant.left);
       floor = omega (arith, c.pass_by.ensures.above);
-      quiet = omega (arith, c.quiet_known-quiet.ensures.within, c.quiet_step.ensures.fewer);
+      some = c.is_quiet.ensures.some;
+      known = omega (arith, c.is_quiet.ensures.within c.if-is_quiet.true, c.quiet_step.ensures.fewer);
       room = λ more room. c.in_ok-quiet_step.ensures.room (more + (left - 1)) (laws.room_less c.pass_by.new.listener (more + (left - 1) + 1) (more + left) (omega (arith, c.pass_by.ensures.above)) (c.pass_by.ensures.room more (c.steps.invariant.room more room)));
     }
 
@@ -99,7 +101,8 @@ steps-preserved g c =
       kept = record { are = c.steps.invariant.kept.are ∙ ap (λ s. s.processes) (sym setup); few = c.steps.invariant.kept.few };
       left = omega (arith, c.pass_by.ensures.fewer, c.steps.invariant.left);
       floor = omega (arith, c.pass_by.ensures.above);
-      quiet = omega (arith, c.if-quiet-gt0.false);
+      some = c.is_quiet.ensures.some;
+      known = let none = c.is_quiet.ensures.none c.if-is_quiet.false in omega (arith, none);
       room = λ more room.
           let wants = rw c.in_default.is at c.in_ok-told.ensures.room in
           laws.room_less c.any_step.new.listener (more + (left - 1)) (more + (left - 1) + 0) (omega arith) (wants (more + (left - 1)) (laws.room_less c.pass_by.new.listener (more + (left - 1) + 1) (more + left) (omega (arith, c.pass_by.ensures.above)) (c.pass_by.ensures.room more (c.steps.invariant.room more room))));

@@ -1,4 +1,4 @@
-use Rattle.std.proofs.Common.{◌-◌, ◌+◌, ◌≤◌, ℕ}
+use Rattle.std.proofs.Common.{◌-◌, ◌+◌, ◌<◌, ◌≤◌, ℕ}
 use Rattle.scenario.specs.{Line}
 use Rattle.world.specs.{left_in}
 use Rattle.course.specs.{ComesOn, Follows, HearsFrom, IsAlone, KeepsCourse, Run, course}
@@ -13,7 +13,8 @@ invariant-steps g l = record {
   kept : KeepsCourse l.self-inside.processes l.self-inside.world;
   left : l.self-inside.left ≤ l.fn.self.left;
   floor : l.floor ≤ l.self-inside.left;
-  quiet : l.quiet ≤ left_in l.self-inside.world.seats l.process;
+  some : 0 < l.known;
+  known : l.known ≤ left_in l.self-inside.world.seats l.process + 1;
   room : (more : ℕ) → g.L.Listener.HasRoom l.fn.listener (more + l.fn.self.left) → g.L.Listener.HasRoom l.listener (more + l.self-inside.left);
 }
 

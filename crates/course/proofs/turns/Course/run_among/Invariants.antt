@@ -1,4 +1,4 @@
-use Rattle.std.proofs.Common.{◌≡◌, ◌+◌, ◌≤◌, ℕ, length, slice_index}
+use Rattle.std.proofs.Common.{◌≡◌, ◌+◌, ◌<◌, ◌≤◌, ℕ, length, slice_index}
 use Rattle.scenario.specs.declared.lines.Line.TheVariants.{Wander as WanderLine}
 use Rattle.world.specs.flicks.{after_flick, after_pick, flick_of, pick_of}
 use Rattle.course.specs.{ComesOn, Follows, HearsFrom, IsCounted, KeepsCourse, Run, course}
@@ -10,16 +10,17 @@ use Rattle.course.proofs.turns.Course.run_among.Given as goal
 abbrev pub invariant-steps : goal.invariant-steps
 invariant-steps g l = record {
   on : (steps : ℕ) (run : Run) → Follows l.fn.self run →
-      ComesOn (HearsFrom g.L.Listener.Hears g.L.Listener.Knows (KnowsWhile g.L.Listener.Knows l.left)) l.fn.self.world.setup (WanderLine steps) l.fn.self.left run l.fn.listener l.listener (course l.self-inside.world (drawn_to l.fn.self l.left) l.left) (ArePicked l.among);
-  same : (l.self-inside.flicks ≡ l.fn.self.flicks) × (l.self-inside.left ≡ l.fn.self.left);
+      ComesOn (HearsFrom g.L.Listener.Hears g.L.Listener.Knows (KnowsWhile g.L.Listener.Knows l.self-inside.left)) l.fn.self.world.setup (WanderLine steps) l.fn.self.left run l.fn.listener l.listener (course l.self-inside.world (drawn_to l.fn.self l.self-inside.left) l.self-inside.left) (ArePicked l.among);
+  same : l.self-inside.flicks ≡ l.fn.self.flicks;
   kept : KeepsCourse l.self-inside.processes l.self-inside.world;
-  left : l.left ≤ l.fn.self.left;
-  process : l.next.0 ≡ slice_index l.among (pick_of (length l.among) (drawn_to l.fn.self l.left));
-  flick : l.next.1 ≡ flick_of (after_pick (drawn_to l.fn.self l.left));
-  ahead : l.ahead ≡ after_flick (after_pick (drawn_to l.fn.self l.left));
+  more : 0 < l.self-inside.left;
+  left : l.self-inside.left ≤ l.fn.self.left;
+  process : l.next.0 ≡ slice_index l.among (pick_of (length l.among) (drawn_to l.fn.self l.self-inside.left));
+  flick : l.next.1 ≡ flick_of (after_pick (drawn_to l.fn.self l.self-inside.left));
+  ahead : l.ahead ≡ after_flick (after_pick (drawn_to l.fn.self l.self-inside.left));
   counted : IsCounted l.within l.self-inside.world.seats;
-  room : (more : ℕ) → g.L.Listener.HasRoom l.fn.listener (more + l.fn.self.left) → g.L.Listener.HasRoom l.listener (more + l.left);
+  room : (more : ℕ) → g.L.Listener.HasRoom l.fn.listener (more + l.fn.self.left) → g.L.Listener.HasRoom l.listener (more + l.self-inside.left);
 }
 
 abbrev pub decreases-steps : goal.decreases-steps
-decreases-steps g l = l.left
+decreases-steps g l = l.self-inside.left

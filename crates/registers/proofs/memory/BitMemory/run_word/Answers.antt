@@ -1,43 +1,47 @@
-use Rattle.std.proofs.Common.{◌≡◌, ◌*◌, ◌/◌, ◌%◌, ℕ, List, [], set, length, arith, refl, sym, ◌∙◌, ap}
+use Rattle.std.proofs.Common.{◌≡◌, ◌<◌, ◌+◌, ◌*◌, ◌%◌, ℕ, List, [], set, length, arith, subst, sym, ◌∙◌, ap}
 use Rattle.std.proofs.lemmas.List.{get_or_default}
 use Rattle.safe_bit.specs.Cell.{Cell}
-use Rattle.registers.specs.{LeadsTo, first_lane, lane_of, lanes_by, lanes_of, over_lanes}
-use Rattle.registers.specs.declared.cursor.NumberRun.TheVariants.{Reads, Writes}
-use Rattle.reader_copies.specs.{after_read, after_write, flag_in, over}
-use Rattle.registers.proofs.AtOnce.{is-writing, read-at_once, write-at_once}
-use Rattle.registers.proofs.Iterates.{leads-same}
+use Rattle.reader_copies.specs.{after_write, flag_in, over}
+use Rattle.registers.specs.{HasLanes, LeadsTo, first_lane, lane_of}
+use Rattle.registers.proofs.AtOnce.{lanes-written, read-at_once, write-at_once}
+use Rattle.registers.proofs.Held.{lane-found}
+use Rattle.registers.proofs.Over.{lanes-above, length-over_lanes, over_lanes}
 use Rattle.registers.proofs.memory.BitMemory.run_word.Goals as goal
-use Rattle.registers.proofs.memory.BitMemory.run_word.Goals.{in-Reads, in_default}
 
-pub returns : goal.returns
-returns c =
+pub returns-in-Some-clause-leads : goal.returns-in-Some-clause-leads
+returns-in-Some-clause-leads c =
     let cur = c.args.cursor.now in
-    let memory = c.args.self.now in
-    let n : ℕ = c.args.bits in
+    let n : ℕ = c.bits_ahead-bits.result in
     let lane : ℕ = c.lane-lane.result in
-    let bit_is : c.bit-bit.result ≡ cur.bit = c.bit-bit.ensures.bit in
-    let leads : LeadsTo (2 * (lanes_of cur * n)) cur memory c.match-run.cursor c.match-run.self = elim c.match-run.branch [
-      | in-Reads w ↦
-          let reads : cur.run ≡ Reads = sym c.run.ensures ∙ w.in-Reads.is in
-          let items = w.self.inside.lanes.items in
-          let copies = w.index_mut-copies.result.now in
-          let copies_is : copies ≡ lane_of memory (first_lane cur) =
-          w.index_mut-copies.ensures.value ∙ get_or_default items lane copies [] (omega (arith, c.lane-lane.ensures, ap length w.self.view_is, c.requires.fits.lanes.lanes, c.requires.fits.copy)) ∙ ap (λ m. lane_of m lane) w.self.view_is ∙ ap (lane_of memory) c.lane-lane.ensures in
-          read-at_once n cur c.match-run.cursor memory c.match-run.self copies w.word-word.result reads c.requires.ahead c.requires.fits (c.requires.quiet reads) copies_is
-          (λ i same inside. w.word-word.ensures i (same ∙ ap (λ b. b / 64) (sym bit_is)) inside)
-          (w.self-is
-          ∙ ap (λ m. set m lane w.read_word.new.self) w.self.view_is
-          ∙ ap (λ l. set memory l w.read_word.new.self) c.lane-lane.ensures
-          ∙ ap (set memory (first_lane cur)) (w.read_word.ensures ∙ ap (λ b. over n (λ i x. after_read x) b copies) bit_is))
-          (w.cursor-is ∙ w.keep_word.ensures)
-      | in_default w ↦
-          let writes : cur.run ≡ Writes = is-writing cur.run (λ reads. w.in_default.not-Reads (c.run.ensures ∙ reads)) c.requires.ahead.kind in
-          let F : ℕ → ℕ → ℕ → List (List Cell) = λ l copies b. over_lanes copies (over n (λ i x. after_write (flag_in w.word-word-in_default.result (i % 64)) x) b) l memory in
-          write-at_once n cur c.match-run.cursor memory c.match-run.self w.word-word-in_default.result writes c.requires.ahead c.requires.fits w.word-word-in_default.ensures
-          (w.self-is ∙ w.write_lanes.ensures ∙ ap (λ l. F l c.lanes-lanes.result c.bit-bit.result) c.lane-lane.ensures
-          ∙ ap (λ k. F (first_lane cur) k c.bit-bit.result) (c.lanes-lanes.ensures.lanes ∙ ap (λ r. lanes_by r cur.copies) writes)
-          ∙ ap (F (first_lane cur) cur.copies) bit_is)
-          (w.cursor-is ∙ w.skip.ensures)
-    ] in
-    let count : 2 * (c.lanes-lanes.result * n) ≡ 2 * (lanes_of cur * n) = ap (λ k. 2 * (k * n)) c.lanes-lanes.ensures.lanes in
-    record { count = count; leads = leads-same _ _ _ _ _ _ _ _ _ _ (sym count) refl refl refl refl leads }
+    let inside : first_lane cur < length c.args.self.now = omega (arith, c.requires.fits.lanes.lanes, c.requires.fits.copy) in
+    let P : List (List Cell) → Type 0 = λ m. LeadsTo (2 * n) cur c.args.self.now c.keep_word.new.self (set m lane c.read_word.new.self) in
+    subst P (sym c.self.view_is)
+    (read-at_once n lane c.bit-bit.result c.in-Some.word cur c.keep_word.new.self c.args.self.now c.index_mut.result.now c.read_word.new.self
+    (sym c.run.ensures ∙ c.in-Reads.is) (c.bits_ahead-bits.ensures.ahead (omega arith)) c.requires.fits c.lane-lane.ensures c.bit-bit.ensures.bit
+    (lane-found c.self.inside.lanes.items c.args.self.now lane (first_lane cur) c.index_mut.result.now c.self.view_is c.lane-lane.ensures c.index_mut.ensures.value inside)
+    c.in-Some.ensures.quiet c.in-Some.ensures.word c.in-Some.ensures.read c.keep_word.ensures)
+
+pub write_word-requires-clause-there : goal.write_word-requires-clause-there
+write_word-requires-clause-there c =
+    let cur = c.args.cursor.now in
+    let g : List Cell → List Cell = λ x. over c.bits_ahead-bits.result (λ i y. after_write (flag_in c.word-word.result (i % 64)) y) c.bit-bit.result x in
+    let old : List (List Cell) = c.self.inside.lanes.items in
+    let now : List (List Cell) = c.loop-copy.self-inside.lanes.items in
+    let copy : ℕ = c.loop-copy.copy in
+    let at : ℕ = c.lane-lane.result + copy in
+    let there : HasLanes c.args.self.now (first_lane cur) cur.copies cur.width = lanes-written cur c.args.self.now (sym c.run.ensures ∙ c.in-Writes.is) c.requires.fits in
+    let long : length now ≡ length c.args.self.now = ap length c.loop-copy.invariant ∙ length-over_lanes copy g c.lane-lane.result old ∙ ap length c.self.view_is in
+    let below : copy < cur.copies = omega (arith, c.loop-copy-test.true, c.copies-copies.ensures.copies) in
+    let found : c.index_mut-in-loop-copy.result.now ≡ lane_of c.args.self.now at =
+    c.index_mut-in-loop-copy.ensures.value ∙ get_or_default now at c.index_mut-in-loop-copy.result.now [] (omega (arith, c.lane-lane.ensures, there.lanes)) ∙ ap (λ m. lane_of m at) c.loop-copy.invariant ∙ lanes-above copy g c.lane-lane.result at old (omega arith) ∙ ap (λ m. lane_of m at) c.self.view_is in
+    let ahead = c.bits_ahead-bits.ensures.ahead (omega arith) in
+    omega (arith, ap length found, there.wide at (omega (arith, c.lane-lane.ensures)) (omega (arith, c.lane-lane.ensures)), ahead.inside, c.bit-bit.ensures.bit)
+
+pub returns-after-loop-copy-clause-leads : goal.returns-after-loop-copy-clause-leads
+returns-after-loop-copy-clause-leads c =
+    let n : ℕ = c.bits_ahead-bits.result in
+    let written = λ (copies : ℕ) (m : List (List Cell)). over_lanes copies (over n (λ i x. after_write (flag_in c.word-word.result (i % 64)) x) c.bit-bit.result) c.lane-lane.result m in
+    let whole : c.loop-copy.copy ≡ c.copies-copies.result = omega (arith, c.loop-copy-test.false, c.loop-copy.auto.copy-end) in
+    write-at_once n c.lane-lane.result c.bit-bit.result c.copies-copies.result c.word-word.result c.args.cursor.now c.skip.new.self c.args.self.now c.loop-copy.self-inside.lanes.items
+    (sym c.run.ensures ∙ c.in-Writes.is) (c.bits_ahead-bits.ensures.ahead (omega arith)) c.requires.fits c.lane-lane.ensures c.bit-bit.ensures.bit c.copies-copies.ensures.copies c.word-word.ensures
+    (c.loop-copy.invariant ∙ (λ i. written (whole i) (c.self.view_is i))) c.skip.ensures
