@@ -73,9 +73,9 @@ def tried(kit, crate, bodies):
             only = [word for it in chosen for word in ("--only", it.refused)]
             printed = kit.checked(crate, texts, ["--jobs", "1", *only], kept).stdout
             found = [(it, reasons(it, printed), said_of(it, printed)[2]) for it in chosen]
-            # (a round that refuses none would leave the next one as it is)
-            is_known = not any(why for _, why, _ in found)
-            done = [it for it in found if is_known or not CALLS.search(it[2])]
+            # (where a round refuses none, the next one would be the same)
+            is_last = not any(why for _, why, _ in found)
+            done = [it for it in found if is_last or not CALLS.search(it[2])]
             results += done
             left = [it for it in left if it not in [body for body, _, _ in done]]
     return results
