@@ -2,7 +2,7 @@
 """Runs a command, as `rt ci`, and tells the processor time of each check that it makes, by crate and kind, from samples of /proc.
 
 `bench/gate.py [--rows FILE] WORDS..`: the rows go to FILE, one JSON object a line, as the processes end. Kinds: `proof` of a
-crate, `tests` (their proof), `edits` (checks of the functions of must-fail edits), `program`
+crate, `tests` (their proof), `edits` (must-fail edits, with the check of the whole crate that they begin with), `program`
 (the proof of the program, and what two compilers make of it) and `runs` (tests and programs that run). A process is looked at
 five times a second, so its last fifth of a second may be missed.
 """

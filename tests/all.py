@@ -1,5 +1,5 @@
 #!/usr/bin/env python3
-"""Proves every crate from nothing and runs every test: `rt ci`, and then the scripts that try wrong bodies and run the program.
+"""Proves every crate from nothing and runs every test: `rt ci`, then the scripts that run the program which it leaves.
 
 The words given are for `rt ci`: with `--anew` it takes nothing from earlier runs; a kit whose `rt ci` never does (13b) knows no such
 word, and gets none. The last line counts everything: `N passed, M failed`.
@@ -15,7 +15,7 @@ from lib.counting import Counter, shown_counts
 from lib.places import TOP
 
 SCRIPTS = [
-    *["must_fail", "api", "names", "claims", "quotes", "layers", "links", "worked", "picture_parts", "pictures", "drawn_records"],
+    *["api", "names", "claims", "quotes", "layers", "links", "worked", "picture_parts", "pictures", "drawn_records"],
     *["cut_file", "command_line", "terminal"],
     *["record_files", "changed_records", "short_files", "other_locks", "fault_places", "any_lock_second", "lock_search", "run_script", "readme"],
     *["lessons", "races", "boards", "refused_threads", "inspected"],

@@ -151,7 +151,7 @@ def check_claims(counter):
 
 
 def check_edits(counter):
-    """Whether docs/PLANTS.md names each wrong body of tests/must-fail/, and no other; and whether what each changes is there."""
+    """Whether docs/PLANTS.md names each must-fail edit, and no other; and whether what each changes is there."""
     named = set(EDIT.findall((TOP / "docs" / "PLANTS.md").read_text()))
     there = {(body.crate, body.name) for body in wrong_bodies()}
     counter.count(named == there, f"PLANTS.md and the must-fail edits differ in {sorted(named ^ there)}")

@@ -1,15 +1,15 @@
-"""The wrong bodies of tests/must-fail/, which the prover must refuse.
+"""The wrong bodies that the prover must refuse: the must-fail edits of the crates, which `rt ci` tries.
 
-tests/must-fail/CRATE/NAME.edit has the lines `refused: FUNCTION`, the name of the function that must be refused as a check prints
+crates/CRATE/must-fail/NAME.edit has the lines `# refused: FUNCTION`, the name of the function that must be refused as a check prints
 it, or the end of that; `file: PATH`, of a file of the crate; and pairs of `old: TEXT` and `new: TEXT`. Each old text stands once in
-that file.
+that file. `rt ci` skips the first line.
 """
 
 from typing import NamedTuple
 
-from lib.places import TESTS, TOP
+from lib.places import TOP
 
-FOLDER = TESTS / "must-fail"
+FOLDER = TOP / "crates"
 
 
 class WrongBody(NamedTuple):
@@ -39,7 +39,7 @@ def read(file):
     refused, path, old, changes = "", "", "", []
     for line in file.read_text().splitlines():
         word, _, rest = line.partition(": ")
-        if word == "refused":
+        if word == "# refused":
             refused = rest
         elif word == "file":
             path = rest
@@ -47,9 +47,9 @@ def read(file):
             old = rest
         elif word.rstrip(":") == "new":
             changes.append((path, old, rest))
-    return WrongBody(file.parent.name, file.stem, refused, changes)
+    return WrongBody(file.parent.parent.name, file.stem, refused, changes)
 
 
 def wrong_bodies():
     """All of them, in the order of their names."""
-    return [read(file) for file in sorted(FOLDER.glob("*/*.edit"))]
+    return [read(file) for file in sorted(FOLDER.glob("*/must-fail/*.edit"))]

@@ -60,7 +60,7 @@ fn read_line<T: FromLines>(
 ) -> Result<(), FaultKind>
     ensures { Takes result (line_read T.grammar number line.now read.old) read.new }
 {
-    // (one condition: the proof answers it as it stands here, and as the wrong body in tests/must-fail/ has it)
+    // (one condition: the proof answers it as it stands here, and as the wrong body in must-fail/ has it)
     let is_beyond = (number > MOST_LINES) | (line.len() > MOST_BYTES);
     if is_beyond {
         return Err(FaultKind::TooLong);
