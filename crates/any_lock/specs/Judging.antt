@@ -63,10 +63,6 @@ abbrev pub AreReasonsIf : Option AnyLockLaw → Option Reasons → Setup → Pas
 AreReasonsIf None reasons s past e = reasons ≡ None
 AreReasonsIf (Some l) reasons s past e = (told : Reasons) × (reasons ≡ Some told) × AreReasonsBy l told s past e
 
--- the answer tells whether an entry keeps the law `Safe`, if the accesses before are there
-abbrev pub IsSafe : Bool → Setup → Past → Entry → Type 0
-IsSafe told s past e = AllAreOfThere s past → breaks_safe s past e ≡ not told
-
 -- where both have heard the entries before, this is the verdict with an entry of this number
 abbrev pub Finds : JudgeState → ℕ → Entry → AnyLockVerdict → Type 0
 Finds j number e verdict = (s : Setup) (past : Past) → BothHeard j s past → verdict ≡ verdict_with number (first_broken s past e)

@@ -1,13 +1,12 @@
 //! What an access is refused for, by where its process stands.
 ghost use Rattle.std.specs.Prelude.{◌≡◌, Ok};
 ghost use Rattle.plain_store.specs.{checked};
-ghost use Rattle.record.specs.{same_bit as same, width as width_of};
 ghost use Rattle.any_lock.specs.Refusals.{access_refusal, begins_write, ends, first_that, is_end_of, is_of_bit, is_running as runs, is_settling as stage_settles, is_there as bit_is_there, maker_refusals, may_move, move_refusals, reads};
 
 use crate::refusals::AccessRefusal;
 use crate::standings::{Begun, Standing, is_settling};
 use plain_store::Setup;
-use record::{Access, Field, Move, Stage};
+use record::{Access, Move, Stage, width_of};
 
 impl Standing {
     /// Why an access of its process, with this number, is refused, if it is.
@@ -127,34 +126,7 @@ fn is_there(setup: &Setup, access: &Access) -> bool
 {
     access.owner < setup.processes
         && access.reader < setup.processes
-        && u32::from(access.bit) < width(setup, access.field)
-}
-
-/// The bits of a register.
-#[inline]
-fn width(setup: &Setup, field: Field) -> u32
-    requires { checked setup.now ≡ Ok tt }
-    ensures { result ≡ width_of setup.now field }
-{
-    match field {
-        Field::Choosing | Field::Commit => 1,
-        Field::Ticket => u32::from(setup.ticket_bits),
-        Field::Stamp0 | Field::Stamp1 => u32::from(setup.stamp_bits),
-        Field::Image0 | Field::Image1 => {
-            8 * (23 * u32::from(setup.slots) + 2 * u32::from(setup.callers()))
-        }
-    }
-}
-
-/// Whether both are accesses of one bit.
-#[inline]
-fn same_bit(access: &Access, other: &Access) -> bool
-    ensures { result ≡ same access.now other.now }
-{
-    access.bit == other.bit
-        && access.reader == other.reader
-        && access.owner == other.owner
-        && access.field == other.field
+        && access.bit < width_of(access.field, setup)
 }
 
 /// Whether this is of the bit of an access.
@@ -164,7 +136,7 @@ fn is_of_bit(begun: &Option<Begun>, access: &Access) -> bool
 {
     match begun {
         None => false,
-        Some(begun) => same_bit(&begun.access, access),
+        Some(begun) => begun.access.same_bit(access),
     }
 }
 
@@ -176,7 +148,7 @@ fn is_end_of(begun: &Option<Begun>, access: &Access) -> bool
     match begun {
         None => false,
         Some(begun) => {
-            same_bit(&begun.access, access) && reads(access.how) == reads(begun.access.how)
+            begun.access.same_bit(access) && reads(access.how) == reads(begun.access.how)
         }
     }
 }

@@ -84,42 +84,17 @@ impl Auditor {
         ensures setup { result ≡ None → self.new.core.setup ≡ self.old.core.setup }
         ensures heard { Hears self.old (entry_by process access.now marks.now) self.new result }
     {
-        let Some(told) = access else {
-            return self.hear_without_access(process, access, marks);
-        };
-        if marks.is_empty() && self.core.left(process) > 0 {
-            return self.hear_within(process, *told);
-        }
-        self.hear_step(process, access, marks)
-    }
-
-    /// The same of an entry with this access and no mark, as nearly all are, whose process is within a number access. It
-    /// has nothing else to do than a step, and does not settle: the step is made, and its access alone is compared.
-    #[inline]
-    fn hear_within(&mut self, process: u8, access: Access) -> Option<Law>
-        requires { 0 < left_in self.old.core.seats process }
-        ensures setup { result ≡ None → self.new.core.setup ≡ self.old.core.setup }
-        ensures heard { Hears self.old (entry_by process (Some access) []) self.new result }
-    {
-        let mut flicks = Flicks::only(flick_of(access));
-        let made = self.core.run(process, &mut flicks, 1);
-        different(made.newest, access)
-    }
-
-    /// An entry without an access, which no step adds.
-    #[inline(never)]
-    fn hear_without_access(
-        &mut self,
-        process: u8,
-        access: &Option<Access>,
-        marks: &[Mark],
-    ) -> Option<Law>
-        ensures setup { result ≡ None → self.new.core.setup ≡ self.old.core.setup }
-        ensures heard { Hears self.old (entry_by process access.now marks.now) self.new result }
-    {
-        match event_in(process, access, marks) {
-            Some(event) => self.hear_event(&event),
-            None => self.hear_step(process, access, marks),
+        match access {
+            // It has nothing else to do than a step, and does not settle: the step is made, and its access alone is compared.
+            Some(told) if marks.is_empty() && self.core.left(process) > 0 => {
+                let mut flicks = Flicks::only(flick_of(*told));
+                let made = self.core.run(process, &mut flicks, 1);
+                different(made.newest, *told)
+            }
+            _ => match event_in(process, access, marks) {
+                Some(event) => self.hear_event(&event),
+                None => self.hear_step(process, access, marks),
+            },
         }
     }
 

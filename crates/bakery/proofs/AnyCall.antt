@@ -2,7 +2,7 @@
 use Rattle.std.proofs.Common.{◌≡◌, ℕ, ◌+◌, ◌==◌, ◌&&◌, Bool, cond, List, [], ◌∷◌, ◌++◌, length, refl, ap, ◌∙◌}
 use Rattle.plain_store.specs.declared.Command.TheVariants.{Ask}
 use Rattle.record.specs.{Call, Field, Place, Reading, Run, Wait, Writing, bits_with, enter, is_fresh, is_last, lets_by, marks_of, new_run, others, place_after, run_after, waits_of, width, write_moved}
-use Rattle.record.specs.Parts.{Part, Raises, Asks, TakesTicket, Lowers, Refuses, Waits, AsksCommit, AsksStamp, AsksImage, WritesImage, WritesStamp, WritesCommit, Clears, Over, first_marks, last_marks, part_after, read_at, to_b, to_d, written_at}
+use Rattle.record.specs.Parts.{Part, Raises, first_marks, last_marks, part_after, read_at, to_b, to_d, written_at}
 use Rattle.process.specs.laws.{call}
 use Rattle.bakery.proofs.AtDoor.{AtDoor, raises, asks, takes, lowers, refuses, waits}
 

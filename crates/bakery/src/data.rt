@@ -5,15 +5,13 @@ ghost use Rattle.bakery.specs.Newest.{image_held, version_held, values_of, IsRea
 ghost use Rattle.bakery.specs.Registers.{is_data, register_of, data_after, data_from, register_from, opening_cell, zero_cell};
 
 use crate::held;
-use crate::image::MOST_IMAGE_BYTES;
 use plain_store::Setup;
-use process::width_of;
 use reader_copies::Made;
-use record::Field;
+use record::{Field, width_of};
 use safe_number::{NumberFault, Register};
 use std::alloc::{AllocError, Global};
 use std::marker::Model;
-use store_image::Image;
+use store_image::{Image, MOST_IMAGE_BYTES};
 
 /// The registers of one process: its commit bit, and its two versions, of a stamp and an image each. The
 /// commit bit chooses the version that the process has committed.

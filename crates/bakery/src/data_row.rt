@@ -4,11 +4,11 @@ ghost use Rattle.bakery.specs.Newest.{newest_store, IsQuiet};
 ghost use Rattle.bakery.specs.Registers.{data_of, register_at, row_from, opening_cell, after_access, answered, without_reads_at, HasCopy, MayMake, FitsSetup};
 
 use crate::data::Data;
+use crate::held;
 use crate::newest::Newest;
-use crate::{held, image};
 use plain_store::Setup;
 use reader_copies::{Made, Move};
-use record::{Access, Field};
+use record::{Access, Field, image_bytes};
 use std::alloc::{AllocError, Global};
 use std::marker::Model;
 use store_image::Image;
@@ -74,9 +74,9 @@ impl DataRow {
             let (commit, stamp) = self.parts[usize::from(process)].version(self.setup.stamp_bits);
             newest = newest.with(process, commit, stamp);
         }
-        let count = image::image_bytes(&self.setup);
+        let count = image_bytes(&self.setup);
         let bytes = self.parts[usize::from(newest.process)].image(newest.commit, count);
-        image::image_in(&self.setup, &bytes[..usize::from(count)])
+        Image::read_or_empty(&self.setup, &bytes[..usize::from(count)])
     }
 
     /// The access, a read's end with what the reader's copy answers.

@@ -4,8 +4,8 @@ ghost use Rattle.safe_number.specs.{number_of_bits};
 ghost use Rattle.record.specs.{bytes_of_bits};
 ghost use Rattle.bakery.specs.Newest.{values_of, IsReadable};
 
-use crate::image::MOST_IMAGE_BYTES;
 use safe_number::Register;
+use store_image::MOST_IMAGE_BYTES;
 
 /// The number of some bits of a register, from a bit on.
 pub(crate) fn number_held(register: &Register, from: u16, width: u16) -> u32

@@ -12,7 +12,6 @@ mod data_row;
 mod door;
 mod door_progress;
 mod held;
-mod image;
 mod leaving;
 mod lock;
 mod newest;

@@ -8,12 +8,12 @@ use Rattle.std.proofs.lemmas.Bool.Decides.{nat_tests}
 use Rattle.std.proofs.lemmas.Nat.{div-mul-add}
 use Rattle.std.specs.Prelude.{nat_lt, slice_index, slice_index_or}
 use Rattle.record.specs.safe_bit.declared.Move.TheVariants.{BeginRead}
-use Rattle.record.specs.{Access, Field, field_number, opening_bits, same_bit, width}
+use Rattle.record.specs.{Access, Field, field_number, fields, opening_bits, same_bit, width}
 use Rattle.record.specs.declared.access.Field.TheVariants.{Image0}
 use Rattle.plain_store.specs.{Setup}
 use Rattle.laws.specs.{IsThere}
 use Rattle.laws.proofs.FrameCells.{OnCopy, on-copy}
-use Rattle.board.specs.{bits_of, bit_in_row, bit_of, closed_word, fields, first_bit, opening_word, row_bits, word_of, words_in}
+use Rattle.board.specs.{bits_of, bit_in_row, bit_of, closed_word, first_bit, opening_word, row_bits, word_of, words_in}
 
 -- A number of two digits.
 

@@ -3,14 +3,10 @@ use Rattle.std.specs.Prelude.{◌≡◌, ◌<◌, slice_index, ℕ, ◌+◌, ◌
 use Rattle.record.specs.safe_bit.Cell.{Cell}
 use Rattle.record.specs.safe_bit.{Move}
 use Rattle.record.specs.safe_bit.declared.Move.TheVariants.{BeginWrite, EndWrite, BeginRead, EndRead, Settle}
-use Rattle.record.specs.{Access, Field, field_number, opening_bit, width}
-use Rattle.record.specs.declared.access.Field.TheVariants.{Choosing, Ticket, Commit, Stamp0, Stamp1, Image0, Image1}
+use Rattle.record.specs.{Access, Field, field_number, fields, opening_bit, width}
+use Rattle.record.specs.declared.access.Field.TheVariants.{Image1}
 use Rattle.plain_store.specs.{Setup}
 use Rattle.board.specs.declared.layout.WordLayout.{WordLayout}
-
--- the registers of an owner, in order
-abbrev pub fields : List Field
-fields = Choosing ∷ Ticket ∷ Commit ∷ Stamp0 ∷ Stamp1 ∷ Image0 ∷ Image1 ∷ []
 
 -- how many bits these registers have
 abbrev pub bits_of : Setup → List Field → ℕ

@@ -1,12 +1,11 @@
 //! Where the words of a board's bits lie, worked out once, since each word step asks it.
 ghost use Rattle.std.specs.Prelude.{◌≡◌, ◌<◌, Ok};
 ghost use Rattle.plain_store.specs.{checked};
-ghost use Rattle.record.specs.{field_number};
 ghost use Rattle.board.specs.Words.{first_bit, layout_of, word_of};
 
 use crate::words::{first_bit, row_bits};
 use plain_store::Setup;
-use record::{Access, Field};
+use record::{Access, Field, number_of_field};
 
 /// What the word of a bit goes by.
 #[derive(Clone, Copy)]
@@ -24,23 +23,6 @@ fn first(setup: &Setup, field: Field) -> u16
     ensures { result ≡ first_bit setup.now field }
 {
     first_bit(setup, field) as u16
-}
-
-/// The place of a register in the order of the registers.
-#[inline(always)]
-fn number_of(field: Field) -> usize
-    ensures number { result ≡ field_number field }
-    ensures few { result < 7 }
-{
-    match field {
-        Field::Choosing => 0,
-        Field::Ticket => 1,
-        Field::Commit => 2,
-        Field::Stamp0 => 3,
-        Field::Stamp1 => 4,
-        Field::Image0 => 5,
-        Field::Image1 => 6,
-    }
 }
 
 impl WordLayout {
@@ -70,7 +52,7 @@ impl WordLayout {
         requires { self.now ≡ layout_of _setup.now }
         ensures { result ≡ first_bit _setup.now field }
     {
-        self.firsts[number_of(field)]
+        self.firsts[number_of_field(field)]
     }
 
     /// The word of the bit of an access. `setup` is for the proof alone.

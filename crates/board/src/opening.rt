@@ -1,24 +1,14 @@
 //! What the words of a board open at: each at its bit's opening value.
 ghost use Rattle.std.specs.Prelude.{◌≡◌, ◌*◌, ◌<◌, Ok, IfOk, vec_len};
-ghost use Rattle.record.specs.safe_number.{bit_in};
 ghost use Rattle.plain_store.specs.{checked, opening_store};
 ghost use Rattle.store_image.specs.{image_of};
 ghost use Rattle.board.specs.Words.{AreOpening, opening_word, row_bits, words_in};
 
-use crate::words::{bit_of, row_bits, words_in};
+use crate::words::{self, row_bits, words_in};
 use plain_store::{Setup, opened};
-use record::Field;
+use record::{Field, bit_of};
 use std::alloc::{AllocError, Global};
 use store_image::Image;
-
-/// A bit of bytes, of each byte the least significant bit first.
-fn bit_in(bytes: &[u8], bit: u16) -> bool
-    ensures { result ≡ bit_in bytes.now bit }
-{
-    let index = usize::from(bit / 8);
-    let byte = if index < bytes.len() { bytes[index] } else { 0 };
-    (byte >> (bit % 8)) & 1 == 1
-}
 
 /// What a word opens at, where the first image of process 0 opens at these bytes, and so many are the words of process 0.
 fn opening_word(setup: &Setup, image: &[u8], own: usize, word: usize) -> u64
@@ -32,12 +22,12 @@ fn opening_word(setup: &Setup, image: &[u8], own: usize, word: usize) -> u64
     if own <= word {
         return 0;
     }
-    let access = bit_of(setup, word);
+    let access = words::bit_of(setup, word);
     if access.owner != 0 {
         return 0;
     }
     match access.field {
-        Field::Image0 => u64::from(bit_in(image, access.bit)),
+        Field::Image0 => u64::from(bit_of(image, access.bit)),
         _ => 0,
     }
 }

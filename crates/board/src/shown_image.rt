@@ -10,15 +10,12 @@ ghost use Rattle.board.specs.Words.{words_in};
 use crate::layout::WordLayout;
 use atomic_table::Closed;
 use plain_store::Setup;
-use record::{Access, Field, Move};
+use record::{Access, Field, Move, image_bytes};
 use std::alloc::Global;
-use store_image::Image;
+use store_image::{Image, MOST_IMAGE_BYTES};
 
 /// The words of a board that no thread shares any more.
 pub(crate) type ClosedWords = Closed<(), Global>;
-
-/// The bytes of the longest image: 8 slots, and 16 callers.
-const MOST_IMAGE_BYTES: usize = 216;
 
 /// A bit of a register.
 fn bit_shown(setup: &Setup, words: &ClosedWords, owner: u8, field: Field, bit: u16) -> bool
@@ -136,19 +133,6 @@ fn newest_shown(setup: &Setup, words: &ClosedWords) -> (u8, bool)
     unreachable!()
 }
 
-/// The store whose image the bytes are. The empty store stands in place of bytes that are none.
-fn image_in(setup: &Setup, bytes: &[u8]) -> Image
-    requires good { checked setup.now ≡ Ok tt }
-    requires length { length bytes.now ≡ image_bytes setup.now }
-    ensures store { result ≡ store_in setup.now.slots (callers_of setup.now) bytes.now }
-{
-    let callers = setup.callers();
-    match Image::read(bytes, callers) {
-        Ok(image) => image,
-        Err(_) => Image::empty(setup.slots, callers),
-    }
-}
-
 /// The store whose image the words show as committed, with the greatest stamp, of the lowest process on a tie.
 pub(crate) fn image_shown(setup: &Setup, words: &ClosedWords) -> Image
     requires good { checked setup.now ≡ Ok tt }
@@ -156,11 +140,11 @@ pub(crate) fn image_shown(setup: &Setup, words: &ClosedWords) -> Image
     ensures { result ≡ store_shown setup.now (words_of words.now) }
 {
     let (newest, commit) = newest_shown(setup, words);
-    let count = 23 * u16::from(setup.slots) + 2 * u16::from(setup.callers());
+    let count = image_bytes(setup);
     let bytes = if commit {
         bytes_of(setup, words, newest, Field::Image1, count)
     } else {
         bytes_of(setup, words, newest, Field::Image0, count)
     };
-    image_in(setup, &bytes[..usize::from(count)])
+    Image::read_or_empty(setup, &bytes[..usize::from(count)])
 }

@@ -6,24 +6,7 @@ ghost use Rattle.record.specs.{width};
 ghost use Rattle.board.specs.Words.{bit_of, first_bit, row_bits, words_in};
 
 use plain_store::Setup;
-use record::{Access, Field, Move};
-
-/// The bits of a register.
-#[inline]
-fn width(setup: &Setup, field: Field) -> usize
-    requires { checked setup.now ≡ Ok tt }
-    ensures width { result ≡ width setup.now field }
-    ensures most { result ≤ 1728 }
-{
-    match field {
-        Field::Choosing | Field::Commit => 1,
-        Field::Ticket => usize::from(setup.ticket_bits),
-        Field::Stamp0 | Field::Stamp1 => usize::from(setup.stamp_bits),
-        Field::Image0 | Field::Image1 => {
-            8 * (23 * usize::from(setup.slots) + 2 * usize::from(setup.callers()))
-        }
-    }
-}
+use record::{Access, Field, Move, width_of};
 
 /// Where in a row the bits of a register begin.
 #[inline]
@@ -41,7 +24,7 @@ pub(crate) fn first_bit(setup: &Setup, field: Field) -> usize
         Field::Stamp0 => 2 + tickets,
         Field::Stamp1 => 2 + tickets + stamps,
         Field::Image0 => 2 + tickets + 2 * stamps,
-        Field::Image1 => 2 + tickets + 2 * stamps + width(setup, Field::Image0),
+        Field::Image1 => 2 + tickets + 2 * stamps + usize::from(width_of(Field::Image0, setup)),
     }
 }
 
@@ -52,7 +35,7 @@ pub(crate) fn row_bits(setup: &Setup) -> usize
     ensures row { result ≡ row_bits setup.now }
     ensures most { result ≤ 3554 }
 {
-    first_bit(setup, Field::Image1) + width(setup, Field::Image1)
+    first_bit(setup, Field::Image1) + usize::from(width_of(Field::Image1, setup))
 }
 
 /// How many words there are.

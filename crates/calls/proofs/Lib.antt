@@ -1,4 +1,3 @@
-pub use Rattle.read_law.proofs as read_law
 pub mod Loops
 pub mod Noted
 pub mod Folds

@@ -8,8 +8,7 @@ ghost use Rattle.calls.specs.Stepping.{waits_by};
 
 use crate::called::Marked;
 use plain_store::Setup;
-use read_law::width;
-use record::{Access, Field, Move};
+use record::{Access, Field, Move, width_of};
 
 /// One more, if a test holds.
 #[inline]
@@ -147,7 +146,8 @@ pub fn ends_number(setup: &Setup, access: &Access) -> bool
     ensures { result ≡ ends_number (width setup.now access.now.field) access.now.bit access.now.how }
 {
     match access.how {
-        Move::EndRead(_) => usize::from(access.bit) + 1 == width(setup, access.field),
+        Move::EndRead(_) => usize::from(access.bit) + 1
+            == usize::from(width_of(access.field, setup)),
         _ => false,
     }
 }

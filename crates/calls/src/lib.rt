@@ -11,6 +11,5 @@ mod table;
 pub use accesses::{ends_number, holds_up, number_after};
 pub use called::{Accesses, Called, EntryKnown, Marked};
 pub use printed::{HEADER, print_call};
-pub use read_law::width;
 pub use standing::{CallStanding, called_in, first_of};
 pub use table::CallTable;

@@ -1,14 +1,13 @@
 //! What is kept of a process, entry by entry.
 ghost use Rattle.std.specs.Prelude.{◌≡◌, ◌-◌, ◌^◌, ◌<◌, ◌&&◌, not, cond, None, Some, Ok};
 ghost use Rattle.plain_store.specs.{checked};
-ghost use Rattle.record.specs.{called_in as command_in, first_of as first, width};
+ghost use Rattle.record.specs.{called_in as command_in, first_of as first};
 ghost use Rattle.calls.specs.Passing.{HaveRoom, passed, with_passed};
 ghost use Rattle.calls.specs.Stepping.{AreFew, accessed, heard, at_rest, begun, marked_all, marked_on, no_accesses, no_marks, with_access, with_mark};
 
 use crate::accesses::{is_read, is_write, more_if, waits_by};
 use crate::called::{Accesses, Called, EntryKnown, Marked};
 use plain_store::{Command, NestedTypes, Setup};
-use read_law::width;
 use record::{Access, Field, Mark};
 
 /// What is kept of a process: its last call, and whether that goes on.

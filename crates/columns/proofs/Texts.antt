@@ -3,8 +3,8 @@ use Rattle.std.proofs.Common.{◌≡◌, ℕ, List, ◌++◌, codes, Result, Ok,
 use Rattle.std.specs.Fmt.{decimal}
 use Rattle.std.specs.Int.{from_bool}
 use Rattle.std.specs.declared.alloc.AllocError.{AllocError}
-use Rattle.record.specs.{Mark, Refusal, mark_text, refusal_text}
-use Rattle.columns.specs.{OverlappedRead, field_text, read_text, title_text}
+use Rattle.record.specs.{Mark, Refusal, field_word, mark_text, refusal_text}
+use Rattle.columns.specs.{OverlappedRead, read_text, title_text}
 
 pub marked_is : (event p : ℕ) (mark : Mark) → decimal event ++ (codes " " ++ (decimal p ++ (codes " " ++ mark_text mark))) ≡ decimal event ++ codes " " ++ decimal p ++ codes " " ++ mark_text mark
 marked_is event p mark = simp append_assoc
@@ -32,7 +32,7 @@ read_is : (reader bit : ℕ) (field : List ℕ) (owner : ℕ) →
     ≡ codes "process " ++ decimal reader ++ codes " read bit " ++ decimal bit ++ codes " of " ++ field ++ codes "[" ++ decimal owner ++ codes "]"
 read_is reader bit field owner = simp append_assoc
 
-pub read_of : (read : OverlappedRead) (field : List ℕ) → field ≡ field_text read.field →
+pub read_of : (read : OverlappedRead) (field : List ℕ) → field ≡ field_word read.field →
     codes "process " ++ (decimal read.reader ++ (codes " read bit " ++ (decimal read.bit ++ (codes " of " ++ (field ++ (codes "[" ++ (decimal read.owner ++ codes "]"))))))) ≡ read_text read
 read_of read field is =
     read_is read.reader read.bit field read.owner

@@ -2,19 +2,8 @@
 use Rattle.std.specs.Prelude.{ℕ, ◌+◌, ◌-◌, ◌*◌, ◌/◌, min, Bool, ◌==◌, cond, nat_le, List, [], ◌++◌, codes}
 use Rattle.std.specs.Fmt.{decimal}
 use Rattle.std.specs.Int.{from_bool}
-use Rattle.record.specs.{Field}
-use Rattle.record.specs.declared.access.Field.TheVariants.{Choosing, Ticket, Commit, Stamp0, Stamp1, Image0, Image1}
+use Rattle.record.specs.{field_word}
 use Rattle.columns.specs.declared.reads.OverlappedRead.{OverlappedRead}
-
--- how a register is called
-abbrev pub field_text : Field → List ℕ
-field_text Choosing = codes "choosing"
-field_text Ticket = codes "ticket"
-field_text Commit = codes "commit"
-field_text Stamp0 = codes "stamp0"
-field_text Stamp1 = codes "stamp1"
-field_text Image0 = codes "image0"
-field_text Image1 = codes "image1"
 
 -- a bit as a digit
 abbrev pub digit_of : Bool → List ℕ
@@ -27,11 +16,11 @@ saw_text read = codes "saw " ++ digit_of read.value
 -- the bit that it read, and how many reads are not shown
 abbrev pub bit_text : OverlappedRead → List ℕ
 bit_text read =
-    field_text read.field ++ codes "[" ++ decimal read.owner ++ codes "]" ++ cond read.is_wide (codes "." ++ decimal read.bit) [] ++ cond (read.more == 0) [] (codes " +" ++ decimal read.more)
+    field_word read.field ++ codes "[" ++ decimal read.owner ++ codes "]" ++ cond read.is_wide (codes "." ++ decimal read.bit) [] ++ cond (read.more == 0) [] (codes " +" ++ decimal read.more)
 
 -- who read which bit
 abbrev pub read_text : OverlappedRead → List ℕ
-read_text read = codes "process " ++ decimal read.reader ++ codes " read bit " ++ decimal read.bit ++ codes " of " ++ field_text read.field ++ codes "[" ++ decimal read.owner ++ codes "]"
+read_text read = codes "process " ++ decimal read.reader ++ codes " read bit " ++ decimal read.bit ++ codes " of " ++ field_word read.field ++ codes "[" ++ decimal read.owner ++ codes "]"
 
 -- all that is told of a read
 abbrev pub title_text : OverlappedRead → List ℕ

@@ -2,7 +2,7 @@
 ghost use Rattle.std.specs.Prelude.{◌≡◌, ◌++◌, IfOk, OnOk, string_bytes};
 ghost use Rattle.std.specs.Fmt.{decimal};
 ghost use Rattle.columns.specs.Columns.{GivesRows, verb_and_rest};
-ghost use Rattle.columns.specs.Overlaps.{bit_text, field_text, read_text, saw_text, title_text};
+ghost use Rattle.columns.specs.Overlaps.{bit_text, read_text, saw_text, title_text};
 
 use crate::columns::{TextRow, two_rows};
 use record::Field;
@@ -53,7 +53,7 @@ impl OverlappedRead {
             more,
             ..
         } = *self;
-        let field = field_name(self.field);
+        let field = self.field.word();
         let mut text = format!(in alloc; "{field}[{owner}]")?;
         if self.is_wide {
             push_number(alloc, ".", u64::from(bit), &mut text)?;
@@ -84,7 +84,7 @@ impl OverlappedRead {
             bit,
             ..
         } = *self;
-        let field = field_name(self.field);
+        let field = self.field.word();
         format!(in alloc; "process {reader} read bit {bit} of {field}[{owner}]")
     }
 }
@@ -96,19 +96,4 @@ fn push_number(alloc: Global, sign: &str, number: u64, text: &mut String) -> Res
     text.push_str(sign)?;
     let digits = number.to_string(alloc)?;
     text.push_str(digits.as_str())
-}
-
-/// How a register is called.
-fn field_name(field: Field) -> &'static str
-    ensures { result.now ≡ field_text field }
-{
-    match field {
-        Field::Choosing => "choosing",
-        Field::Ticket => "ticket",
-        Field::Commit => "commit",
-        Field::Stamp0 => "stamp0",
-        Field::Stamp1 => "stamp1",
-        Field::Image0 => "image0",
-        Field::Image1 => "image1",
-    }
 }

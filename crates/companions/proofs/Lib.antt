@@ -4,4 +4,8 @@ pub use Rattle.read_law.proofs as read_law
 mod Changing
 pub mod Shown
 -- The reads that writes overlap
-mod Overhearing
+pub mod Overhearing
+-- What is drawn, and written piece by piece
+pub mod Written
+pub mod Giving
+pub mod Drawn

@@ -4,7 +4,7 @@ ghost use Rattle.std.specs.Option.{option_to_list};
 ghost use Rattle.record.specs.safe_bit.declared.Move.TheVariants.{EndRead};
 ghost use Rattle.plain_store.specs.{checked};
 ghost use Rattle.plain_store.specs.declared.setups.Setup.{Setup as Given};
-ghost use Rattle.record.specs.{Entry, Past, same_bit as same, width};
+ghost use Rattle.record.specs.{Entry, Past, width};
 ghost use Rattle.picture.specs.columns.declared.reads.OverlappedRead.{OverlappedRead as Ended};
 ghost use Rattle.picture.specs.declared.reads.Reads.{Reads as Mode};
 ghost use Rattle.companions.specs.Overlaps.{Hears, Overhears, ended_of, first_three, overlapped_by, overlapped_with, read_begun, read_ended, shown_of};
@@ -20,14 +20,14 @@ const MOST_SHOWN: usize = 3;
 
 /// A read that has begun: with which entry, and by which access.
 #[derive(Clone, Copy)]
-pub struct BegunRead {
+pub(crate) struct BegunRead {
     pub entry: u64,
     pub access: Access,
 }
 
 /// What tells which reads are overlapped.
 #[derive(Drop)]
-pub struct OverlapsHeard {
+pub(crate) struct OverlapsHeard {
     setup: Setup,
     watch: Watch,
     /// The last read of each process that has begun.
@@ -61,7 +61,7 @@ impl OverlapsHeard {
     /// Hears an entry with this number by its access, if it has one. It is a function of its own, so that where no reads are
     /// shown nothing is called.
     #[inline(never)]
-    fn hear(&mut self, number: u64, access: Option<Access>) -> Result<(), AllocError>
+    pub fn hear(&mut self, number: u64, access: Option<Access>) -> Result<(), AllocError>
         ensures { OnOk result ((s : Given) (past : Past) (reads : List Ended) (e : Entry) → e.access ≡ access → Hears s past reads self.old → number ≡ length past → Hears s (e ∷ past) (reads ++ overlapped_by s past e) self.new) }
     {
         let Some(access) = access else {
@@ -137,7 +137,7 @@ impl OverlapsHeard {
             return None;
         }
         let begun = self.begun_last(access.reader)?;
-        if !same_bit(access, &begun.access) {
+        if !access.same_bit(&begun.access) {
             return None;
         }
         Some(self.read_of(begun.entry, number, access, value))
@@ -176,23 +176,8 @@ impl OverlapsHeard {
     }
 }
 
-/// Hears an entry with this number by its access, if reads are shown.
-#[inline(always)]
-pub fn hear(
-    overlaps: &mut Option<OverlapsHeard>,
-    number: u64,
-    access: Option<Access>,
-) -> Result<(), AllocError>
-    ensures { OnOk result ((mode : Mode) (s : Given) (past : Past) (reads : List Ended) (e : Entry) → e.access ≡ access → Overhears mode s past reads overlaps.old → number ≡ length past → Overhears mode s (e ∷ past) (reads ++ overlapped_by s past e) overlaps.new) }
-{
-    match overlaps {
-        Some(overlaps) => overlaps.hear(number, access),
-        None => Ok(()),
-    }
-}
-
 /// The overlapped reads since the last line; then there are none.
-pub fn take_ended(alloc: Global, overlaps: &mut Option<OverlapsHeard>) -> Vec<OverlappedRead>
+pub(crate) fn take_ended(alloc: Global, overlaps: &mut Option<OverlapsHeard>) -> Vec<OverlappedRead>
     ensures reads { (mode : Mode) (s : Given) (past : Past) (reads : List Ended) → Overhears mode s past reads overlaps.old → result.items ≡ shown_of mode reads }
     ensures none { (mode : Mode) (s : Given) (past : Past) (reads : List Ended) → Overhears mode s past reads overlaps.old → Overhears mode s past [] overlaps.new }
 {
@@ -200,16 +185,6 @@ pub fn take_ended(alloc: Global, overlaps: &mut Option<OverlapsHeard>) -> Vec<Ov
         Some(overlaps) => std::mem::replace(&mut overlaps.ended, Vec::new(alloc)),
         None => Vec::new(alloc),
     }
-}
-
-/// Whether both are accesses of one bit.
-fn same_bit(access: &Access, other: &Access) -> bool
-    ensures { result ≡ same access.now other.now }
-{
-    access.bit == other.bit
-        && access.reader == other.reader
-        && access.owner == other.owner
-        && access.field == other.field
 }
 
 /// Whether a register has more than one bit.

@@ -76,7 +76,7 @@ fn value_of<S: Store>(store: &S, name: &Name) -> Option<Value>
 }
 
 /// The store's pairs, with single spaces between them, or that it is empty.
-pub fn store_words<S: Store>(alloc: Global, store: &S) -> Result<Vec<u8>, AllocError>
+pub(crate) fn store_words<S: Store>(alloc: Global, store: &S) -> Result<Vec<u8>, AllocError>
     ensures { IfOk result (λ words. words.items ≡ words_of_store (S.contents store.now)) }
 {
     Ok(plain_store::store_words(alloc, store)?.into_bytes())
@@ -84,7 +84,7 @@ pub fn store_words<S: Store>(alloc: Global, store: &S) -> Result<Vec<u8>, AllocE
 
 /// The same, and nothing where it is empty.
 #[tactic(auto, using(crate::proofs::Shown::words_none, crate::proofs::Shown::words_some))]
-pub fn words_by_pairs<S: Store>(alloc: Global, store: &S) -> Result<Vec<u8>, AllocError>
+pub(crate) fn words_by_pairs<S: Store>(alloc: Global, store: &S) -> Result<Vec<u8>, AllocError>
     ensures { IfOk result (λ words. words.items ≡ words_by (S.contents store.now).pairs) }
 {
     if store.len() == 0 {

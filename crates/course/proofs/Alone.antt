@@ -1,5 +1,5 @@
 -- One process makes the Steps of a line: `step`, and `go` while the process is not where it is to go.
-use Rattle.std.proofs.Common.{◌≡◌, ℕ, zero, suc, ◌+◌, ◌-◌, ◌<◌, ◌≤◌, arith, Bool, true, false, cond, List, [], ◌∷◌, IfOk, Option, None, Some, Result, Ok, Err, is_none, refl, ap, sym, subst, ◌∙◌, add-one, inl, inr}
+use Rattle.std.proofs.Common.{◌≡◌, ℕ, zero, suc, ◌+◌, ◌-◌, ◌<◌, ◌≤◌, ◌==◌, arith, Bool, true, false, cond, List, [], ◌∷◌, IfOk, IfSome, Option, None, Some, Result, Ok, Err, is_none, refl, ap, sym, subst, ◌∙◌, add-one, inl, inr}
 use Rattle.plain_store.specs.{Setup}
 use Rattle.record.specs.{Access, Mark}
 use Rattle.record.specs.declared.events.Event.TheVariants.{Step}
@@ -9,14 +9,15 @@ use Rattle.scenario.specs.files.{Fault}
 use Rattle.world.specs.flicks.{FlickState, after_flick, flick_of}
 use Rattle.world.specs.Shows.{Shows, WorldState}
 use Rattle.world.specs.Walks.{StepsQuietly, Walks}
-use Rattle.course.specs.{AddsMarks, ComesOn, ComesTo, CourseState, Follows, Happening, HearsFrom, HearsStep, IsAlone, IsNewest, IsQuiet, KnowsOr, MaySteps, PassBy, PassWithin, PassesAlone, QuietTurns, Run, RunsTo, StepsWithin, TellsOf, TellsStep, Told, Tries, Turn, course, entry_made, is_there, left_told, made_turn, may_step, next_step, overlapped_in, past_after, past_in, step_turn, stepped, tried, turn_of}
+use Rattle.course.specs.{AddsMarks, ComesOn, ComesTo, CourseState, Follows, Happening, HearsFrom, HearsLast, HearsStep, HearsUpTo, IsAlone, IsNewest, IsQuiet, KnowsEnough, KnowsOr, MakesStep, MaySteps, PassBy, PassWithin, PassesAlone, QuietTurns, Run, RunsTo, StepsWithin, StopsBy, TellsOf, TellsStep, Told, Tries, Turn, course, entry_made, is_there, left_told, made_turn, may_step, next_step, overlapped_in, past_after, past_in, step_turn, stepped, tried, turn_of}
 use Rattle.course.specs.declared.told.Told.TheVariants as told
 use Rattle.course.proofs.CourseTurns.{turn_next}
 use Rattle.course.proofs.Goes.{go_steps}
 use Rattle.course.proofs.Refusals.{entry_by, not_refused}
-use Rattle.course.proofs.Runnings.{IsStep, comes_as, comes_end, comes_then, drawn_run, one_on, one_told, quiet_adds, turns_then}
+use Rattle.course.proofs.Runnings.{IsStep, comes_as, comes_end, comes_stop, comes_then, comes_to, drawn_run, one_on, one_told, quiet_adds, turns_then}
 use Rattle.course.proofs.Within.{newest_made, overlapped_more, passes_then, steps_within}
-use Rattle.course.proofs.Wanders.{stage_quiet}
+use Rattle.course.proofs.Movers.{stage_quiet}
+use Rattle.course.proofs.Knowing.{quiet_steps, step_needs, turns_above}
 
 -- the newest event is known, or it makes a Step more, which is not refused
 abbrev pub MakesMore : ℕ → ℕ → ℕ → Setup → List Happening → Type 0
@@ -51,9 +52,12 @@ alone_still s l p floor run source adds (inl (steps, is)) = inl (steps, is)
 alone_still s l p floor run source adds (inr (target, is, away, last)) =
     inr (target, is, record { there = away.there; away = ap (is_there target) (stage_quiet s p (tried run.happened) (Step p (flick_of source)) adds) ∙ away.away }, last)
 
-module _ (w w' : WorldState) (l : Line) (left p floor : ℕ) (flick : Bool) (run : Run) (flicks flicks' : FlickState) (more : floor < left) (is : flick ≡ flick_of flicks) (after : flicks' ≡ after_flick flicks) (follows : Follows (course w flicks left) run) (next : IsAlone p floor w.setup l run) where
+module _ (w w' : WorldState) (l : Line) (left p floor : ℕ) (run : Run) (flicks flicks' : FlickState) (more : floor < left) (after : flicks' ≡ after_flick flicks) (follows : Follows (course w flicks left) run) (next : IsAlone p floor w.setup l run) where
+  abbrev flick : Bool
+  flick = flick_of flicks
+
   by : flick ≡ flick_of run.flicks
-  by = is ∙ ap flick_of follows.flicks
+  by = ap flick_of follows.flicks
 
   -- a Step without a mark
   quiet_step : StepsQuietly w p flick w' → IsStep w l left p flick run run.flicks (left - 1)
@@ -63,13 +67,13 @@ module _ (w w' : WorldState) (l : Line) (left p floor : ℕ) (flick : Bool) (run
     turn = alone_turn w.setup l left p floor run more next ∙ step_turn_made w.setup p (left - 1) run [] (quiet_adds w w' p flick run run.flicks q follows.shows by);
   }
 
-  pub alone_on : {L : Type 0} (Hears : L → Setup → List Happening → List Happening → L → Type 0) (was is : L) → HearsStep Hears w p flick w' was is → ComesOn Hears w.setup l left run was is (course w' flicks' (left - 1)) (IsAlone p floor)
+  alone_on : {L : Type 0} (Hears : L → Setup → List Happening → List Happening → L → Type 0) (was is : L) → HearsStep Hears w p flick w' was is → ComesOn Hears w.setup l left run was is (course w' flicks' (left - 1)) (IsAlone p floor)
   alone_on Hears was is h =
       one_on Hears w w' l left p flick run run.flicks flicks' (left - 1) was is (IsAlone p floor) (quiet_step h.step) h (after ∙ ap after_flick follows.flicks)
       (alone_still w.setup l p floor run run.flicks (quiet_adds w w' p flick run run.flicks h.step follows.shows by) next)
 
   -- one that tells
-  pub alone_told : {L : Type 0} (Hears : L → Setup → List Happening → List Happening → L → Type 0) (a : L) (answer : Told) (left' : ℕ) → (TellsOf w.setup (past_in w.setup run) (Tries (next_step p run)) answer → Hears a w.setup run.happened run.happened a) → TellsStep w p flick answer w' → left' ≡ left_told answer (left - 1) →
+  alone_told : {L : Type 0} (Hears : L → Setup → List Happening → List Happening → L → Type 0) (a : L) (answer : Told) (left' : ℕ) → (TellsOf w.setup (past_in w.setup run) (Tries (next_step p run)) answer → Hears a w.setup run.happened run.happened a) → TellsStep w p flick answer w' → left' ≡ left_told answer (left - 1) →
       ComesTo Hears w.setup l left run a a (Some answer) (course w' flicks' left')
   alone_told Hears a answer left' nothing t fewer =
       let tells : TellsOf w.setup (past_in w.setup run) (Tries (next_step p run)) answer = subst (λ b. TellsOf w.setup (past_in w.setup run) (Tries (Step p b)) answer) by (t.tells (tried run.happened) follows.shows) in
@@ -132,25 +136,57 @@ alone_pass Hears n w w' flicks flicks' newest overlapped l left p floor run was 
     let b = walked n newest overlapped w w' flicks flicks' l left p floor run few walks follows next in
     record { quiet = n; now = b.now; turns = b.turns; hears = pass w.setup run.happened b.now.happened (record { within = b.within; newest_is = b.newest_is some; overlapped_are = b.overlapped_are }); follows = b.follows; setup = b.setup; next = b.next }
 
-module _ {L : Type 0} (Hears : L → Setup → List Happening → List Happening → L → Type 0) (Knows : L → Setup → List Happening → Type 0) (s : Setup) (l : Line) (had p floor : ℕ) (run : Run) (was mid : L) (course : CourseState) (u : ComesOn (HearsFrom Hears Knows (KnowsAlone Knows p floor course.left)) s l had run was mid course (IsAlone p floor)) where
-  -- then some pass by
-  pub alone_passed : ((a b c : L) (s : Setup) (x y z : List Happening) → Hears a s x y b → Hears b s y z c → Hears a s x z c) → (course' : CourseState) (is : L) → PassesAlone Hears Knows course p floor course' mid is →
-      ComesOn (HearsFrom Hears Knows (KnowsOr Knows (MaySteps p))) s l had run was is course' (IsAlone p floor)
-  alone_passed hears_on course' is passes =
-      comes_then Hears hears_on Knows (KnowsOr Knows (MaySteps p)) s l had run was mid is course (IsAlone p floor) (comes_as Hears Knows (KnowsAlone Knows p floor course.left) (KnowsOr Knows (MaySteps p)) s l had run was mid course (IsAlone p floor) may u)
-      (KnowsOr Knows (MaySteps p)) course' (IsAlone p floor) (passes l)
+-- no turn is left
+pub alone_ended : {L : Type 0} (Hears : L → Setup → List Happening → List Happening → L → Type 0) (Knows : L → Setup → List Happening → Type 0) (s : Setup) (l : Line) (had p floor : ℕ) (run : Run) (was is : L) (course : CourseState) → ComesOn (HearsFrom Hears Knows (KnowsAlone Knows p floor course.left)) s l had run was is course (IsAlone p floor) → course.left ≤ floor →
+    ComesOn (HearsFrom Hears Knows Knows) s l had run was is course (IsAlone p floor)
+alone_ended Hears Knows s l had p floor run was is course u none = comes_as Hears Knows (KnowsAlone Knows p floor course.left) Knows s l had run was is course (IsAlone p floor) ended u
+  where
+    ended : (x : List Happening) → KnowsAlone Knows p floor course.left is s x → Knows is s x
+    ended x (inl known) = known
+    ended x (inr makes) = absurd (let more = makes.0 in omega (arith, none, more))
+
+-- A turn: some Steps pass by, and then one is made.
+module _ {L : Type 0} (Hears : L → Setup → List Happening → List Happening → L → Type 0) (Knows : L → Setup → List Happening → Type 0) (hears_on : (a b c : L) (s : Setup) (x y z : List Happening) → Hears a s x y b → Hears b s y z c → Hears a s x z c) (s : Setup) (l : Line) (had p floor : ℕ) (run : Run) (was mid now is : L) (first : CourseState) (w w' : WorldState) (flicks flicks' : FlickState) (left : ℕ)
+    (u : ComesOn (HearsFrom Hears Knows (KnowsAlone Knows p floor first.left)) s l had run was mid first (IsAlone p floor)) (passes : PassesAlone Hears Knows first p floor (course w flicks left) mid now) (more : floor < left) (after : flicks' ≡ after_flick flicks) where
+  abbrev Alert : L → Setup → List Happening → Type 0
+  Alert = KnowsOr Knows (MaySteps p)
+
+  abbrev here : CourseState
+  here = course w flicks left
+
+  passed : ComesOn (HearsFrom Hears Knows Alert) s l had run was now here (IsAlone p floor)
+  passed = comes_then Hears hears_on Knows Alert s l had run was mid now first (IsAlone p floor) (comes_as Hears Knows (KnowsAlone Knows p floor first.left) Alert s l had run was mid first (IsAlone p floor) may u) Alert here (IsAlone p floor) (passes l)
     where
-      may : (x : List Happening) → KnowsAlone Knows p floor course.left mid s x → KnowsOr Knows (MaySteps p) mid s x
+      may : (x : List Happening) → KnowsAlone Knows p floor first.left mid s x → Alert mid s x
       may x (inl known) = inl known
       may x (inr makes) = inr makes.1
 
-  -- or no turn is left
-  pub alone_ended : course.left ≤ floor → ComesOn (HearsFrom Hears Knows Knows) s l had run was mid course (IsAlone p floor)
-  alone_ended none = comes_as Hears Knows (KnowsAlone Knows p floor course.left) Knows s l had run was mid course (IsAlone p floor) ended u
+  -- one without a mark: it is known if it is the last, and else is not the last
+  pub alone_then : HearsStep (HearsLast Hears Knows (left - 1 == floor)) w p (flick_of flicks) w' now is → ComesOn (HearsFrom Hears Knows (KnowsAlone Knows p floor (left - 1))) s l had run was is (course w' flicks' (left - 1)) (IsAlone p floor)
+  alone_then h =
+      comes_then Hears hears_on Knows Alert s l had run was now is here (IsAlone p floor) passed (KnowsAlone Knows p floor (left - 1)) (course w' flicks' (left - 1)) (IsAlone p floor)
+      (λ run follows next. alone_on w w' l left p floor run flicks flicks' more after follows next (HearsFrom Hears Alert (KnowsAlone Knows p floor (left - 1))) now is
+      (record { step = h.step; hears = λ before shows. ((h.hears before shows).0, λ known. by (left - 1 == floor) refl before shows (h.hears before shows).1) }))
     where
-      ended : (x : List Happening) → KnowsAlone Knows p floor course.left mid s x → Knows mid s x
-      ended x (inl known) = known
-      ended x (inr makes) = absurd (let more = makes.0 in omega (arith, none, more))
+      by : (b : Bool) → (left - 1 == floor) ≡ b → (before : List Happening) → Shows w (tried before) → ((left - 1 == floor) ≡ true → Knows is w.setup (Tries (Step p (flick_of flicks)) ∷ before)) → KnowsAlone Knows p floor (left - 1) is w.setup (Tries (Step p (flick_of flicks)) ∷ before)
+      by true last before shows known = inl (known last)
+      by false last before shows known = inr (turns_above floor left more last, quiet_steps w.setup p (flick_of flicks) before (Some h.step.access, h.step.adds (tried before) shows))
+
+  -- one that tells
+  pub alone_to : ((a : L) (s : Setup) (x : List Happening) → Hears a s x x a) → (told : Option Told) (left' : ℕ) → (told ≡ None → ⊥) → MakesStep (HearsLast Hears Knows (left - 1 == floor)) w p (flick_of flicks) told w' now is → IfSome told (λ answer. left' ≡ left_told answer (left - 1)) → RunsTo (HearsUpTo Hears Knows told) s l had run was is p floor told (course w' flicks' left')
+  alone_to hears_nothing None left' some both fewer = absurd (some refl)
+  alone_to hears_nothing (Some answer) left' some both fewer =
+      subst (λ (b : L). ComesTo (HearsUpTo Hears Knows (Some answer)) s l had run was b (Some answer) (course w' flicks' left')) (sym both.1)
+      (comes_to Hears hears_on Knows Alert s l had run was now now here (IsAlone p floor) passed (KnowsEnough Knows (Some answer)) (course w' flicks' left') (Some answer)
+      (λ run follows next. alone_told w w' l left p floor run flicks flicks' more after follows next (HearsFrom Hears Alert (KnowsEnough Knows (Some answer))) now answer left'
+      (λ tells. (hears_nothing now w.setup run.happened, λ may. step_needs w.setup p (flick_of run.flicks) run.happened answer (Knows now w.setup run.happened) tells may)) both.0 fewer))
+
+  -- a fault at one without a mark
+  pub alone_stops : (Stops : L → Setup → List Happening → List Happening → Fault → L → Type 0) → ((a b c : L) (s : Setup) (x y z : List Happening) (fault : Fault) → Hears a s x y b → Stops b s y z fault c → Stops a s x z fault c) → (fault : Fault) → HearsStep (StopsBy Stops fault) w p (flick_of flicks) w' now is →
+      ComesOn (StopsBy Stops fault) s l had run was is (course w' flicks' (left - 1)) (IsAlone p floor)
+  alone_stops Stops stops_on fault h =
+      comes_stop Hears hears_on Knows Alert s l had run was now is here (IsAlone p floor) passed Stops stops_on fault (course w' flicks' (left - 1)) (IsAlone p floor)
+      (λ run follows next. alone_on w w' l left p floor run flicks flicks' more after follows next (StopsBy Stops fault) now is h)
 
 -- and leave the setup
 pub walks_setup : (n : ℕ) (newest : Access) (overlapped : ℕ) (w w' : WorldState) (flicks flicks' : FlickState) (p : ℕ) → Walks w flicks p n newest overlapped w' flicks' → w'.setup ≡ w.setup

@@ -12,11 +12,10 @@ use Rattle.record.specs.{Refusal, Stage, processes, refused_at, stage}
 use Rattle.record.specs.declared.refusals.Refusal.TheVariants.{NoProcess}
 use Rattle.record.specs.declared.stages.Stage.TheVariants as stages
 use Rattle.world.specs.flicks.{pick_of}
-use Rattle.world.specs.Shows.{Shows, WorldState}
-use Rattle.course.specs.{AddsMarks, Happening, HearsFrom, HearsStep, HearsUpTo, KnowsOr, Learns, MaySteps, Needs, PassWithin, Run, TellsOf, Told, Tries, has_step, movers, past_after, past_in, pick_among, tried}
+use Rattle.course.specs.{AddsMarks, Happening, HearsUpTo, MaySteps, Needs, PassWithin, Run, TellsOf, Told, Tries, has_step, movers, past_after, past_in, pick_among, tried}
 use Rattle.course.specs.declared.told.Told.TheVariants as told
 use Rattle.course.proofs.Refusals.{entry_by, not_refused}
-use Rattle.course.proofs.Wanders.{stage_quiet}
+use Rattle.course.proofs.Movers.{stage_quiet}
 
 -- a turn that is not the last leaves more than the floor
 pub turns_above : (floor left : ℕ) → floor < left → (left - 1 == floor) ≡ false → floor < left - 1
@@ -99,16 +98,6 @@ step_needs s p flick before (told.Refused q refusal) Known tells (inr may) = let
 step_needs s p flick before (told.Tired q) Known tells may = absurd tells
 step_needs s p flick before (told.Shown line) Known tells may = absurd tells
 
-module _ {L : Type 0} (Hears : L → Setup → List Happening → List Happening → L → Type 0) (Knows : L → Setup → List Happening → Type 0) where
-  -- before anything is heard
-  pub nothing_yet : ((a : L) (s : Setup) (x : List Happening) → Hears a s x x a) → (answer : Option Told) (a : L) (s : Setup) (x : List Happening) → HearsUpTo Hears Knows answer a s x x a
-  nothing_yet nothing answer a s x = (nothing a s x, needed answer (Knows a s x))
-
-  -- a Step that is heard, if it is the last, and else may be
-  pub step_knows : (w w' : WorldState) (p : ℕ) (flick : Bool) (was is : L) (Before : L → Setup → List Happening → Type 0) (Else : Setup → List Happening → Type 0) (last : Bool) → HearsStep Hears w p flick w' was is → (last ≡ true → HearsStep (Learns Knows) w p flick w' was is) →
-      (last ≡ false → (before : List Happening) → Shows w (tried before) → Else w.setup (Tries (Step p flick) ∷ before)) → HearsStep (HearsFrom Hears Before (KnowsOr Knows Else)) w p flick w' was is
-  step_knows w w' p flick was is Before Else last heard learns other = record { step = heard.step; hears = λ before shows. (heard.hears before shows, λ known. by last refl before shows) }
-    where
-      by : (b : Bool) → last ≡ b → (before : List Happening) → Shows w (tried before) → KnowsOr Knows Else is w.setup (Tries (Step p flick) ∷ before)
-      by true now before shows = inl ((learns now).hears before shows)
-      by false not_yet before shows = inr (other not_yet before shows)
+-- before anything is heard
+pub nothing_yet : {L : Type 0} (Hears : L → Setup → List Happening → List Happening → L → Type 0) (Knows : L → Setup → List Happening → Type 0) → ((a : L) (s : Setup) (x : List Happening) → Hears a s x x a) → (answer : Option Told) (a : L) (s : Setup) (x : List Happening) → HearsUpTo Hears Knows answer a s x x a
+nothing_yet Hears Knows nothing answer a s x = (nothing a s x, needed answer (Knows a s x))

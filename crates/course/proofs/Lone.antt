@@ -11,7 +11,8 @@ use Rattle.world.specs.flicks.declared.Mode.TheVariants.{Constant, Generator}
 use Rattle.course.specs.{ComesOn, ComesTo, CourseState, Follows, Happening, IsAlone, IsQuiet, MaySteps, QuietTurns, Run, RunsTo, Tells, Told, Tries, Turn, course, made_turn, may_step, movers, next_step, past_in, step_turn, stepped, tried, turn_of, wander_turn}
 use Rattle.course.proofs.Knowing.{pick_steps}
 use Rattle.course.proofs.Runnings.{comes_end, drawn_run}
-use Rattle.course.proofs.Wanders.{ArePicked, movers_quiet}
+use Rattle.course.proofs.Movers.{movers_quiet}
+use Rattle.course.proofs.Wanders.{ArePicked}
 
 -- Constant flicks.
 

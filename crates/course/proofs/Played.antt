@@ -193,6 +193,19 @@ pub on_fault : {A : Type 0} (r : Result A Fault) (e : Fault) (P : Fault → Type
 on_fault (Ok a) e P is p = tt
 on_fault (Err x) e P is p = subst P (sym is) p
 
+-- what is so of every outcome, as what it tells or its fault
+pub where_ok : {A : Type 0} (r : Result A Fault) (P Q : A → Type 0) → IfOk r P → ((a : A) → r ≡ Ok a → P a → Q a) → IfOk r Q
+where_ok (Ok a) P Q p f = f a refl p
+where_ok (Err x) P Q p f = tt
+
+pub both_err : {A : Type 0} (r : Result A Fault) (P Q : Fault → Type 0) → IfErr r P → IfErr r Q → IfErr r (λ x. P x × Q x)
+both_err (Ok a) P Q p q = tt
+both_err (Err x) P Q p q = (p, q)
+
+pub where_err : {A : Type 0} (r : Result A Fault) (P Q : Fault → Type 0) → IfErr r P → ((x : Fault) → P x → Q x) → IfErr r Q
+where_err (Ok a) P Q p f = tt
+where_err (Err x) P Q p f = f x p
+
 -- and there it owes nothing that is said of a value
 pub no_value : {A : Type 0} (r : Result A Fault) (e : Fault) (P : A → Type 0) → IsErrAnd r (λ x. x ≡ e) → IfOk r P
 no_value (Ok a) e P is = absurd is

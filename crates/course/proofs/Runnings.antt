@@ -1,14 +1,13 @@
 -- Steps of a line, one after another: those without a mark are heard, and each leaves who makes the next.
-use Rattle.std.proofs.Common.{◌≡◌, ℕ, zero, suc, ◌+◌, ◌≤◌, Bool, List, [], ◌∷◌, ◌++◌, Option, None, Some, refl, ap, sym, subst, ◌∙◌, arith}
+use Rattle.std.proofs.Common.{◌≡◌, ℕ, zero, suc, ◌+◌, ◌-◌, ◌<◌, ◌≤◌, Bool, List, [], ◌∷◌, ◌++◌, Option, None, Some, refl, ap, sym, subst, ◌∙◌, arith}
 use Rattle.plain_store.specs.{Setup}
-use Rattle.record.specs.{Event, entry_of, past_of}
 use Rattle.record.specs.declared.events.Event.TheVariants.{Step}
 use Rattle.scenario.specs.{Line}
 use Rattle.scenario.specs.files.{Fault}
 use Rattle.world.specs.flicks.{FlickState, after_flick, flick_of}
 use Rattle.world.specs.Shows.{Shows, WorldState}
 use Rattle.world.specs.{StepsQuietly}
-use Rattle.course.specs.{AddsMarks, ComesOn, ComesTo, CourseState, Follows, Happening, HearsFrom, HearsStep, IsQuiet, Makes, QuietTurns, Run, StopsBy, Tells, TellsOf, TellsStep, Told, Tries, Turn, course, made_turn, next_step, past_in, rest_of, stepped, tried, turn_of, turns_in}
+use Rattle.course.specs.{AddsMarks, ComesOn, ComesTo, CourseState, Follows, Happening, HearsFrom, HearsStep, IsQuiet, LeavesRoom, Makes, QuietTurns, Run, StopsBy, Tells, TellsOf, TellsStep, Told, Tries, Turn, course, made_turn, next_step, past_in, rest_of, room_wanted, stepped, tried, turn_of, turns_in}
 use Rattle.course.proofs.Grows.{Grows, rest_grows}
 use Rattle.course.proofs.TurnLaw.{turn_less, turn_on}
 
@@ -45,12 +44,9 @@ pub record IsStep (w : WorldState) (line : Line) (left p : ℕ) (flick : Bool) (
   pub by : flick ≡ flick_of source
   pub turn : turn_of w.setup line left run ≡ made_turn p left' (drawn_run run source)
 
--- the entry that a Step without a mark adds
-quiet_entry : (w w' : WorldState) (p : ℕ) (flick : Bool) (events : List Event) → (q : StepsQuietly w p flick w') → Shows w events → entry_of w.setup (past_of w.setup events) (Step p flick) ≡ Some (record { process = p; access = Some q.access; marks = [] })
-quiet_entry w w' p flick events q shows = q.adds events shows
-
+-- the marks that a Step without a mark adds
 pub quiet_adds : (w w' : WorldState) (p : ℕ) (flick : Bool) (run : Run) (source : FlickState) → StepsQuietly w p flick w' → Shows w (tried run.happened) → flick ≡ flick_of source → AddsMarks w.setup (past_in w.setup run) (next_step p (drawn_run run source)) []
-quiet_adds w w' p flick run source q shows is = subst (λ b. AddsMarks w.setup (past_in w.setup run) (Step p b) []) is (Some q.access, quiet_entry w w' p flick (tried run.happened) q shows)
+quiet_adds w w' p flick run source q shows is = subst (λ b. AddsMarks w.setup (past_in w.setup run) (Step p b) []) is (Some q.access, q.adds (tried run.happened) shows)
 
 -- Steps without a mark, and then others
 comes_both : {L : Type 0} (A B C : L → Setup → List Happening → List Happening → L → Type 0) (s : Setup) (line : Line) (had : ℕ) (start : Run) (was mid is : L) (course : CourseState) (Next : Setup → Line → Run → Type 0) → ComesOn A s line had start was mid course Next →
@@ -182,3 +178,21 @@ line_stops Stops s line had run was is fault course Next stops_before u few =
     let q = rest_quiet s line u.quiet had run course.left u.now few u.turns in
     let more : Grows u.now.happened (rest_of s line course.left u.now).happened = rest_grows s line course.left u.now in
     subst (λ l. Stops was s run.happened l fault is) (sym (ap (λ (r : Run). r.happened) q.1 ∙ more.is)) (stops_before was is s run.happened u.now.happened more.more fault u.hears)
+
+-- Room for the turns that are left.
+module _ {L : Type 0} (HasRoom : L → ℕ → Type 0) (room_less : (a : L) (n k : ℕ) → n ≤ k → HasRoom a k → HasRoom a n) (was now : L) (had left : ℕ) (before : LeavesRoom HasRoom was had now left None) where
+  pub room_now : (things : ℕ) → things ≤ left → HasRoom was had → HasRoom now things
+  room_now things few room = room_less now things (0 + left) (omega (arith, few)) (before 0 (room_less was (0 + had) had (omega arith) room))
+
+  -- after one of them
+  pub room_after : (is : L) (told : Option Told) → 0 < left → LeavesRoom HasRoom now 1 is 0 told → LeavesRoom HasRoom was had is (left - 1) told
+  room_after is told some wants more room = by told (wants (more + (left - 1)) (room_less now (more + (left - 1) + 1) (more + left) (omega (arith, some)) (before more room)))
+    where
+      by : (told : Option Told) → HasRoom is (more + (left - 1) + room_wanted told 0) → HasRoom is (more + room_wanted told (left - 1))
+      by None there = room_less is (more + (left - 1)) (more + (left - 1) + 0) (omega arith) there
+      by (Some answer) there = room_less is (more + (left - 1 + 1)) (more + (left - 1) + (0 + 1)) (omega arith) there
+
+  -- also where it has fewer turns left
+  pub room_fewer : (is : L) (told : Option Told) (fewer more : ℕ) → fewer ≤ more → LeavesRoom HasRoom was had is more told → LeavesRoom HasRoom was had is fewer told
+  room_fewer is None fewer more less wants others room = room_less is (others + fewer) (others + more) (omega (arith, less)) (wants others room)
+  room_fewer is (Some told) fewer more less wants others room = room_less is (others + (fewer + 1)) (others + (more + 1)) (omega (arith, less)) (wants others room)

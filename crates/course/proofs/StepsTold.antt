@@ -1,5 +1,6 @@
 -- A Step by what a world says of it: it has no mark and is heard, or it is told.
-use Rattle.std.proofs.Common.{◌≡◌, ℕ, Bool, List, [], ◌∷◌, map, length, IfOk, IfErr, OnOk, OnErr, Result, Ok, Err, Some, refl, ap, sym, subst}
+use Rattle.std.proofs.Common.{◌≡◌, ℕ, Bool, List, [], ◌∷◌, map, length, IfOk, IfErr, OnOk, OnErr, Result, Ok, Err, Some, refl, ap, sym, subst, ◌∙◌}
+use Rattle.plain_store.specs.{Setup}
 use Rattle.record.specs.{Event, Refusal, Taken, entry_of, history, past_of, placed}
 use Rattle.record.specs.declared.events.Event.TheVariants.{Step}
 use Rattle.world.specs.{Adds, GoesOn, IsRefused, KeepsTheHeadline, StepsQuietly, TellsOverlapped}
@@ -9,9 +10,12 @@ use Rattle.world.specs.process.declared.told.Effect.TheVariants.{Steps}
 use Rattle.world.specs.process.declared.told.StepTold.{StepTold as Leads}
 use Rattle.world.specs.process.declared.told.StepTold.TheVariants as step
 use Rattle.world.specs.process.registers.{AccessMade}
-use Rattle.course.specs.{TellsStep, Told, told_step}
+use Rattle.world.specs.laws.{doing}
+use Rattle.world.specs.process.{number_read}
+use Rattle.course.specs.{Happening, HearsStep, HearsUnmarked, TellsStep, Told, told_step, tried}
 use Rattle.course.proofs.CourseTurns.{place_is}
 use Rattle.course.proofs.Refusals.{shows_refused}
+use Rattle.course.proofs.Within.{steps_on}
 
 -- what a Step leads to has a mark, unless that is nothing
 leads_marked : (place : ℕ) (leads : Leads) → (leads ≡ step.Nothing → ⊥) → map (placed place) (marks_of (Steps leads)) ≡ [] → ⊥
@@ -26,9 +30,16 @@ leads_marked place (step.Settles value) some none = absurd (cc)
 leads_marked place (step.SettlesAndTakes value reply) some none = absurd (cc)
 leads_marked place step.Lies some none = absurd (cc)
 
+-- of one that is made it is known whether it ended a read that a write overlapped
+overlaps_of : (w : WorldState) (r : Result AccessMade Refusal) (one : AccessMade) → r ≡ Ok one → IfOk r (λ (made : AccessMade). TellsOverlapped w made.access made.overlapped) → TellsOverlapped w one.access one.overlapped
+overlaps_of w r one made overlaps = subst (λ (r : Result AccessMade Refusal). IfOk r (λ (made : AccessMade). TellsOverlapped w made.access made.overlapped)) made overlaps
+
+some_is : (n m : ℕ) → Some n ≡ Some m → m ≡ n
+some_is n m is = cc
+
 module _ (w w' : WorldState) (p : ℕ) (flick : Bool) (leads : Leads) (r : Result AccessMade Refusal) (adds : IfOk r (λ (made : AccessMade). Adds w (Step p flick) p (act_of (length w.history) (record { access = Some made.access; effect = Steps leads })))) (on : OnOk r (GoesOn w (Step p flick) w')) (setup : OnOk r (w'.setup ≡ w.setup)) where
   -- without a mark
-  abbrev pub step_quiet : (one : AccessMade) → r ≡ Ok one → leads ≡ step.Nothing → IfOk r (λ (made : AccessMade). KeepsTheHeadline w p (act_of (length w.history) (record { access = Some made.access; effect = Steps leads }))) → StepsQuietly w p flick w'
+  abbrev step_quiet : (one : AccessMade) → r ≡ Ok one → leads ≡ step.Nothing → IfOk r (λ (made : AccessMade). KeepsTheHeadline w p (act_of (length w.history) (record { access = Some made.access; effect = Steps leads }))) → StepsQuietly w p flick w'
   step_quiet one made nothing headline = record {
     access = one.access;
     adds = subst (λ leads. Adds w (Step p flick) p (act_of (length w.history) (record { access = Some one.access; effect = Steps leads }))) nothing
@@ -38,6 +49,13 @@ module _ (w w' : WorldState) (p : ℕ) (flick : Bool) (leads : Leads) (r : Resul
         (subst (λ (r : Result AccessMade Refusal). IfOk r (λ (made : AccessMade). KeepsTheHeadline w p (act_of (length w.history) (record { access = Some made.access; effect = Steps leads })))) made headline);
     setup = subst (λ (r : Result AccessMade Refusal). OnOk r (w'.setup ≡ w.setup)) made setup;
   }
+
+  -- which is heard
+  pub step_heard : {L : Type 0} (R : L → Setup → List Happening → List Happening → L → Type 0) (one : AccessMade) (number : ℕ) (was is : L) → r ≡ Ok one → leads ≡ step.Nothing → IfOk r (λ (made : AccessMade). KeepsTheHeadline w p (act_of (length w.history) (record { access = Some made.access; effect = Steps leads }))) → IfOk r (λ (made : AccessMade). TellsOverlapped w made.access made.overlapped) →
+      ((events : List Event) → Shows w events → number ≡ number_read (doing w.setup p (past_of w.setup events))) → HearsUnmarked R (record { process = p; flick = flick; access = one.access; overlapped = one.overlapped; number = Some number }) was is → HearsStep R w p flick w' was is
+  step_heard R one number was is made nothing headline overlaps number_is heard =
+      let q = step_quiet one made nothing headline in
+      record { step = q; hears = λ before shows. heard w.setup before (steps_on w w' p flick (Some number) before q shows (λ n some. some_is number n some ∙ number_is (tried before) shows) (λ none. absurd (cc)) one.overlapped (overlaps_of w r one made overlaps)) }
 
   -- told, made or refused
   pub step_told : (place : ℕ) (taken : List Taken) (answer : Told) → ((one : AccessMade) → r ≡ Ok one → leads ≡ step.Nothing → ⊥) → ((events : List Event) → Shows w events → taken ≡ history w.setup (past_of w.setup events)) → place ≡ length taken → IfErr r (λ refusal. IsRefused w (Step p flick) (Some refusal)) → OnErr r (w' ≡ w) → IfOk r (λ (made : AccessMade). TellsOverlapped w made.access made.overlapped) →
@@ -58,12 +76,3 @@ module _ (w w' : WorldState) (p : ℕ) (flick : Bool) (leads : Leads) (r : Resul
         shows = λ events shows. subst (λ (w : WorldState). Shows w (Step p flick ∷ events)) (sym same) (shows_refused w events (Step p flick) refusal shows refl (away events shows));
         setup = ap (λ (w : WorldState). w.setup) same;
       }
-
--- it leaves the setup either way
-pub step_setup : (w w' : WorldState) (r : Result AccessMade Refusal) → OnOk r (w'.setup ≡ w.setup) → OnErr r (w' ≡ w) → w'.setup ≡ w.setup
-step_setup w w' (Ok one) setup same = setup
-step_setup w w' (Err refusal) setup same = ap (λ (w : WorldState). w.setup) same
-
--- of one that is made it is known whether it ended a read that a write overlapped
-pub overlaps_of : (w : WorldState) (r : Result AccessMade Refusal) (one : AccessMade) → r ≡ Ok one → IfOk r (λ (made : AccessMade). TellsOverlapped w made.access made.overlapped) → TellsOverlapped w one.access one.overlapped
-overlaps_of w r one made overlaps = subst (λ (r : Result AccessMade Refusal). IfOk r (λ (made : AccessMade). TellsOverlapped w made.access made.overlapped)) made overlaps

@@ -8,7 +8,7 @@ use Rattle.world.specs.process.{left_at, number_read, process_after}
 use Rattle.world.specs.Shows.{Shows, WorldState}
 use Rattle.world.specs.Walks.{MakesQuietly, StepsQuietly, TellsOverlapped}
 use Rattle.world.proofs.WorldWithin.{left-shown}
-use Rattle.course.specs.{Happening, IsNewest, PassBy, PassQuietly, PassWithin, StepsOn, StepsWithin, Tries, overlapped_in, past_after, tried}
+use Rattle.course.specs.{Happening, HearsPassing, HearsStep, HearsUnmarked, IsNewest, PassQuietly, PassWithin, StepsOn, StepsWithin, Tries, overlapped_in, past_after, tried}
 
 -- it is made within the access
 pub steps_within : (w w' : WorldState) (p : ℕ) (flick : Bool) (access : Access) (last : Bool) (before : List Happening) → MakesQuietly w p flick access last w' → Shows w (tried before) → StepsWithin w.setup before p flick
@@ -58,20 +58,23 @@ overlapped_more w w' p flick access last n count before m shows same =
     let then : past_after w.setup (Tries (Step p flick) ∷ before) ≡ made access ∷ past = ap (λ (o : Option Entry). elim o as (λ _. Past) [ None ↦ past | Some e ↦ e ∷ past ]) adds in
     (λ i. same i + cond (m.tells (tried before) shows i) 1 0) ∙ sym (ap (overlapped_in (suc n)) then)
 
--- one within a number access is heard
-pub on_within : (w w' : WorldState) (p : ℕ) (flick : Bool) (access : Access) (last : Bool) (before : List Happening) → MakesQuietly w p flick access last w' → Shows w (tried before) → StepsOn w.setup before (record { process = p; flick = flick; access = access; overlapped = last; number = None })
-on_within w w' p flick access last before made shows = subst (λ (a : Access). StepsOn w.setup before (record { process = p; flick = flick; access = a; overlapped = last; number = None })) made.access_is
-    (steps_on w w' p flick None before made.steps shows (λ n is. absurd (cc)) (λ none. (steps_within w w' p flick access last before made shows).within) last
-    (subst (λ (a : Access). TellsOverlapped w a last) (sym made.access_is) made.tells))
+module _ {L : Type 0} (R : L → Setup → List Happening → List Happening → L → Type 0) (w w' : WorldState) (p : ℕ) (flick : Bool) (access : Access) (last : Bool) (was is : L) (made : MakesQuietly w p flick access last w') where
+  -- one within a number access is heard
+  pub within_heard : HearsUnmarked R (record { process = p; flick = flick; access = access; overlapped = last; number = None }) was is → HearsStep R w p flick w' was is
+  within_heard heard = record {
+    step = made.steps;
+    hears = λ before shows. heard w.setup before (subst (λ (a : Access). StepsOn w.setup before (record { process = p; flick = flick; access = a; overlapped = last; number = None })) made.access_is
+        (steps_on w w' p flick None before made.steps shows (λ n is. absurd (cc)) (λ none. (steps_within w w' p flick access last before made shows).within) last
+        (subst (λ (a : Access). TellsOverlapped w a last) (sym made.access_is) made.tells)));
+  }
 
--- one is passed by
-pub pass_one : (w w' : WorldState) (p : ℕ) (flick : Bool) (access : Access) (last : Bool) (overlapped : ℕ) (before : List Happening) → MakesQuietly w p flick access last w' → Shows w (tried before) → overlapped ≡ cond last 1 0 →
-    PassBy w.setup p 1 access overlapped before (Tries (Step p flick) ∷ before)
-pass_one w w' p flick access last overlapped before made shows one = record {
-  within = (flick, steps_within w w' p flick access last before made shows, refl);
-  newest_is = newest_made w w' p flick access last before made shows;
-  overlapped_are = one ∙ (let alone : cond last 1 0 ≡ 0 + cond last 1 0 = omega arith in alone) ∙ overlapped_more w w' p flick access last 0 0 before made shows refl;
-}
-
-pub some_is : (n m : ℕ) → Some n ≡ Some m → m ≡ n
-some_is n m is = cc
+  -- or passed by
+  pub within_passed : (overlapped : ℕ) → overlapped ≡ cond last 1 0 → HearsPassing R p 1 access.how overlapped was is → HearsStep R w p flick w' was is
+  within_passed overlapped one passed = record {
+    step = made.steps;
+    hears = λ before shows. passed w.setup before (Tries (Step p flick) ∷ before) access refl (record {
+      within = (flick, steps_within w w' p flick access last before made shows, refl);
+      newest_is = newest_made w w' p flick access last before made shows;
+      overlapped_are = one ∙ (let alone : cond last 1 0 ≡ 0 + cond last 1 0 = omega arith in alone) ∙ overlapped_more w w' p flick access last 0 0 before made shows refl;
+    });
+  }

@@ -1,5 +1,5 @@
 -- Who hears a run: what is told to it, and what it has heard once a line has made its turns.
-use Rattle.std.specs.Prelude.{◌≡◌, ◌⊎◌, ◌+◌, ◌<◌, ℕ, zero, suc, Bool, if◌then◌else◌, List, [], ◌∷◌, Option, None, Some, Ok}
+use Rattle.std.specs.Prelude.{◌≡◌, ◌⊎◌, ◌+◌, ◌<◌, ℕ, zero, suc, Bool, true, if◌then◌else◌, List, [], ◌∷◌, Option, None, Some, Ok}
 use Rattle.plain_store.specs.{Setup, checked}
 use Rattle.record.specs.{Access, AreGiven, Event, Past, Taken, entry_of, history, moves_of, past_of, refused}
 use Rattle.record.specs.declared.events.Event.TheVariants.{Step}
@@ -94,6 +94,10 @@ Keeps Knows was s before after is = Knows was s before → Knows is s after
 -- who hears a Step knows it
 abbrev pub Learns : {L : Type 0} → (L → Setup → List Happening → Type 0) → L → Setup → List Happening → List Happening → L → Type 0
 Learns Knows was s before after is = Knows is s after
+
+-- all is heard; who hears the last Step of a line knows it
+abbrev pub HearsLast : {L : Type 0} → (L → Setup → List Happening → List Happening → L → Type 0) → (L → Setup → List Happening → Type 0) → Bool → L → Setup → List Happening → List Happening → L → Type 0
+HearsLast Hears Knows is_last was s before after is = Hears was s before after is × (is_last ≡ true → Knows is s after)
 
 -- what is to be known of the newest event as this is told: nothing where an event is accepted, which is the newest then
 abbrev pub Needs : Option Told → Type 0 → Type 0

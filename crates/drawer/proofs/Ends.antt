@@ -1,5 +1,5 @@
 -- How `draw` ends that has read its input.
-use Rattle.std.proofs.Common.{◌≡◌, ℕ, ◌+◌, List, [], ◌++◌, Option, None, Some, Result, Ok, Err, IfErr, IfSome, IsErrAnd, OnOk, ap, append-nil, arith, subst, sym, ◌∙◌}
+use Rattle.std.proofs.Common.{◌≡◌, ℕ, ◌+◌, List, [], ◌++◌, Option, None, Some, Result, Ok, Err, IfErr, IfSome, IsErrAnd, OnOk, add-zero, ap, append-nil, arith, subst, sym, ◌∙◌}
 use Rattle.files.proofs.CutTexts.{input_ended}
 use Rattle.files.proofs.EngineEnds.{read_to_end}
 use Rattle.files.specs.{Fault, LineFault, ReadsInput, ◌>>=◌}
@@ -7,10 +7,32 @@ use Rattle.files.specs.Engines.{Ran, Streams}
 use Rattle.files.specs.declared.faults.Fault.TheVariants.{Line, Memory, Read, Write}
 use Rattle.scenario.proofs.CutTexts.{scenario_tells_at_limit}
 use Rattle.scenario.specs.{Script, scenario_of}
-use Rattle.course.specs.{IsWriteFault, ended, failed_write, replay_text, replayed}
+use Rattle.course.specs.{ended, replay_text, replayed}
 use Rattle.companions.specs.picture.{Form}
 use Rattle.companions.specs.picture.declared.reads.Reads.{Reads as Mode}
+use Rattle.companions.specs.{IsWriteFault, failed_write}
 use Rattle.drawer.specs.{DrawsAll, Drew}
+
+-- where a call ended well none failed
+pub ok_whole : {A P R : Type 0} (r : Result A Fault) (m n : ℕ) → (P → n ≡ m → R) → OnOk r P → n ≡ m + failed_write r → OnOk r R
+ok_whole (Ok done) m n then p e = then p (e ∙ add-zero m)
+ok_whole (Err f) m n then p e = tt
+
+-- else it ended by this fault
+pub err_whole : {A : Type 0} (r : Result A Fault) (R : Fault → Type 0) (m n : ℕ) → ((f : Fault) → IsWriteFault f → n ≡ m + failed_write {A = Unit {0}} (Err f) → R f) → IfErr r IsWriteFault → n ≡ m + failed_write r → IfErr r R
+err_whole (Ok done) R m n then is e = tt
+err_whole (Err Write) R m n then is e = then Write is e
+err_whole (Err Memory) R m n then is e = then Memory is e
+err_whole (Err Read) R m n then is e = absurd is
+err_whole (Err (Line f)) R m n then is e = absurd is
+
+-- so many failed, however it ended
+pub failures_by : {A : Type 0} (r : Result A Fault) (m n : ℕ) → OnOk r (n ≡ m) → IfErr r (λ f. n ≡ m + failed_write {A = Unit {0}} (Err f)) → n ≡ m + failed_write r
+failures_by (Ok done) m n good bad = good ∙ sym (add-zero m)
+failures_by (Err Write) m n good bad = bad
+failures_by (Err Memory) m n good bad = bad
+failures_by (Err Read) m n good bad = bad
+failures_by (Err (Line f)) m n good bad = bad
 
 -- a fault of a line
 pub drew_line : (reads : Mode) (form : Form) (result : Result (Unit {0}) Fault) (fault : LineFault) (old new : Streams) → IsErrAnd result (λ told. told ≡ Line fault) → Ran replay_text result old new → Drew reads form result old new

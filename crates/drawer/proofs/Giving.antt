@@ -1,20 +1,14 @@
--- The lines that the marks of an event give, one by one, and the reads that stand before them.
-use Rattle.std.proofs.Common.{◌≡◌, ◌<◌, ◌≤◌, ℕ, zero, suc, ◌+◌, List, [], ◌∷◌, ◌++◌, length, get_or, map, take, Contains, refl, ap, sym, subst, ◌∙◌, add-zero, append_assoc, arith}
-use Rattle.std.proofs.lemmas.List.{length-append, length-map, map-append, take_more}
+-- The commands that the marks of an event take, one by one.
+use Rattle.std.proofs.Common.{◌≡◌, ◌<◌, ◌≤◌, ℕ, zero, suc, ◌+◌, List, [], ◌∷◌, ◌++◌, length, get_or, map, take, Contains, refl, ap, sym, subst, ◌∙◌, add-zero, arith}
+use Rattle.std.proofs.lemmas.List.{length-append, length-map, take_more}
 use Rattle.plain_store.specs.{Reply, Setup}
 use Rattle.scenario.specs.{open_words, setup_words}
 use Rattle.record.specs.{Mark, Taken, takings}
 use Rattle.record.specs.declared.marks.Mark.TheVariants as mark
-use Rattle.companions.specs.picture.columns.{OverlappedRead}
-use Rattle.companions.specs.picture.declared.reads.Reads.{Reads as Mode}
-use Rattle.companions.specs.picture.declared.reads.Reads.TheVariants.{Hidden, Shown}
-use Rattle.drawer.specs.{AreNext, Gives, GivesLine, GivesRead, IsNext, Says, all_take, first_line, lines_given, takes, waiting}
-use Rattle.companions.specs.{shown_of}
+use Rattle.companions.proofs.Giving.{map_next}
+use Rattle.drawer.specs.{AreNext, IsNext, all_take, first_line, takes}
 
 -- one more, by what is made of each
-pub map_next : {A : Type 0} {B : Type 0} (f : A → B) (xs : List A) (k : ℕ) (d : A) → k < length xs → map f (take (k + 1) xs) ≡ map f (take k xs) ++ f (get_or xs k d) ∷ []
-map_next f xs k d within = ap (map f) (take_more xs k d within) ∙ map-append f (take k xs) (get_or xs k d ∷ [])
-
 pub map_more : {A : Type 0} {B : Type 0} (f : A → B) (xs : List A) (k : ℕ) (x : A) → k < length xs → x ≡ get_or xs k x → map f (take (k + 1) xs) ≡ map f (take k xs) ++ f x ∷ []
 map_more f xs k x within is = map_next f xs k x within ∙ ap (λ y. map f (take k xs) ++ f y ∷ []) (sym is)
 
@@ -35,31 +29,6 @@ next_at n taken (m ∷ marks) zero mark next within is = subst (λ a. IsNext a t
 next_at n taken (m ∷ marks) (suc k) mark next within is =
     let same : (n + takes m) + all_take (take k marks) ≡ n + (takes m + all_take (take k marks)) = omega arith in
     subst (λ a. IsNext a taken mark) same (next_at (n + takes m) taken marks k mark next.1 (omega (arith, within)) is)
-
--- of no reads none is shown
-pub shown_none : (mode : Mode) → shown_of mode [] ≡ []
-shown_none Hidden = refl
-shown_none Shown = refl
-
--- a line more
-pub lines_more : (mode : Mode) (n at : ℕ) (reads : List OverlappedRead) (lines : List Says) (line : Says) → lines_given mode n at reads (lines ++ line ∷ []) ≡ lines_given mode n at reads lines ++ lines_given mode n at (waiting lines reads) (line ∷ [])
-lines_more mode n at reads [] line = refl
-lines_more mode n at reads (first ∷ lines) line =
-    let before : List Gives = map GivesRead (shown_of mode reads) in
-    ap (λ l. before ++ l) (map-append (GivesLine n at) (first ∷ lines) (line ∷ []))
-    ∙ sym (append_assoc before (map (GivesLine n at) (first ∷ lines)) (GivesLine n at line ∷ []))
-    ∙ ap (λ (l : List OverlappedRead). (before ++ map (GivesLine n at) (first ∷ lines)) ++ (map GivesRead l ++ GivesLine n at line ∷ [])) (sym (shown_none mode))
-
--- reads wait as long as there is no line
-pub waiting_map : {A : Type 0} {B : Type 0} (f : A → B) (xs : List A) (reads : List OverlappedRead) → waiting (map f xs) reads ≡ waiting xs reads
-waiting_map f [] reads = refl
-waiting_map f (x ∷ xs) reads = refl
-
-pub waiting_none : (marks : List Mark) (k : ℕ) (reads : List OverlappedRead) → k < length marks → [] ≡ waiting (take (k + 1) marks) reads
-waiting_none [] k reads within = absurd (omega (arith, within))
-waiting_none (m ∷ marks) k reads within =
-    let same : suc k ≡ k + 1 = omega arith in
-    ap (λ n. waiting (take n (m ∷ marks)) reads) same
 
 -- marks that take no command, or one, the last of the history
 pub as_many : (marks : List Mark) → all_take marks ≡ length (takings marks)

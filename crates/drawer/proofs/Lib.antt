@@ -1,5 +1,5 @@
-pub mod Drawn
 pub mod Giving
+pub mod RunTold
 mod Marked
 pub mod Drawings
 pub mod Ends

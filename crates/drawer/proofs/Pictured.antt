@@ -1,43 +1,50 @@
 -- Head, bands and end are the picture of a run.
 use Rattle.std.proofs.Common.{◌≡◌, ℕ, List, ◌++◌, Option, ap, ◌∙◌}
 use Rattle.plain_store.specs.{opening_store}
-use Rattle.companions.specs.picture.{bands_told, page_back, page_front, picture_back, picture_front}
+use Rattle.companions.specs.picture.{Form, bands_told, page_back, page_front, picture_back, picture_front}
 use Rattle.companions.specs.picture.declared.page.Form.TheVariants as form
 use Rattle.companions.specs.picture.declared.reads.Reads.{Reads as Mode}
+use Rattle.companions.specs.{DrawsBands, IsAround, plan_of, store_words}
+use Rattle.companions.proofs.Drawn.{framed}
 use Rattle.scenario.specs.{Script}
-use Rattle.companions.specs.picture.columns.{marks_in}
-use Rattle.course.specs.{happenings, past_after, replayed}
-use Rattle.drawer.specs.{DrawsBands, IsPictureOf, plan_of, run_given}
-use Rattle.companions.specs.{store_words}
+use Rattle.drawer.proofs.RunTold.{lines_of_run, marks_of_run, text_of_run}
+use Rattle.drawer.specs.{DrawsAll, DrawsFramed, IsPictureOf, ended_lines, run_given}
 
 -- a page
-pub is_page : (reads : Mode) (said : Script) (file opening head ending : List ℕ) (b c : Option (List ℕ)) (height : ℕ) → (bands : DrawsBands (plan_of form.Page said.setup) b c (replayed said) (marks_in (past_after said.setup (happenings said))) (run_given reads said) height) →
-    opening ≡ store_words (opening_store said.setup) → head ≡ page_front said.setup file reads → ending ≡ page_back opening →
+pub is_page : (reads : Mode) (said : Script) (file head ending : List ℕ) (b c : Option (List ℕ)) (height : ℕ) → (bands : DrawsBands (plan_of form.Page said.setup) b c (run_given reads said) height) →
+    head ≡ page_front said.setup file reads → ending ≡ page_back (store_words (opening_store said.setup)) →
     IsPictureOf reads form.Page file said ((head ++ bands_told (plan_of form.Page said.setup) bands.items) ++ ending)
-is_page reads said file opening head ending b c height bands opens front back = record {
+is_page reads said file head ending b c height bands front back = record {
   items = bands.items;
   are = bands.are;
-  lines = bands.lines;
-  marks = bands.says;
+  lines = lines_of_run reads said bands.items bands.are;
+  marks = marks_of_run reads said bands.items bands.are;
   first = bands.items;
   same_items = bands.are;
-  same_lines = bands.lines;
-  same_marks = bands.says;
-  is = λ i. (front i ++ bands_told (plan_of form.Page said.setup) bands.items) ++ (back ∙ ap page_back opens) i;
+  same_lines = lines_of_run reads said bands.items bands.are;
+  same_marks = marks_of_run reads said bands.items bands.are;
+  is = λ i. (front i ++ bands_told (plan_of form.Page said.setup) bands.items) ++ back i;
 }
 
 -- one picture, whose height was learnt first
-pub is_picture : (top : ℕ) (reads : Mode) (file : List ℕ) (said : Script) (head ending : List ℕ) (a a' b c : Option (List ℕ)) (height height' : ℕ) → (first : DrawsBands (plan_of (form.Picture top) said.setup) a a' (replayed said) (marks_in (past_after said.setup (happenings said))) (run_given reads said) height) → (bands : DrawsBands (plan_of (form.Picture top) said.setup) b c (replayed said) (marks_in (past_after said.setup (happenings said))) (run_given reads said) height') →
+pub is_picture : (top : ℕ) (reads : Mode) (file : List ℕ) (said : Script) (head ending : List ℕ) (a a' b c : Option (List ℕ)) (height height' : ℕ) → (first : DrawsBands (plan_of (form.Picture top) said.setup) a a' (run_given reads said) height) → (bands : DrawsBands (plan_of (form.Picture top) said.setup) b c (run_given reads said) height') →
     head ≡ picture_front said.setup height reads → ending ≡ picture_back height reads →
     IsPictureOf reads (form.Picture top) file said ((head ++ bands_told (plan_of (form.Picture top) said.setup) bands.items) ++ ending)
 is_picture top reads file said head ending a a' b c height height' first bands front back = record {
   items = bands.items;
   are = bands.are;
-  lines = bands.lines;
-  marks = bands.says;
+  lines = lines_of_run reads said bands.items bands.are;
+  marks = marks_of_run reads said bands.items bands.are;
   first = first.items;
   same_items = first.are;
-  same_lines = first.lines;
-  same_marks = first.says;
+  same_lines = lines_of_run reads said first.items first.are;
+  same_marks = marks_of_run reads said first.items first.are;
   is = λ i. ((front ∙ ap (λ h. picture_front said.setup h reads) first.heights) i ++ bands_told (plan_of (form.Picture top) said.setup) bands.items) ++ (back ∙ ap (λ h. picture_back h reads) first.heights) i;
 }
+
+-- what stands before and behind tells nothing, and ends what it begins
+pub draws_framed : (reads : Mode) (form : Form) (file : List ℕ) (said : Script) (a d : Option (List ℕ)) (head ending : List ℕ) (names : List (List ℕ)) → IsAround names head ending →
+    (f : DrawsFramed reads form head ending said a d) → IsPictureOf reads form file said ((head ++ bands_told (plan_of form said.setup) f.bands.items) ++ ending) → DrawsAll reads form file said a d
+draws_framed reads form file said a d head ending names around f page =
+    let whole = framed (plan_of form said.setup) a f.begun f.drawn d head ending names (run_given reads said) f.height around f.first f.bands f.last in
+    record { markup = (head ++ bands_told (plan_of form said.setup) f.bands.items) ++ ending; page = page; elements = whole.0; read_back = ap ended_lines whole.1 ∙ text_of_run reads said; writes = whole.2 }

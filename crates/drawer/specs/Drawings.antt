@@ -1,35 +1,23 @@
 -- What was written of a run's picture, and what is read back of it.
-use Rattle.std.specs.Prelude.{◌≡◌, ◌<◌, ℕ, true, List, [], ◌∷◌, ◌+◌, ◌++◌, flat_map, length, map, take, Option, Some, IfSome, Result, Ok, Err}
-use Rattle.std.specs.Io.KnownBytes.{Appends, IsAtEnd}
-use Rattle.companions.specs.picture.markup.{EndsAll, is_at_rest, lines_in, opens_in, tags_of}
+use Rattle.std.specs.Prelude.{◌≡◌, ◌<◌, ℕ, List, [], ◌∷◌, ◌+◌, flat_map, length, Option, Some, IfSome, Result, Ok, Err}
+use Rattle.std.specs.Io.KnownBytes.{IsAtEnd}
 use Rattle.plain_store.specs.{Contents, Setup}
-use Rattle.record.specs.{Mark, Past, Taken, history, process_of, store_after}
+use Rattle.record.specs.{Mark, Taken, history, store_after}
 use Rattle.files.specs.Engines.{Ran, Streams}
 use Rattle.files.specs.{Fault}
 use Rattle.files.specs.declared.faults.Fault.TheVariants as fault
 use Rattle.scenario.specs.{Line, Script, scenario_of}
-use Rattle.companions.specs.picture.{Form, Item, Page, Plan, SeenPage, bands_told, full_told, heights_told, held, page_of, sayings, seen_page}
-use Rattle.companions.specs.picture.columns.{OverlappedRead, marks_in, marks_said}
+use Rattle.companions.specs.picture.markup.{lines_in, opens_in}
+use Rattle.companions.specs.picture.{Form, Item, heights_told, sayings}
+use Rattle.companions.specs.picture.columns.{marks_in, marks_said}
 use Rattle.companions.specs.picture.declared.reads.Reads.{Reads as Mode}
-use Rattle.drawer.specs.Changes.{IsNext, takes}
-use Rattle.drawer.specs.Items.{Gives, given, given_last, reads_since, run_given}
-use Rattle.companions.specs.{Overhears, OverlapsHeard}
-use Rattle.drawer.specs.Pictures.{ended_lines, lines_told, picture_of, plan_of}
-use Rattle.drawer.specs.declared.drawing.Drawing.{Drawing}
-use Rattle.course.specs.{CourseState, Follows, Happening, Happens, Run, Told, happenings, marks_made, past_after, replay_text, replayed, run_after, text_of}
+use Rattle.companions.specs.{Canvas, DrawsBands, DrawsOn, Kept, Overhears, Writes, given, kept, plan_of}
+use Rattle.course.specs.{CourseState, Follows, Happening, Happens, Run, Told, happenings, past_after, replay_text, replayed, run_after}
 use Rattle.course.specs.Writing.{Counts}
-use Rattle.course.specs.declared.told.Told.TheVariants as told
-
--- This markup was written. However it goes on, what is read of it stays as it is.
-pub record Writes (old new : Option (List ℕ)) (markup : List ℕ) : Type 0 where
-  pub rests : is_at_rest (tags_of markup) ≡ true
-  pub taken : Appends old new markup
-
--- This markup was written, in which each element that begins ends, and the titles of its marks, read back, are the lines of this text.
-pub record Draws (old new : Option (List ℕ)) (markup text : List ℕ) : Type 0 where
-  pub ended : EndsAll markup
-  pub read_back : ended_lines (lines_in markup) ≡ text
-  pub writes : Writes old new markup
+use Rattle.drawer.specs.Changes.{IsNext, takes}
+use Rattle.drawer.specs.Items.{given_at, given_last, reads_since, run_given}
+use Rattle.drawer.specs.Pictures.{ended_lines, lines_told, picture_of}
+use Rattle.drawer.specs.declared.drawing.Drawing.{Drawing}
 
 -- Markup is the picture of the run of a file, and nothing else: that of items which are what the run gives, one by one. So their lines are the text of the run, in order, and say the marks of its record. The height of one picture is that of such a picture.
 pub record IsPictureOf (reads : Mode) (form : Form) (file : List ℕ) (said : Script) (markup : List ℕ) : Type 0 where
@@ -51,80 +39,34 @@ pub record DrawsAll (reads : Mode) (form : Form) (file : List ℕ) (said : Scrip
   pub read_back : ended_lines (lines_in markup) ≡ replayed said
   pub writes : Writes old new markup
 
--- the bands of a whole picture were written, whose heights come to so much
-pub record DrawsBands (plan : Plan) (old new : Option (List ℕ)) (text : List ℕ) (marks : List (ℕ × Mark)) (gives : List Gives) (height : ℕ) : Type 0 where
-  pub items : List Item
-  pub are : given items ≡ gives
-  pub lines : ended_lines (lines_told items) ≡ text
-  pub says : flat_map marks_said (sayings items) ≡ marks
-  pub draws : Draws old new (bands_told plan items) text
-  pub heights : height ≡ heights_told plan items
-
 -- the bands of a run were written between a head and an end
 pub record DrawsFramed (reads : Mode) (form : Form) (head ending : List ℕ) (said : Script) (old new : Option (List ℕ)) : Type 0 where
   pub begun : Option (List ℕ)
   pub drawn : Option (List ℕ)
   pub height : ℕ
   pub first : Writes old begun head
-  pub bands : DrawsBands (plan_of form said.setup) begun drawn (replayed said) (marks_in (past_after said.setup (happenings said))) (run_given reads said) height
+  pub bands : DrawsBands (plan_of form said.setup) begun drawn (run_given reads said) height
   pub last : Writes drawn new ending
 
--- a page under way: the lines that it holds back, and all that it keeps
-pub record Kept : Type 0 where
-  pub lines : List (List ℕ)
-  pub page : SeenPage
-
-abbrev pub kept : Page → Kept
-kept page = record { lines = held page; page = seen_page page }
-
--- a page took in these items, whose lines are this text and say these marks, and this markup is the bands that are full by them
-pub record Fills (old new : SeenPage) (markup text : List ℕ) (marks : List (ℕ × Mark)) (gives : List Gives) : Type 0 where
-  pub items : List Item
-  pub are : given items ≡ gives
-  pub lines : ended_lines (lines_told items) ≡ text
-  pub says : flat_map marks_said (sayings items) ≡ marks
-  pub goes_on : (plan : Plan) (before : List Item) → old ≡ page_of plan before → (new ≡ page_of plan (items ++ before)) × (full_told plan (items ++ before) ≡ full_told plan before ++ markup)
-
--- markup was written, where some lines were held back before, and some are now
-pub record DrawsOn (had has : Kept) (old new : Option (List ℕ)) (text : List ℕ) (marks : List (ℕ × Mark)) (gives : List Gives) : Type 0 where
-  pub markup : List ℕ
-  pub drawn : List ℕ
-  pub draws : Draws old new markup drawn
-  pub goes_on : drawn ++ ended_lines has.lines ≡ ended_lines had.lines ++ text
-  pub fills : Fills had.page has.page markup text marks gives
-
--- what was held back was written, and the last items, whose lines are this text and say no mark
-pub record DrawsRest (had : Kept) (old new : Option (List ℕ)) (text : List ℕ) (gives : List Gives) (height : ℕ) : Type 0 where
-  pub markup : List ℕ
-  pub draws : Draws old new markup (ended_lines had.lines ++ text)
-  pub items : List Item
-  pub are : given items ≡ gives
-  pub lines : ended_lines (lines_told items) ≡ text
-  pub says : flat_map marks_said (sayings items) ≡ []
-  pub ends : (plan : Plan) (before : List Item) → had.page ≡ page_of plan before → (bands_told plan (items ++ before) ≡ full_told plan before ++ markup) × (height ≡ heights_told plan (items ++ before))
-
--- the marks that a turn tells, each with its process
-abbrev pub marks_told : Told → List (ℕ × Mark)
-marks_told (told.Accepted made) = map (λ mark. (process_of made.event, mark)) (marks_made made)
-marks_told (told.Refused p refusal) = []
-marks_told (told.Tired p) = []
-marks_told (told.Shown store) = []
-
 -- a drawing stands where this has happened: its store is the one-thread store after the history, and the overlapped reads that wait are those since the last line
-pub record Recalls (mode : Mode) (s : Setup) (happened : List Happening) (store : Contents) (overlaps : Option OverlapsHeard) : Type 0 where
+pub record Recalls (mode : Mode) (s : Setup) (happened : List Happening) (store : Contents) (canvas : Canvas) : Type 0 where
   pub store_is : store ≡ store_after s (history s (past_after s happened))
-  pub waits : Overhears mode s (past_after s happened) (reads_since s happened) overlaps
+  pub waits : Overhears mode s (past_after s happened) (reads_since s happened) canvas.overlaps
 
 -- what a turn tells is to be drawn, where so many events were accepted before it, and these commands are taken
-pub record IsToDraw (mode : Mode) (s : Setup) (taken : List Taken) (events : ℕ) (store : Contents) (overlaps : Option OverlapsHeard) (before : List Happening) (this : Happening) (answer : Told) : Type 0 where
+pub record IsToDraw (mode : Mode) (s : Setup) (taken : List Taken) (events : ℕ) (store : Contents) (canvas : Canvas) (before : List Happening) (this : Happening) (answer : Told) : Type 0 where
   pub happens : Happens s before this answer taken
   pub number : events ≡ length (past_after s before)
-  pub recalls : Recalls mode s before store overlaps
+  pub recalls : Recalls mode s before store canvas
 
--- an event was made, these commands are taken, and its marks are being drawn: these reads wait for the next of them, and so many of the commands were applied
-pub record IsAmong (mode : Mode) (s : Setup) (past : Past) (taken : List Taken) (reads : List OverlappedRead) (n : ℕ) (store : Contents) (overlaps : Option OverlapsHeard) : Type 0 where
-  pub store_is : store ≡ store_after s (take n taken)
-  pub waits : Overhears mode s past reads overlaps
+-- what happened was drawn, made by this line of the printed scenario, and the drawing stands behind it
+abbrev pub DrawsThis : (mode : Mode) (s : Setup) (source : ℕ) (before : List Happening) (this : Happening) (had has : Canvas) (old new : Option (List ℕ)) (store : Contents) → Type 0
+DrawsThis mode s source before this had has old new store = DrawsOn (kept had) (kept has) old new (given_at mode s source before this) × Recalls mode s (this ∷ before) store has
+
+-- so was what a turn tells, wherever it is to be drawn
+abbrev pub DrawsTold : Drawing → Drawing → Told → List Taken → Option (List ℕ) → Option (List ℕ) → Type 0
+DrawsTold had has answer taken old new =
+    (mode : Mode) (s : Setup) (before : List Happening) (this : Happening) → IsToDraw mode s taken had.summary.events had.changes.store had.canvas before this answer → DrawsThis mode s had.source before this had.canvas has.canvas old new has.changes.store
 
 -- where marks take a command, it is the last of the history, and so many were taken before it
 abbrev pub AreNext : ℕ → List Taken → List Mark → Type 0
@@ -139,16 +81,10 @@ all_take (mark ∷ marks) = takes mark + all_take marks
 -- a run that went on from `start`, where a page kept so much and so much was written: all that it has told since is drawn
 pub record HasDrawn (mode : Mode) (s : Setup) (start : List Happening) (had : Kept) (old : Option (List ℕ)) (now : List Happening) (drawing : Drawing) (new : Option (List ℕ)) : Type 0 where
   pub counts : Counts s now drawing.summary
-  pub recalls : Recalls mode s now drawing.changes.store drawing.overlaps
-  pub text : List ℕ
-  pub marks : List (ℕ × Mark)
-  pub gives : List Gives
-  pub draws : DrawsOn had (kept drawing.page) old new text marks gives
-  pub tells : text_of s now ≡ text_of s start ++ text
-  pub says : marks_in (past_after s now) ≡ marks_in (past_after s start) ++ marks
+  pub recalls : Recalls mode s now drawing.changes.store drawing.canvas
   pub more : ℕ
   pub long : length now ≡ more + length start
-  pub are : given_last mode s drawing.source more now ≡ gives
+  pub draws : DrawsOn had (kept drawing.canvas) old new (given_last mode s drawing.source more now)
 
 -- a drawing that stood after `before` stands after `after`, wherever the run began
 abbrev pub GoesOnDrawing : Setup → List Happening → List Happening → Drawing → Drawing → Option (List ℕ) → Option (List ℕ) → Type 0
@@ -159,12 +95,12 @@ GoesOnDrawing s before after drawing drawings taken then =
 pub record Advances (mode : Mode) (s : Setup) (before after : Run) (course : CourseState) (drawing drawings : Drawing) (old new : Option (List ℕ)) : Type 0 where
   pub follows : Follows course after
   pub setup : course.world.setup ≡ s
-  pub drawn : HasDrawn mode s before.happened (kept drawing.page) old after.happened drawings new
+  pub drawn : HasDrawn mode s before.happened (kept drawing.canvas) old after.happened drawings new
 
 -- a line of a scenario has made all its turns, whatever has happened before
 abbrev pub DrawsLine : Line → CourseState → CourseState → Drawing → Drawing → Option (List ℕ) → Option (List ℕ) → Type 0
 DrawsLine line old new drawing drawings taken then =
-    (mode : Mode) (run : Run) → Follows old run → Counts old.world.setup run.happened drawing.summary → Recalls mode old.world.setup run.happened drawing.changes.store drawing.overlaps →
+    (mode : Mode) (run : Run) → Follows old run → Counts old.world.setup run.happened drawing.summary → Recalls mode old.world.setup run.happened drawing.changes.store drawing.canvas →
     Advances mode old.world.setup run (run_after old.world.setup line run) new drawing drawings taken then
 
 -- How `draw` ends: where it ends well, what was written is a picture of the whole run; after a fault of the input nothing was written.

@@ -1,22 +1,18 @@
 -- What a run's picture is told, and what is written of it.
 use Rattle.std.specs.Prelude.{ℕ, List, [], ◌∷◌, ◌++◌, codes, flat_map}
-use Rattle.plain_store.specs.{Setup, opening_store}
+use Rattle.plain_store.specs.{opening_store}
 use Rattle.scenario.specs.{Script}
-use Rattle.companions.specs.picture.{Form, Item, Plan, Reads, Tells, bands_told, page_back, page_front, picture_back, picture_front}
+use Rattle.companions.specs.picture.{Form, Item, Reads, Tells, bands_told, page_back, page_front, picture_back, picture_front}
 use Rattle.companions.specs.picture.columns.{text_of}
 use Rattle.companions.specs.picture.declared.page.Form.TheVariants as form
 use Rattle.companions.specs.picture.declared.reads.Reads.{Reads as Mode}
-use Rattle.companions.specs.{store_words, words_by}
+use Rattle.companions.specs.{plan_of, store_words}
 
 -- the lines among items, of which the newest stands first; they stand in their order
 abbrev pub lines_told : List Item → List (List ℕ)
 lines_told [] = []
 lines_told (Tells line ∷ before) = lines_told before ++ text_of line ∷ []
 lines_told (Reads read ∷ before) = lines_told before
-
--- what is known of a run's picture from the start
-abbrev pub plan_of : Form → Setup → Plan
-plan_of form s = record { form = form; processes = s.processes; opening = words_by (opening_store s).pairs }
 
 -- a page, which lists the lines of its file, and one picture whose bands' heights come to so much
 abbrev pub picture_of : Mode → Form → List ℕ → Script → ℕ → List Item → List ℕ

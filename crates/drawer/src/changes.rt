@@ -3,10 +3,10 @@ ghost use Rattle.std.specs.Prelude.{◌≡◌, ◌+◌, ℕ, IfOk, Ok, OnOk, opt
 ghost use Rattle.plain_store.specs.{checked, opening_store as store_at_first};
 ghost use Rattle.plain_store.specs.declared.setups.Setup.{Setup as Given};
 ghost use Rattle.record.specs.{store_after};
-ghost use Rattle.companions.specs.{changed, store_words as words_of_store, words_by};
+ghost use Rattle.companions.specs.{changed};
 ghost use Rattle.drawer.specs.Changes.{IsNext, after_taken, change_of, change_taken, takes};
 
-use companions::{TakenChange, store_words, words_by_pairs};
+use companions::TakenChange;
 use plain_store::{Caller, NestedTypes, PlainStore, Setup, opened};
 use record::{Mark, Taken};
 use std::alloc::{AllocError, Global};
@@ -15,7 +15,7 @@ use std::alloc::{AllocError, Global};
 #[derive(Drop)]
 pub(crate) struct Changes {
     alloc: Global,
-    store: PlainStore,
+    pub store: PlainStore,
 }
 
 impl Changes {
@@ -59,19 +59,5 @@ impl Changes {
             number: taken.number,
         };
         companions::apply(self.alloc, &mut self.store, &taken.command, caller)
-    }
-
-    /// The store's pairs, with single spaces between them, or that it is empty.
-    pub fn store_words(&self) -> Result<Vec<u8>, AllocError>
-        ensures { IfOk result (λ words. words.items ≡ words_of_store self.now.store) }
-    {
-        store_words(self.alloc, &self.store)
-    }
-
-    /// The same, and nothing where it is empty.
-    pub fn words_by_pairs(&self) -> Result<Vec<u8>, AllocError>
-        ensures { IfOk result (λ words. words.items ≡ words_by self.now.store.pairs) }
-    {
-        words_by_pairs(self.alloc, &self.store)
     }
 }

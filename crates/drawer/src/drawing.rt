@@ -1,44 +1,36 @@
 //! A run told line by line to a picture, whose bands are written as they are full.
-ghost use Rattle.std.specs.Prelude.{◌≡◌, ◌+◌, ◌-◌, ◌^◌, ◌<◌, ℕ, List, [], ◌∷◌, ◌++◌, codes, flat_map, length, map, IfErr, IfOk, Ok, OnOk};
-ghost use Rattle.plain_store.specs.{checked, opening_store as store_at_first};
+ghost use Rattle.std.specs.Prelude.{◌≡◌, ◌+◌, ◌-◌, ◌^◌, ◌<◌, ℕ, [], ◌∷◌, length, map, take, IfErr, IfOk, Ok, OnOk};
+ghost use Rattle.plain_store.specs.{checked};
 ghost use Rattle.plain_store.specs.declared.setups.Setup.{Setup as Given};
-ghost use Rattle.record.specs.{Past};
-ghost use Rattle.companions.specs.picture.columns.declared.reads.OverlappedRead.{OverlappedRead as Ended};
+ghost use Rattle.record.specs.{store_after};
 ghost use Rattle.companions.specs.picture.declared.reads.Reads.{Reads as Mode};
-ghost use Rattle.companions.specs.picture.{Plan, held, page_of, seen_page};
-ghost use Rattle.companions.specs.picture.columns.{marks_in, marks_said, saying_text};
+ghost use Rattle.companions.specs.picture.{Plan};
+ghost use Rattle.companions.specs.{DrawsBands, DrawsLast, DrawsLines, IsWriteFault, failed_write, kept, kept_at_first, plan_of};
 ghost use Rattle.scenario.specs.{script};
-ghost use Rattle.course.specs.{Follows, Happening, IsWriteFault, counted, end_line, failed_write, happenings, mark_line, past_after, replayed, run_at_start, summary_of, told_text};
+ghost use Rattle.course.specs.{Follows, counted, happenings, run_at_start, summary_of};
 ghost use Rattle.drawer.specs.Changes.{IsNext, takes};
-ghost use Rattle.drawer.specs.Drawings.{AreNext, DrawsBands, DrawsOn, DrawsRest, IsAmong, IsToDraw, Recalls, all_take, kept, marks_told};
-ghost use Rattle.drawer.specs.Items.{GivesRead, SaysEnd, given_at, lines_given, run_given, says_mark, says_of, waiting};
-ghost use Rattle.companions.specs.{Overhears, shown_of};
-ghost use Rattle.drawer.specs.Pictures.{plan_of};
+ghost use Rattle.drawer.specs.Drawings.{AreNext, DrawsTold, Recalls, all_take};
+ghost use Rattle.drawer.specs.Items.{run_given, says_end, says_mark};
 
 mod listening;
 
 use crate::changes::Changes;
-use crate::writing::{write_band, write_last};
-use companions::{
-    Form, OverlappedRead, OverlapsHeard, Page, Reads, RunLine, Saying, hear, take_ended,
-};
+use companions::{Canvas, Form, Reads, RunLine, Saying};
 use course::{Course, Summary, Taken, Told, newest_words};
 use files::progress::{LinePlace, Onlooker};
 use listening::draw_line;
 use plain_store::{NestedTypes, Setup};
 use record::Mark;
 use scenario::{Fault, Scenario, Sink};
-use std::alloc::{AllocError, Global};
+use std::alloc::Global;
 
 /// The picture of a run, on its way.
 #[derive(Drop)]
 pub(crate) struct Drawing {
     alloc: Global,
     changes: Changes,
-    /// What tells the reads that are overlapped, if they are shown.
-    overlaps: Option<OverlapsHeard>,
+    canvas: Canvas,
     summary: Summary,
-    page: Page,
     /// The number of the line of the printed scenario.
     source: u64,
 }
@@ -57,7 +49,7 @@ pub(crate) fn draw_bands<W: Sink, L: Onlooker>(
     onlooker: &mut L,
 ) -> Result<(Summary, u64), Fault>
     requires { W.failures output.old < 2 ^ 64 - 1 }
-    ensures ok { IfOk result (λ answer. DrawsBands (plan_of form scenario.now.setup) (W.taken output.old) (W.taken output.new) (replayed (script scenario.now)) (marks_in (past_after scenario.now.setup (happenings (script scenario.now)))) (run_given reads (script scenario.now)) answer.1) }
+    ensures ok { IfOk result (λ answer. DrawsBands (plan_of form scenario.now.setup) (W.taken output.old) (W.taken output.new) (run_given reads (script scenario.now)) answer.1) }
     ensures summary { IfOk result (λ answer. answer.0 ≡ summary_of scenario.now.setup (happenings (script scenario.now))) }
     ensures fault { IfErr result IsWriteFault }
     ensures failures { W.failures output.new ≡ W.failures output.old + failed_write result }
@@ -80,18 +72,15 @@ fn draw_lines<W: Sink, L: Onlooker>(
     requires setup { course.old.world.setup ≡ scenario.now.setup }
     requires follows { Follows course.old run_at_start }
     requires summary { drawing.old.summary ≡ record { events = 0; taken = 0; refused = 0 } }
-    requires held { held drawing.old.page ≡ [] }
     requires source { drawing.old.source ≡ length scenario.now.setup.opening + 5 }
     requires writes { W.failures output.old < 2 ^ 64 - 1 }
     ensures ok { IfOk result (λ answer. (plan : Plan) (mode : Mode)
-        → seen_page drawing.old.page ≡ page_of plan []
-        → Recalls mode scenario.now.setup [] drawing.old.changes.store drawing.old.overlaps
-        → DrawsBands plan (W.taken output.old) (W.taken output.new) (replayed (script scenario.now))
-        (marks_in (past_after scenario.now.setup (happenings (script scenario.now))))
-        (run_given mode (script scenario.now)) answer.1) }
+        → kept drawing.old.canvas ≡ kept_at_first plan
+        → Recalls mode scenario.now.setup [] drawing.old.changes.store drawing.old.canvas
+        → DrawsBands plan (W.taken output.old) (W.taken output.new) (run_given mode (script scenario.now)) answer.1) }
     ensures summary { IfOk result (λ answer. (plan : Plan) (mode : Mode)
-        → seen_page drawing.old.page ≡ page_of plan []
-        → Recalls mode scenario.now.setup [] drawing.old.changes.store drawing.old.overlaps
+        → kept drawing.old.canvas ≡ kept_at_first plan
+        → Recalls mode scenario.now.setup [] drawing.old.changes.store drawing.old.canvas
         → answer.0 ≡ summary_of scenario.now.setup (happenings (script scenario.now))) }
     ensures fault { IfErr result IsWriteFault }
     ensures failures { W.failures output.new ≡ W.failures output.old + failed_write result }
@@ -104,45 +93,27 @@ fn draw_lines<W: Sink, L: Onlooker>(
     }
     drawing.source += 1;
     drawing.summary.taken = course.taken();
-    drawing.end(output)?;
-    Ok((drawing.summary, drawing.page.height()))
-}
-
-/// The page before the first line, where nothing is changed.
-fn first_page(
-    alloc: Global,
-    form: Form,
-    setup: &Setup,
-    changes: &Changes,
-) -> Result<Page, AllocError>
-    ensures held { IfOk result (λ page. held page ≡ []) }
-    ensures page { changes.now.store ≡ store_at_first setup.now
-        → IfOk result (λ page. seen_page page ≡ page_of (plan_of form setup.now) []) }
-{
-    let opening = changes.words_by_pairs()?;
-    Page::new(alloc, form, setup.processes, opening.as_slice())
+    let height = drawing.end(output)?;
+    Ok((drawing.summary, height))
 }
 
 impl Drawing {
     fn new(alloc: Global, setup: &Setup, form: Form, reads: Reads) -> Result<Drawing, Fault>
         requires { checked setup.now ≡ Ok tt }
         ensures summary { IfOk result (λ drawing. drawing.summary ≡ record { events = 0; taken = 0; refused = 0 }) }
-        ensures held { IfOk result (λ drawing. held drawing.page ≡ []) }
-        ensures page { IfOk result (λ drawing. seen_page drawing.page ≡ page_of (plan_of form setup.now) []) }
+        ensures first { IfOk result (λ drawing. kept drawing.canvas ≡ kept_at_first (plan_of form setup.now)) }
         ensures source { IfOk result (λ drawing. drawing.source ≡ length setup.now.opening + 5) }
-        ensures recalls { IfOk result (λ drawing. Recalls reads setup.now [] drawing.changes.store drawing.overlaps) }
+        ensures recalls { IfOk result (λ drawing. Recalls reads setup.now [] drawing.changes.store drawing.canvas) }
         ensures fault { IfErr result IsWriteFault }
         ensures failures { failed_write result ≡ 0 }
     {
-        let overlaps = OverlapsHeard::new(alloc, setup, reads)?;
         let changes = Changes::new(alloc, setup)?;
-        let page = first_page(alloc, form, setup, &changes)?;
+        let canvas = Canvas::new(alloc, setup, &changes.store, form, reads)?;
         Ok(Drawing {
             alloc,
             changes,
-            overlaps,
+            canvas,
             summary: Summary::new(),
-            page,
             source: setup.opening.len() as u64 + HEADINGS,
         })
     }
@@ -157,8 +128,7 @@ impl Drawing {
         requires writes { W.failures output.old < 2 ^ 64 - 1 }
         requires events { self.old.summary.events < 2 ^ 64 - 1 }
         requires refused { self.old.summary.refused < 2 ^ 64 - 1 }
-        ensures ok { OnOk result ((mode : Mode) (s : Given) (before : List Happening) (this : Happening) → IsToDraw mode s taken.now self.old.summary.events self.old.changes.store self.old.overlaps before this told.now → DrawsOn (kept self.old.page) (kept self.new.page) (W.taken output.old) (W.taken output.new) (told_text self.old.summary.events told.now) (marks_told told.now) (given_at mode s self.old.source before this)) }
-        ensures recalls { OnOk result ((mode : Mode) (s : Given) (before : List Happening) (this : Happening) → IsToDraw mode s taken.now self.old.summary.events self.old.changes.store self.old.overlaps before this told.now → Recalls mode s (this ∷ before) self.new.changes.store self.new.overlaps) }
+        ensures ok { OnOk result (DrawsTold self.old self.new told.now taken.now (W.taken output.old) (W.taken output.new)) }
         ensures source { self.new.source ≡ self.old.source }
         ensures count { OnOk result (self.new.summary ≡ counted told.now self.old.summary) }
         ensures fault { IfErr result IsWriteFault }
@@ -177,8 +147,7 @@ impl Drawing {
         output: &mut W,
     ) -> Result<(), Fault>
         requires { W.failures output.old < 2 ^ 64 - 1 }
-        ensures ok { OnOk result ((mode : Mode) (s : Given) (before : List Happening) (this : Happening) → IsToDraw mode s taken.now self.old.summary.events self.old.changes.store self.old.overlaps before this told.now → DrawsOn (kept self.old.page) (kept self.new.page) (W.taken output.old) (W.taken output.new) (told_text self.old.summary.events told.now) (marks_told told.now) (given_at mode s self.old.source before this)) }
-        ensures recalls { OnOk result ((mode : Mode) (s : Given) (before : List Happening) (this : Happening) → IsToDraw mode s taken.now self.old.summary.events self.old.changes.store self.old.overlaps before this told.now → Recalls mode s (this ∷ before) self.new.changes.store self.new.overlaps) }
+        ensures ok { OnOk result (DrawsTold self.old self.new told.now taken.now (W.taken output.old) (W.taken output.new)) }
         ensures source { self.new.source ≡ self.old.source }
         ensures summary { self.new.summary ≡ self.old.summary }
         ensures fault { IfErr result IsWriteFault }
@@ -187,22 +156,37 @@ impl Drawing {
         let _nested: NestedTypes = None;
         match told {
             Told::Accepted(made) => {
-                hear(&mut self.overlaps, self.summary.events, made.access)?;
+                self.canvas.hear(self.summary.events, made.access)?;
                 let process = made.event.process();
                 self.draw_marks(process, made.marks(self.alloc).as_slice(), taken, output)
             }
             Told::Refused { process, refusal } => {
-                let saying = Saying::Refused {
+                let line = self.line(Saying::Refused {
                     process: *process,
                     refusal: *refusal,
-                };
-                self.draw(saying, output)
+                });
+                self.canvas.draw(line, output)
             }
-            Told::Tired(process) => self.draw(Saying::Tired(*process), output),
+            Told::Tired(process) => {
+                let line = self.line(Saying::Tired(*process));
+                self.canvas.draw(line, output)
+            }
             Told::Shown(store) => {
                 let words = newest_words(self.alloc, store)?;
-                self.draw(Saying::Shown(words.into_bytes()), output)
+                let line = self.line(Saying::Shown(words.into_bytes()));
+                self.canvas.draw(line, output)
             }
+        }
+    }
+
+    /// The next line, where it says this.
+    fn line(&self, saying: Saying) -> RunLine
+        ensures { result ≡ record { source = self.now.source; at = self.now.summary.events; saying = saying } }
+    {
+        RunLine {
+            source: self.source,
+            at: self.summary.events,
+            saying,
         }
     }
 
@@ -215,8 +199,7 @@ impl Drawing {
         output: &mut W,
     ) -> Result<(), Fault>
         requires { W.failures output.old < 2 ^ 64 - 1 }
-        ensures ok { OnOk result ((mode : Mode) (s : Given) (past : Past) (reads : List Ended) (n : ℕ) → IsAmong mode s past taken.now reads n self.old.changes.store self.old.overlaps → AreNext n taken.now marks.now → DrawsOn (kept self.old.page) (kept self.new.page) (W.taken output.old) (W.taken output.new) (flat_map (mark_line self.old.summary.events process) marks.now) (map (λ mark. (process, mark)) marks.now) (lines_given mode self.old.source self.old.summary.events reads (map (says_mark s taken.now process) marks.now))) }
-        ensures among { OnOk result ((mode : Mode) (s : Given) (past : Past) (reads : List Ended) (n : ℕ) → IsAmong mode s past taken.now reads n self.old.changes.store self.old.overlaps → AreNext n taken.now marks.now → IsAmong mode s past taken.now (waiting marks.now reads) (n + all_take marks.now) self.new.changes.store self.new.overlaps) }
+        ensures ok { OnOk result ((s : Given) (n : ℕ) → self.old.changes.store ≡ store_after s (take n taken.now) → AreNext n taken.now marks.now → DrawsLines self.old.canvas self.new.canvas (W.taken output.old) (W.taken output.new) self.old.source self.old.summary.events (map (says_mark s taken.now process) marks.now) × (self.new.changes.store ≡ store_after s (take (n + all_take marks.now) taken.now))) }
         ensures source { self.new.source ≡ self.old.source }
         ensures summary { self.new.summary ≡ self.old.summary }
         ensures fault { IfErr result IsWriteFault }
@@ -237,8 +220,7 @@ impl Drawing {
         output: &mut W,
     ) -> Result<(), Fault>
         requires { W.failures output.old < 2 ^ 64 - 1 }
-        ensures ok { OnOk result ((mode : Mode) (s : Given) (past : Past) (reads : List Ended) (n : ℕ) → IsAmong mode s past taken.now reads n self.old.changes.store self.old.overlaps → IsNext n taken.now mark.now → DrawsOn (kept self.old.page) (kept self.new.page) (W.taken output.old) (W.taken output.new) (mark_line self.old.summary.events process mark.now) ((process, mark.now) ∷ []) (lines_given mode self.old.source self.old.summary.events reads (says_mark s taken.now process mark.now ∷ []))) }
-        ensures among { OnOk result ((mode : Mode) (s : Given) (past : Past) (reads : List Ended) (n : ℕ) → IsAmong mode s past taken.now reads n self.old.changes.store self.old.overlaps → IsNext n taken.now mark.now → IsAmong mode s past taken.now [] (n + takes mark.now) self.new.changes.store self.new.overlaps) }
+        ensures ok { OnOk result ((s : Given) (n : ℕ) → self.old.changes.store ≡ store_after s (take n taken.now) → IsNext n taken.now mark.now → DrawsLines self.old.canvas self.new.canvas (W.taken output.old) (W.taken output.new) self.old.source self.old.summary.events (says_mark s taken.now process mark.now ∷ []) × (self.new.changes.store ≡ store_after s (take (n + takes mark.now) taken.now))) }
         ensures source { self.new.source ≡ self.old.source }
         ensures summary { self.new.summary ≡ self.old.summary }
         ensures fault { IfErr result IsWriteFault }
@@ -246,72 +228,18 @@ impl Drawing {
     {
         let _nested: NestedTypes = None;
         let change = self.changes.made_by(mark, taken)?;
-        let saying = Saying::Marked {
+        let line = self.line(Saying::Marked {
             process,
             mark: *mark,
             change,
-        };
-        self.draw(saying, output)
+        });
+        self.canvas.draw(line, output)
     }
 
-    /// Draws a line, and before it the reads that were overlapped since the line before; writes each band that is full.
-    fn draw<W: Sink>(&mut self, saying: Saying, output: &mut W) -> Result<(), Fault>
+    /// Draws the last line, and writes what is held back; answers the heights of the bands.
+    fn end<W: Sink>(&mut self, output: &mut W) -> Result<u64, Fault>
         requires { W.failures output.old < 2 ^ 64 - 1 }
-        ensures ok { OnOk result ((mode : Mode) (s : Given) (past : Past) (reads : List Ended) → Overhears mode s past reads self.old.overlaps → DrawsOn (kept self.old.page) (kept self.new.page) (W.taken output.old) (W.taken output.new) (saying_text self.old.summary.events saying ++ codes "\n") (marks_said saying) (lines_given mode self.old.source self.old.summary.events reads (says_of saying ∷ []))) }
-        ensures overlaps { OnOk result ((mode : Mode) (s : Given) (past : Past) (reads : List Ended) → Overhears mode s past reads self.old.overlaps → Overhears mode s past [] self.new.overlaps) }
-        ensures changes { self.new.changes ≡ self.old.changes }
-        ensures source { self.new.source ≡ self.old.source }
-        ensures summary { self.new.summary ≡ self.old.summary }
-        ensures fault { IfErr result IsWriteFault }
-        ensures failures { W.failures output.new ≡ W.failures output.old + failed_write result }
-    {
-        self.draw_reads(output)?;
-        let line = RunLine {
-            source: self.source,
-            at: self.summary.events,
-            saying,
-        };
-        let full = self.page.take(line)?;
-        write_band(&full, output)
-    }
-
-    /// Draws the reads that were overlapped since the last line, which are no lines of the run.
-    fn draw_reads<W: Sink>(&mut self, output: &mut W) -> Result<(), Fault>
-        requires { W.failures output.old < 2 ^ 64 - 1 }
-        ensures ok { OnOk result ((mode : Mode) (s : Given) (past : Past) (reads : List Ended) → Overhears mode s past reads self.old.overlaps → DrawsOn (kept self.old.page) (kept self.new.page) (W.taken output.old) (W.taken output.new) [] [] (map GivesRead (shown_of mode reads))) }
-        ensures overlaps { OnOk result ((mode : Mode) (s : Given) (past : Past) (reads : List Ended) → Overhears mode s past reads self.old.overlaps → Overhears mode s past [] self.new.overlaps) }
-        ensures changes { self.new.changes ≡ self.old.changes }
-        ensures source { self.new.source ≡ self.old.source }
-        ensures summary { self.new.summary ≡ self.old.summary }
-        ensures fault { IfErr result IsWriteFault }
-        ensures failures { W.failures output.new ≡ W.failures output.old + failed_write result }
-    {
-        let ended = take_ended(self.alloc, &mut self.overlaps);
-        for read in &ended {
-            self.draw_read(read, output)?;
-        }
-        Ok(())
-    }
-
-    /// Draws a read, and writes the band that it does not fit into, if it does not.
-    fn draw_read<W: Sink>(&mut self, read: &OverlappedRead, output: &mut W) -> Result<(), Fault>
-        requires { W.failures output.old < 2 ^ 64 - 1 }
-        ensures ok { OnOk result (DrawsOn (kept self.old.page) (kept self.new.page) (W.taken output.old) (W.taken output.new) [] [] (GivesRead read.now ∷ [])) }
-        ensures overlaps { self.new.overlaps ≡ self.old.overlaps }
-        ensures changes { self.new.changes ≡ self.old.changes }
-        ensures source { self.new.source ≡ self.old.source }
-        ensures summary { self.new.summary ≡ self.old.summary }
-        ensures fault { IfErr result IsWriteFault }
-        ensures failures { W.failures output.new ≡ W.failures output.old + failed_write result }
-    {
-        let full = self.page.take_read(*read)?;
-        write_band(&full, output)
-    }
-
-    /// Draws the last line, and writes what is held back.
-    fn end<W: Sink>(&mut self, output: &mut W) -> Result<(), Fault>
-        requires { W.failures output.old < 2 ^ 64 - 1 }
-        ensures ok { OnOk result ((mode : Mode) (s : Given) (past : Past) (reads : List Ended) → Overhears mode s past reads self.old.overlaps → DrawsRest (kept self.old.page) (W.taken output.old) (W.taken output.new) (end_line self.old.summary) (lines_given mode self.old.source self.old.summary.events reads (SaysEnd self.old.summary ∷ [])) self.new.page.height) }
+        ensures ok { IfOk result (DrawsLast self.old.canvas (W.taken output.old) (W.taken output.new) self.old.source self.old.summary.events (says_end self.old.summary ∷ [])) }
         ensures summary { self.new.summary ≡ self.old.summary }
         ensures fault { IfErr result IsWriteFault }
         ensures failures { W.failures output.new ≡ W.failures output.old + failed_write result }
@@ -321,13 +249,11 @@ impl Drawing {
             taken,
             refused,
         } = self.summary;
-        let ended = Saying::Ended {
+        let line = self.line(Saying::Ended {
             events,
             taken,
             refused,
-        };
-        self.draw(ended, output)?;
-        let (full, last) = self.page.end()?;
-        write_last(&full, &last, output)
+        });
+        self.canvas.end(line, output)
     }
 }

@@ -1,25 +1,24 @@
 //! The two engines.
 ghost use Rattle.std.specs.Prelude.{◌≡◌, ◌+◌, ◌-◌, ◌^◌, ◌<◌, [], IfErr, IfOk, Ok, OnOk, Some};
 ghost use Rattle.plain_store.specs.{checked, opening_store};
-ghost use Rattle.companions.specs.{store_words as store_words_of};
+ghost use Rattle.companions.specs.{IsWriteFault, failed_write, store_words as store_words_of};
 ghost use Rattle.companions.specs.picture.{page_back, page_names};
 ghost use Rattle.companions.specs.picture.markup.{lines_in, opens_in};
 ghost use Rattle.files.specs.{ReadsFront, streams};
 ghost use Rattle.scenario.specs.{script};
-ghost use Rattle.course.specs.{IsSummaryOf, IsWriteFault, ended, failed_write, happenings, summary_of};
+ghost use Rattle.course.specs.{IsSummaryOf, ended, happenings, summary_of};
 ghost use Rattle.companions.specs.picture.declared.page.Form.TheVariants as form_variants;
 ghost use Rattle.drawer.specs.Drawings.{DrawsAll, DrawsFramed, Drew};
 
-use crate::changes::Changes;
 use crate::drawing::draw_bands;
 use crate::nowhere::Nowhere;
-use crate::writing::write_markup;
-use companions::{FIRST_BAND, Form, Markup, Reads, around_picture, page_end, page_head};
+use companions::{
+    FIRST_BAND, Form, Markup, Reads, around_picture, end_of_page, page_head, write_markup,
+};
 use course::Summary;
 use files::progress::{Again, Onlooker};
-use plain_store::Setup;
 use scenario::{Fault, Scenario, Sink, Source, read_input, read_scenario};
-use std::alloc::{AllocError, Global};
+use std::alloc::Global;
 
 /// Reads a whole file, and writes the page of its run: a picture in bands, each written when it is full. Where it ends
 /// well, what was written is the page of what the run gives, item by item, and nothing else: of its lines, each with the
@@ -108,17 +107,6 @@ fn draw_framed<W: Sink, L: Onlooker>(
     )?;
     write_markup(&frame.end, output)?;
     Ok(summary)
-}
-
-/// What the page has behind its bands: a slider, which shows the opening store at first.
-fn end_of_page(alloc: Global, setup: &Setup) -> Result<Markup, AllocError>
-    requires { checked setup.now ≡ Ok tt }
-    ensures draws { IfOk result (λ markup. markup ≡ page_back (store_words_of (opening_store setup.now))) }
-    ensures lines { IfOk result (λ markup. lines_in markup ≡ []) }
-    ensures elements { IfOk result (λ markup. opens_in markup (Some page_names) ≡ Some []) }
-{
-    let opening = Changes::new(alloc, setup)?.store_words()?;
-    page_end(alloc, opening.as_slice())
 }
 
 /// Reads a whole file, and writes one picture of its run, which tells the same. The run is made twice, since a picture

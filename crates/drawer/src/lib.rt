@@ -13,7 +13,6 @@ mod drawing;
 mod engines;
 mod laws_of_pictures;
 mod nowhere;
-mod writing;
 
 pub use companions::Reads;
 pub use engines::{draw, draw_svg};

@@ -120,7 +120,7 @@ fn record_event(
 ) -> Result<(), AllocError>
     ensures { OnOk result (RecordsEvent event.now world.old world.new entries.old entries.new) }
 {
-    sound_event(event);
+    event.command_is_sound();
     match world.event(*event) {
         Ok(act) => {
             let process = event.process();
@@ -138,14 +138,5 @@ fn passed_over(refusal: Refusal) -> Result<(), AllocError>
     match refusal {
         Refusal::Memory => Err(AllocError),
         _ => Ok(()),
-    }
-}
-
-/// Does nothing. Its contract says that what the event calls is a command.
-fn sound_event(event: &Event)
-    ensures { is_event event.now ≡ true }
-{
-    if let Event::Call(_, command) = event {
-        command.operands_are_sound();
     }
 }

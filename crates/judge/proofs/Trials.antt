@@ -18,11 +18,6 @@ unless_then Memory leads p = p
 unless_then _ leads p = leads p
 
 module _ {H : Type 0} (HasHeard : H → Setup → List Entry → List ℕ → Type 0) where
-  -- one that begins where there was none
-  pub hears_begun : (j k : Option H) (s : Setup) (entries : List Entry) (numbers : List ℕ) → is_some j ≡ false → Hears HasHeard j s entries numbers → Hears HasHeard k s [] [] → Hears HasHeard k s entries numbers
-  hears_begun None k s entries numbers none heard begun = subst (λ (l : List Entry). Hears HasHeard k s l numbers) (sym heard.0) (subst (λ (l : List ℕ). Hears HasHeard k s [] l) (sym heard.1) begun)
-  hears_begun (Some j) k s entries numbers none heard begun = absurd (cc)
-
   -- who hears does so by the setup that was read
   heard_at : (s t : Setup) (h : H) (entries : List Entry) (numbers : List ℕ) → s ≡ t → HasHeard h s entries numbers → HasHeard h t entries numbers
   heard_at s t h entries numbers same heard = subst (λ s. HasHeard h s entries numbers) same heard
@@ -84,20 +79,7 @@ module _ {H : Type 0} (HasHeard : H → Setup → List Entry → List ℕ → Ty
 
   -- How a line ends.
 
-  -- with a fault
-  pub ends_faulty : (r : Result (Unit {0}) FaultKind) (kind : FaultKind) (n : ℕ) (line : List ℕ) (reader reader' : Option Progress) (j j' : Option H) (before : Option Progress) (entries : List Entry) (numbers : List ℕ) → IsErrAnd r (λ k. k ≡ kind) → length line ≤ 128 → Stands HasHeard reader j before entries numbers →
-      UnlessMemory kind (words_read record_grammar (words_of line) reader ≡ Err kind) → LineEnds HasHeard r n line before reader' j' entries numbers
-  ends_faulty (Ok done) kind n line reader reader' j j' before entries numbers is short stands fault = absurd is
-  ends_faulty (Err k) kind n line reader reader' j j' before entries numbers is short stands fault =
-      subst (λ (k : FaultKind). UnlessMemory k (line_read line before ≡ Err k)) (sym is)
-      (unless_then kind (λ (says : words_read record_grammar (words_of line) reader ≡ Err kind). short_read line before short ∙ sym (read_at line reader j before entries numbers stands) ∙ says) fault)
-
-  -- for want of memory
-  pub ends_wanting : (r : Result (Unit {0}) FaultKind) (n : ℕ) (line : List ℕ) (before reader : Option Progress) (j : Option H) (entries : List Entry) (numbers : List ℕ) → IsErrAnd r (λ k. k ≡ Memory) → LineEnds HasHeard r n line before reader j entries numbers
-  ends_wanting (Ok done) n line before reader j entries numbers is = absurd is
-  ends_wanting (Err k) n line before reader j entries numbers is = subst (λ (k : FaultKind). UnlessMemory k (line_read line before ≡ Err k)) (sym is) tt
-
-  -- or well, with what was read and what was heard
+  -- well, with what was read and what was heard
   ends_well : (n : ℕ) (line : List ℕ) (reader reader' now : Option Progress) (j j' : Option H) (before : Option Progress) (entries : List Entry) (numbers : List ℕ) → length line ≤ 128 → Stands HasHeard reader j before entries numbers → words_read record_grammar (words_of line) reader ≡ Ok now → reader' ≡ cleared now →
       HearsAt HasHeard j' (cleared now) (entries ++ entry_in now) (numbers ++ number_in n line) → GoesOn HasHeard n line before reader' j' entries numbers
   ends_well n line reader reader' now j j' before entries numbers short stands read same heard = record {
@@ -146,9 +128,3 @@ module _ {H : Type 0} (HasHeard : H → Setup → List Entry → List ℕ → Ty
               heard = subst (λ (l : List ℕ). HearsAt HasHeard (Some h') (Some (record p { ended = true; entry = None })) (entries ++ e ∷ []) (numbers ++ l)) (sym (number_of_some n line (Some p) now e read clear refl)) (refl, hears p.head.setup entries numbers heard.1);
             };
           }
-
-  -- who has heard all that was said
-  pub heard_all : (j : Option H) (before : Option Progress) (p : Progress) (entries : List Entry) (numbers : List ℕ) → before ≡ Some p → HearsAt HasHeard j before entries numbers → Hears HasHeard j p.head.setup entries numbers
-  heard_all None before p entries numbers is heard = heard
-  heard_all (Some h) None p entries numbers is heard = absurd heard
-  heard_all (Some h) (Some q) p entries numbers is heard = let same : q ≡ p = cc in subst (λ (q : Progress). HasHeard h q.head.setup entries numbers) same heard.1

@@ -2,8 +2,7 @@
 use Rattle.std.specs.Prelude.{◌≡◌, ℕ, List, [], ◌∷◌, ◌++◌, codes, length, reverse, slice_get, Option, Some, None}
 use Rattle.std.specs.Fmt.{decimal}
 use Rattle.plain_store.specs.{Setup}
-use Rattle.record.specs.{Entry, Past, Stage}
-use Rattle.record.specs.declared.stages.Stage.TheVariants.{Idle, Doorway, Waiting, Inside, Leaving, Settling, Down}
+use Rattle.record.specs.{Entry, Past, Stage, stage_word}
 use Rattle.record_file.specs.{entry_line}
 
 -- a word and a number
@@ -21,16 +20,6 @@ named_entry name e = name ++ (codes " " ++ entry_line e)
 -- the number of the line of the bad entry, and that entry
 abbrev pub bad_lines : ℕ → Entry → List ℕ
 bad_lines n e = number_line (codes "line") n ++ named_entry (codes "is") e
-
--- the word of a stage
-abbrev pub stage_word : Stage → List ℕ
-stage_word Idle = codes "idle"
-stage_word Doorway = codes "doorway"
-stage_word Waiting = codes "waiting"
-stage_word Inside = codes "inside"
-stage_word Leaving = codes "leaving"
-stage_word Settling = codes "settling"
-stage_word Down = codes "down"
 
 -- the stage of its process, if that is there
 abbrev pub stage_line : Option Stage → List ℕ

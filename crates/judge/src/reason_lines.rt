@@ -1,7 +1,7 @@
 //! The lines of reasons that all judges have.
 ghost use Rattle.std.specs.Prelude.{◌≡◌, ◌++◌, IfOk, OnOk};
 ghost use Rattle.std.specs.String.{string_bytes};
-ghost use Rattle.judge.specs.ReasonLines.{bad_lines, named_entry, number_line, stage_line, stage_word as word_of_stage, word_line};
+ghost use Rattle.judge.specs.ReasonLines.{bad_lines, named_entry, number_line, stage_line, word_line};
 
 use plain_store::NestedTypes;
 use record::{Entry, Stage};
@@ -84,21 +84,6 @@ pub fn push_stage(alloc: Global, stage: Option<Stage>, text: &mut Vec<u8>) -> Re
 {
     match stage {
         None => Ok(()),
-        Some(stage) => push_word(alloc, "stage", stage_word(stage), text),
-    }
-}
-
-/// The word of a stage.
-fn stage_word(stage: Stage) -> &'static str
-    ensures { result.now ≡ word_of_stage stage }
-{
-    match stage {
-        Stage::Idle => "idle",
-        Stage::Doorway => "doorway",
-        Stage::Waiting => "waiting",
-        Stage::Inside => "inside",
-        Stage::Leaving => "leaving",
-        Stage::Settling => "settling",
-        Stage::Down => "down",
+        Some(stage) => push_word(alloc, "stage", stage.word(), text),
     }
 }

@@ -23,14 +23,6 @@ use Rattle.laws.proofs.FrameEvents.{accepted}
 use Rattle.laws.proofs.FrameMarks.{is_raising}
 use Rattle.laws.proofs.FrameSteps.{left-is}
 
--- What p does is what its look-backs say.
-pub record LooksBack (s : Setup) (p : ℕ) (mine : Past) (st : Stage) (d : Doing) : Type 0 where
-  pub resting : st ≡ stages.Idle → d ≡ Rests
-  pub down : st ≡ stages.Down → d ≡ Lies
-  pub runs_call : (command : Command) → last_start mine ≡ Some (Called command) → is_running st ≡ true → d ≡ Runs (last_command mine) (call_number s mine) (place_at s p mine)
-  pub leaves : last_start mine ≡ Some Withdrew → st ≡ stages.Leaving → d ≡ Closes (last_command mine) (call_number s mine) (leaving_at s p mine)
-  pub settles : last_start mine ≡ Some Failed → st ≡ stages.Settling → d ≡ Closes (last_command mine) (call_number s mine) (failing_at s p mine)
-
 -- The begin of a doorway.
 
 -- the access of what is done begins a doorway; so does a unit that settles a choosing bit at 1 anew, after its call has begun it

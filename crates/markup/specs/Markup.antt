@@ -84,9 +84,6 @@ parts_text = flat_map part_text
 abbrev pub front_by : Tag → List ℕ → List ℕ
 front_by tag attributes = codes "<" ++ tag_name tag ++ attributes
 
-abbrev pub tag_front : Tag → List Attribute → List ℕ
-tag_front tag attributes = front_by tag (attributes_text attributes)
-
 -- the tag that ends another
 abbrev pub tag_end : Tag → List ℕ
 tag_end tag = codes "</" ++ tag_name tag ++ codes ">"

@@ -2,11 +2,11 @@
 use Rattle.std.specs.Prelude.{ℕ, zero, suc, ◌+◌, ◌-◌, ◌*◌, ◌/◌, Bool, true, false, ◌==◌, not, ◌&&◌, ◌||◌, cond, nat_le, nat_lt, List, [], ◌∷◌, ◌++◌, codes, length, Option, None, Some}
 use Rattle.std.specs.Fmt.{decimal}
 use Rattle.std.specs.Str.{bytes_eq}
-use Rattle.record.specs.{Stage}
+use Rattle.record.specs.{Stage, stage_word}
 use Rattle.record.specs.declared.stages.Stage.TheVariants as stage
 use Rattle.markup.specs.{Block, Label, Point, Shape, line_from}
 use Rattle.columns.specs.{Group, Lane, Seen, Word, bar_of, capped, stage_among, stands_in, word_of}
-use Rattle.picture.specs.Words.{left_reach_of, right_reach_of, stage_text, word_text}
+use Rattle.picture.specs.Words.{left_reach_of, right_reach_of, word_text}
 use Rattle.columns.specs.declared.state.Word.TheVariants as word
 use Rattle.picture.specs.declared.words.Stretch.{Stretch}
 
@@ -26,7 +26,7 @@ height_of lane stage = cond lane.is_full (full_height stage) (full_height stage 
 -- a box that has the stage as its class, round the middle line of a lane: none where it has no room
 abbrev pub stage_box : Lane → Stage → ℕ → ℕ → List Shape
 stage_box lane stage from to =
-    cond (nat_lt from to) (Block (stage_text stage) (point from (bar_of lane - height_of lane stage / 2)) (to - from) (height_of lane stage) ∷ []) []
+    cond (nat_lt from to) (Block (stage_word stage) (point from (bar_of lane - height_of lane stage / 2)) (to - from) (height_of lane stage) ∷ []) []
 
 -- the bar of a stage from one place to another: a line where nothing is done
 abbrev pub bar : Lane → Stage → ℕ → ℕ → List Shape
@@ -35,7 +35,7 @@ bar lane stage from to = stage_box lane stage from to
 
 -- whether two stages are the same
 abbrev pub is_stage : Stage → Stage → Bool
-is_stage a b = bytes_eq (stage_text a) (stage_text b)
+is_stage a b = bytes_eq (stage_word a) (stage_word b)
 
 -- The bars of a process from a place on, up to the end of its lane, where it has this stage from there on: right of a column
 -- stands the bar of the stage that the process has after it, and goes on to the first column after which that is another one.

@@ -2,21 +2,10 @@
 use Rattle.std.specs.Prelude.{ℕ, ◌+◌, ◌*◌, max, Bool, cond, nat_lt, List, [], ◌∷◌, ◌++◌, codes, length, take, Option, None, Some}
 use Rattle.std.specs.Fmt.{decimal}
 use Rattle.std.specs.List.{join_by}
-use Rattle.record.specs.{Mark, Stage}
+use Rattle.record.specs.{Mark, stage_word}
 use Rattle.record.specs.declared.marks.Mark.TheVariants as mark
-use Rattle.record.specs.declared.stages.Stage.TheVariants as stage
 use Rattle.columns.specs.{Group, RunLine, Seen, State, Word, capped, mark_told, queue_of, settles_and_takes_in}
 use Rattle.columns.specs.declared.state.Word.TheVariants as word
-
--- how a stage is called
-abbrev pub stage_text : Stage → List ℕ
-stage_text stage.Idle = codes "idle"
-stage_text stage.Doorway = codes "doorway"
-stage_text stage.Waiting = codes "waiting"
-stage_text stage.Inside = codes "inside"
-stage_text stage.Leaving = codes "leaving"
-stage_text stage.Settling = codes "settling"
-stage_text stage.Down = codes "down"
 
 -- numbers, with these bytes between each two
 abbrev pub listed_with : List ℕ → List ℕ → List ℕ
@@ -29,7 +18,7 @@ group_text others group = cond (nat_lt 3 group.count) (decimal group.count ++ ot
 -- what the bar of a process says, if it says anything
 abbrev pub word_text : Word → Option (List ℕ)
 word_text word.Nothing = None
-word_text (word.Is stage) = Some (stage_text stage)
+word_text (word.Is stage) = Some (stage_word stage)
 word_text (word.Behind group) = Some (codes "behind " ++ group_text (codes " others") group)
 word_text (word.Awaits group) = Some (group_text [] group ++ codes " choosing")
 

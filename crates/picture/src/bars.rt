@@ -4,7 +4,6 @@ ghost use Rattle.picture.specs.Adding.{Draws};
 ghost use Rattle.markup.specs.{reading};
 ghost use Rattle.picture.specs.Bars.{bar, height_of, is_stage, lane_name, lane_rule};
 ghost use Rattle.picture.specs.Drawings.{lane_shapes, seen_band};
-ghost use Rattle.picture.specs.Words.{stage_text};
 
 use crate::bands::Band;
 use columns::{LEFT, Lane, RIGHT};
@@ -96,7 +95,7 @@ fn draw_bar(
     }
     let height = bar_height(lane, stage);
     let corner = Point::at(x, middle.saturating_sub(height / 2));
-    markup.block(stage_name(stage), corner, u32::from(to - from), height)
+    markup.block(stage.word(), corner, u32::from(to - from), height)
 }
 
 /// How high the bar of a stage is.
@@ -109,19 +108,4 @@ fn bar_height(lane: Lane, stage: Stage) -> u32
         _ => 14,
     };
     if lane.is_full { full } else { full / 2 }
-}
-
-/// How a stage is called.
-pub(crate) fn stage_name(stage: Stage) -> &'static str
-    ensures { result.now ≡ stage_text stage }
-{
-    match stage {
-        Stage::Idle => "idle",
-        Stage::Doorway => "doorway",
-        Stage::Waiting => "waiting",
-        Stage::Inside => "inside",
-        Stage::Leaving => "leaving",
-        Stage::Settling => "settling",
-        Stage::Down => "down",
-    }
 }

@@ -9,7 +9,6 @@ ghost use Rattle.picture.specs.Words.{group_text, left_reach_of, listed_with, ma
 ghost use Rattle.picture.specs.Drawings.{seen_band, words_of_lane};
 
 use crate::bands::Band;
-use crate::bars::stage_name;
 use columns::{Column, DIGIT, Group, LEFT, Word, room};
 use markup::{Markup, Point};
 use record::{Mark, Stage};
@@ -132,7 +131,7 @@ fn words_of(alloc: Global, word: &Word) -> Result<Option<String>, AllocError>
 {
     match word {
         Word::Nothing => Ok(None),
-        Word::Is(stage) => Ok(Some(String::from_str(alloc, stage_name(*stage))?)),
+        Word::Is(stage) => Ok(Some(String::from_str(alloc, stage.word())?)),
         Word::Behind(group) => Ok(Some(behind(alloc, group)?)),
         Word::Awaits(group) => Ok(Some(awaits(alloc, group)?)),
     }

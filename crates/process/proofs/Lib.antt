@@ -1,7 +1,6 @@
 pub mod AfterParts
 pub mod ClosingsOn
 pub mod CutsAt
-pub mod GoodRanges
 pub mod Greatest
 pub mod HeldBits
 pub mod Left

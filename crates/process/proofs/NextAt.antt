@@ -1,5 +1,5 @@
 -- The next access of a process is that of its cursor.
-use Rattle.std.proofs.Common.{◌≡◌, ◌+◌, Bool, true, false, List, [], ◌∷◌, Option, None, Some, ℕ, sym, ap, ◌∙◌, subst, arith, ◌⊎◌, inl, inr}
+use Rattle.std.proofs.Common.{◌≡◌, ◌+◌, Bool, true, false, List, [], ◌∷◌, Option, None, Some, ℕ, sym, ap, ◌∙◌, arith, ◌⊎◌, inl, inr}
 use Rattle.std.specs.Prelude.{IfSome}
 use Rattle.plain_store.specs.{Reply}
 use Rattle.record.specs.{Access, Mark, no_ticket}
@@ -28,41 +28,29 @@ next-is k (work.Frees inside) cur flick keeps goes = let e = ends k.call.setup k
 next-is k work.Lowers cur flick keeps goes = let e = ends k.call.setup k.call.process (Choosing, false ∷ []) cur false keeps.working in sym e.access
 
 -- neither does one that goes rest, nor lie
-idle-goes : (k : PartState) (w : ProcessWork) (cur : CursorState) → may_step (doing_at k w cur) ≡ true → (w ≡ work.Rests) ⊎ (w ≡ work.Lies) → ⊥
+pub idle-goes : (k : PartState) (w : ProcessWork) (cur : CursorState) → may_step (doing_at k w cur) ≡ true → (w ≡ work.Rests) ⊎ (w ≡ work.Lies) → ⊥
 idle-goes k w cur goes (inl rests) = let none : false ≡ true = sym (ap (λ w. may_step (doing_at k w cur)) rests) ∙ goes in absurd (cc)
 idle-goes k w cur goes (inr lies) = let none : false ≡ true = sym (ap (λ w. may_step (doing_at k w cur)) lies) ∙ goes in absurd (cc)
 
-pub shown-idle : (k : PartState) (w : ProcessWork) (cur : CursorState) (now : ProcessState) → state_at k w cur ≡ now → may_step now.doing ≡ true → (w ≡ work.Rests) ⊎ (w ≡ work.Lies) → ⊥
-shown-idle k w cur now shows goes = idle-goes k w cur (ap (λ (s : ProcessState). may_step s.doing) shows ∙ goes)
-
--- the cursor has made it, at work that is this
-pub has-moved : {k : PartState} {was : ProcessWork} {g fresh : Bool} {a : Access} {before cur : CursorState} (w : ProcessWork) (flick value : Bool) → KeepsPlace k was before → was ≡ w → g ≡ given was flick value → a ≡ next_access before g → cur ≡ cursor_after before a.how → fresh ≡ is_fresh before →
+-- the cursor has made it
+pub has-moved : {k : PartState} {w : ProcessWork} {g fresh : Bool} {a : Access} {before cur : CursorState} (flick value : Bool) → KeepsPlace k w before → may_step (doing_at k w before) ≡ true → g ≡ given w flick value → a ≡ next_access before g → cur ≡ cursor_after before a.how → fresh ≡ is_fresh before →
     HasMoved k w flick value before cur fresh
-has-moved {k} {was} {g} {fresh} {a} {before} {cur} w flick value keeps same gives is goes first = record {
-  keeps = subst (λ w. KeepsPlace k w before) same keeps;
-  moves = goes ∙ ap (λ (b : Access). cursor_after before b.how) (is ∙ ap (next_access before) (gives ∙ ap (λ w. given w flick value) same));
+has-moved {k} {w} {g} {fresh} {a} {before} {cur} flick value keeps may gives is goes first = record {
+  keeps = keeps;
+  goes = may;
+  moves = goes ∙ ap (λ (b : Access). cursor_after before b.how) (is ∙ ap (next_access before) gives);
   first = first;
 }
 
 -- so the process has gone on from what it was
-module _ {k : PartState} {was w : ProcessWork} {flick value fresh : Bool} {before cur : CursorState} {now : ProcessState} (h : HasMoved k w flick value before cur fresh) (same : was ≡ w) (shows : state_at k was before ≡ now) where
+module _ {k : PartState} {w : ProcessWork} {flick value fresh : Bool} {before cur : CursorState} {now : ProcessState} (h : HasMoved k w flick value before cur fresh) (shows : state_at k w before ≡ now) where
   pub then-stepped : {next : ProcessState} → IsStepped k w cur fresh next → next ≡ stepped now flick value
-  then-stepped steps =
-      steps flick value before h
-      ∙ ap (λ w. stepped (state_at k w before) flick value) (sym same)
-      ∙ ap (λ (s : ProcessState). stepped s flick value) shows
+  then-stepped steps = steps flick value before h ∙ ap (λ (s : ProcessState). stepped s flick value) shows
 
   pub then-marks : {marks : List Mark} → AreMarksOn k w cur fresh marks → marks ≡ marks_on now flick value
-  then-marks are =
-      are flick value before h
-      ∙ ap (λ w. marks_on (state_at k w before) flick value) (sym same)
-      ∙ ap (λ (s : ProcessState). marks_on s flick value) shows
+  then-marks are = are flick value before h ∙ ap (λ (s : ProcessState). marks_on s flick value) shows
 
--- the changes that it tells of are those that it has read, of a call that runs; otherwise it tells of none
-pub runs-changes : (k : PartState) (was : ProcessWork) (before : CursorState) (now : ProcessState) (told : Option ℕ) → state_at k was before ≡ now → was ≡ work.Runs → IfSome told (λ n. n ≡ changes_at k.part) → IfSome told (λ n. n ≡ changes_read now.doing)
-runs-changes k was before now told shows same are =
-    subst (λ most. IfSome told (λ n. n ≡ most)) (sym (ap (λ w. changes_read (doing_at k w before)) same) ∙ ap (λ (s : ProcessState). changes_read s.doing) shows) are
-
-pub no-changes : (told : Option ℕ) (most : ℕ) → told ≡ None → IfSome told (λ n. n ≡ most)
-no-changes None most none = tt
-no-changes (Some n) most some = absurd (cc)
+-- the changes that it tells of are those that it has read, of a call that runs
+pub then-changes : (k : PartState) (w : ProcessWork) (before : CursorState) (now : ProcessState) (told : Option ℕ) → state_at k w before ≡ now → IfSome told (λ n. (w ≡ work.Runs) × (n ≡ changes_at k.part)) → IfSome told (λ n. n ≡ changes_read now.doing)
+then-changes k w before now None shows are = tt
+then-changes k w before now (Some n) shows (runs, is) = is ∙ ap (λ w. changes_read (doing_at k w before)) (sym runs) ∙ ap (λ (s : ProcessState). changes_read s.doing) shows

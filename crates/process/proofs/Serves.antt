@@ -1,19 +1,20 @@
 -- A process is served by a memory as its cursor is.
-use Rattle.std.proofs.Common.{◌≡◌, ◌<◌, ◌≤◌, ℕ, zero, suc, ◌+◌, Bool, true, false, cond, List, get_or, Option, refl, sym, ap, ◌∙◌, subst, arith}
+use Rattle.std.proofs.Common.{◌≡◌, ◌<◌, ◌≤◌, ℕ, zero, suc, ◌+◌, Bool, true, false, cond, List, get_or, Option, refl, sym, ap, ◌∙◌, subst, arith, unwrap_or}
 use Rattle.registers.specs.safe_bit.Cell.{Cell, read_answer}
 use Rattle.registers.specs.safe_bit.{Move}
-use Rattle.registers.specs.safe_bit.declared.moves.Move.TheVariants.{BeginWrite, EndWrite}
+use Rattle.registers.specs.safe_bit.declared.moves.Move.TheVariants.{BeginWrite, EndWrite, Settle}
 use Rattle.flicks.specs.{FlickState, after_flick, flick_of}
+use Rattle.registers.specs.reader_copies.{is_open_at}
 use Rattle.plain_store.specs.{Reply, Setup}
 use Rattle.record.specs.{Access, Call, Field, Part, Place, ended, is_over, is_read, read_at, run_after, value_of, width, written_at}
 use Rattle.laws.specs.{Runs}
-use Rattle.registers.specs.{AreOf, CursorState, Fits, IsAtCopy, IsAtPart, NumberRun, ReadsAt, WritesAt, answered, applied, cell_at, cursor_after, ends_overlapped, is_settling, lane_of_access, move_by, moved, next_access, next_answered, overlapped_of, read_move, run_at, run_of}
+use Rattle.registers.specs.{AreOf, CursorState, Fits, IsAtCopy, IsAtPart, NumberRun, ReadsAt, WritesAt, answered, applied, cell_at, cursor_after, ends_overlapped, is_fresh, is_settling, lane_of_access, move_by, moved, next_access, next_answered, overlapped_of, read_move, run_at, run_of}
 use Rattle.registers.specs.Accesses as registers
 use Rattle.registers.specs.declared.cursor.NumberRun.TheVariants as run
 use Rattle.registers.proofs.CursorRuns.{Moves, moves}
 use Rattle.registers.proofs.Openings.{setup-fits}
 use Rattle.registers.proofs.Runs.{same-by}
-use Rattle.process.specs.{KeepsPlace, PartState, ProcessState, ProcessWork, SettlesAt, answered_at, answered_next, doing_at, given, left_at, left_of, may_step, newest_of, overlapped_steps, overlaps_step, state_at, step_by, step_of, stepped, steps_of}
+use Rattle.process.specs.{HasMoved, KeepsPlace, PartState, ProcessState, ProcessWork, SettlesAt, answered_at, answered_next, doing_at, given, left_at, left_of, may_step, newest_of, overlapped_steps, overlaps_step, state_at, step_by, step_of, stepped, steps_of}
 use Rattle.process.specs.declared.work.ProcessWork.TheVariants as work
 use Rattle.process.proofs.Left.{left-fewer, left-runs, left-some, live-by, within}
 use Rattle.process.proofs.NextAt.{next-is}
@@ -136,6 +137,35 @@ cursor-moves : (cur : CursorState) (memory : List (List Cell)) (flick : Bool) �
 cursor-moves cur memory flick plain =
     let v : Bool = read_answer (cell_at memory (lane_of_access cur.copies (next_access cur flick)) cur.bit) flick in
     ap (cursor_after cur) (moved-by cur.run cur cur.begun v flick refl plain)
+
+-- the same of a unit that settles, by the flick
+settle-moved : (begun torn : Bool) (v x : Bool) → cond begun EndWrite (cond torn (Settle x) (BeginWrite x)) ≡ ended v (cond begun EndWrite (cond torn (Settle x) (BeginWrite x)))
+settle-moved true torn v x = refl
+settle-moved false true v x = refl
+settle-moved false false v x = refl
+
+settling-moved : (r : NumberRun) (cut : ℕ) (value : Option Bool) (cur : CursorState) (v x : Bool) → r ≡ run.Settles cut value → move_by r cur x ≡ ended v (move_by r cur x)
+settling-moved r cut value cur v x is = let P : NumberRun → Type 0 = λ r. move_by r cur x ≡ ended v (move_by r cur x) in subst P (sym is) (settle-moved cur.begun (is_open_at cut cur.copy) v (unwrap_or value x))
+
+-- so the cursor of any work goes on by what the memory answers
+pub works-moved : (k : PartState) (w : ProcessWork) (cur : CursorState) (memory : List (List Cell)) (flick : Bool) → KeepsPlace k w cur → may_step (doing_at k w cur) ≡ true →
+    let how : Move = (next_answered cur memory flick).how in cursor_after cur how ≡ moved cur (given w flick (value_of how))
+works-moved k work.Rests cur memory flick keeps goes = absurd (cc)
+works-moved k work.Lies cur memory flick keeps goes = absurd (cc)
+works-moved k work.Runs cur memory flick keeps goes = sym (cursor-moves cur memory flick (runs-stand k cur keeps).1)
+works-moved k work.Withdraws cur memory flick keeps goes = sym (cursor-moves cur memory flick (ap is_settling keeps.working.run))
+works-moved k (work.Settles inside taken) cur memory flick keeps goes =
+    let at = keeps.working in
+    let v : Bool = read_answer (cell_at memory (lane_of_access cur.copies (next_access cur flick)) cur.bit) flick in
+    ap (cursor_after cur) (sym (settling-moved cur.run at.cut at.value cur v flick at.run))
+works-moved k (work.Frees inside) cur memory flick keeps goes = sym (cursor-moves cur memory flick (ap is_settling keeps.working.run))
+works-moved k work.Lowers cur memory flick keeps goes = sym (cursor-moves cur memory flick (ap is_settling keeps.working.run))
+
+pub step-moved : {k : PartState} {w : ProcessWork} {fresh : Bool} {a : Access} {before cur : CursorState} (memory : List (List Cell)) (flick : Bool) → KeepsPlace k w before → may_step (doing_at k w before) ≡ true → a ≡ next_answered before memory flick → cur ≡ cursor_after before a.how → fresh ≡ is_fresh before →
+    HasMoved k w flick (value_of a.how) before cur fresh
+step-moved {k} {w} {fresh} {a} {before} {cur} memory flick keeps may is goes first =
+    let P : Access → Type 0 = λ a. cursor_after before a.how ≡ moved before (given w flick (value_of a.how)) in
+    record { keeps = keeps; goes = may; moves = goes ∙ subst P (sym is) (works-moved k w before memory flick keeps may); first = first }
 
 -- the process goes on as its cursor, at its part
 pub serves-one : (k : PartState) (cur : CursorState) (memory : List (List Cell)) (flick : Bool) → KeepsPlace k work.Runs cur → 0 < left_at (state_at k work.Runs cur) →

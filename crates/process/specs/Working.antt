@@ -11,7 +11,7 @@ use Rattle.registers.specs.declared.cursor.NumberRun.TheVariants as run
 use Rattle.process.specs.declared.work.ProcessWork.{ProcessWork}
 use Rattle.process.specs.declared.work.ProcessWork.TheVariants as work
 use Rattle.process.specs.CallParts.{PartState}
-use Rattle.process.specs.Places.{ProcessState, marks_on, stepped}
+use Rattle.process.specs.Places.{ProcessState, marks_on, may_step, stepped}
 use Rattle.process.specs.Seen.{IsCall}
 
 -- WHAT IT DOES
@@ -92,9 +92,10 @@ abbrev pub given : ProcessWork → (flick value : Bool) → Bool
 given (work.Settles inside taken) flick value = flick
 given _ flick value = value
 
--- the cursor has made its next access; before it, it was this one
+-- the cursor of one that goes has made its next access; before it, it was this one
 pub record HasMoved (k : PartState) (w : ProcessWork) (flick value : Bool) (before cur : CursorState) (fresh : Bool) : Type 0 where
   pub keeps : KeepsPlace k w before
+  pub goes : may_step (doing_at k w before) ≡ true
   pub moves : cur ≡ moved before (given w flick value)
   pub first : fresh ≡ is_fresh before
 

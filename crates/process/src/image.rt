@@ -6,7 +6,7 @@ ghost use Rattle.record.specs.safe_number.{bit_in};
 ghost use Rattle.store_image.specs.{store_in};
 
 use plain_store::Setup;
-use record::bytes_go_by_their_bits;
+use record::{bytes_go_by_their_bits, image_bytes};
 use store_image::Image;
 
 /// The store whose image was read, bit by bit, as these bytes, of which only the first ones are those of the image. The
@@ -18,29 +18,5 @@ pub(crate) fn image_read(setup: &Setup, bytes: &[u8; 216]) -> Image
     ensures numbers { length result.numbers ≡ callers_of setup.now }
 {
     bytes_go_by_their_bits();
-    image_in(setup, &bytes[..usize::from(image_bytes(setup))])
-}
-
-/// The bytes of an image.
-fn image_bytes(setup: &Setup) -> u16
-    requires { checked setup.now ≡ Ok tt }
-    ensures bytes { result ≡ image_bytes setup.now }
-    ensures most { result ≤ 216 }
-{
-    23 * u16::from(setup.slots) + 2 * u16::from(setup.callers())
-}
-
-/// The store whose image the bytes are, as many as there are in an image.
-fn image_in(setup: &Setup, bytes: &[u8]) -> Image
-    requires good { checked setup.now ≡ Ok tt }
-    requires length { length bytes.now ≡ image_bytes setup.now }
-    ensures store { result ≡ store_in setup.now.slots (callers_of setup.now) bytes.now }
-    ensures slots { result.slots ≡ setup.now.slots }
-    ensures numbers { length result.numbers ≡ callers_of setup.now }
-{
-    let callers = setup.callers();
-    match Image::read(bytes, callers) {
-        Ok(image) => image,
-        Err(_) => Image::empty(setup.slots, callers),
-    }
+    Image::read_or_empty(setup, &bytes[..usize::from(image_bytes(setup))])
 }

@@ -27,6 +27,6 @@ pub use flicks::Flicks;
 pub use looks::{Settling, TicketKnown};
 pub use opening::open_memory;
 pub use process::Process;
-pub use registers::{AccessMade, AccessesMade, BitMemory, BitSeen, given, width_of};
+pub use registers::{AccessMade, AccessesMade, BitMemory, BitSeen, given};
 pub use store_image::Image;
 pub use told::{Effect, EventMade, StepTold};

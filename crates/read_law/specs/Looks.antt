@@ -1,5 +1,5 @@
 -- What the moves of one bit leave, as far as the safe rule looks back at them.
-use Rattle.std.specs.Prelude.{◌≡◌, Bool, true, false, not, ◌&&◌, List, ◌∷◌, cond, Option, None, Some}
+use Rattle.std.specs.Prelude.{◌≡◌, Bool, true, false, not, ◌&&◌, List, ◌∷◌, cond}
 use Rattle.record.specs.safe_bit.{Move, before_read, is_overlapped, is_write_open, last_begun, last_written}
 use Rattle.record.specs.safe_bit.declared.Move.TheVariants.{BeginRead, EndRead}
 use Rattle.record.specs.{begins_read}
@@ -21,10 +21,6 @@ look_of opening moves = record { begun = last_begun opening moves; written = las
 abbrev pub ends_overlapped : List Move → Move → Bool
 ends_overlapped moves (EndRead v) = is_overlapped moves
 ends_overlapped moves _ = false
-
--- what was last written or settled; none while a write is open
-abbrev pub held : Bool → List Move → Option Bool
-held opening moves = cond (is_write_open moves) None (Some (last_written opening moves))
 
 -- the answer tells of a read that has begun whether it is so
 abbrev pub TellsOverlap : Bool → List Move → Move → Type 0

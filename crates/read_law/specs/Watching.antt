@@ -6,7 +6,7 @@ use Rattle.record.specs.safe_number.{bit_in}
 use Rattle.plain_store.specs.{Setup, checked}
 use Rattle.laws.specs.{IsThere}
 use Rattle.read_law.specs.declared.look.Look.{Look}
-use Rattle.read_law.specs.Looks.{TellsOverlap, held, look_of}
+use Rattle.read_law.specs.Looks.{TellsOverlap, look_of}
 use Rattle.read_law.specs.Safe.{TellsSafe}
 
 -- for each register of each process the looks of its bits
@@ -73,10 +73,6 @@ TellsLook w a look = (past : Past) → HasHeard w past → look ≡ look_of (ope
 -- the answer tells whether an access that is there ends a read that a write overlapped
 abbrev pub TellsEndThere : WatchState → Access → Bool → Type 0
 TellsEndThere w a told = (past : Past) → HasHeard w past → IsThere w.setup a → TellsOverlap told (moves_of a past) a.how
-
--- the answer is what was last written to the bit of an access that is there; none while a write of it is open
-abbrev pub TellsHeldThere : WatchState → Access → Option Bool → Type 0
-TellsHeldThere w a told = (past : Past) → HasHeard w past → IsThere w.setup a → told ≡ held (opening_bit w.setup a) (moves_of a past)
 
 -- the bits of register n look as they open
 pub record IsOpened (s : Setup) (n : ℕ) (register : List Look) : Type 0 where

@@ -8,5 +8,4 @@ mod places;
 mod watch;
 
 pub use by_parts::parts;
-pub use places::width;
 pub use watch::Watch;

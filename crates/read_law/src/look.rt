@@ -3,7 +3,7 @@ ghost use Rattle.std.specs.Prelude.{◌≡◌, [], Bool, true};
 ghost use Rattle.record.specs.safe_bit.declared.Move.TheVariants.{EndWrite, Settle};
 ghost use Rattle.record.specs.safe_bit.{is_overlapped};
 ghost use Rattle.record.specs.{begins_read};
-ghost use Rattle.read_law.specs.Looks.{EndsOn, LeftBy, LookLeftBy, LooksOn, ReadsOn, TellsOverlap, held, look_of};
+ghost use Rattle.read_law.specs.Looks.{EndsOn, LeftBy, LookLeftBy, LooksOn, ReadsOn, TellsOverlap, look_of};
 ghost use Rattle.read_law.specs.Safe.{MayGive, Tells};
 ghost use Rattle.read_law.specs.Watching.{LookTellsSafe};
 
@@ -127,17 +127,6 @@ impl Look {
         match how {
             Move::EndRead(value) => self.ending.allows(value),
             _ => true,
-        }
-    }
-
-    /// What was last written or settled; none while a write is open.
-    #[inline]
-    pub fn held(self) -> Option<bool>
-        ensures { LookLeftBy self (λ opening moves. result ≡ held opening moves) }
-    {
-        match self.ending {
-            ReadEnd::Writing => None,
-            _ => Some(self.written),
         }
     }
 

@@ -5,13 +5,13 @@ ghost use Rattle.record.specs.{width};
 ghost use Rattle.record.specs.safe_number.{bit_in};
 ghost use Rattle.laws.specs.{IsThere};
 ghost use Rattle.read_law.specs.Safe.{TellsSafe};
-ghost use Rattle.read_law.specs.Watching.{HasHeard, IfAllThere, IfThere, IsOpened, OfHeard, OpenAs, PassesStray, TellsEndThere, TellsHeldThere, TellsLook};
+ghost use Rattle.read_law.specs.Watching.{HasHeard, IfAllThere, IfThere, IsOpened, OfHeard, OpenAs, PassesStray, TellsEndThere, TellsLook};
 
 use crate::look::Look;
 use crate::packed::Looks;
-use crate::places::{FIELDS, copy_of, field_at, is_there, register_of, width};
+use crate::places::{REGISTERS, copy_of, is_there, register_of};
 use plain_store::{Setup, opened};
-use record::Access;
+use record::{Access, bit_of, field_numbered, width_of};
 use std::alloc::{AllocError, Global};
 use std::marker::Model;
 use store_image::Image;
@@ -44,7 +44,7 @@ impl Watch {
         setup.opening.pairs_are_sound();
         let image = opened(Image::empty(setup.slots, setup.callers()), setup)?;
         let mut registers = Vec::new(alloc);
-        for number in 0..usize::from(setup.processes) * FIELDS {
+        for number in 0..usize::from(setup.processes) * REGISTERS {
             let looks = opening_looks(alloc, setup, image.bytes(), number)?;
             registers.push(looks)?;
         }
@@ -99,17 +99,6 @@ impl Watch {
         is_there(&self.setup, access) && self.look_at(access).overlaps(access.how)
     }
 
-    /// What was last written to the bit of an access, or settled there; none while a write of it is open. Of a bit that is not
-    /// there nothing is told.
-    pub fn holds(&self, access: &Access) -> Option<bool>
-        ensures { TellsHeldThere self.now access.now result }
-    {
-        if !is_there(&self.setup, access) {
-            return None;
-        }
-        self.look_at(access).held()
-    }
-
     /// What the moves of a bit that there is have left.
     #[inline]
     fn look_at(&self, access: &Access) -> Look
@@ -148,8 +137,8 @@ fn opening_looks(
     requires image { image.now ≡ image_of (opening_store setup.now) }
     ensures { IfOk result (λ looks. IsOpened setup.now number looks) }
 {
-    let field = field_at(number % FIELDS);
-    let width = width(setup, field);
+    let field = field_numbered(number % REGISTERS);
+    let width = usize::from(width_of(field, setup));
     let mut looks = Looks::new(alloc, usize::from(setup.processes) * width)?;
     if number != IMAGE0 {
         return Ok(looks);
@@ -170,15 +159,4 @@ fn open_copies(looks: &mut Looks, bytes: &[u8], width: usize)
     for k in 0..looks.len() {
         looks.set(k, Look::opening(bit_of(bytes, (k % width) as u16)));
     }
-}
-
-/// A bit of bytes, or false where there is none.
-fn bit_of(bytes: &[u8], bit: u16) -> bool
-    ensures { result ≡ bit_in bytes.now bit }
-{
-    let at = usize::from(bit);
-    if bytes.len() <= at / 8 {
-        return false;
-    }
-    (bytes[at / 8] >> (at % 8)) & 1 == 1
 }

@@ -1,14 +1,11 @@
 -- A list that another of its length is written over, from the front on.
 use Rattle.std.proofs.Common.{◌≡◌, ℕ, ◌+◌, ◌<◌, ◌≤◌, List, [], ◌∷◌, ◌++◌, get_or, set, length, take, drop, sym, ap, ◌∙◌, arith}
-use Rattle.std.proofs.lemmas.List.{append-nil, append_assoc, length-append, length-take, length-drop, get_or_at, set_at, take_all, take_more, drop_all, drop_more}
+use Rattle.std.proofs.lemmas.List.{append-nil, append_assoc, length-take, get_or_at, set_at, take_all, take_more, drop_all, drop_more}
 
 module _ {X : Type 0} (xs before : List X) where
   -- i elements are written
   abbrev pub written_over : ℕ → List X
   written_over i = take i xs ++ drop i before
-
-  pub length-written_over : (i : ℕ) → length xs ≡ length before → i ≤ length xs → length (written_over i) ≡ length before
-  length-written_over i same inside = let a = length-take i xs in let b = length-drop i before in let c = length-append (take i xs) (drop i before) in omega arith
 
   -- the next element is as it was
   pub get_or-written_over : (i : ℕ) (d : X) → length xs ≡ length before → i < length xs → get_or (written_over i) i d ≡ get_or before i d

@@ -104,15 +104,6 @@ impl Copies {
         self.flags[k / 64].answer(k % 64, flick)
     }
 
-    /// The copy of bit `k` goes on by begin or end of a read, without a branch on which.
-    #[inline(always)]
-    pub fn read_next(&mut self, k: usize, begun: bool)
-        requires { k < length self.old }
-        ensures { self.new ≡ slice_set self.old k (cell_after (cell_in self.old k) (if begun then Move.EndRead false else Move.BeginRead)) }
-    {
-        self.flags[k / 64].read_next(k % 64, begun);
-    }
-
     /// So many bits of one word go on by begin and end of a read, and the word is answered. Where one of them is being written,
     /// it answers none and does nothing.
     pub fn read_word(&mut self, k: usize, n: usize) -> Option<u64>

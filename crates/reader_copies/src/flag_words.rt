@@ -43,7 +43,7 @@ impl Flags {
         }
     }
 
-    /// Copy `k` goes on by one access.
+    /// Copy `k` goes on by one access. Begin and end of a read have no branch between them.
     #[inline]
     pub fn go_on(&mut self, k: usize, how: Move)
         requires { k < 64 }
@@ -56,14 +56,16 @@ impl Flags {
                 self.touched = with_flag(self.touched, k, true);
             }
             Move::EndWrite => self.writing = with_flag(self.writing, k, false),
-            Move::BeginRead => {
-                self.reading = with_flag(self.reading, k, true);
-                self.touched = with_flag(self.touched, k, has_flag(self.writing, k));
-            }
-            Move::EndRead(_) => self.reading = with_flag(self.reading, k, false),
             Move::Settle(value) => {
                 self.value = with_flag(self.value, k, value);
                 self.writing = with_flag(self.writing, k, false);
+            }
+            // (in a crowd nothing foretells which of the two comes next)
+            Move::BeginRead | Move::EndRead(_) => {
+                let begins = matches!(how, Move::BeginRead);
+                let here = one_flag(k) & all_flags(begins);
+                self.touched = choose(here, self.writing, self.touched);
+                self.reading = with_flag(self.reading, k, begins);
             }
         }
     }
@@ -105,18 +107,6 @@ impl Flags {
         } else {
             has_flag(self.value, k)
         }
-    }
-
-    /// Copy `k` goes on by begin or end of a read, without a branch on which.
-    #[inline(always)]
-    pub fn read_next(&mut self, k: usize, begun: bool)
-        requires { k < 64 }
-        ensures { ChangesAt self.old k (cell_after (cell_in_flags self.old k) (if begun then Move.EndRead false else Move.BeginRead)) self.new }
-    {
-        let here = one_flag(k);
-        let begins = all_flags(!begun);
-        self.touched = choose(here & begins, self.writing, self.touched);
-        self.reading = choose(here, begins, self.reading);
     }
 
     /// Copies of the mask go on by begin and end of a read, and the word of all copies is answered. Where one of them is
@@ -181,11 +171,7 @@ fn with_flag(word: u64, k: usize, flag: bool) -> u64
     requires { k < 64 }
     ensures { SetsFlag word k flag result }
 {
-    if flag {
-        word | (1 << k)
-    } else {
-        word & !(1 << k)
-    }
+    choose(one_flag(k), all_flags(flag), word)
 }
 
 /// A word of `n` ones from one place on.

@@ -44,7 +44,7 @@ pub use Headline.{AnsweredCallsTakeNoMore, AnswersAreTaken, AnswersNoCutCall, An
 pub use Histories.{history, reply_taken, store_after}
 pub use Induction.{past-induction}
 pub use Laws.{AcceptedAdds, HasBits, OthersStay, OwnEntry, RefusedAddsNothing}
-pub use Moves.{AllReads, begins_read, ended, ended_with, field_number, move_on, moves_of, same_bit, valued}
+pub use Moves.{AllReads, begins_read, ended, ended_with, field_number, fields, move_on, moves_of, same_bit, valued}
 pub use Newest.{bits_held, cell_after, copy, is_somebody_inside, newest, newest_bytes, version_held, versions_held}
 pub use Parts.{Asks, AsksCommit, AsksImage, AsksStamp, Clears, Over, Part, Raises, Refuses, TakesTicket, Waits, WritesCommit, WritesImage, WritesStamp, doing, first_marks, is_over, is_read, last_marks, part_after, read_at, stage_of, to_b, to_c, to_d, to_e, to_g, written_at}
 pub use Places.{IsFollowed, Place, Reading, Run, Writing, access_at, accesses_of, bit_written, bits_with, enter, entry_at, is_fresh, is_last, is_running, marks_of, new_run, next_access, next_read, next_written, place_after, place_of, reads_of, run_after, scripted, stage_at, value_of, write_moved}
@@ -52,7 +52,7 @@ pub use Program.{Version, Wait, change, entered_if_none, first_full, greatest, i
 pub use Records.{added, calls_full, entry_made, entry_of, is_call, last_start, marked, past_of, placed, process_of, program, program_from, record_of, refused, refused_at, start_in, stepped, with_event}
 pub use Registers.{bytes_of_bits, image_bytes, opening_bit, opening_bits, others, processes, read_of, width, write_of}
 pub use Scripts.{Call, Next, Numbers, Portion, Script, caller, marks_at, none, nth, single, singles, then_read, writing}
-pub use Shown.{mark_text, refusal_line, refusal_text}
+pub use Shown.{field_word, mark_text, refusal_line, refusal_text, stage_word}
 pub use Spans.{all_takings, ends_span, entries_of_call, has_ended, takings, takings_of_call, until}
 pub use Stages.{inside, inside_after, stage, stage_after}
 pub use Turns.{Leads, Turn, open_after, open_closing, open_copy, open_place, open_run, open_settled, open_written}

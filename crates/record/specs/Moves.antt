@@ -10,7 +10,11 @@ use Rattle.plain_store.specs.{Setup}
 use Rattle.record.specs.Entries.{Entry, Past}
 use Rattle.record.specs.Registers.{opening_bit}
 
--- the fields in their order, counted from 0
+-- the fields in their order
+abbrev pub fields : List Field
+fields = Choosing ∷ Ticket ∷ Commit ∷ Stamp0 ∷ Stamp1 ∷ Image0 ∷ Image1 ∷ []
+
+-- the place of each, counted from 0
 abbrev pub field_number : Field → ℕ
 field_number Choosing = 0
 field_number Ticket = 1

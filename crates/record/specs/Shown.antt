@@ -1,11 +1,15 @@
--- How marks and refusals are printed.
+-- How marks, refusals, stages and registers are printed.
 use Rattle.std.specs.Prelude.{ℕ, true, false, List, ◌++◌, codes}
 use Rattle.std.specs.Fmt.{decimal}
 use Rattle.plain_store.specs.{command_text, reply_text, answer_text}
+use Rattle.record.specs.declared.access.Field.{Field}
+use Rattle.record.specs.declared.access.Field.TheVariants.{Choosing, Ticket, Commit, Stamp0, Stamp1, Image0, Image1}
 use Rattle.record.specs.declared.marks.Mark.{Mark}
 use Rattle.record.specs.declared.marks.Mark.TheVariants.{Called, Waiting, Entered, Taken, Left, Answered, Failed, Settled, Down, Withdrew, Restarted}
 use Rattle.record.specs.declared.refusals.Refusal.{Refusal}
 use Rattle.record.specs.declared.refusals.Refusal.TheVariants.{NoProcess, Busy, IsDown, NotRunning, NotWaiting, AlreadyFailed, NotDown, CallsFull, Memory}
+use Rattle.record.specs.declared.stages.Stage.{Stage}
+use Rattle.record.specs.declared.stages.Stage.TheVariants as stage
 
 -- a mark
 abbrev pub mark_text : Mark → List ℕ
@@ -33,6 +37,26 @@ refusal_text AlreadyFailed = codes "already-failed"
 refusal_text NotDown = codes "not-down"
 refusal_text CallsFull = codes "calls-full"
 refusal_text Memory = codes "memory"
+
+-- a stage
+abbrev pub stage_word : Stage → List ℕ
+stage_word stage.Idle = codes "idle"
+stage_word stage.Doorway = codes "doorway"
+stage_word stage.Waiting = codes "waiting"
+stage_word stage.Inside = codes "inside"
+stage_word stage.Leaving = codes "leaving"
+stage_word stage.Settling = codes "settling"
+stage_word stage.Down = codes "down"
+
+-- a register
+abbrev pub field_word : Field → List ℕ
+field_word Choosing = codes "choosing"
+field_word Ticket = codes "ticket"
+field_word Commit = codes "commit"
+field_word Stamp0 = codes "stamp0"
+field_word Stamp1 = codes "stamp1"
+field_word Image0 = codes "image0"
+field_word Image1 = codes "image1"
 
 -- the line of a call, or another event, of a process that is refused
 abbrev pub refusal_line : ℕ → Refusal → List ℕ

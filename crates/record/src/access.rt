@@ -1,6 +1,7 @@
 //! Registers of a process, and accesses to their bits.
 ghost use Rattle.std.specs.Prelude.{◌≡◌};
 ghost use Rattle.record.specs.Accesses.{access_of};
+ghost use Rattle.record.specs.Moves.{same_bit};
 
 use reader_copies::{Made, Torn};
 use safe_bit::Move;
@@ -45,6 +46,17 @@ impl Access {
             reader: made.reader,
             how: made.how,
         }
+    }
+
+    /// Whether both are accesses of one single-reader bit.
+    #[inline]
+    pub fn same_bit(&self, other: &Access) -> bool
+        ensures { result ≡ same_bit self.now other.now }
+    {
+        self.bit == other.bit
+            && self.reader == other.reader
+            && self.owner == other.owner
+            && self.field == other.field
     }
 }
 

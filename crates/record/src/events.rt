@@ -1,4 +1,5 @@
-ghost use Rattle.std.specs.Prelude.{◌≡◌};
+ghost use Rattle.std.specs.Prelude.{◌≡◌, true};
+ghost use Rattle.record.specs.Given.{is_event};
 ghost use Rattle.record.specs.Records.{process_of};
 
 use plain_store::Command;
@@ -32,6 +33,15 @@ impl Event {
             Event::Fail(process) => process,
             Event::Withdraw(process) => process,
             Event::Restart(process) => process,
+        }
+    }
+
+    /// Does nothing. Its contract says that what the event calls is a command.
+    pub fn command_is_sound(&self)
+        ensures { is_event self.now ≡ true }
+    {
+        if let Event::Call(_, command) = self {
+            command.operands_are_sound();
         }
     }
 }

@@ -7,6 +7,7 @@ mod access;
 mod acts;
 mod calls;
 mod events;
+mod fields;
 mod history;
 mod laws;
 mod marks;
@@ -19,6 +20,7 @@ pub use access::{Access, Field, TornBit};
 pub use acts::Act;
 pub use calls::Placed;
 pub use events::Event;
+pub use fields::{FIELDS, field_numbered, image_bytes, number_of_field, width_of};
 pub use history::Taken;
 pub use laws::{
     bytes_go_by_their_bits, cells_answer_the_safe_rule, closings_follow_scripts,
@@ -30,5 +32,6 @@ pub use plain_store::Setup;
 pub use records::{Entry, Record};
 pub use refusals::Refusal;
 pub use safe_bit::{Move, SafeBit};
+pub use safe_number::bit_of;
 pub use shown::refusal_line;
 pub use stages::Stage;

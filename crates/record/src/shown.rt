@@ -1,10 +1,13 @@
-//! How marks and refusals are printed, in replays and wherever else.
+//! How marks, refusals, stages and registers are printed, in replays and wherever else.
 ghost use Rattle.std.specs.Prelude.{◌≡◌, IfOk};
 ghost use Rattle.std.specs.String.{string_bytes};
-ghost use Rattle.record.specs.Shown.{mark_text, refusal_line as line_of_refusal, refusal_text};
+ghost use Rattle.record.specs.Shown.{field_word, mark_text, refusal_line as line_of_refusal, refusal_text, stage_word};
 
+use crate::access::Field;
+use crate::fields::{FIELDS, number_of_field};
 use crate::marks::Mark;
 use crate::refusals::Refusal;
+use crate::stages::Stage;
 use plain_store::NestedTypes;
 use std::alloc::{AllocError, Global};
 use std::fmt;
@@ -50,6 +53,32 @@ impl fmt::Display for Refusal {
             Refusal::CallsFull => "calls-full",
             Refusal::Memory => "memory",
         })
+    }
+}
+
+impl Stage {
+    /// Its word.
+    pub fn word(self) -> &'static str
+        ensures { result.now ≡ stage_word self }
+    {
+        match self {
+            Stage::Idle => "idle",
+            Stage::Doorway => "doorway",
+            Stage::Waiting => "waiting",
+            Stage::Inside => "inside",
+            Stage::Leaving => "leaving",
+            Stage::Settling => "settling",
+            Stage::Down => "down",
+        }
+    }
+}
+
+impl Field {
+    /// Its word.
+    pub fn word(self) -> &'static str
+        ensures { result.now ≡ field_word self }
+    {
+        FIELDS[number_of_field(self)].1
     }
 }
 

@@ -9,7 +9,8 @@ use Rattle.companions.specs.picture.{Form}
 use Rattle.companions.specs.picture.declared.reads.Reads.{Reads as Mode}
 use Rattle.record.specs.{Entry, Past}
 use Rattle.record_file.specs.{Progress, cleared, entry_in, line_read, record_of, rest_read}
-use Rattle.record_drawer.specs.{DrawnEntry, DrawsAllBands, DrawsAt, EndsAt, GoesOn, IsDrawFault, LineStops, RecordDrawing, Sheet, Stands, entries_of, failed_write}
+use Rattle.companions.specs.{failed_write}
+use Rattle.record_drawer.specs.{DrawnEntry, DrawsAllBands, DrawsAt, EndsAt, GoesOn, IsDrawFault, LineStops, RecordDrawing, Sheet, Stands, entries_of}
 use Rattle.judge.proofs.Ends.{at_end, line_fault, line_then, of_input, told_on}
 use Rattle.judge.proofs.Lines.{few_in, long_read}
 use Rattle.judge.proofs.Trials.{unless_then}

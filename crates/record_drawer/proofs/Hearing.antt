@@ -1,29 +1,30 @@
 -- A drawing hears an entry.
-use Rattle.std.proofs.Common.{◌≡◌, ◌+◌, List, ◌∷◌, ◌++◌, length, Option, sym, subst, ◌∙◌, arith}
+use Rattle.std.proofs.Common.{◌≡◌, ◌+◌, ◌-◌, ℕ, List, ◌∷◌, ◌++◌, length, Option, sym, subst, arith}
 use Rattle.plain_store.specs.{Setup}
-use Rattle.record.specs.{Access, Entry, Past}
+use Rattle.record.specs.{Entry, Mark, Past}
 use Rattle.companions.specs.picture.columns.{OverlappedRead}
 use Rattle.companions.specs.picture.declared.reads.Reads.{Reads as Mode}
-use Rattle.record_drawer.specs.{IsAmong, Knows, Recalls, RecordDrawing, RecordedChanges, behind, marks_back, reads_since, waiting}
-use Rattle.companions.specs.{Overhears, OverlapsHeard, overlapped_by}
+use Rattle.companions.specs.{Canvas, DrawsLines, DrawsOn, Kept, Overhears, kept, lines_given, overlapped_by}
+use Rattle.record_drawer.proofs.Giving.{waiting_says}
+use Rattle.record_drawer.specs.{HasTold, Recalls, RecordDrawing, behind, given_of, marks_back, reads_since, says_marks}
 
-module _ (mode : Mode) (s : Setup) (past : Past) (e : Entry) (access : Option Access) (is : e.access ≡ access) (d : RecordDrawing) (recalls : Recalls mode s past d) where
-  -- once its access was heard
-  pub heard_among : (o : Option OverlapsHeard) → ((mode : Mode) (s : Setup) (past : Past) (reads : List OverlappedRead) (f : Entry) → f.access ≡ access → Overhears mode s past reads d.overlaps → d.entries ≡ length past → Overhears mode s (f ∷ past) (reads ++ overlapped_by s past f) o) →
-      (d' : RecordDrawing) → d'.changes ≡ d.changes → d'.taken ≡ d.taken → d'.overlaps ≡ o → IsAmong mode s (e ∷ past) (reads_since s past ++ overlapped_by s past e) (marks_back past) d'
-  heard_among o heard d' changes taken overlaps = record {
-    knows = subst (λ (c : RecordedChanges). Knows s (marks_back past) c) (sym changes) recalls.among.knows;
-    taken = taken ∙ recalls.among.taken;
-    waits = subst (λ (o : Option OverlapsHeard). Overhears mode s (e ∷ past) (reads_since s past ++ overlapped_by s past e) o) (sym overlaps) (heard mode s past (reads_since s past) e is recalls.among.waits recalls.entries);
-  }
+-- these marks of an entry were drawn, once its access was heard
+abbrev pub DrawsMarks : (heard : Canvas) (d d' : RecordDrawing) (a b : Option (List ℕ)) → ℕ → List Mark → Setup → Past → Type 0
+DrawsMarks heard d d' a b p marks s past = DrawsLines heard d'.canvas a b (d.last - 1) d.entries (says_marks s p (marks_back past) marks) × HasTold s (behind p marks (marks_back past)) d'.changes d'.taken
 
-  -- and its marks were drawn
-  pub recalls_on : (d' d'' : RecordDrawing) → IsAmong mode s (e ∷ past) (waiting e.marks (reads_since s past ++ overlapped_by s past e)) (behind e.process e.marks (marks_back past)) d' → d''.changes ≡ d'.changes → d''.taken ≡ d'.taken → d''.overlaps ≡ d'.overlaps → d''.entries ≡ d.entries + 1 → Recalls mode s (e ∷ past) d''
-  recalls_on d' d'' among changes taken overlaps entries = record {
-    entries = let n : d.entries ≡ length past = recalls.entries in omega (arith, entries, n);
-    among = record {
-      knows = subst (λ (c : RecordedChanges). Knows s (behind e.process e.marks (marks_back past)) c) (sym changes) among.knows;
-      taken = taken ∙ among.taken;
-      waits = subst (λ (o : Option OverlapsHeard). Overhears mode s (e ∷ past) (waiting e.marks (reads_since s past ++ overlapped_by s past e)) o) (sym overlaps) among.waits;
-    };
-  }
+-- so the drawing goes on
+pub entry_heard : (mode : Mode) (s : Setup) (past : Past) (e : Entry) (d d' : RecordDrawing) (heard : Canvas) (a b : Option (List ℕ)) (p : ℕ) (marks : List Mark) → e.process ≡ p → e.marks ≡ marks → Recalls mode s past d →
+    kept heard ≡ kept d.canvas → Overhears mode s (e ∷ past) (reads_since s past ++ overlapped_by s past e) heard.overlaps → DrawsMarks heard d d' a b p marks s past → d'.entries ≡ d.entries + 1 →
+    DrawsOn (kept d.canvas) (kept d'.canvas) a b (given_of mode s (d.last - 1) past e) × Recalls mode s (e ∷ past) d'
+entry_heard mode s past e d d' heard a b p marks process are recalls same waits drew entries =
+    let reads : List OverlappedRead = reads_since s past ++ overlapped_by s past e in
+    let its : DrawsMarks heard d d' a b e.process e.marks s past = subst (λ (l : List Mark). DrawsMarks heard d d' a b e.process l s past) (sym are) (subst (λ (q : ℕ). DrawsMarks heard d d' a b q marks s past) (sym process) drew) in
+    let drawn = its.0 mode s (e ∷ past) reads waits in (
+      subst (λ (k : Kept). DrawsOn k (kept d'.canvas) a b (given_of mode s (d.last - 1) past e)) same
+          (subst (λ (n : ℕ). DrawsOn (kept heard) (kept d'.canvas) a b (lines_given mode (d.last - 1) n reads (says_marks s e.process (marks_back past) e.marks))) recalls.entries drawn.0),
+      record {
+        entries = let n : d.entries ≡ length past = recalls.entries in omega (arith, entries, n);
+        told = its.1;
+        waits = subst (λ (l : List OverlappedRead). Overhears mode s (e ∷ past) l d'.canvas.overlaps) (waiting_says s e.process (marks_back past) e.marks reads) drawn.1;
+      },
+    )

@@ -2,9 +2,6 @@ pub use Rattle.companions.proofs as companions
 pub use Rattle.companions.proofs.picture as picture
 pub use Rattle.record_file.proofs as record_file
 pub use Rattle.companions.proofs.read_law as read_law
--- Markup that is written piece by piece
-mod Written
-pub mod Drawn
 -- What items are told
 mod Giving
 mod Takings

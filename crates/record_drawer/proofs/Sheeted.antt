@@ -1,14 +1,15 @@
 -- The picture of a record goes on, entry by entry.
-use Rattle.std.proofs.Common.{◌≡◌, ℕ, ◌+◌, ◌-◌, List, [], ◌∷◌, ◌++◌, is_some, false, true≢false, Option, None, Some, refl, sym, subst, ◌∙◌, append-nil, arith}
+use Rattle.std.proofs.Common.{◌≡◌, ℕ, ◌+◌, ◌-◌, List, [], ◌∷◌, ◌++◌, is_some, false, true≢false, Option, None, Some, sym, subst, ◌∙◌, append-nil, arith}
 use Rattle.plain_store.specs.{Setup}
 use Rattle.record.specs.{Access, Entry, Past}
 use Rattle.record_file.specs.{Progress, step_entry}
-use Rattle.companions.specs.picture.{Form, Page, page_front, page_names}
+use Rattle.companions.specs.picture.{Form, page_front, page_names}
 use Rattle.companions.specs.picture.declared.page.Form.TheVariants as form
 use Rattle.companions.specs.picture.declared.reads.Reads.{Reads as Mode}
 use Rattle.companions.specs.picture.markup.{lines_in, opens_in}
-use Rattle.record_drawer.specs.{DrawsAt, DrawsOn, DrawsPast, DrawsRest, EndsAt, Heads, IsDrawn, Kept, Recalls, RecordDrawing, SaysEnd, Writes, given_at_end, given_by, given_of, kept, kept_at_first, lines_given, listed, plan_of, reads_since, says_judged, source_of}
-use Rattle.record_drawer.proofs.Drawn.{draws_bands, draws_on_both, draws_on_none}
+use Rattle.companions.specs.{DrawsLast, DrawsOn, DrawsRest, Kept, SaysEnd, Writes, kept, kept_at_first, lines_given, plan_of}
+use Rattle.record_drawer.specs.{DrawsAt, DrawsPast, EndsAt, Heads, IsDrawn, Recalls, RecordDrawing, given_at_end, given_by, given_of, listed, reads_since, says_judged, source_of}
+use Rattle.companions.proofs.Drawn.{draws_bands, draws_on_both, draws_on_none}
 
 module _ (reads : Mode) (form : Form) (s : Setup) where
   -- the line that stands for the entries
@@ -16,29 +17,29 @@ module _ (reads : Mode) (form : Form) (s : Setup) where
   source d is = omega (arith, is)
 
   -- one entry more
-  pub drawn_entry : (past : Past) (e : Entry) (d d' : RecordDrawing) (old mid new : Option (List ℕ)) → IsDrawn reads form s past d old mid → DrawsOn (kept d.page) (kept d'.page) mid new (given_of reads s (d.last - 1) past e) → Recalls reads s (e ∷ past) d' → d'.last ≡ d.last → IsDrawn reads form s (e ∷ past) d' old new
-  drawn_entry past e d d' old mid new drawn on recalls last = record {
+  pub drawn_entry : (past : Past) (e : Entry) (d d' : RecordDrawing) (old mid new : Option (List ℕ)) → IsDrawn reads form s past d old mid → DrawsOn (kept d.canvas) (kept d'.canvas) mid new (given_of reads s (d.last - 1) past e) × Recalls reads s (e ∷ past) d' → d'.last ≡ d.last → IsDrawn reads form s (e ∷ past) d' old new
+  drawn_entry past e d d' old mid new drawn on last = record {
     last = last ∙ drawn.last;
-    recalls = recalls;
+    recalls = on.1;
     mid = drawn.mid;
     heads = drawn.heads;
-    draws = draws_on_both (kept_at_first (plan_of form s)) (kept d.page) (kept d'.page) drawn.mid mid new (given_by reads s (source_of s) past) (given_of reads s (source_of s) past e) drawn.draws
-        (subst (λ n. DrawsOn (kept d.page) (kept d'.page) mid new (given_of reads s n past e)) (source d drawn.last) on);
+    draws = draws_on_both (kept_at_first (plan_of form s)) (kept d.canvas) (kept d'.canvas) drawn.mid mid new (given_by reads s (source_of s) past) (given_of reads s (source_of s) past e) drawn.draws
+        (subst (λ n. DrawsOn (kept d.canvas) (kept d'.canvas) mid new (given_of reads s n past e)) (source d drawn.last) on.0);
   }
 
   -- one without a mark, of which nothing is drawn
-  pub drawn_step : (past : Past) (p : ℕ) (a : Access) (d d' : RecordDrawing) (old new : Option (List ℕ)) → d'.page ≡ d.page → Recalls reads s (step_entry p a ∷ past) d' → d'.last ≡ d.last → IsDrawn reads form s past d old new → IsDrawn reads form s (step_entry p a ∷ past) d' old new
+  pub drawn_step : (past : Past) (p : ℕ) (a : Access) (d d' : RecordDrawing) (old new : Option (List ℕ)) → kept d'.canvas ≡ kept d.canvas → Recalls reads s (step_entry p a ∷ past) d' → d'.last ≡ d.last → IsDrawn reads form s past d old new → IsDrawn reads form s (step_entry p a ∷ past) d' old new
   drawn_step past p a d d' old new page recalls last drawn = record {
     last = last ∙ drawn.last;
     recalls = recalls;
     mid = drawn.mid;
     heads = drawn.heads;
-    draws = subst (λ gives. DrawsOn (kept_at_first (plan_of form s)) (kept d'.page) drawn.mid new gives) (sym (append-nil (given_by reads s (source_of s) past)))
-        (subst (λ (page : Page). DrawsOn (kept_at_first (plan_of form s)) (kept page) drawn.mid new (given_by reads s (source_of s) past)) (sym page) drawn.draws);
+    draws = subst (λ gives. DrawsOn (kept_at_first (plan_of form s)) (kept d'.canvas) drawn.mid new gives) (sym (append-nil (given_by reads s (source_of s) past)))
+        (subst (λ (k : Kept). DrawsOn (kept_at_first (plan_of form s)) k drawn.mid new (given_by reads s (source_of s) past)) (sym page) drawn.draws);
   }
 
   -- none yet
-  pub drawn_none : (d : RecordDrawing) (old new : Option (List ℕ)) → d.last ≡ source_of s + 1 → Recalls reads s [] d → kept d.page ≡ kept_at_first (plan_of form s) → Heads reads form s old new → IsDrawn reads form s [] d old new
+  pub drawn_none : (d : RecordDrawing) (old new : Option (List ℕ)) → d.last ≡ source_of s + 1 → Recalls reads s [] d → kept d.canvas ≡ kept_at_first (plan_of form s) → Heads reads form s old new → IsDrawn reads form s [] d old new
   drawn_none d old new last recalls page heads = record {
     last = last;
     recalls = recalls;
@@ -53,16 +54,16 @@ module _ (reads : Mode) (form : Form) (s : Setup) where
   drawn_begun (Some d) d' past old mid new none drawn begun = absurd (true≢false none)
 
   -- all
-  pub drawn_end : (past : Past) (d : RecordDrawing) (told : List ℕ) (old mid new : Option (List ℕ)) (height : ℕ) → IsDrawn reads form s past d old mid → DrawsRest (kept d.page) mid new (lines_given reads d.last d.entries (reads_since s past) (says_judged told ++ SaysEnd d.entries d.taken ∷ [])) height → EndsAt reads form s past told height old new
+  pub drawn_end : (past : Past) (d : RecordDrawing) (told : List ℕ) (old mid new : Option (List ℕ)) (height : ℕ) → IsDrawn reads form s past d old mid → DrawsLast d.canvas mid new d.last d.entries (says_judged told ++ SaysEnd d.entries d.taken 0 ∷ []) height → EndsAt reads form s past told height old new
   drawn_end past d told old mid new height drawn rest = record {
     mid = drawn.mid;
     heads = drawn.heads;
-    bands = draws_bands (plan_of form s) (kept_at_first (plan_of form s)) (kept d.page) drawn.mid mid new (given_by reads s (source_of s) past) (given_at_end reads s (source_of s) past told) height refl refl drawn.draws
-        (subst (λ gives. DrawsRest (kept d.page) mid new gives height) same rest);
+    bands = draws_bands (plan_of form s) (kept d.canvas) drawn.mid mid new (given_by reads s (source_of s) past) (given_at_end reads s (source_of s) past told) height drawn.draws
+        (subst (λ gives. DrawsRest (kept d.canvas) mid new gives height) same (rest reads s past (reads_since s past) drawn.recalls.waits));
   }
     where
-      same : lines_given reads d.last d.entries (reads_since s past) (says_judged told ++ SaysEnd d.entries d.taken ∷ []) ≡ given_at_end reads s (source_of s) past told
-      same = λ i. lines_given reads (drawn.last i) (drawn.recalls.entries i) (reads_since s past) (says_judged told ++ SaysEnd (drawn.recalls.entries i) (drawn.recalls.among.taken i) ∷ [])
+      same : lines_given reads d.last d.entries (reads_since s past) (says_judged told ++ SaysEnd d.entries d.taken 0 ∷ []) ≡ given_at_end reads s (source_of s) past told
+      same = λ i. lines_given reads (drawn.last i) (drawn.recalls.entries i) (reads_since s past) (says_judged told ++ SaysEnd (drawn.recalls.entries i) (drawn.recalls.told.taken_is i) 0 ∷ [])
 
 -- a page's front
 pub heads_page : (reads : Mode) (s : Setup) (old new : Option (List ℕ)) (head : List ℕ) → head ≡ page_front s (listed s) reads → lines_in head ≡ [] → opens_in head (Some []) ≡ Some page_names → Writes old new head → Heads reads form.Page s old new

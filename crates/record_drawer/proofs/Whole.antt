@@ -1,47 +1,42 @@
 -- How the engines end: front, bands and back are a whole picture.
-use Rattle.std.proofs.Common.{◌≡◌, ℕ, ◌+◌, List, [], ◌++◌, Option, Some, None, Result, Ok, Err, OnOk, IfErr, IfSome, IsErrAnd, ap, sym, subst, ◌∙◌, append-nil, arith}
+use Rattle.std.proofs.Common.{◌≡◌, ℕ, ◌+◌, List, [], ◌++◌, Option, Some, None, Result, Ok, Err, OnOk, IfErr, IfSome, ap, subst, ◌∙◌, arith}
 use Rattle.std.specs.Io.KnownBytes.{Appends, IsAtEnd, Keeps}
 use Rattle.files.specs.Engines.{Streams}
-use Rattle.files.specs.{Fault, failed_reading}
+use Rattle.files.specs.{Fault}
 use Rattle.files.specs.declared.faults.Fault.TheVariants as fault
 use Rattle.plain_store.specs.{Setup, opening_store}
 use Rattle.record.specs.{Entry}
 use Rattle.record_file.specs.{Said}
 use Rattle.judge.specs.{IsOfRecord, numbers_of}
-use Rattle.companions.specs.{IsAround, store_words}
+use Rattle.companions.specs.{DrawsBands, IsAround, IsWriteFault, Writes, failed_write, plan_of, store_words}
 use Rattle.companions.specs.picture.{Form, bands_told, page_back, page_names, picture_back, picture_front, picture_names}
 use Rattle.companions.specs.picture.declared.page.Form.TheVariants as form
 use Rattle.companions.specs.picture.declared.reads.Reads.{Reads as Mode}
 use Rattle.companions.specs.picture.markup.{lines_in, opens_in}
-use Rattle.companions.proofs.picture.markup.Lines.{lines_on}
-use Rattle.companions.proofs.picture.markup.Stacks.{opens_on}
-use Rattle.record_drawer.specs.{DrawnEntry, DrawsBands, DrawsBandsOf, DrawsRecord, DrawsSaid, Drew, DrewAs, IsDrawFault, IsJudged, IsPictureOf, IsWriteFault, LeavesNone, Writes, failed_write, picture_of, plan_of, record_gives, record_lines, without_write}
-use Rattle.record_drawer.proofs.Drawn.{writes_both}
+use Rattle.record_drawer.specs.{DrawnEntry, DrawsBandsOf, DrawsRecord, DrawsSaid, Drew, IsJudged, picture_of, record_gives}
+use Rattle.companions.proofs.Drawn.{IsWhole, framed}
 use Rattle.record_drawer.proofs.Giving.{marks_of_record, texts_of_record}
 
--- what stands before and behind tells nothing, and ends what it begins
-framed : (reads : Mode) (form : Form) (said : Said) (told : List ℕ) (a b c d : Option (List ℕ)) (head ending : List ℕ) (names : List (List ℕ)) (height : ℕ) → IsAround names head ending →
-    Writes a b head → (bands : DrawsBands (plan_of form said.setup) b c (record_gives reads said told) height) → Writes c d ending → (let markup : List ℕ = (head ++ bands_told (plan_of form said.setup) bands.items) ++ ending in markup) ≡ picture_of reads form said.setup bands.items →
-    (let markup : List ℕ = (head ++ bands_told (plan_of form said.setup) bands.items) ++ ending in IsPictureOf reads form said told markup × (opens_in markup (Some []) ≡ Some []) × (lines_in markup ≡ record_lines said told) × Writes a d markup)
-framed reads form said told a b c d head ending names height around first bands last is =
-    let markup : List ℕ = bands_told (plan_of form said.setup) bands.items in
-    let front = writes_both a b c head markup first bands.draws.writes in (
-      record { items = bands.items; are = bands.are; marks = marks_of_record reads said told bands.items bands.are; is = is },
-      opens_on (head ++ markup) ending (Some []) front.rests ∙ ap (opens_in ending) (opens_on head markup (Some []) first.rests ∙ ap (opens_in markup) around.begins ∙ bands.draws.ended (Some names)) ∙ around.ends,
-      lines_on (head ++ markup) ending front.rests ∙ (λ i. lines_on head markup first.rests i ++ around.no_end i) ∙ append-nil (lines_in head ++ lines_in markup) ∙ ap (λ l. l ++ lines_in markup) around.no_head ∙ bands.draws.read_back ∙ texts_of_record reads said told,
-      writes_both a c d (head ++ markup) ending front last,
-    )
+-- what is whole is what was said
+is_said : (reads : Mode) (form : Form) (said : Said) (told : List ℕ) (a d b c : Option (List ℕ)) (markup : List ℕ) (height : ℕ) (bands : DrawsBands (plan_of form said.setup) b c (record_gives reads said told) height) → IsWhole a d markup (record_gives reads said told) → markup ≡ picture_of reads form said.setup bands.items → DrawsSaid reads form said told a d
+is_said reads form said told a d b c markup height bands whole is = record {
+  markup = markup;
+  picture = record { items = bands.items; are = bands.are; marks = marks_of_record reads said told bands.items bands.are; is = is };
+  elements = whole.0;
+  read_back = whole.1 ∙ texts_of_record reads said told;
+  writes = whole.2;
+}
 
 -- a page
-pub page_drawn : (reads : Mode) (said : Said) (told : List ℕ) (drawn : DrawnEntry) (a b c : Option (List ℕ)) (opening ending : List ℕ) → DrawsBandsOf reads form.Page drawn a b said told → opening ≡ store_words (opening_store drawn.setup) → ending ≡ page_back opening → lines_in ending ≡ [] → opens_in ending (Some page_names) ≡ Some [] → Writes b c ending →
+pub page_drawn : (reads : Mode) (said : Said) (told : List ℕ) (drawn : DrawnEntry) (a b c : Option (List ℕ)) (ending : List ℕ) → DrawsBandsOf reads form.Page drawn a b said told → ending ≡ page_back (store_words (opening_store drawn.setup)) → lines_in ending ≡ [] → opens_in ending (Some page_names) ≡ Some [] → Writes b c ending →
     DrawsSaid reads form.Page said told a c
-page_drawn reads said told drawn a b c opening ending bands opens back no_ending end last =
+page_drawn reads said told drawn a b c ending bands back no_ending end last =
     let h = bands.ends.heads in
     let items = bands.ends.bands.items in
     let is : (h.head ++ bands_told (plan_of form.Page said.setup) items) ++ ending ≡ picture_of reads form.Page said.setup items =
-    λ i. (h.is i ++ bands_told (plan_of form.Page said.setup) items) ++ (back ∙ ap page_back (opens ∙ ap (λ s. store_words (opening_store s)) bands.setup)) i in
-    let all = framed reads form.Page said told a bands.ends.mid b c h.head ending page_names drawn.height (record { no_head = h.lines; begins = h.opens; no_end = no_ending; ends = end }) h.writes bands.ends.bands last is in
-    record { markup = (h.head ++ bands_told (plan_of form.Page said.setup) items) ++ ending; picture = all.0; elements = all.1; read_back = all.2; writes = all.3 }
+    λ i. (h.is i ++ bands_told (plan_of form.Page said.setup) items) ++ (back ∙ ap (λ s. page_back (store_words (opening_store s))) bands.setup) i in
+    is_said reads form.Page said told a c bands.ends.mid b _ drawn.height bands.ends.bands
+    (framed (plan_of form.Page said.setup) a bands.ends.mid b c h.head ending page_names (record_gives reads said told) drawn.height (record { no_head = h.lines; begins = h.opens; no_end = no_ending; ends = end }) h.writes bands.ends.bands last) is
 
 -- bytes that were held
 held_are : (bytes markup : List ℕ) → Appends (Some []) (Some bytes) markup → bytes ≡ markup
@@ -61,8 +56,7 @@ picture_drawn reads said told drawn bytes a b c d head ending bands front back a
     } in
     let is : (head ++ bands_told (plan_of (form.Picture 34) said.setup) o.items) ++ ending ≡ picture_of reads (form.Picture 34) said.setup o.items =
     λ i. ((front ∙ (λ j. picture_front (bands.setup j) (o.heights j) reads)) i ++ bands_told (plan_of (form.Picture 34) said.setup) o.items) ++ (back ∙ ap (λ h. picture_back h reads) o.heights) i in
-    let all = framed reads (form.Picture 34) said told a b c d head ending picture_names drawn.height around first again last is in
-    record { markup = (head ++ bands_told (plan_of (form.Picture 34) said.setup) o.items) ++ ending; picture = all.0; elements = all.1; read_back = all.2; writes = all.3 }
+    is_said reads (form.Picture 34) said told a d b c _ drawn.height again (framed (plan_of (form.Picture 34) said.setup) a b c d head ending picture_names (record_gives reads said told) drawn.height around first again last) is
 
 -- what follows of the whole input, where it is told
 pub if_some : (o : Option (List ℕ)) (P Q : List ℕ → Type 0) → ((x : List ℕ) → P x → Q x) → IfSome o P → IfSome o Q
@@ -81,45 +75,6 @@ pub judged_all : (Keeps : Setup → List Entry → Type 0) (Tells : Setup → Li
     IfSome o (IsOfRecord (IsJudged Keeps Tells status P)) → IfSome o (IsOfRecord (IsJudged Keeps Tells status Q))
 judged_all Keeps Tells status P Q then o is =
     if_some o (IsOfRecord (IsJudged Keeps Tells status P)) (IsOfRecord (IsJudged Keeps Tells status Q)) (λ text. of_record_then (IsJudged Keeps Tells status P) (IsJudged Keeps Tells status Q) text (judged_then Keeps Tells status P Q then)) is
-
--- Drawing ends with a fault.
-module _ {A : Type 0} (draws : A → List ℕ → Option (List ℕ) → Option (List ℕ) → Type 0) (f : Form) (r : Result A Fault) (old new : Streams) where
-  by_fault : (e : Fault) → IsErrAnd r (λ told. told ≡ e) → DrewAs draws f (Err e) old new → DrewAs draws f r old new
-  by_fault e is drew = by r is
-    where
-      by : (r : Result A Fault) → IsErrAnd r (λ told. told ≡ e) → DrewAs draws f r old new
-      by (Ok done) is = absurd is
-      by (Err told) is = subst (λ e. DrewAs draws f (Err e) old new) (sym is) drew
-
-  -- of the input, or before anything was written of one picture
-  pub drew_fault : (B : Type 0) (e : Fault) → IsErrAnd r (λ told. told ≡ e) → IsDrawFault e old.to_come → new.read_failures ≡ old.read_failures + failed_reading {A = B} (Err e) → new.write_failures ≡ old.write_failures + failed_write {A = B} (Err e) → LeavesNone f old.taken new.taken → DrewAs draws f r old new
-  drew_fault B e is why reading writing leaves = by_fault e is (by e why reading writing)
-    where
-      by : (e : Fault) → IsDrawFault e old.to_come → new.read_failures ≡ old.read_failures + failed_reading {A = B} (Err e) → new.write_failures ≡ old.write_failures + failed_write {A = B} (Err e) → DrewAs draws f (Err e) old new
-      by (fault.Line l) why reading writing = (why, leaves)
-      by fault.Read why reading writing = (omega (arith, reading), leaves)
-      by fault.Write why reading writing = omega (arith, writing)
-      by fault.Memory why reading writing = tt
-
-  -- where bytes were held
-  pub drew_held : (B : Type 0) (e g : Fault) → IsErrAnd r (λ told. told ≡ e) → e ≡ without_write g → IsDrawFault g old.to_come → new.read_failures ≡ old.read_failures + failed_reading {A = B} (Err g) → LeavesNone f old.taken new.taken → DrewAs draws f r old new
-  drew_held B e g is same why reading leaves = by_fault e is (subst (λ e. DrewAs draws f (Err e) old new) (sym same) (by g why reading))
-    where
-      by : (g : Fault) → IsDrawFault g old.to_come → new.read_failures ≡ old.read_failures + failed_reading {A = B} (Err g) → DrewAs draws f (Err (without_write g)) old new
-      by (fault.Line l) why reading = (why, leaves)
-      by fault.Read why reading = (omega (arith, reading), leaves)
-      by fault.Write why reading = tt
-      by fault.Memory why reading = tt
-
-  -- amid writing
-  pub drew_cut : (B : Type 0) (e : Fault) → IsErrAnd r (λ told. told ≡ e) → IsWriteFault e → new.write_failures ≡ old.write_failures + failed_write {A = B} (Err e) → DrewAs draws f r old new
-  drew_cut B e is why writing = by_fault e is (by e why writing)
-    where
-      by : (e : Fault) → IsWriteFault e → new.write_failures ≡ old.write_failures + failed_write {A = B} (Err e) → DrewAs draws f (Err e) old new
-      by fault.Write why writing = omega (arith, writing)
-      by fault.Memory why writing = tt
-      by fault.Read why writing = absurd why
-      by (fault.Line l) why writing = absurd why
 
 -- it ends with the last write
 pub drew_last : (reads : Mode) (f : Form) (r : Result (Unit {0}) Fault) (old new : Streams) → OnOk r (IfSome old.to_come (λ text. DrawsRecord reads f text old.taken new.taken)) → IsAtEnd new.to_come → IfErr r IsWriteFault → new.write_failures ≡ old.write_failures + failed_write r → Drew reads f r old new

@@ -14,9 +14,9 @@ use Rattle.companions.specs.picture.columns.{marks_in, marks_said}
 use Rattle.companions.specs.picture.declared.page.Form.TheVariants as form
 use Rattle.companions.specs.picture.declared.reads.Reads.{Reads as Mode}
 use Rattle.companions.specs.picture.markup.{lines_in, opens_in}
-use Rattle.record_drawer.specs.Drawings.{DrawsBands, DrawsOn, Recalls, Writes, kept, kept_at_first, plan_of}
-use Rattle.record_drawer.specs.Items.{given, given_at_end, given_by, record_gives, record_lines, source_of}
-use Rattle.companions.specs.{store_words}
+use Rattle.record_drawer.specs.Drawings.{Recalls}
+use Rattle.record_drawer.specs.Items.{given_at_end, given_by, record_gives, record_lines, source_of}
+use Rattle.companions.specs.{DrawsBands, DrawsOn, Writes, given, kept, kept_at_first, plan_of, store_words}
 use Rattle.record_drawer.specs.declared.drawing.RecordDrawing.{RecordDrawing}
 use Rattle.record_drawer.specs.declared.sheet.DrawnEntry.{DrawnEntry}
 use Rattle.record_drawer.specs.declared.sheet.Sheet.{Sheet}
@@ -85,7 +85,7 @@ pub record IsDrawn (reads : Mode) (form : Form) (s : Setup) (past : Past) (d : R
   pub recalls : Recalls reads s past d
   pub mid : Option (List ℕ)
   pub heads : Heads reads form s old mid
-  pub draws : DrawsOn (kept_at_first (plan_of form s)) (kept d.page) mid new (given_by reads s (source_of s) past)
+  pub draws : DrawsOn (kept_at_first (plan_of form s)) (kept d.canvas) mid new (given_by reads s (source_of s) past)
 
 -- the same by what there is: before the first entry nothing was written
 abbrev pub DrawsPast : Mode → Form → Option RecordDrawing → Setup → Past → Option (List ℕ) → Option (List ℕ) → Type 0

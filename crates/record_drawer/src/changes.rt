@@ -3,10 +3,10 @@ ghost use Rattle.std.specs.Prelude.{◌≡◌, ◌∷◌, ◌<◌, ℕ, [], List
 ghost use Rattle.plain_store.specs.{checked};
 ghost use Rattle.plain_store.specs.declared.setups.Setup.{Setup as Given};
 ghost use Rattle.record.specs.declared.marks.Mark.{Mark as Noted};
-ghost use Rattle.companions.specs.{changed, store_words as words_of_store, words_by};
+ghost use Rattle.companions.specs.{changed};
 ghost use Rattle.record_drawer.specs.Takings.{Knows, after_call, change_by_call, change_of, next_number as number_after};
 
-use companions::{TakenChange, store_words, words_by_pairs};
+use companions::TakenChange;
 use plain_store::{Caller, Command, NestedTypes, PlainStore, Setup, opened};
 use record::Mark;
 use std::alloc::{AllocError, Global};
@@ -23,7 +23,7 @@ pub(crate) struct LastCall {
 pub(crate) struct RecordedChanges {
     alloc: Global,
     version: u8,
-    store: PlainStore,
+    pub store: PlainStore,
     calls: Vec<LastCall>,
 }
 
@@ -103,20 +103,6 @@ impl RecordedChanges {
             number: call.number,
         };
         companions::apply(self.alloc, &mut self.store, &call.command, caller)
-    }
-
-    /// The store's pairs, with single spaces between them, or that it is empty.
-    pub fn store_words(&self) -> Result<Vec<u8>, AllocError>
-        ensures { IfOk result (λ words. words.items ≡ words_of_store self.now.store) }
-    {
-        store_words(self.alloc, &self.store)
-    }
-
-    /// The same, and nothing where it is empty.
-    pub fn words_by_pairs(&self) -> Result<Vec<u8>, AllocError>
-        ensures { IfOk result (λ words. words.items ≡ words_by self.now.store.pairs) }
-    {
-        words_by_pairs(self.alloc, &self.store)
     }
 }
 

@@ -7,18 +7,16 @@ ghost use Rattle.companions.specs.picture.declared.page.Form.TheVariants as form
 ghost use Rattle.judge.specs.{IsOfRecord};
 ghost use Rattle.judge.specs.Trials.{Stands as HearerStands};
 ghost use Rattle.companions.specs.picture.declared.reads.Reads.{Reads as Mode};
+ghost use Rattle.companions.specs.{IsWriteFault, failed_write};
 ghost use Rattle.record.specs.{Entry as Noted};
 ghost use Rattle.record_file.specs.{Progress, Said};
 ghost use Rattle.record_drawer.specs.Judges.{DrewJudgedBy};
 ghost use Rattle.record_drawer.specs.Judgings.{HasRead, TellsOfLines};
 ghost use Rattle.record_drawer.specs.Sheets.{DrawsAllBands, DrawsBandsOf, DrawsSaid, Drew, DrewJudged, IsDrawFault, IsJudged, Stands, without_write};
-ghost use Rattle.record_drawer.specs.Writing.{IsWriteFault, failed_write};
 
-use crate::changes::RecordedChanges;
 use crate::held::Held;
 use crate::sheet::{DrawnEntry, Sheet};
-use crate::writing::write_markup;
-use companions::{FIRST_BAND, Form, Reads, around_picture, page_end};
+use companions::{FIRST_BAND, Form, Reads, around_picture, end_of_page, write_markup};
 use files::source_lines::Lines;
 use files::{Fault, FaultKind, Sink, Source, write_all};
 use judge::{Explaining, ExplainingAnyLock, Judging, Telling, Trial};
@@ -100,8 +98,7 @@ fn end_page<W: Sink>(alloc: Global, drawn: &DrawnEntry, output: &mut W) -> Resul
     ensures fault { IfErr result IsWriteFault }
     ensures failures { W.failures output.new ≡ W.failures output.old + failed_write result }
 {
-    let opening = RecordedChanges::new(alloc, &drawn.setup)?.store_words()?;
-    let end = page_end(alloc, opening.as_slice())?;
+    let end = end_of_page(alloc, &drawn.setup)?;
     write_markup(&end, output)
 }
 

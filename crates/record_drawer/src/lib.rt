@@ -15,7 +15,6 @@ mod judged;
 mod opened;
 mod sheet;
 mod taken_files;
-mod writing;
 
 pub use engines::{
     JudgedBy, draw_judged_record, draw_judged_record_svg, draw_record, draw_record_svg,

@@ -5,12 +5,11 @@ ghost use Rattle.record.specs.{Past};
 ghost use Rattle.record_file.specs.{Progress, line_read};
 ghost use Rattle.companions.specs.picture.{page_front, page_names};
 ghost use Rattle.companions.specs.picture.markup.{lines_in, opens_in};
+ghost use Rattle.companions.specs.{IsWriteFault, failed_write};
 ghost use Rattle.record_drawer.specs.Sheets.{DrawsPast, EndsAt, GoesOn, Heads, LineStops, Stands, entries_of, listed};
-ghost use Rattle.record_drawer.specs.Writing.{IsWriteFault, failed_write};
 
 use crate::drawing::RecordDrawing;
-use crate::writing::write_markup;
-use companions::{Form, Markup, Reads, page_head};
+use companions::{Form, Markup, Reads, page_head, write_markup};
 use files::{Fault, FaultKind, LineFault, Sink, read_any_line};
 use plain_store::{NestedTypes, Setup};
 use record::Entry;
@@ -239,10 +238,7 @@ impl Around {
             self.begin(setup, drawing, output)?;
         }
         match drawing {
-            Some(drawing) => {
-                drawing.end(told, output)?;
-                Ok(drawing.height())
-            }
+            Some(drawing) => drawing.end(told, output),
             None => Ok(0),
         }
     }

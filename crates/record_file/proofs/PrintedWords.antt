@@ -9,7 +9,7 @@ use Rattle.std.specs.Fmt.{decimal, signed_decimal}
 use Rattle.std.specs.List.{list_all}
 use Rattle.safe_bit.specs.{Move}
 use Rattle.safe_bit.specs.declared.Move.TheVariants as move
-use Rattle.record.specs.{Access, Entry, Field, Mark}
+use Rattle.record.specs.{Access, Entry, Field, Mark, field_word}
 use Rattle.record.specs.declared.access.Field.TheVariants.{Choosing, Ticket, Commit, Stamp0, Stamp1, Image0, Image1}
 use Rattle.plain_store.specs.{Answer, Command, Reply, fits_i64, is_command, is_name, is_value, value_text}
 use Rattle.plain_store.specs.declared.commands.Answer.TheVariants as answer
@@ -19,7 +19,7 @@ use Rattle.record.specs.declared.marks.Mark.TheVariants as mark
 use Rattle.scenario.specs.{command_words}
 use Rattle.scenario.proofs.Spaced.{is_word}
 use Rattle.scenario.proofs.Spelled.{integer_word, name_word, number_word, value_word}
-use Rattle.record_file.specs.{access_words, answer_words, entry_words, field_word, is_access, is_answer, is_entry, is_mark, is_reply, mark_words, move_words, reply_words, signed_words}
+use Rattle.record_file.specs.{access_words, answer_words, entry_words, is_access, is_answer, is_entry, is_mark, is_reply, mark_words, move_words, reply_words, signed_words}
 
 -- one word, and no other
 one : (w : List ℕ) → is_word w ≡ true → list_all is_word (w ∷ []) ≡ true

@@ -10,7 +10,7 @@ use Rattle.std.specs.List.{All, list_all}
 use Rattle.std.specs.Option.{ok_or}
 use Rattle.safe_bit.specs.{Move}
 use Rattle.safe_bit.specs.declared.Move.TheVariants as move
-use Rattle.record.specs.{Access, Entry, Field, Mark}
+use Rattle.record.specs.{Access, Entry, Field, Mark, field_word}
 use Rattle.record.specs.declared.access.Field.TheVariants.{Choosing, Ticket, Commit, Stamp0, Stamp1, Image0, Image1}
 use Rattle.plain_store.specs.{Answer, Command, Reply, fits_i64, is_command, is_name, value_text}
 use Rattle.plain_store.specs.declared.commands.Answer.TheVariants as answer
@@ -25,7 +25,7 @@ use Rattle.scenario.specs.declared.keywords.Verb.TheVariants as verb
 use Rattle.scenario.proofs.Numerals.{own}
 use Rattle.scenario.proofs.ReadBack.{process_again, operands_of, command_again}
 use Rattle.scenario.proofs.Spelled.{number_again, integer_again, value_again}
-use Rattle.record_file.specs.{AnswerWord, IsEntry, ReplyWord, access_of, access_words, answer_count, answer_of, answer_word_of, answer_words, answered_of, both, called_of, copy_of, copy_word, dotted, entry_by, entry_of, entry_with, entry_words, field_at, field_of, field_word, is_access, is_answer, is_mark, is_reply, mark_of, mark_words, marks_read, move_of, move_words, reply_count, reply_of, reply_word_of, reply_words, signed_words, sum_first, taken_of, with_mark}
+use Rattle.record_file.specs.{AnswerWord, IsEntry, ReplyWord, access_of, access_words, answer_count, answer_of, answer_word_of, answer_words, answered_of, both, called_of, copy_of, copy_word, dotted, entry_by, entry_of, entry_with, entry_words, field_at, field_of, is_access, is_answer, is_mark, is_reply, mark_of, mark_words, marks_read, move_of, move_words, reply_count, reply_of, reply_word_of, reply_words, signed_words, sum_first, taken_of, with_mark}
 use Rattle.record_file.specs.declared.keywords.AnswerWord.TheVariants as answer_word
 use Rattle.record_file.specs.declared.keywords.ReplyWord.TheVariants as reply_word
 use Rattle.record_file.proofs.NoSigns.{access_has_none, marks_have_none}

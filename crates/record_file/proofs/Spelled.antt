@@ -6,7 +6,7 @@ use Rattle.std.specs.Fmt.{decimal}
 use Rattle.std.specs.List.{list_all}
 use Rattle.safe_bit.specs.{Move}
 use Rattle.safe_bit.specs.declared.Move.TheVariants as move
-use Rattle.record.specs.{Access, Entry, Field, Mark}
+use Rattle.record.specs.{Access, Entry, Field, Mark, field_word}
 use Rattle.plain_store.specs.{Answer, Reply}
 use Rattle.plain_store.specs.declared.commands.Answer.TheVariants as answer
 use Rattle.plain_store.specs.declared.commands.Reply.TheVariants as reply
@@ -19,7 +19,7 @@ use Rattle.scenario.specs.declared.bit_files.BitWord.TheVariants as bits
 use Rattle.scenario.proofs.BitsSaid.{bit_key, key_spelled, one_bit_spelled}
 use Rattle.scenario.proofs.LineSpelled.{none_of, one_of, command_said, process_spelled}
 use Rattle.scenario.proofs.OneSpelling.{number_spelled, integer_at_spelled, value_spelled, verb_word, found_spelled}
-use Rattle.record_file.specs.{AnswerWord, IsEntry, MarkWord, ReplyWord, access_of, access_words, answer_count, answer_of, answer_word_of, answer_words, answered_of, both, called_of, copy_of, copy_word, dotted, entry_by, entry_of, entry_words, field_at, field_of, field_word, fields, is_access, is_answer, is_mark, is_reply, lone_mark_of, mark_names, mark_of, mark_word_of, mark_words, marks_read, move_of, move_words, named_mark_of, or_reply, own_answer_of, own_answers, parts_of, reply_count, reply_names, reply_of, reply_word_of, reply_words, signed_words, sum_first, taken_of, waiting_of, with_mark}
+use Rattle.record_file.specs.{AnswerWord, IsEntry, MarkWord, ReplyWord, access_of, access_words, answer_count, answer_of, answer_word_of, answer_words, answered_of, both, called_of, copy_of, copy_word, dotted, entry_by, entry_of, entry_words, field_at, field_of, fields, is_access, is_answer, is_mark, is_reply, lone_mark_of, mark_names, mark_of, mark_word_of, mark_words, marks_read, move_of, move_words, named_mark_of, or_reply, own_answer_of, own_answers, parts_of, reply_count, reply_names, reply_of, reply_word_of, reply_words, signed_words, sum_first, taken_of, waiting_of, with_mark}
 use Rattle.record_file.specs.declared.keywords.AnswerWord.TheVariants as answer_word
 use Rattle.record_file.specs.declared.keywords.MarkWord.TheVariants as mark_word
 use Rattle.record_file.specs.declared.keywords.ReplyWord.TheVariants as reply_word

@@ -6,9 +6,9 @@ use Rattle.std.proofs.lemmas.List.{drop-drop, length-append, take-append-drop, t
 use Rattle.std.specs.Fmt.{decimal}
 use Rattle.safe_bit.specs.{Move}
 use Rattle.safe_bit.specs.declared.Move.TheVariants as move
-use Rattle.record.specs.{Access}
+use Rattle.record.specs.{Access, field_word}
 use Rattle.scenario.specs.{spaced}
-use Rattle.record_file.specs.{copy_word, entry_words, field_word, move_words, step_entry}
+use Rattle.record_file.specs.{copy_word, entry_words, move_words, step_entry}
 
 -- the number of a digit, in front of other bytes
 pub one_digit : (bytes : List ℕ) (n : ℕ) → 1 ≤ length bytes → slice_index_or bytes 0 0 ≡ 48 + n → n < 10 → bytes ≡ decimal n ++ take (length bytes - 1) (drop 1 bytes)

@@ -3,24 +3,13 @@ use Rattle.std.specs.Prelude.{ℕ, List, [], ◌∷◌, ◌++◌, codes, flat_ma
 use Rattle.std.specs.Fmt.{decimal, signed_decimal}
 use Rattle.safe_bit.specs.{Move}
 use Rattle.safe_bit.specs.declared.Move.TheVariants.{BeginWrite, EndWrite, BeginRead, EndRead, Settle}
-use Rattle.record.specs.{Access, Entry, Field, Mark}
-use Rattle.record.specs.declared.access.Field.TheVariants.{Choosing, Ticket, Commit, Stamp0, Stamp1, Image0, Image1}
+use Rattle.record.specs.{Access, Entry, Field, Mark, field_word}
 use Rattle.plain_store.specs.{Answer, Reply, Setup, value_text}
 use Rattle.plain_store.specs.declared.commands.Answer.TheVariants as answer
 use Rattle.plain_store.specs.declared.commands.Reply.TheVariants as reply
 use Rattle.record.specs.declared.marks.Mark.TheVariants as mark
 use Rattle.scenario.specs.{BitLine, bit_line_words, bit_word, command_words, kind_words, open_words, printed_line, spaced}
 use Rattle.scenario.specs.declared.bit_files.BitLine.TheVariants as line
-
--- the word of a register
-abbrev pub field_word : Field → List ℕ
-field_word Choosing = codes "choosing"
-field_word Ticket = codes "ticket"
-field_word Commit = codes "commit"
-field_word Stamp0 = codes "stamp0"
-field_word Stamp1 = codes "stamp1"
-field_word Image0 = codes "image0"
-field_word Image1 = codes "image1"
 
 -- between the dots of a copy
 abbrev pub dotted_field : Field → List ℕ

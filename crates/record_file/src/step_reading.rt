@@ -3,8 +3,9 @@
 ghost use Rattle.std.specs.Prelude.{◌≡◌, ◌+◌, ◌-◌, ◌<◌, ◌≤◌, ◌∷◌, ◌++◌, [], codes, drop, take, false, true, IfSome};
 ghost use Rattle.std.specs.Fmt.{decimal};
 ghost use Rattle.scenario.specs.{spaced};
+ghost use Rattle.record.specs.{field_word};
 ghost use Rattle.record_file.specs.Given.{is_entry};
-ghost use Rattle.record_file.specs.Printing.{access_text, entry_words, field_word, move_words, step_entry};
+ghost use Rattle.record_file.specs.Printing.{access_text, entry_words, move_words, step_entry};
 
 use crate::sound::sound_step;
 use record::{Access, Field};

@@ -1,5 +1,5 @@
 //! A plain memory of the bits of process 0 alone, on which the cursor of its section is driven by hand.
-use record::{Access, Field, Move};
+use record::{Access, Move, number_of_field};
 use std::alloc::{AllocError, Global};
 
 /// How many registers a process has.
@@ -24,7 +24,7 @@ impl Memory {
 
     /// Makes an access, and answers what it gives if it ends a read.
     pub fn make(&mut self, access: &Access) -> bool {
-        let before = number_of(access.field).saturating_mul(BITS);
+        let before = number_of_field(access.field).saturating_mul(BITS);
         let place = before.saturating_add(usize::from(access.bit));
         let Some(bit) = self.bits.get_mut(place) else {
             return false;
@@ -35,18 +35,5 @@ impl Memory {
             _ => {}
         }
         false
-    }
-}
-
-/// Where a register stands among those of its process.
-fn number_of(field: Field) -> usize {
-    match field {
-        Field::Choosing => 0,
-        Field::Ticket => 1,
-        Field::Commit => 2,
-        Field::Stamp0 => 3,
-        Field::Stamp1 => 4,
-        Field::Image0 => 5,
-        Field::Image1 => 6,
     }
 }

@@ -6,9 +6,9 @@ use Rattle.std.proofs.lemmas.List.{set_past}
 use Rattle.std.proofs.Math.Nat.{mul-le-mul_left}
 use Rattle.safe_bit.specs.Cell.{Cell}
 use Rattle.safe_bit.specs.{Move}
-use Rattle.flicks.specs.{FlickState, after_flick, constant_flicks, flick_of, flicks_after}
+use Rattle.flicks.specs.{FlickState, after_flick, flick_of, flicks_after}
 use Rattle.record.specs.{Access, value_of}
-use Rattle.registers.specs.{CursorState, Fits, HasLanes, IsAtCopy, LeadsTo, NumberRun, RegisterName, access_next, after_by, answered, applied, cursor_after, ends_copy, ends_overlapped, is_settling, lane_number, lane_of_access, memory_moved, newest_of, next_access, next_answered, overlapped_of, rest_by, rest_of, run_of}
+use Rattle.registers.specs.{CursorState, Fits, HasLanes, IsAtCopy, LeadsTo, NumberRun, RegisterName, access_next, after_by, answered, applied, cursor_after, ends_copy, ends_overlapped, is_settling, lane_number, lane_of_access, memory_moved, newest_of, next_access, overlapped_of, rest_by, rest_of, run_of}
 use Rattle.registers.specs.Accesses.{made_by}
 use Rattle.registers.specs.declared.cursor.NumberRun.TheVariants.{Reads, Writes, Settles}
 use Rattle.registers.proofs.Iterates.{byte-one, overlapped-more, run-more}
@@ -119,12 +119,6 @@ runs-on (suc k) now plain fits within =
     let one : rest_by c.run next + 1 ≡ rest_of c = rest-by c.run c how before.plain (run-fits k now fits).copy (omega (arith, before.rest, within)) in
     record { plain = ap is_settling same ∙ before.plain; rest = omega (arith, ap (λ r. rest_by r next) same, one, before.rest) }
 
--- whatever the flicks
-pub leads_fits : (n : ℕ) (c d : CursorState) (memory now : List (List Cell)) → LeadsTo n c memory d now → Fits memory c → Fits now d
-leads_fits n c d memory now h fits =
-    let P : CursorState × List (List Cell) × FlickState → Type 0 = λ x. Fits x.1 x.0 in
-    subst P (h.run (constant_flicks false)) (run-fits n (c, memory, constant_flicks false) fits)
-
 -- so many accesses have been made, of which so many ended a read that a write overlapped
 pub record HasRun (made overlapped : ℕ) (before now : CursorState × List (List Cell) × FlickState) : Type 0 where
   pub now_is : now ≡ run_of made before
@@ -152,10 +146,9 @@ run-on k more made overlapped before now after h after_is more_is = record {
 }
 
 -- one more
-pub step-on : (made overlapped : ℕ) (before : CursorState × List (List Cell) × FlickState) (c next : CursorState) (memory then : List (List Cell)) (flicks later : FlickState) (flick last : Bool) (a : Access) (byte : ℕ) → HasRun made overlapped before (c, memory, flicks) →
-    flick ≡ flick_of flicks → a ≡ next_answered c memory flick → next ≡ cursor_after c a.how → then ≡ applied c.copies memory a → later ≡ after_flick flicks → last ≡ ends_overlapped c.copies memory a → byte ≡ bool_byte last → HasRun (made + 1) (overlapped + byte) before (next, then, later)
-step-on made overlapped before c next memory then flicks later flick last a byte h flick_is made_is cursor_is memory_is flicks_are ends byte_is =
-    let is : a ≡ access_next (c, memory, flicks) = made_is ∙ ap (next_answered c memory) flick_is in
+pub step-on : (made overlapped : ℕ) (before : CursorState × List (List Cell) × FlickState) (c next : CursorState) (memory then : List (List Cell)) (flicks later : FlickState) (last : Bool) (a : Access) (byte : ℕ) → HasRun made overlapped before (c, memory, flicks) →
+    a ≡ access_next (c, memory, flicks) → next ≡ cursor_after c a.how → then ≡ applied c.copies memory a → later ≡ after_flick flicks → last ≡ ends_overlapped c.copies memory a → byte ≡ bool_byte last → HasRun (made + 1) (overlapped + byte) before (next, then, later)
+step-on made overlapped before c next memory then flicks later last a byte h is cursor_is memory_is flicks_are ends byte_is =
     run-on 1 byte made overlapped before (c, memory, flicks) (next, then, later) h
     ((λ i. (cursor_is i, memory_is i, flicks_are i)) ∙ ap (made_by c memory flicks) is)
     (byte_is ∙ byte-one last ∙ ap (λ b. 0 + cond b 1 0) (ends ∙ ap (ends_overlapped c.copies memory) is))

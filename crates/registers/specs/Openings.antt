@@ -1,15 +1,15 @@
 -- The memory as it opens, and the memory of a setup.
-use Rattle.std.specs.Prelude.{◌≡◌, ◌<◌, ◌==◌, ℕ, ◌*◌, ◌/◌, ◌%◌, Bool, false, if◌then◌else◌, List, [], ◌∷◌, length, map, replicate, slice_index_or}
+use Rattle.std.specs.Prelude.{◌≡◌, ◌<◌, ◌==◌, ℕ, ◌*◌, ◌/◌, ◌%◌, Bool, false, if◌then◌else◌, List, length, map, replicate, slice_index_or}
 use Rattle.std.specs.List.{range_with_len}
 use Rattle.safe_bit.specs.Cell.{Cell, new_cell}
 use Rattle.plain_store.specs.{Setup}
-use Rattle.record.specs.{Field, width}
-use Rattle.record.specs.declared.access.Field.TheVariants.{Choosing, Ticket, Commit, Stamp0, Stamp1, Image0, Image1}
+use Rattle.record.specs.{Field, fields, width}
+use Rattle.record.specs.declared.access.Field.TheVariants.{Image1}
 use Rattle.registers.specs.Memory.{lane_of}
 
 -- the field of this number in their order
 abbrev pub field_numbered : ℕ → Field
-field_numbered number = slice_index_or (Choosing ∷ Ticket ∷ Commit ∷ Stamp0 ∷ Stamp1 ∷ Image0 ∷ Image1 ∷ []) number Image1
+field_numbered number = slice_index_or fields number Image1
 
 -- a lane as it opens, where the first image of process 0 opens at these bits; each other bit is 0
 abbrev pub opening_lane : Setup → List Bool → ℕ → List Cell

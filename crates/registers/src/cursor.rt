@@ -10,11 +10,11 @@ ghost use Rattle.registers.specs.Cursors.{is_over, lane_number, rest_of};
 
 mod steps;
 
-use crate::fields::{RegisterName, number_of_field, width_of};
+use crate::fields::RegisterName;
 use crate::word_bytes::{bytes_of, words_of};
 use plain_store::Setup;
 use reader_copies::Torn;
-use record::{Access, Field, Move, TornBit};
+use record::{Access, Field, Move, TornBit, number_of_field, width_of};
 use std::marker::Model;
 
 /// What a number access does.

@@ -2,6 +2,7 @@
 ghost use Rattle.std.specs.Prelude.{◌≡◌, ◌≢◌, ℕ, ◌<◌, ◌≤◌, ◌+◌, ◌*◌, ◌%◌, length, false, IfOk, Ok};
 ghost use Rattle.plain_store.specs.{checked};
 ghost use Rattle.record.specs.{width};
+ghost use Rattle.flicks.specs.{after_flick, flick_of};
 ghost use Rattle.registers.specs.Accesses.{LeadsTo, applied, cursor_after, ends_overlapped, newest_of, next_answered, overlapped_of, run_of};
 ghost use Rattle.registers.specs.Begins.{is_settling};
 ghost use Rattle.registers.specs.Cursors.{Fits, first_lane, rest_of};
@@ -14,11 +15,10 @@ mod seeing;
 
 use crate::access_made::{AccessMade, AccessesMade};
 use crate::cursor::{Cursor, NumberRun};
-use crate::fields::{FIELDS, width_of};
 use flicks::Flicks;
 use plain_store::Setup;
 use reader_copies::Copies;
-use record::{Access, Field, Move};
+use record::{Field, field_numbered, width_of};
 use std::alloc::{AllocError, Global};
 use std::marker::Model;
 
@@ -55,8 +55,8 @@ impl BitMemory {
         Ok(BitMemory { lanes })
     }
 
-    /// Makes the next `steps` accesses of a read or a write, each by the flick that is next: the single access, so many times.
-    /// It answers the newest of them, and how many ended a read that a write overlapped. What nobody looks at costs nothing.
+    /// Makes the next `steps` accesses, each by the flick that is next: the single access, so many times. It answers the newest of
+    /// them, and how many ended a read that a write overlapped. What nobody looks at costs nothing.
     #[inline(always)]
     pub fn run(&mut self, cursor: &mut Cursor, flicks: &mut Flicks, steps: u32) -> AccessesMade
         requires kind { is_settling cursor.old.run ≡ false }
@@ -69,14 +69,16 @@ impl BitMemory {
         ensures overlapped { result.overlapped ≡ overlapped_of steps (cursor.old, self.old, flicks.old) }
     {
         let (mut made, mut overlapped) = (0, 0);
-        // The newest access is told, so words end before it.
         'steps: loop {
-            let words = self.run_words(cursor, steps - 1 - made);
-            if words > 0 {
-                flicks.skip(words);
+            // The newest access is told, so words end before it.
+            let word = self.run_word(cursor, steps - 1 - made);
+            if word > 0 {
+                flicks.skip(word);
+                made += word;
+                continue;
             }
-            let one = self.step(cursor, flicks.flick());
-            made += words + 1;
+            let one = self.step_plain(cursor, flicks);
+            made += 1;
             overlapped += u32::from(one.overlapped);
             if made == steps {
                 return AccessesMade {
@@ -87,31 +89,68 @@ impl BitMemory {
         }
     }
 
-    /// Makes the next access of a number access, by this flick, and tells it, and whether it ended a read that a write
-    /// overlapped. The cursor stays, until it is told too.
+    /// Makes the next access by the flick that is next, and tells it, and whether it ended a read that a write overlapped; the
+    /// cursor goes on.
     #[inline]
-    pub fn make(&mut self, cursor: &Cursor, flick: bool) -> AccessMade
-        requires going { cursor.now.bit ≢ cursor.now.width }
-        requires fits { Fits self.old cursor.now }
-        ensures inside { cursor.now.bit < cursor.now.width }
-        ensures access { result.access ≡ next_answered cursor.now self.old flick }
-        ensures overlapped { result.overlapped ≡ ends_overlapped cursor.now.copies self.old result.access }
-        ensures memory { self.new ≡ applied cursor.now.copies self.old result.access }
+    pub fn step(&mut self, cursor: &mut Cursor, flicks: &mut Flicks) -> AccessMade
+        requires going { cursor.old.bit ≢ cursor.old.width }
+        requires fits { Fits self.old cursor.old }
+        ensures inside { cursor.old.bit < cursor.old.width }
+        ensures access { result.access ≡ next_answered cursor.old self.old (flick_of flicks.old) }
+        ensures overlapped { result.overlapped ≡ ends_overlapped cursor.old.copies self.old result.access }
+        ensures cursor { cursor.new ≡ cursor_after cursor.old result.access.how }
+        ensures memory { self.new ≡ applied cursor.old.copies self.old result.access }
+        ensures flicks { flicks.new ≡ after_flick flicks.old }
     {
-        let (lane, bit) = (cursor.copy_lane(), cursor.bit());
-        let copies = &mut self.lanes[lane];
-        let next = cursor.next(flick);
-        let (how, overlapped) = match next.how {
-            Move::EndRead(_) => (
-                Move::EndRead(copies.answer(bit, flick)),
-                copies.seen(bit).touched,
-            ),
-            how => (how, false),
+        let bit = cursor.bit();
+        let NumberRun::Settles { .. } = cursor.run() else {
+            return self.step_plain(cursor, flicks);
         };
-        copies.go_on(bit, how);
+        let next = cursor.next(flicks.flick());
+        self.lanes[cursor.copy_lane()].go_on(bit, next.how);
+        cursor.advance(next.how);
         AccessMade {
-            access: Access { how, ..next },
-            overlapped,
+            access: next,
+            overlapped: false,
+        }
+    }
+
+    /// The same of a read or a write. A read has no branch on whether it is a begin or an end, and a flick that nobody needs is
+    /// not worked out.
+    #[inline(always)]
+    fn step_plain(&mut self, cursor: &mut Cursor, flicks: &mut Flicks) -> AccessMade
+        requires kind { is_settling cursor.old.run ≡ false }
+        requires going { cursor.old.bit < cursor.old.width }
+        requires fits { Fits self.old cursor.old }
+        ensures access { result.access ≡ next_answered cursor.old self.old (flick_of flicks.old) }
+        ensures overlapped { result.overlapped ≡ ends_overlapped cursor.old.copies self.old result.access }
+        ensures cursor { cursor.new ≡ cursor_after cursor.old result.access.how }
+        ensures memory { self.new ≡ applied cursor.old.copies self.old result.access }
+        ensures flicks { flicks.new ≡ after_flick flicks.old }
+    {
+        let bit = cursor.bit();
+        if let NumberRun::Reads = cursor.run() {
+            let copies = &mut self.lanes[cursor.lane()];
+            let seen = copies.seen(bit);
+            let value = if seen.touched {
+                flicks.flick()
+            } else {
+                flicks.flick();
+                seen.value
+            };
+            let how = cursor.read_move(value);
+            let made = cursor.made(how, cursor.has_begun() && seen.touched);
+            copies.go_on(bit, how);
+            cursor.read_on(value);
+            made
+        } else {
+            flicks.flick();
+            let how = cursor.write_move();
+            let made = cursor.made(how, false);
+            let lane = cursor.copy_lane();
+            cursor.write_on();
+            self.lanes[lane].go_on(bit, how);
+            made
         }
     }
 
@@ -131,56 +170,6 @@ impl BitMemory {
         ensures { self.new ≡ without_reads self.old (first_lane cursor.now) }
     {
         self.lanes[cursor.lane()].drop_reads();
-    }
-
-    /// Makes the next access of a read or a write, by this flick, and tells it, and whether it ended a read that a write
-    /// overlapped; the cursor goes on. A read has no branch on whether it is a begin or an end.
-    #[inline(always)]
-    fn step(&mut self, cursor: &mut Cursor, flick: bool) -> AccessMade
-        requires kind { is_settling cursor.old.run ≡ false }
-        requires going { cursor.old.bit < cursor.old.width }
-        requires fits { Fits self.old cursor.old }
-        ensures access { result.access ≡ next_answered cursor.old self.old flick }
-        ensures overlapped { result.overlapped ≡ ends_overlapped cursor.old.copies self.old result.access }
-        ensures cursor { cursor.new ≡ cursor_after cursor.old result.access.how }
-        ensures memory { self.new ≡ applied cursor.old.copies self.old result.access }
-    {
-        if let NumberRun::Reads = cursor.run() {
-            let (bit, begun) = (cursor.bit(), cursor.has_begun());
-            let copies = &mut self.lanes[cursor.lane()];
-            let value = copies.answer(bit, flick);
-            let overlapped = begun && copies.seen(bit).touched;
-            let made = cursor.made(cursor.read_move(value), overlapped);
-            copies.read_next(bit, begun);
-            cursor.read_on(value);
-            made
-        } else {
-            let how = cursor.write_move();
-            let made = cursor.made(how, false);
-            self.lanes[cursor.copy_lane()].go_on(cursor.bit(), how);
-            cursor.write_on();
-            made
-        }
-    }
-
-    /// Goes through whole bits, a word at once, as long as none that is read is being written. It answers how many accesses
-    /// that is, so many at most, whose flicks are left to the caller: they are skipped together.
-    #[inline(always)]
-    #[tactic(auto, using(crate::proofs::Iterates::leads_more, crate::proofs::Runs::leads_fits))]
-    fn run_words(&mut self, cursor: &mut Cursor, steps: u32) -> u32
-        requires fits { Fits self.old cursor.old }
-        ensures within { result ≤ steps }
-        ensures leads { LeadsTo result cursor.old self.old cursor.new self.new }
-    {
-        let mut made = 0;
-        'words: while made < steps {
-            let word = self.run_word(cursor, steps - made);
-            made += word;
-            if word == 0 {
-                return made;
-            }
-        }
-        made
     }
 
     /// Goes through the next bits of one word at once, on each of their lanes. It answers how many accesses that is, so many at
@@ -230,12 +219,4 @@ fn open_lane(alloc: Global, setup: &Setup, image: &[u64], lane: usize) -> Result
         let field = field_numbered(register % 7);
         Copies::new(alloc, usize::from(width_of(field, setup)))
     }
-}
-
-/// The field of this number in their order.
-fn field_numbered(number: usize) -> Field
-    requires { number < 7 }
-    ensures { result ≡ field_numbered number }
-{
-    FIELDS[number].0
 }

@@ -29,6 +29,15 @@ fn number_of_all(bytes: [u8; 8]) -> u64
     u64::from_le_bytes(bytes)
 }
 
+/// A bit of bytes, or false where there is none.
+#[inline]
+pub fn bit_of(bytes: &[u8], k: u16) -> bool
+    ensures { result ≡ bit_in bytes.now k }
+{
+    let k = usize::from(k);
+    k / 8 < bytes.len() && bit(bytes, k)
+}
+
 /// Bit `k` of bytes.
 #[inline]
 pub(crate) fn bit(bytes: &[u8], k: usize) -> bool

@@ -8,7 +8,7 @@ mod reading;
 mod register;
 mod writing;
 
-pub use bytes::{bits_of, number_of};
+pub use bytes::{bit_of, bits_of, number_of};
 pub use fault::NumberFault;
 pub use laws::{
     accesses_go_in_order, cut_writes_are_settled, numbers_are_their_bits, presets_give_the_number,

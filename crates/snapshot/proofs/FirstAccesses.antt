@@ -7,11 +7,11 @@ use Rattle.record.specs.{Entry, Event, Past, entry_of, first_of, has, is_called,
 use Rattle.record.specs.Closings.{Closing, Withdraws, Settles, Frees, Lowers, Quit, Ended, closing_after}
 use Rattle.record.proofs.Width.{IsGood}
 use Rattle.calls.specs.{has_access}
-use Rattle.calls.specs.read_law.laws.{Doing, call, closes, doing}
+use Rattle.world.specs.laws.{Doing, call, closes, doing}
 use Rattle.calls.proofs.InCall.{number-mine, number-other}
-use Rattle.calls.proofs.read_law.laws.Frame.{Happens, a_call, a_closing, a_failure, a_restart, a_step, a_withdrawal, doing-other}
-use Rattle.calls.proofs.read_law.laws.FrameEvents.{accepted}
-use Rattle.calls.proofs.read_law.laws.FrameMarks.{called-is, is_resting, is_running}
+use Rattle.world.proofs.laws_proofs.Frame.{Happens, a_call, a_closing, a_failure, a_restart, a_step, a_withdrawal, doing-other}
+use Rattle.world.proofs.laws_proofs.FrameEvents.{accepted}
+use Rattle.world.proofs.laws_proofs.FrameMarks.{called-is, is_resting, is_running}
 use Rattle.world.specs.process.{left_at, process_after}
 use Rattle.snapshot.specs.{has_accessed}
 

@@ -9,7 +9,7 @@ use Rattle.plain_store.specs.{Command, Setup}
 use Rattle.record.specs.{Access, Entry, Mark, Past, called_in, calls_in, first_of, has, is_failed, own, width}
 use Rattle.snapshot.specs.{FinishedRead, HasHeard, Passes, ProcessKept, SnapshotState, TellsNumber, failed_at, has_accessed, kept, kept_marked, kept_stepped, nothing_kept, opened_if, read_after, read_last, read_with, without_accesses}
 use Rattle.calls.specs.{CallStanding, EntryKnown, accessed_by, begun, ends_number, heard, marked_all, number_after, standing}
-use Rattle.calls.specs.read_law.laws.{doing}
+use Rattle.world.specs.laws.{doing}
 use Rattle.calls.proofs.Folds.{marked_all-is}
 use Rattle.calls.proofs.Heard.{slice_get-set_other, slice_get-set_same}
 use Rattle.calls.proofs.InCall.{calls-few}

@@ -1,5 +1,5 @@
 -- The copies of a register as text, and the lines of registers.
-use Rattle.std.specs.Prelude.{ℕ, Bool, true, false, not, List, [], ◌∷◌, ◌++◌, codes, cond, flat_map, map, Option, None, Some, is_none}
+use Rattle.std.specs.Prelude.{ℕ, Bool, true, false, not, List, [], ◌++◌, codes, cond, flat_map, map, Option, None, Some, is_none}
 use Rattle.std.specs.Fmt.{decimal}
 use Rattle.std.specs.List.{list_all, list_any, range_with_len}
 use Rattle.std.specs.Str.{bytes_eq}
@@ -7,10 +7,9 @@ use Rattle.plain_store.specs.{Contents, Setup, callers_of}
 use Rattle.record.specs.store_image.{image_of, store_in}
 use Rattle.record.specs.safe_bit.declared.Move.TheVariants.{BeginRead}
 use Rattle.record.specs.safe_number.{number_of_bits}
-use Rattle.record.specs.{Access, Field, Past, bytes_of_bits, image_bytes, opening_bit, processes, width}
-use Rattle.record.specs.declared.access.Field.TheVariants.{Choosing, Ticket, Commit, Stamp0, Stamp1, Image0, Image1}
-use Rattle.record_file.specs.{field_word}
-use Rattle.calls.specs.read_law.laws.{cell_held}
+use Rattle.record.specs.{Access, Field, Past, bytes_of_bits, field_word, fields, image_bytes, opening_bit, processes, width}
+use Rattle.record.specs.declared.access.Field.TheVariants.{Image0, Image1}
+use Rattle.world.specs.laws.{cell_held}
 use Rattle.world.specs.process.registers.reader_copies.{BitSeen, bit_seen}
 use Rattle.snapshot.specs.Stores.{number_word, store_text}
 
@@ -112,10 +111,6 @@ register_words owner field = codes "register " ++ (decimal owner ++ (codes "." +
 abbrev pub lines_of_register : Setup → Past → ℕ → Field → List ℕ
 lines_of_register s past owner field =
     cond (list_any (is_copy_changed s past owner field) (processes s)) (copies_lines (register_words owner field) (copy_text s past owner field) s.processes) []
-
--- the kinds of registers in their order
-abbrev pub fields : List Field
-fields = Choosing ∷ Ticket ∷ Commit ∷ Stamp0 ∷ Stamp1 ∷ Image0 ∷ Image1 ∷ []
 
 -- the lines of all registers, by owner and field
 abbrev pub register_lines : Setup → Past → List ℕ

@@ -4,15 +4,14 @@ use Rattle.std.specs.Fmt.{decimal}
 use Rattle.plain_store.specs.{Setup}
 use Rattle.record.specs.safe_bit.{Move}
 use Rattle.record.specs.safe_bit.declared.Move.TheVariants.{BeginWrite, EndWrite, EndRead}
-use Rattle.record.specs.{Access, Entry, Field, Past, Stage, entry_of, width, with_event}
+use Rattle.record.specs.{Access, Entry, Field, Past, Stage, entry_of, field_word, width, with_event}
 use Rattle.record.specs.declared.access.Field.TheVariants.{Ticket}
 use Rattle.record.specs.declared.events.Event.TheVariants.{Step}
 use Rattle.record.specs.declared.stages.Stage.TheVariants.{Doorway, Waiting, Inside, Settling}
-use Rattle.record_file.specs.{field_word}
 use Rattle.record_file.specs.scenario.{bit_word}
 use Rattle.calls.specs.{Called, holds_up, is_read_end, open_call}
 use Rattle.snapshot.specs.declared.kept.FinishedRead.{FinishedRead}
-use Rattle.calls.specs.read_law.laws.{Doing, doing}
+use Rattle.world.specs.laws.{Doing, doing}
 use Rattle.world.specs.process.{TicketKnown, number_read, settling_of, ticket_known}
 use Rattle.world.specs.process.declared.looks.Settling.{Settling as Torn}
 use Rattle.world.specs.process.declared.looks.TicketKnown.TheVariants.{Above, Is}

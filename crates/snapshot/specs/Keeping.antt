@@ -5,7 +5,7 @@ use Rattle.plain_store.specs.{Setup}
 use Rattle.record.specs.{Access, Entry, Mark, Past, called_in, first_of, has, is_failed, width}
 use Rattle.calls.specs.{CallStanding, Called, at_rest, begun, ends_number, marked_all, no_accesses, number_after, standing}
 use Rattle.snapshot.specs.declared.kept.FinishedRead.{FinishedRead}
-use Rattle.calls.specs.read_law.laws.{doing}
+use Rattle.world.specs.laws.{doing}
 use Rattle.world.specs.process.{number_read}
 use Rattle.snapshot.specs.declared.kept.ProcessKept.{ProcessKept}
 

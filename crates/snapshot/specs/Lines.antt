@@ -2,19 +2,8 @@
 use Rattle.std.specs.Prelude.{ℕ, List, [], ◌++◌, codes, slice_get, Option, None, Some}
 use Rattle.std.specs.Fmt.{decimal}
 use Rattle.plain_store.specs.{command_text, reply_text}
-use Rattle.record.specs.{Stage, Taken}
-use Rattle.record.specs.declared.stages.Stage.TheVariants.{Idle, Doorway, Waiting, Inside, Leaving, Settling, Down}
+use Rattle.record.specs.{Taken}
 use Rattle.calls.specs.{Called}
-
--- the word of a stage
-abbrev pub stage_word : Stage → List ℕ
-stage_word Idle = codes "idle"
-stage_word Doorway = codes "doorway"
-stage_word Waiting = codes "waiting"
-stage_word Inside = codes "inside"
-stage_word Leaving = codes "leaving"
-stage_word Settling = codes "settling"
-stage_word Down = codes "down"
 
 -- a line of p
 abbrev pub process_line : ℕ → List ℕ → List ℕ

@@ -4,12 +4,12 @@ use Rattle.std.specs.Fmt.{decimal}
 use Rattle.std.specs.Str.{bytes_eq}
 use Rattle.plain_store.specs.{Setup}
 use Rattle.record.specs.declared.events.Event.TheVariants.{Step}
-use Rattle.record.specs.{Entry, Past, Stage, calls_in, entry_of, history, own, stage}
+use Rattle.record.specs.{Entry, Past, Stage, calls_in, entry_of, history, own, stage, stage_word}
 use Rattle.record.specs.declared.stages.Stage.TheVariants.{Idle, Down}
 use Rattle.record_file.specs.{entry_line}
 use Rattle.calls.specs.{open_call}
 use Rattle.snapshot.specs.Doing.{doing_lines}
-use Rattle.snapshot.specs.Lines.{open_lines, process_line, stage_word}
+use Rattle.snapshot.specs.Lines.{open_lines, process_line}
 
 -- What comes next.
 

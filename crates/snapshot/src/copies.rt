@@ -6,14 +6,13 @@ ghost use Rattle.plain_store.specs.{callers_of, checked, empty_store};
 ghost use Rattle.record.specs.{Past, bytes_of_bits, image_bytes, processes, width};
 ghost use Rattle.record.specs.store_image.{IsStore};
 ghost use Rattle.safe_number.specs.{IsBytesOf, new_read, number_of_bits};
-ghost use Rattle.calls.specs.read_law.laws.{IsThere};
+ghost use Rattle.world.specs.laws.{IsThere};
 ghost use Rattle.snapshot.specs.Knowing.{CoreShows};
 ghost use Rattle.snapshot.specs.Copies.{bit_at, bit_held, copy_of, copy_text, has_changed, held_in, have_one_text, image_text, is_copy_changed, is_one, shown};
 
 use crate::stores::push_store;
-use calls::width;
 use plain_store::Setup;
-use record::{Access, Field, Move, bytes_go_by_their_bits};
+use record::{Access, Field, Move, bytes_go_by_their_bits, width_of};
 use safe_number::{ReadRun, number_of, numbers_are_their_bits};
 use std::alloc::{AllocError, Global};
 use world::{BitSeen, Core, Image};
@@ -31,13 +30,12 @@ pub(crate) struct RegisterCopies<'a> {
 impl RegisterCopies<'_> {
     /// What the copy for a reader of a bit holds; none while a write of it is open.
     #[inline]
-    fn bit(&self, reader: u8, bit: usize) -> Option<bool>
+    fn bit(&self, reader: u8, bit: u16) -> Option<bool>
         requires good { checked self.now.setup.now ≡ Ok tt }
         requires setup { self.now.core.now.setup ≡ self.now.setup.now }
         requires owner { self.now.owner < self.now.setup.now.processes }
         requires reader { reader < self.now.setup.now.processes }
         requires bit { bit < width self.now.setup.now self.now.field }
-        requires few { bit < 65536 }
         ensures { (past : Past) → CoreShows self.now.core.now past
             → result ≡ bit_held self.now.setup.now past
             (copy_of self.now.owner self.now.field reader bit) }
@@ -57,7 +55,7 @@ impl RegisterCopies<'_> {
         ensures { IfOk result (λ text. (past : Past) → CoreShows self.now.core.now past
             → text.items ≡ copy_text self.now.setup.now past self.now.owner self.now.field reader) }
     {
-        let width = width(self.setup, self.field);
+        let width = width_of(self.field, self.setup);
         let mut read = new_read(self.alloc, width)?;
         let mut flickers = false;
         for bit in 0..width {
@@ -85,7 +83,7 @@ impl RegisterCopies<'_> {
             reader }
     {
         let mut changed = false;
-        for bit in 0..width(self.setup, self.field) {
+        for bit in 0..width_of(self.field, self.setup) {
             let before = held_in(opening.bit_seen(&copy_of(self.owner, self.field, reader, bit)));
             let is_changed = has_changed(is_one(before), self.bit(reader, bit));
             changed = changed | is_changed;
@@ -131,14 +129,13 @@ impl RegisterCopies<'_> {
 
 /// The copy for a reader of a bit.
 #[inline]
-fn copy_of(owner: u8, field: Field, reader: u8, bit: usize) -> Access
-    requires { bit < 65536 }
+fn copy_of(owner: u8, field: Field, reader: u8, bit: u16) -> Access
     ensures { result ≡ copy_of owner field reader bit }
 {
     Access {
         owner,
         field,
-        bit: bit as u16,
+        bit,
         reader,
         how: Move::BeginRead,
     }
@@ -153,7 +150,7 @@ pub(crate) fn bit_at(core: &Core, setup: &Setup, access: &Access) -> BitSeen
 {
     let there = access.owner < setup.processes
         && access.reader < setup.processes
-        && usize::from(access.bit) < width(setup, access.field);
+        && access.bit < width_of(access.field, setup);
     if !there {
         return BitSeen {
             value: false,
@@ -201,11 +198,11 @@ fn has_changed(opening: bool, held: Option<bool>) -> bool
 }
 
 /// Room for the bits of a register of this width.
-fn new_read(alloc: Global, width: usize) -> Result<ReadRun, AllocError>
+fn new_read(alloc: Global, width: u16) -> Result<ReadRun, AllocError>
     requires { width ≤ 1728 }
     ensures { IfOk result (λ read. read ≡ new_read width width) }
 {
-    match ReadRun::new(alloc, width as u16) {
+    match ReadRun::new(alloc, width) {
         Ok(read) => Ok(read),
         Err(_) => Err(AllocError),
     }

@@ -7,10 +7,9 @@ ghost use Rattle.snapshot.specs.Copies.{is_image};
 ghost use Rattle.snapshot.specs.Doing.{awaited, chosen_words, cut_access, cut_open, doorway_ticket, failed_words, is_cut_open, is_writing, one_if, open_by, opened_words, progress_words, read_word, reads_words, settles_words, so_far, ticket_at, ticket_words, torn_words, waiting_ticket, waits_at, waits_by, writes_before, writes_in_all, written_word};
 
 use crate::kept::FinishedRead;
-use crate::register_lines::field_word;
-use calls::{Called, holds_up, width};
+use calls::{Called, holds_up};
 use plain_store::{NestedTypes, Setup};
-use record::{Access, Field, Move, Stage};
+use record::{Access, Field, Move, Stage, width_of};
 use std::alloc::{AllocError, Global};
 use world::{BitSeen, Settling, TicketKnown};
 
@@ -135,7 +134,7 @@ pub(crate) fn progress_words(
     ensures { IfOk result (λ words. string_bytes words ≡ progress_words access.now made all) }
 {
     let owner = access.owner;
-    let field = field_word(access.field);
+    let field = access.field.word();
     format!(in alloc; "{owner}.{field} {made} of {all}")
 }
 
@@ -154,7 +153,7 @@ pub(crate) fn writes_in_all(setup: &Setup, access: &Access) -> u64
     ensures all { result ≡ writes_in_all setup.now access.now }
     ensures few { result < 2 ^ 32 }
 {
-    2 * (u64::from(setup.processes) * width(setup, access.field) as u64)
+    2 * (u64::from(setup.processes) * u64::from(width_of(access.field, setup)))
 }
 
 /// One more, where a test holds.
@@ -177,7 +176,7 @@ pub(crate) fn reads_words(
         ≡ reads_words setup.now access.now number) }
 {
     let made = 2 * u64::from(access.bit) + one_if(matches!(access.how, Move::EndRead(_)));
-    let all = 2 * width(setup, access.field) as u64;
+    let all = 2 * u64::from(width_of(access.field, setup));
     let progress = progress_words(alloc, access, made, all)?;
     let number = so_far(alloc, access, number)?;
     format!(in alloc; "reads {progress}{number}")
@@ -253,7 +252,7 @@ fn chosen_words(alloc: Global, chosen: Option<bool>) -> Result<String, AllocErro
 pub(crate) fn torn_words(alloc: Global, process: u8, torn: &Settling) -> Result<String, AllocError>
     ensures { IfOk result (λ words. string_bytes words ≡ torn_words process torn.now) }
 {
-    let field = field_word(torn.field);
+    let field = torn.field.word();
     let bit = torn.bit;
     let value = bit_word(torn.written);
     format!(in alloc; "torn {process}.{field}.{bit} write {value}")
@@ -314,7 +313,7 @@ fn open_access(alloc: Global, access: &Access, how: &str) -> Result<String, Allo
     ensures { IfOk result (λ words. string_bytes words ≡ opened_words access.now how.now) }
 {
     let owner = access.owner;
-    let field = field_word(access.field);
+    let field = access.field.word();
     let bit = access.bit;
     let reader = access.reader;
     format!(in alloc; "open {owner}.{field}.{bit}.{reader}{how}")

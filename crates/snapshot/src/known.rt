@@ -3,7 +3,7 @@ ghost use Rattle.std.specs.Prelude.{◌≡◌, ◌<◌, ◌++◌, IfOk, Ok, OnOk
 ghost use Rattle.std.specs.String.{string_bytes};
 ghost use Rattle.plain_store.specs.{checked};
 ghost use Rattle.record.specs.{Past};
-ghost use Rattle.calls.specs.read_law.laws.{IsThere, doing};
+ghost use Rattle.world.specs.laws.{IsThere, doing};
 ghost use Rattle.snapshot.specs.Doing.{busy_lines, doing_with, progress_words, settles_words, ticket_lines, torn_words, writes_words};
 ghost use Rattle.snapshot.specs.Keeping.{call_kept};
 ghost use Rattle.snapshot.specs.Knowing.{CoreShows};

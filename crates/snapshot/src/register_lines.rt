@@ -3,28 +3,16 @@ ghost use Rattle.std.specs.Prelude.{◌≡◌, ◌<◌, ◌≤◌, ◌++◌, [],
 ghost use Rattle.std.specs.List.{list_all, list_any, range_with_len};
 ghost use Rattle.std.specs.String.{string_bytes};
 ghost use Rattle.plain_store.specs.{checked};
-ghost use Rattle.record.specs.{Past};
-ghost use Rattle.record_file.specs.{field_word};
+ghost use Rattle.record.specs.{Past, fields};
 ghost use Rattle.snapshot.specs.Knowing.{CoreShows};
-ghost use Rattle.snapshot.specs.Copies.{copy_text, fields, have_one_text, line_of_first, lines_of_register, reader_if, register_lines, register_words};
+ghost use Rattle.snapshot.specs.Copies.{copy_text, have_one_text, line_of_first, lines_of_register, reader_if, register_lines, register_words};
 ghost use Rattle.snapshot.specs.Stores.{number_word};
 
 use crate::copies::RegisterCopies;
 use plain_store::Setup;
-use record::Field;
+use record::{FIELDS, Field, field_numbered};
 use std::alloc::{AllocError, Global};
 use world::Core;
-
-/// The kinds of registers, in their order.
-const FIELDS: [Field; 7] = [
-    Field::Choosing,
-    Field::Ticket,
-    Field::Commit,
-    Field::Stamp0,
-    Field::Stamp1,
-    Field::Image0,
-    Field::Image1,
-];
 
 /// Writes the lines of the registers of which a copy is not as it opened, or is being written.
 pub(crate) fn push_registers(
@@ -63,13 +51,13 @@ fn push_owned(
         → text.new.items ≡ text.old.items ++ flat_map
         (lines_of_register setup.now past owner) fields) }
 {
-    for field in &FIELDS {
+    for number in 0..FIELDS.len() {
         let copies = RegisterCopies {
             alloc,
             setup,
             core,
             owner,
-            field: *field,
+            field: field_numbered(number),
         };
         push_register(&copies, opening, text)?;
     }
@@ -105,7 +93,7 @@ fn push_register(
 fn register_words(alloc: Global, owner: u8, field: Field) -> Result<String, AllocError>
     ensures { IfOk result (λ words. string_bytes words ≡ register_words owner field) }
 {
-    let word = field_word(field);
+    let word = field.word();
     format!(in alloc; "register {owner}.{word}")
 }
 
@@ -251,19 +239,4 @@ fn push_reader_if(
     }
     let word = format!(in alloc; " {reader}")?;
     text.extend_from_slice(word.as_bytes())
-}
-
-/// The word of a register's kind.
-pub(crate) fn field_word(field: Field) -> &'static str
-    ensures { result.now ≡ field_word field }
-{
-    match field {
-        Field::Choosing => "choosing",
-        Field::Ticket => "ticket",
-        Field::Commit => "commit",
-        Field::Stamp0 => "stamp0",
-        Field::Stamp1 => "stamp1",
-        Field::Image0 => "image0",
-        Field::Image1 => "image1",
-    }
 }

@@ -6,7 +6,6 @@ ghost use Rattle.record.specs.declared.Event.TheVariants.{Step};
 ghost use Rattle.record.specs.declared.history.Taken.{Taken as Seen};
 ghost use Rattle.snapshot.specs.Doing.{access_in, doing_lines};
 ghost use Rattle.snapshot.specs.Keeping.{Passes, TellsNumber, kept as kept_of};
-ghost use Rattle.snapshot.specs.Lines.{stage_word as word_of_stage};
 ghost use Rattle.snapshot.specs.Processes.{is_resting as rests, newest_line, process_lines, rest_line, running_lines};
 ghost use Rattle.snapshot.specs.States.{HasHeard, Stands, state_lines};
 
@@ -221,7 +220,7 @@ impl Snapshot {
             → kept.now ≡ kept_of self.now.setup process past
             → text.new.items ≡ text.old.items ++ running_lines self.now.setup past process stage) }
     {
-        push_line(alloc, process, stage_word(stage), text)?;
+        push_line(alloc, process, stage.word(), text)?;
         push_open(alloc, process, history, &kept.open_call(), text)?;
         let taken = history.len() as u64;
         let first = next_entry(alloc, twin, core, taken, process, false);
@@ -295,25 +294,10 @@ fn push_rest(
 ) -> Result<(), AllocError>
     ensures { OnOk result (text.new.items ≡ text.old.items ++ rest_line process stage calls) }
 {
-    let word = stage_word(stage);
+    let word = stage.word();
     if calls == 0 {
         return push_line(alloc, process, word, text);
     }
     let words = format!(in alloc; "{word} calls {calls}")?;
     push_words(alloc, process, words, text)
-}
-
-/// The word of a stage.
-fn stage_word(stage: Stage) -> &'static str
-    ensures { result.now ≡ word_of_stage stage }
-{
-    match stage {
-        Stage::Idle => "idle",
-        Stage::Doorway => "doorway",
-        Stage::Waiting => "waiting",
-        Stage::Inside => "inside",
-        Stage::Leaving => "leaving",
-        Stage::Settling => "settling",
-        Stage::Down => "down",
-    }
 }

@@ -1,3 +1,4 @@
+pub mod GoodRanges
 pub mod ImageBytes
 pub mod Puts
 pub mod ReadBytes

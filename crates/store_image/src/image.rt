@@ -1,9 +1,9 @@
 //! A store that works in place on the bytes of its image.
-ghost use Rattle.std.specs.Prelude.{◌≡◌, ◌≤◌, ◌<◌, nat_lt, length, slice_get, IsTrue, IsSome, nat_eq, IsOk, IfOk, IfErr, OnOk, OnErr, ◌↔◌, option_map};
+ghost use Rattle.std.specs.Prelude.{◌≡◌, ◌≤◌, ◌<◌, ◌+◌, ◌*◌, Ok, nat_lt, length, slice_get, IsTrue, IsSome, nat_eq, IsOk, IfOk, IfErr, OnOk, OnErr, ◌↔◌, option_map};
 ghost use Rattle.std.specs.Cmp.{partial_equiv_from_equiv};
 ghost use Rattle.std.specs.Cmp.Lexicographic.{pointwise, on_texts_equal};
 ghost use Rattle.std.specs.Ordering.{on};
-ghost use Rattle.plain_store.specs.{Contents, after, empty_store, name_of, put, reply_to, value_for, with_number, with_written};
+ghost use Rattle.plain_store.specs.{Contents, after, callers_of, checked, empty_store, name_of, put, reply_to, value_for, with_number, with_written};
 ghost use Rattle.store_image.specs.Image.{image_of, IsStore, number_bytes, number_in};
 ghost use Rattle.store_image.specs.Placing.{place_of, place_for};
 ghost use Rattle.store_image.specs.Reading.{IsImageOf, IsFault, SaysNothing, store_in};
@@ -11,7 +11,7 @@ ghost use Rattle.store_image.specs.Slots.{is_used, pair_in};
 
 use crate::rules;
 use crate::slots::{self, SLOT_BYTES};
-use plain_store::{Caller, Command, Name, Outcome, Reply, Store, Value, is_new, pad};
+use plain_store::{Caller, Command, Name, Outcome, Reply, Setup, Store, Value, is_new, pad};
 use std::alloc::AllocError;
 use std::marker::Model;
 use thiserror::Error;
@@ -20,7 +20,7 @@ use thiserror::Error;
 const NUMBER_BYTES: usize = 2;
 
 /// The bytes of the longest image: 8 slots, and 16 callers.
-const MOST_BYTES: usize = 216;
+pub const MOST_IMAGE_BYTES: usize = 216;
 
 /// A store of 1 to 8 slots and at most 16 callers, kept as its image: the slots, used ones first, in order
 /// of first write, and then the callers' numbers of 2 bytes. It takes no memory.
@@ -29,7 +29,7 @@ pub struct Image {
     used: u8,
     slots: u8,
     callers: u8,
-    bytes: [u8; MOST_BYTES],
+    bytes: [u8; MOST_IMAGE_BYTES],
 }
 
 /// Why bytes are no image.
@@ -72,7 +72,7 @@ impl Image {
             used: 0,
             slots,
             callers,
-            bytes: [0; MOST_BYTES],
+            bytes: [0; MOST_IMAGE_BYTES],
         }
     }
 
@@ -101,6 +101,22 @@ impl Image {
             callers,
             bytes: pad(bytes),
         })
+    }
+
+    /// The store of a setup whose image the bytes are, as many as there are in one. The empty store stands in
+    /// place of bytes that are none.
+    pub fn read_or_empty(setup: &Setup, bytes: &[u8]) -> Image
+        requires good { checked setup.now ≡ Ok tt }
+        requires length { length bytes.now ≡ 23 * setup.now.slots + 2 * callers_of setup.now }
+        ensures store { result ≡ store_in setup.now.slots (callers_of setup.now) bytes.now }
+        ensures slots { result.slots ≡ setup.now.slots }
+        ensures numbers { length result.numbers ≡ callers_of setup.now }
+    {
+        let callers = setup.callers();
+        match Image::read(bytes, callers) {
+            Ok(image) => image,
+            Err(_) => Image::empty(setup.slots, callers),
+        }
     }
 
     /// The bytes of the image.

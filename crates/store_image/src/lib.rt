@@ -6,4 +6,4 @@ mod image;
 mod rules;
 mod slots;
 
-pub use image::{BadImage, Image};
+pub use image::{BadImage, Image, MOST_IMAGE_BYTES};

@@ -108,7 +108,7 @@ impl Runner {
         ensures few { due self.new ≤ due self.old + cond (is_call event.now) 16 0 }
         ensures setup { self.new.core.setup ≡ self.old.core.setup }
     {
-        sound_event(event);
+        event.command_is_sound();
         let mut effect = Effect::Steps(StepTold::Nothing);
         let Ok(access) = self.core.event(event, &mut effect) else {
             return false;
@@ -190,14 +190,5 @@ fn more(taken: u64, effect: &Effect) -> u64
         taken + 1
     } else {
         taken
-    }
-}
-
-/// Does nothing. Its contract says that what the event calls is a command.
-fn sound_event(event: &Event)
-    ensures { is_event event.now ≡ true }
-{
-    if let Event::Call(_, command) = event {
-        command.operands_are_sound();
     }
 }

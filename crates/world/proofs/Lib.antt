@@ -1,4 +1,5 @@
 pub use Rattle.history_laws.proofs as history_laws_proofs
+pub use Rattle.laws.proofs as laws_proofs
 -- The registers of all processes
 pub mod WorldRegisters
 -- Who waits before whom

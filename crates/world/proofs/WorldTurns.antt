@@ -42,10 +42,6 @@ module _ (Follows : Move → Move → Type 0) (reads : (v : Bool) → Follows Be
   turn-bit n k u v h = subst (λ (c : Bool). Follows (if c then BeginWrite u else EndWrite) (BeginWrite v)) (sym (last-odd n k h)) (written_on v)
 
   -- whatever values they have
-  turn-ended : (b : Bool) (x : Bool) (u v : Bool) → ended u (if b then BeginWrite x else EndWrite) ≡ (if b then BeginWrite x else EndWrite)
-  turn-ended true x u v = refl
-  turn-ended false x u v = refl
-
   turn-write : (c : Call) (part : Part) (w : NumberWrite) (x u v : Bool) → Follows (ended u (access_at c part (Writing w)).how) (ended v (access_at c part (run_after c part (Writing w) x)).how)
   turn-write c part w x u v = by (now.made + 1 == 2 * c.setup.processes) refl
     where

@@ -1,7 +1,7 @@
 //! The lines that make Steps. A Step without a mark leaves every process where it is, so that only after one with
 //! marks a line has to look again who is where.
-ghost use Rattle.std.specs.Prelude.{◌≡◌, ◌<◌, ◌≤◌, ◌∷◌, ℕ, [], length, slice_index, true, IfErr, IfOk, None, Ok};
-ghost use Rattle.world.specs.flicks.{after_flick, after_pick, flick_of, is_constant, pick_of};
+ghost use Rattle.std.specs.Prelude.{◌≡◌, ◌<◌, ◌≤◌, ℕ, length, slice_index, IfErr, IfOk, IfSome, None, Ok};
+ghost use Rattle.world.specs.flicks.{after_flick, after_pick, pick_of};
 ghost use Rattle.record.specs.{stage};
 ghost use Rattle.record.specs.declared.Event.TheVariants.{Step};
 ghost use Rattle.scenario.specs.declared.lines.Line.TheVariants.{Go as GoLine, Wander as WanderLine};
@@ -11,7 +11,7 @@ ghost use Rattle.course.specs.Steppers.{left_told, turns_drawn};
 ghost use Rattle.course.specs.Turns.{rest_of, turns_in};
 
 use super::Course;
-use super::steps::{any_step, is_quiet, pass_by, quiet_step};
+use super::steps::{goes_on, pass_by, turn_step};
 use crate::listening::Listener;
 use crate::told::Told;
 use record::{Refusal, Stage};
@@ -22,6 +22,7 @@ use world::{Divisor, Flicks};
 impl Course {
     /// Steps of this process, while more than so many turns are left, up to the first that is told; one that is
     /// refused ends the line.
+    #[inline(never)]
     pub(super) fn run_alone<L: Listener>(
         &mut self,
         process: u8,
@@ -39,6 +40,7 @@ impl Course {
         ensures cut { IfErr result
             (StopsAlone L.Stops self.old process floor self.new listener.old listener.new) }
     {
+        let mut outcome = Ok(None);
         let mut known = 1;
         'steps: while floor < self.left {
             pass_by(
@@ -51,14 +53,18 @@ impl Course {
                 listener,
             );
             self.left -= 1;
-            let flick = self.flicks.flick();
-            if is_quiet(&self.world, &mut known, process, self.left == floor) {
-                quiet_step(&mut self.world, process, flick, listener)?;
-                continue;
-            }
-            if let Some(told) = any_step(&mut self.world, process, flick, listener)? {
-                self.left = left_after(&told, self.left);
-                return Ok(Some(told));
+            let is_quiet = turn_step(
+                &mut self.world,
+                &mut known,
+                process,
+                &mut self.flicks,
+                self.left == floor,
+                listener,
+                &mut outcome,
+            );
+            if !is_quiet && !goes_on(&outcome) {
+                self.left = left_after(&outcome, self.left);
+                return outcome;
             }
         }
         Ok(None)
@@ -100,7 +106,12 @@ impl Course {
         Ok(Some(Told::Tired(process)))
     }
 
-    /// Turns of `wander`: Steps of picked ones, if there is one to pick.
+    /// Turns of `wander`: Steps of picked ones, if there is one to pick. Where that is one alone, and the flicks are constant,
+    /// it makes them as `run_alone` does, many at once: each pick can but find it, so that the words of the picks are skipped
+    /// in the end. Else whose Step comes next is drawn before this one is made: nobody can foretell where in its access a
+    /// picked process is, and so a processor that has foretold it wrongly begins with what comes after anew, but not with that
+    /// draw. For the same reason a process is asked once how many of its next Steps are within its number access, and these are
+    /// counted down: most Steps ask nothing.
     pub(super) fn run_random<L: Listener>(
         &mut self,
         listener: &mut L,
@@ -122,102 +133,43 @@ impl Course {
             return Ok(None);
         }
         let movers = self.movers();
-        let movers = movers.as_slice();
-        if movers.is_empty() {
+        let among = movers.as_slice();
+        if among.is_empty() {
             self.left = 0;
             return Ok(None);
         }
-        if movers.len() == 1 && self.flicks.is_constant() {
-            return self.run_lone(movers[0], listener);
-        }
-        self.run_among(movers, listener)
-    }
-
-    /// The same where these processes have a Step to make. Whose Step comes next is drawn before this one is made: nobody can
-    /// foretell where in its access a picked process is, and so a processor that has foretold it wrongly begins with what
-    /// comes after anew, but not with that draw. For the same reason a process is asked once how many of its next Steps are
-    /// within its number access, and these are counted down: most Steps ask nothing.
-    fn run_among<L: Listener>(
-        &mut self,
-        among: &[u8],
-        listener: &mut L,
-    ) -> Result<Option<Told>, Fault>
-        requires room { L.HasRoom listener.old self.old.left }
-        requires more { 0 < self.old.left }
-        requires some { 0 < length among.now }
-        requires few { length among.now ≤ 16 }
-        requires movers { InItsRun self.old (λ run.
-            among.now ≡ movers self.old.world.setup (past_in self.old.world.setup run)) }
-        ensures left { IfOk result (λ told. room_wanted told self.new.left ≤ self.old.left) }
-        ensures ok { IfOk result (λ told. (steps : ℕ) →
-            Comes L.Hears L.Knows self.old (WanderLine steps) self.new
-            listener.old listener.new told) }
-        ensures room { IfOk result
-            (LeavesRoom L.HasRoom listener.old self.old.left listener.new self.new.left) }
-        ensures cut { IfErr result (λ fault. (steps : ℕ) →
-            InItsRun self.old (λ run. self.old.left ≤ steps →
-            L.Stops listener.old self.old.world.setup run.happened
-            (rest_of self.old.world.setup (WanderLine steps) self.old.left run).happened
-            fault listener.new)) }
-    {
-        let mut within = [1_u32; 256];
         let had = self.left;
+        if among.len() == 1 && self.flicks.is_constant() {
+            let told = self.run_alone(among[0], 0, listener)?;
+            self.flicks.skip_picks(had - self.left);
+            return Ok(told);
+        }
         let count = Divisor::new(among.len() as u32);
+        let mut left = had;
+        let mut outcome = Ok(None);
+        let mut within = [1_u32; 256];
         let mut ahead = self.flicks.twin();
-        let mut next = drawn(&mut ahead, among, &count);
+        let mut next = among[ahead.pick(&count)];
         'steps: loop {
-            let (process, flick) = next;
-            next = drawn(&mut ahead, among, &count);
-            self.left -= 1;
-            let at = usize::from(process);
-            if is_quiet(&self.world, &mut within[at], process, self.left == 0) {
-                quiet_step(&mut self.world, process, flick, listener)?;
-                continue;
-            }
-            match any_step(&mut self.world, process, flick, listener) {
-                Ok(None) => {}
-                Ok(Some(told)) => {
-                    skip_turns(&mut self.flicks, had - self.left);
-                    return Ok(Some(told));
-                }
-                Err(fault) => return Err(fault),
-            }
-            if self.left == 0 {
-                break;
+            let (process, mut source) = (next, ahead.twin());
+            ahead.flick();
+            next = among[ahead.pick(&count)];
+            left -= 1;
+            let is_quiet = turn_step(
+                &mut self.world,
+                &mut within[usize::from(process)],
+                process,
+                &mut source,
+                left == 0,
+                listener,
+                &mut outcome,
+            );
+            if !is_quiet && (left == 0 || !goes_on(&outcome)) {
+                self.left = left;
+                skip_turns(&mut self.flicks, had - left);
+                return outcome;
             }
         }
-        skip_turns(&mut self.flicks, had);
-        Ok(None)
-    }
-
-    /// The same where one process alone has a Step to make, and the flicks are constant: its Steps as `run_alone` makes
-    /// them, many at once. Each pick can but find it, so that the words of the picks are skipped in the end.
-    #[inline(never)]
-    fn run_lone<L: Listener>(
-        &mut self,
-        process: u8,
-        listener: &mut L,
-    ) -> Result<Option<Told>, Fault>
-        requires room { L.HasRoom listener.old self.old.left }
-        requires lone { InItsRun self.old (λ run.
-            movers self.old.world.setup (past_in self.old.world.setup run) ≡ process ∷ []) }
-        requires constant { is_constant self.old.flicks ≡ true }
-        ensures left { IfOk result (λ told. room_wanted told self.new.left ≤ self.old.left) }
-        ensures ok { IfOk result (λ told. (steps : ℕ) →
-            Comes L.Hears L.Knows self.old (WanderLine steps) self.new
-            listener.old listener.new told) }
-        ensures room { IfOk result
-            (LeavesRoom L.HasRoom listener.old self.old.left listener.new self.new.left) }
-        ensures cut { IfErr result (λ fault. (steps : ℕ) →
-            InItsRun self.old (λ run. self.old.left ≤ steps →
-            L.Stops listener.old self.old.world.setup run.happened
-            (rest_of self.old.world.setup (WanderLine steps) self.old.left run).happened
-            fault listener.new)) }
-    {
-        let had = self.left;
-        let told = self.run_alone(process, 0, listener)?;
-        self.flicks.skip_picks(had - self.left);
-        Ok(told)
     }
 
     /// The processes with a Step to make, ascending. They take no memory.
@@ -245,19 +197,6 @@ impl Course {
             None => false,
         }
     }
-}
-
-/// Who is picked among these, of whom there are so many, and the flick of its Step.
-#[inline]
-fn drawn(flicks: &mut Flicks, movers: &[u8], count: &Divisor) -> (u8, bool)
-    requires some { 0 < length movers.now }
-    requires count { count.now ≡ length movers.now }
-    ensures process { result.0 ≡ slice_index movers.now (pick_of (length movers.now) flicks.old) }
-    ensures flick { result.1 ≡ flick_of (after_pick flicks.old) }
-    ensures after { flicks.new ≡ after_flick (after_pick flicks.old) }
-{
-    let process = movers[flicks.pick(count)];
-    (process, flicks.flick())
 }
 
 /// The words of the picks and flicks of so many turns are taken.
@@ -289,11 +228,13 @@ pub fn is_there(target: Target, stage: Stage) -> bool
 }
 
 /// How many turns a Step that tells leaves of so many: one that is refused ends a line of one process.
-fn left_after(told: &Told, left: u32) -> u32
-    ensures { result ≡ left_told told.now left }
+fn left_after(outcome: &Result<Option<Told>, Fault>, left: u32) -> u32
+    ensures told { IfOk outcome.now (λ told. IfSome told (λ told. result ≡ left_told told left)) }
+    ensures fault { IfErr outcome.now (λ fault. result ≡ left) }
+    ensures fewer { result ≤ left }
 {
-    match told {
-        Told::Refused { .. } => 0,
+    match outcome {
+        Ok(Some(Told::Refused { .. })) => 0,
         _ => left,
     }
 }

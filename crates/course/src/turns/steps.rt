@@ -1,11 +1,12 @@
 //! Steps of a run: they pass a listener by, are heard by it, or are told.
-ghost use Rattle.std.specs.Prelude.{◌≡◌, ◌+◌, ◌<◌, ◌≤◌, IfErr, IfOk, IfSome, None, Ok, OnOk, false, true};
+ghost use Rattle.std.specs.Prelude.{◌≡◌, ◌+◌, ◌<◌, ◌≤◌, Bool, IfErr, IfOk, IfSome, None, Ok, OnOk, false, is_some, true};
 ghost use Rattle.record.specs.declared.Event.TheVariants.{Step};
+ghost use Rattle.world.specs.flicks.{after_flick, flick_of};
 ghost use Rattle.world.specs.{KeepOthers, left_in};
 ghost use Rattle.world.specs.process.declared.told.StepTold.TheVariants.{Nothing};
 ghost use Rattle.world.specs.process.registers.declared.access_made.AccessMade.{AccessMade as MadeSeen};
 ghost use Rattle.course.specs.Courses.{course};
-ghost use Rattle.course.specs.Listening.{HearsStep, Learns, LeavesRoom, MakesStep, PassesAlone, StopsBy, TakesRoom};
+ghost use Rattle.course.specs.Listening.{HearsLast, HearsStep, LeavesRoom, MakesStep, PassesAlone, StopsBy};
 ghost use Rattle.course.specs.Telling.{told_step};
 
 use crate::listening::Listener;
@@ -53,39 +54,65 @@ pub(super) fn pass_by<L: Listener>(
     listener.pass(process, within, made.newest.how, made.overlapped);
 }
 
-/// A Step by this flick within a number access, which has no mark: it is heard, or passed by. It is not the last one of its
-/// line, of which a listener learns the access.
+/// A turn's Step, by the flick that is next: whether it is made within a number access, where it has no mark, and is heard or
+/// passed by; if not, `outcome` has what it tells, or the fault. One less than `known` of the process's next Steps are known to
+/// be within one. Who hears the last Step of a line knows its access. (An outcome by value would be cleared at each Step.)
 #[inline(always)]
-pub(super) fn quiet_step<L: Listener>(
+pub(super) fn turn_step<L: Listener>(
     world: &mut World,
+    known: &mut u32,
     process: u8,
-    flick: bool,
+    flicks: &mut Flicks,
+    is_last: bool,
     listener: &mut L,
-) -> Result<(), Fault>
+    outcome: &mut Result<Option<Told>, Fault>,
+) -> bool
+    requires none { outcome.old ≡ Ok None }
     requires room { L.HasRoom listener.old 1 }
-    requires within { 0 < left_in world.old.seats process }
-    ensures fewer { left_in world.old.seats process ≡ left_in world.new.seats process + 1 }
-    ensures ok { OnOk result
-        (HearsStep L.Hears world.old process flick world.new listener.old listener.new) }
-    ensures room { OnOk result (TakesRoom L.HasRoom listener.old 1 listener.new) }
-    ensures cut { IfErr result (λ fault.
-        HearsStep (StopsBy L.Stops fault) world.old process flick world.new listener.old listener.new) }
+    requires some { 0 < known.old }
+    requires known { known.old ≤ left_in world.old.seats process + 1 }
+    ensures some { 0 < known.new }
+    ensures known { known.new ≤ left_in world.new.seats process + 1 }
+    ensures after { flicks.new ≡ after_flick flicks.old }
+    ensures quiet { result ≡ true → outcome.new ≡ Ok None }
+    ensures last { result ≡ true → is_last ≡ false }
+    ensures ok { IfOk outcome.new (λ told. MakesStep (HearsLast L.Hears L.Knows is_last) world.old process
+        (flick_of flicks.old) told world.new listener.old listener.new) }
+    ensures room { IfOk outcome.new (λ told. LeavesRoom L.HasRoom listener.old 1 listener.new 0 told) }
+    ensures cut { IfErr outcome.new (λ fault. HearsStep (StopsBy L.Stops fault) world.old process
+        (flick_of flicks.old) world.new listener.old listener.new) }
     ensures setup { world.new.setup ≡ world.old.setup }
     ensures others { KeepOthers world.old.seats process world.new.seats }
 {
-    let made = world.run(process, &mut Flicks::only(flick), 1);
-    if listener.hears_steps() {
-        listener.step(Stepped {
-            process,
-            flick,
-            access: made.newest,
-            overlapped: made.overlapped > 0,
-            number: None,
-        })?;
-        return Ok(());
+    if !is_quiet(world, known, process, is_last) {
+        *outcome = any_step(world, process, flicks.flick(), listener);
+        return false;
     }
-    listener.pass(process, 1, made.newest.how, made.overlapped);
-    Ok(())
+    let flick = flicks.twin().flick();
+    let made = world.run(process, flicks, 1);
+    if !listener.hears_steps() {
+        listener.pass(process, 1, made.newest.how, made.overlapped);
+        return true;
+    }
+    let heard = listener.step(Stepped {
+        process,
+        flick,
+        access: made.newest,
+        overlapped: made.overlapped > 0,
+        number: None,
+    });
+    let Err(fault) = heard else { return true };
+    *outcome = Err(fault);
+    false
+}
+
+/// Whether nothing has been told, and there was no fault.
+#[inline]
+pub(super) fn goes_on(outcome: &Result<Option<Told>, Fault>) -> bool
+    ensures none { result ≡ true → outcome.now ≡ Ok None }
+    ensures some { result ≡ false → outcome.now ≡ Ok None → ⊥ }
+{
+    matches!(outcome, Ok(None))
 }
 
 /// Whether a process's next Step is within its number access, where one less than so many are known to be: the world is asked, if
@@ -121,10 +148,8 @@ pub(super) fn any_step<L: Listener>(
     listener: &mut L,
 ) -> Result<Option<Told>, Fault>
     requires { L.HasRoom listener.old 1 }
-    ensures ok { IfOk result (λ told.
-        MakesStep L.Hears world.old process flick told world.new listener.old listener.new) }
-    ensures knows { IfOk result (λ told. MakesStep (Learns L.Knows) world.old process flick told
-        world.new listener.old listener.new) }
+    ensures ok { (is_last : Bool) → IfOk result (λ told. MakesStep (HearsLast L.Hears L.Knows is_last)
+        world.old process flick told world.new listener.old listener.new) }
     ensures room { IfOk result (λ told. LeavesRoom L.HasRoom listener.old 1 listener.new 0 told) }
     ensures cut { IfErr result (λ fault.
         HearsStep (StopsBy L.Stops fault) world.old process flick world.new listener.old listener.new) }

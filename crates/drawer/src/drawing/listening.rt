@@ -1,11 +1,11 @@
 //! A listener that draws a run as it hears it.
 ghost use Rattle.std.specs.Prelude.{◌≡◌, ◌+◌, ◌-◌, ◌^◌, ◌<◌, ℕ, Err, IfErr, OnOk, is_some, refl, ⊤};
 ghost use Rattle.std.proofs.Common.{add-zero, ap, sym, ◌∙◌};
-ghost use Rattle.course.specs.{CanCount, IsWriteFault, can_count_less, failed_write};
+ghost use Rattle.companions.specs.{IsWriteFault, failed_write};
+ghost use Rattle.course.specs.{CanCount, can_count_less};
 ghost use Rattle.drawer.specs.Drawings.{DrawsLine, GoesOnDrawing};
 
 use super::Drawing;
-use companions::hear;
 use course::{Course, Listener, Stepped, Taken, Told};
 use record::Move;
 use scenario::{Fault, Line, Sink};
@@ -38,11 +38,11 @@ struct Drawer<'a, W: Sink> {
 }
 
 impl<'a, W: Sink> Listener for Drawer<'a, W> {
-    ghost hears_steps = { λ drawer. is_some drawer.drawing.now.overlaps };
+    ghost hears_steps = { λ drawer. is_some drawer.drawing.now.canvas.overlaps };
 
     #[inline(always)]
     fn hears_steps(&self) -> bool {
-        self.drawing.overlaps.is_some()
+        self.drawing.canvas.shows_reads()
     }
 
     ghost HasRoom = { λ drawer more. CanCount drawer.drawing.now.summary more × (W.failures drawer.output.now < 2 ^ 64 - 1) };
@@ -59,7 +59,7 @@ impl<'a, W: Sink> Listener for Drawer<'a, W> {
 
     fn step(&mut self, made: Stepped) -> Result<(), Fault> {
         let number = self.drawing.summary.events;
-        hear(&mut self.drawing.overlaps, number, Some(made.access))?;
+        self.drawing.canvas.hear(number, Some(made.access))?;
         self.drawing.summary.events += 1;
         Ok(())
     }

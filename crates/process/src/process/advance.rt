@@ -41,28 +41,31 @@ impl Process {
         let fresh = self.cursor.is_fresh();
         let how = self.cursor.next(self.work.given(flick, value)).how;
         self.cursor.advance(how);
-        match self.work {
-            ProcessWork::Runs => {
-                run_on(&mut self.called, &mut self.work, &mut self.cursor, fresh)
-            }
-            ProcessWork::Withdraws => withdraw_on(&self.called, &mut self.work, &self.cursor),
-            ProcessWork::Settles { inside, taken } => settle_on(
-                &self.called,
-                &mut self.work,
-                &mut self.cursor,
-                inside,
-                &taken,
-            ),
-            ProcessWork::Frees { inside } => free_on(
-                &self.called,
-                &mut self.work,
-                &mut self.cursor,
-                inside,
-                fresh,
-            ),
-            ProcessWork::Lowers => lower_on(&self.called, &mut self.work, &self.cursor),
-            ProcessWork::Rests | ProcessWork::Lies => unreachable!(),
-        }
+        go_on(&mut self.called, &mut self.work, &mut self.cursor, fresh)
+    }
+}
+
+/// The process goes on, whose cursor has made its next access; that was the first one of its number access, if the cursor was
+/// fresh before it.
+pub(super) fn go_on(
+    called: &mut CallPart,
+    work: &mut ProcessWork,
+    cursor: &mut Cursor,
+    fresh: bool,
+) -> StepTold
+    requires moved { IsMoved called.old work.old cursor.old fresh }
+    ensures doing { IsStepped called.old work.old cursor.old fresh (state_at called.new work.new cursor.new) }
+    ensures marks { AreMarksOn called.old work.old cursor.old fresh (marks_told result) }
+    ensures changes { IfSome (changes_told result) (λ changes. (work.old ≡ ProcessWork.Runs) × (changes ≡ changes_at called.old.part)) }
+    ensures keeps { KeepsPlace called.new work.new cursor.new }
+{
+    match *work {
+        ProcessWork::Runs => run_on(called, work, cursor, fresh),
+        ProcessWork::Withdraws => withdraw_on(called, work, cursor),
+        ProcessWork::Settles { inside, taken } => settle_on(called, work, cursor, inside, &taken),
+        ProcessWork::Frees { inside } => free_on(called, work, cursor, inside, fresh),
+        ProcessWork::Lowers => lower_on(called, work, cursor),
+        ProcessWork::Rests | ProcessWork::Lies => unreachable!(),
     }
 }
 

@@ -2,7 +2,6 @@
 ghost use Rattle.std.specs.Prelude.{◌≡◌, ◌<◌, ◌≤◌, Bool, Option, length, true};
 ghost use Rattle.plain_store.specs.declared.Reply.{Reply as Replied};
 ghost use Rattle.record.specs.{read_at, width};
-ghost use Rattle.record.specs.safe_number.{bit_in};
 ghost use Rattle.registers.specs.{IsAtPart, place_at};
 ghost use Rattle.process.specs.Looks.{number_at, number_read, reads_number, settling_in, settling_of, ticket_known};
 ghost use Rattle.process.specs.Working.{settling_at};
@@ -12,7 +11,7 @@ use crate::asked::Asked;
 use crate::call_part::CallPart;
 use crate::looks::{Settling, TicketKnown};
 use crate::work::ProcessWork;
-use record::Move;
+use record::{Move, bit_of};
 use registers::{Cursor, NumberRun};
 
 impl Process {
@@ -90,15 +89,4 @@ fn settling_at(cursor: &Cursor) -> Option<Settling>
         begun: matches!(next.how, Move::EndWrite),
         value,
     })
-}
-
-/// A bit of bytes, or false where there is none.
-fn bit_of(bytes: &[u8], bit: u16) -> bool
-    ensures { result ≡ bit_in bytes.now bit }
-{
-    let at = usize::from(bit);
-    if bytes.len() <= at / 8 {
-        return false;
-    }
-    (bytes[at / 8] >> (at % 8)) & 1 == 1
 }

@@ -8,11 +8,12 @@ ghost use Rattle.process.specs.Serving.{answered_at, dropped, newest_of, overlap
 ghost use Rattle.process.specs.Telling.{changes_told, marks_told};
 
 use super::Process;
+use super::advance::go_on;
 use crate::call_part::CallPart;
 use crate::told::StepTold;
 use crate::work::ProcessWork;
 use flicks::Flicks;
-use registers::{AccessMade, AccessesMade, BitMemory, Cursor, given};
+use registers::{AccessMade, AccessesMade, BitMemory, Cursor};
 
 impl Process {
     /// How many of its next accesses are within a number access of its call: they have no mark, and none is the first of the
@@ -40,8 +41,9 @@ impl Process {
         ensures changes { IfSome (changes_told told.new) (λ changes. changes ≡ changes_read self.old.doing) }
         ensures memory { memory.new ≡ applied self.old.setup.processes memory.old result.access }
     {
-        let made = memory.make(&self.cursor, flick);
-        *told = self.advance(flick, given(made.access.how));
+        let fresh = self.cursor.is_fresh();
+        let made = memory.step(&mut self.cursor, &mut Flicks::only(flick));
+        *told = go_on(&mut self.called, &mut self.work, &mut self.cursor, fresh);
         made
     }
 

@@ -122,7 +122,8 @@ impl Cursor {
         ensures writes { self.now.run ≡ NumberRun.Writes → 2 * (self.now.copies * result) ≤ steps }
         ensures ahead { 0 < result → AreAhead self.now result }
     {
-        if self.begun || self.copy != 0 {
+        // (what is asked of no steps is then asked nothing)
+        if steps == 0 || self.begun || self.copy != 0 {
             return 0;
         }
         let most = match self.run {

@@ -9,9 +9,10 @@ ghost use Rattle.reader_copies.specs.{bits_of_words};
 
 use super::BitMemory;
 use crate::cursor::{lane_number, low_bits};
-use crate::fields::{RegisterName, width_of};
+use crate::fields::RegisterName;
 use crate::word_bytes::bytes_of;
 use plain_store::Setup;
+use record::width_of;
 
 impl BitMemory {
     /// The number that a register of at most 32 bits holds.

@@ -20,8 +20,8 @@ returns-in-Image0 c =
     let field : a.field ≡ Image0 = ap (λ (x : Rattle.record.specs.declared.access.Access.Access). x.field) (sym is) ∙ c.in-Image0.is in
     let owner : a.owner ≡ 0 = ap (λ (x : Rattle.record.specs.declared.access.Access.Access). x.owner) (sym is) ∙ c.if-access-ne0.false in
     let there = bit_there s c.args.word (some_processes s c.requires.good) c.requires.word in
-    c.from.ensures ∙ byte_word c.bit_in.result
-    ∙ ap closed_word (c.bit_in.ensures ∙ (λ i. bit_in (c.requires.image i) (is i).bit) ∙ sym (get-bits image (width s Image0) a.bit (subst (λ f. a.bit < width s f) field there.bit)) ∙ (λ i. slice_index_or (opening_bits s (sym owner i) (sym field i)) a.bit false))
+    c.from.ensures ∙ byte_word c.bit_of.result
+    ∙ ap closed_word (c.bit_of.ensures ∙ (λ i. bit_in (c.requires.image i) (is i).bit) ∙ sym (get-bits image (width s Image0) a.bit (subst (λ f. a.bit < width s f) field there.bit)) ∙ (λ i. slice_index_or (opening_bits s (sym owner i) (sym field i)) a.bit false))
 
 pub returns-in_default : goal.returns-in_default
 returns-in_default c =

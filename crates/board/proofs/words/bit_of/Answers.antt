@@ -1,6 +1,7 @@
 use Rattle.std.proofs.Common.{◌≡◌, ◌-◌, ◌/◌, ◌%◌, sym, ◌∙◌, arith}
 use Rattle.record.specs.declared.Move.TheVariants.{BeginRead}
-use Rattle.board.specs.{bit_in_row, bit_of, fields, row_bits}
+use Rattle.record.specs.{fields}
+use Rattle.board.specs.{bit_in_row, bit_of, row_bits}
 use Rattle.board.proofs.Seats.{some_processes}
 use Rattle.board.proofs.WordNumbers.{at_place, bit_there}
 use Rattle.board.proofs.words.bit_of.Goals as goal

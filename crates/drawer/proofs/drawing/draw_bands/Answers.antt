@@ -1,5 +1,5 @@
 use Rattle.std.proofs.lemmas.Result.{IfOk-weaker}
-use Rattle.drawer.specs.{plan_of}
+use Rattle.companions.specs.{plan_of}
 use Rattle.drawer.proofs.drawing.draw_bands.Goals as goal
 
 pub returns : goal.returns
@@ -8,8 +8,8 @@ returns g c =
     let plan = plan_of c.args.form c.args.scenario.now.setup in
     let drawn = c.draw_lines.ensures in
     record {
-      ok = IfOk-weaker c.draw_lines.result _ _ (λ answer is. is plan c.args.reads begun.page begun.recalls) drawn.ok;
-      summary = IfOk-weaker c.draw_lines.result _ _ (λ answer is. is plan c.args.reads begun.page begun.recalls) drawn.summary;
+      ok = IfOk-weaker c.draw_lines.result _ _ (λ answer is. is plan c.args.reads begun.first begun.recalls) drawn.ok;
+      summary = IfOk-weaker c.draw_lines.result _ _ (λ answer is. is plan c.args.reads begun.first begun.recalls) drawn.summary;
       fault = drawn.fault;
       failures = drawn.failures;
     }

@@ -1,16 +1,16 @@
-use Rattle.std.proofs.Common.{◌≡◌, ◌∙◌, ◌+◌, ◌-◌, ◌*◌, ◌^◌, ◌<◌, ◌≤◌, ℕ, List, [], ◌∷◌, Some, ap, drop, length, arith, refl, subst, sym}
+use Rattle.std.proofs.Common.{◌≡◌, ◌∙◌, ◌+◌, ◌-◌, ◌*◌, ◌^◌, ◌<◌, ◌≤◌, ℕ, List, [], ◌∷◌, None, ap, drop, length, arith, refl, subst, sym}
 use Rattle.std.proofs.lemmas.List.{drop_all}
 use Rattle.plain_store.specs.{Setup}
-use Rattle.drawer.specs.{Drawing, DrawsRest, SaysEnd, kept, lines_given, reads_since}
-use Rattle.scenario.specs.{Line, script}
+use Rattle.companions.specs.{IsWriteFault}
+use Rattle.drawer.specs.{Drawing}
+use Rattle.scenario.specs.{Line}
 use Rattle.scenario.proofs.Places.{drop_in}
-use Rattle.course.specs.{CanCount, IsWriteFault, Summary, end_line, happenings, past_after, summary_of}
+use Rattle.course.specs.{CanCount, Summary}
 use Rattle.course.proofs.Onwards.{onward_numbers}
 use Rattle.course.proofs.Played.{on_fault}
-use Rattle.course.proofs.Written.{failed_same}
+use Rattle.companions.proofs.Written.{failed_same}
 use Rattle.companions.specs.picture.{Plan}
 use Rattle.companions.specs.picture.declared.reads.Reads.{Reads as Mode}
-use Rattle.drawer.proofs.Drawn.{rest_at}
 use Rattle.drawer.proofs.Giving.{number_of_first}
 use Rattle.drawer.proofs.Drawings.{Drawn, drawn_end, drawn_on, drawn_start}
 use Rattle.drawer.proofs.drawing.draw_lines.Goals as goal
@@ -30,13 +30,12 @@ pub loop-line-init : goal.loop-line-init
 loop-line-init g c =
     let d : Drawing = c.args.drawing.now in
     let s : Setup = c.args.scenario.now.setup in
-    let none : d.summary ≡ record { events = 0; taken = 0; refused = 0 } = c.requires.summary in
     record {
-      drawn = λ (plan : Plan) (mode : Mode) page recalls. drawn_start plan mode s c.args.scenario.now.lines.items d.source c.args.course.now d.summary d.changes.store d.overlaps (kept d.page) (g.W.Sink.taken c.args.output.now)
-          c.requires.setup c.requires.follows none c.requires.held page (number_of_first s d.source c.requires.source) recalls;
+      drawn = λ (plan : Plan) (mode : Mode) first recalls. drawn_start plan mode s c.args.scenario.now.lines.items d.source c.args.course.now d.summary d.changes.store d.canvas (g.W.Sink.taken c.args.output.now)
+          c.requires.setup c.requires.follows c.requires.summary first (number_of_first s d.source c.requires.source) recalls;
       source = omega (arith, c.requires.source);
       whole = refl;
-      room = begins d.summary none;
+      room = begins d.summary c.requires.summary;
     }
 
 pub loop-line-preserved : goal.loop-line-preserved
@@ -47,11 +46,15 @@ loop-line-preserved g c =
     let here : Line = c.line-item.result in
     let within : k < length lines = omega arith in
     let next : drop k lines ≡ here ∷ drop (k + 1) lines = drop_in lines k here within (rw c.deref-line-items.ensures.value at c.line-item.is) in
-    let begun : Drawing = record c.loop-line.drawing { source = c.loop-line.drawing.source + 1 } in
+    let mid : Drawing = c.loop-line.drawing in
+    let now : Drawing = c.draw_line.new.drawing in
+    let a = g.W.Sink.taken c.args.output.now in
+    let b = g.W.Sink.taken c.loop-line.output in
+    let d = g.W.Sink.taken c.draw_line.new.output in
     record {
-      drawn = λ (plan : Plan) (mode : Mode) page recalls. subst (λ n. Drawn plan mode s lines (drop (k + 1) lines) n c.draw_line.new.course c.draw_line.new.drawing.summary c.draw_line.new.drawing.changes.store c.draw_line.new.drawing.overlaps (kept c.draw_line.new.drawing.page) (g.W.Sink.taken c.args.output.now) (g.W.Sink.taken c.draw_line.new.output)) (sym c.in_ok-draw_line.ensures.source)
-          (drawn_on plan mode s lines (drop (k + 1) lines) here c.loop-line.drawing.source c.loop-line.course c.draw_line.new.course begun c.draw_line.new.drawing (g.W.Sink.taken c.args.output.now) (g.W.Sink.taken c.loop-line.output) (g.W.Sink.taken c.draw_line.new.output)
-          (subst (λ (rest : List Line). Drawn plan mode s lines rest c.loop-line.drawing.source c.loop-line.course c.loop-line.drawing.summary c.loop-line.drawing.changes.store c.loop-line.drawing.overlaps (kept c.loop-line.drawing.page) (g.W.Sink.taken c.args.output.now) (g.W.Sink.taken c.loop-line.output)) next (c.loop-line.invariant.drawn plan mode page recalls))
+      drawn = λ (plan : Plan) (mode : Mode) first recalls. subst (λ n. Drawn plan mode s lines (drop (k + 1) lines) n c.draw_line.new.course now.summary now.changes.store now.canvas a d) (sym c.in_ok-draw_line.ensures.source)
+          (drawn_on plan mode s lines (drop (k + 1) lines) here mid.source c.loop-line.course c.draw_line.new.course (record mid { source = mid.source + 1 }) now a b d
+          (subst (λ (rest : List Line). Drawn plan mode s lines rest mid.source c.loop-line.course mid.summary mid.changes.store mid.canvas a b) next (c.loop-line.invariant.drawn plan mode first recalls))
           c.in_ok-draw_line.ensures.ok c.in_ok-draw_line.ensures.source);
       source = omega (arith, c.in_ok-draw_line.ensures.source, c.loop-line.invariant.source);
       whole = omega (arith, c.in_ok-draw_line.ensures.failures, c.loop-line.invariant.whole);
@@ -64,34 +67,36 @@ draw_line-requires-clause-room g c =
     one_line c.loop-line.drawing.summary c.loop-line.line-index (length c.args.scenario.now.lines.items) within c.args.scenario.now.few c.loop-line.invariant.room
 
 pub returns-clause-ok : goal.returns-clause-ok
-returns-clause-ok g c = λ (plan : Plan) (mode : Mode) page recalls.
+returns-clause-ok g c = λ (plan : Plan) (mode : Mode) first recalls.
     let s : Setup = c.args.scenario.now.setup in
     let lines : List Line = c.args.scenario.now.lines.items in
-    let d : Drawn plan mode s lines [] c.loop-line.drawing.source c.loop-line.course c.loop-line.drawing.summary c.loop-line.drawing.changes.store c.loop-line.drawing.overlaps (kept c.loop-line.drawing.page) (g.W.Sink.taken c.args.output.now) (g.W.Sink.taken c.loop-line.output) =
-    subst (λ (rest : List Line). Drawn plan mode s lines rest c.loop-line.drawing.source c.loop-line.course c.loop-line.drawing.summary c.loop-line.drawing.changes.store c.loop-line.drawing.overlaps (kept c.loop-line.drawing.page) (g.W.Sink.taken c.args.output.now) (g.W.Sink.taken c.loop-line.output)) (drop_all c.loop-line.line-index lines (omega arith)) (c.loop-line.invariant.drawn plan mode page recalls) in
-    let told : Summary = record c.loop-line.drawing.summary { taken = c.taken-drawing.result } in
-    let numbers = onward_numbers s lines c.loop-line.course c.loop-line.drawing.summary c.taken-drawing.result (Some []) (Some d.text) d.onward c.taken-drawing.ensures in
-    drawn_end plan mode s lines c.loop-line.drawing.source c.loop-line.course c.loop-line.drawing.summary c.loop-line.drawing.changes.store c.loop-line.drawing.overlaps (kept c.loop-line.drawing.page) (g.W.Sink.taken c.args.output.now) (g.W.Sink.taken c.loop-line.output) (g.W.Sink.taken c.end.new.output) (end_line (summary_of s (happenings (script c.args.scenario.now)))) c.loop-line.drawing.summary.events c.height.result d refl
-    (subst (λ (n : Summary). DrawsRest (kept c.loop-line.drawing.page) (g.W.Sink.taken c.loop-line.output) (g.W.Sink.taken c.end.new.output) (end_line n) (lines_given mode (c.loop-line.drawing.source + 1) c.loop-line.drawing.summary.events (reads_since s d.onward.now.happened) (SaysEnd n ∷ [])) c.height.result) numbers
-    (rest_at (kept c.loop-line.drawing.page) (g.W.Sink.taken c.loop-line.output) (g.W.Sink.taken c.end.new.output) (end_line told) (lines_given mode (c.loop-line.drawing.source + 1) told.events (reads_since s d.onward.now.happened) (SaysEnd told ∷ [])) c.end.new.self.page.height c.height.result
-    c.height.ensures (c.in_ok-end.ensures.ok mode s (past_after s d.onward.now.happened) (reads_since s d.onward.now.happened) d.recalls.waits)))
+    let mid : Drawing = c.loop-line.drawing in
+    let a = g.W.Sink.taken c.args.output.now in
+    let b = g.W.Sink.taken c.loop-line.output in
+    let d : Drawn plan mode s lines [] mid.source c.loop-line.course mid.summary mid.changes.store mid.canvas a b =
+    subst (λ (rest : List Line). Drawn plan mode s lines rest mid.source c.loop-line.course mid.summary mid.changes.store mid.canvas a b) (drop_all c.loop-line.line-index lines (omega arith)) (c.loop-line.invariant.drawn plan mode first recalls) in
+    drawn_end plan mode s lines mid.source c.loop-line.course mid.summary (record mid.summary { taken = c.taken-drawing.result }) mid.changes.store mid.canvas a b (g.W.Sink.taken c.end.new.output) c.in_ok-height.height d
+    (onward_numbers s lines c.loop-line.course mid.summary c.taken-drawing.result None None d.onward c.taken-drawing.ensures) c.in_ok-height.ensures.ok
 
 pub returns-clause-summary : goal.returns-clause-summary
-returns-clause-summary g c = λ (plan : Plan) (mode : Mode) page recalls.
+returns-clause-summary g c = λ (plan : Plan) (mode : Mode) first recalls.
     let s : Setup = c.args.scenario.now.setup in
     let lines : List Line = c.args.scenario.now.lines.items in
-    let d : Drawn plan mode s lines [] c.loop-line.drawing.source c.loop-line.course c.loop-line.drawing.summary c.loop-line.drawing.changes.store c.loop-line.drawing.overlaps (kept c.loop-line.drawing.page) (g.W.Sink.taken c.args.output.now) (g.W.Sink.taken c.loop-line.output) =
-    subst (λ (rest : List Line). Drawn plan mode s lines rest c.loop-line.drawing.source c.loop-line.course c.loop-line.drawing.summary c.loop-line.drawing.changes.store c.loop-line.drawing.overlaps (kept c.loop-line.drawing.page) (g.W.Sink.taken c.args.output.now) (g.W.Sink.taken c.loop-line.output)) (drop_all c.loop-line.line-index lines (omega arith)) (c.loop-line.invariant.drawn plan mode page recalls) in
-    c.in_ok-end.ensures.summary ∙ onward_numbers s lines c.loop-line.course c.loop-line.drawing.summary c.taken-drawing.result (Some []) (Some d.text) d.onward c.taken-drawing.ensures
+    let mid : Drawing = c.loop-line.drawing in
+    let a = g.W.Sink.taken c.args.output.now in
+    let b = g.W.Sink.taken c.loop-line.output in
+    let d : Drawn plan mode s lines [] mid.source c.loop-line.course mid.summary mid.changes.store mid.canvas a b =
+    subst (λ (rest : List Line). Drawn plan mode s lines rest mid.source c.loop-line.course mid.summary mid.changes.store mid.canvas a b) (drop_all c.loop-line.line-index lines (omega arith)) (c.loop-line.invariant.drawn plan mode first recalls) in
+    c.in_ok-height.ensures.summary ∙ onward_numbers s lines c.loop-line.course mid.summary c.taken-drawing.result None None d.onward c.taken-drawing.ensures
 
 pub returns-in_err-draw_line-clause-failures : goal.returns-in_err-draw_line-clause-failures
 returns-in_err-draw_line-clause-failures g c = omega (arith, c.in_err-draw_line.ensures.failures, c.loop-line.invariant.whole, failed_same c.from_residual.result c.in_err-draw_line.field-0.0 c.from_residual.ensures.1)
 
-pub returns-in_err-end-clause-failures : goal.returns-in_err-end-clause-failures
-returns-in_err-end-clause-failures g c = omega (arith, c.in_err-end.ensures.failures, c.loop-line.invariant.whole, failed_same c.from_residual-in_err-end.result c.in_err-end.field-0.0 c.from_residual-in_err-end.ensures.1)
+pub returns-in_err-height-clause-failures : goal.returns-in_err-height-clause-failures
+returns-in_err-height-clause-failures g c = omega (arith, c.in_err-height.ensures.failures, c.loop-line.invariant.whole, failed_same c.from_residual-in_err-height.result c.in_err-height.field-0.0 c.from_residual-in_err-height.ensures.1)
 
 pub returns-in_err-draw_line-clause-fault : goal.returns-in_err-draw_line-clause-fault
 returns-in_err-draw_line-clause-fault g c = on_fault c.from_residual.result c.in_err-draw_line.field-0.0 IsWriteFault c.from_residual.ensures.1 c.in_err-draw_line.ensures.fault
 
-pub returns-in_err-end-clause-fault : goal.returns-in_err-end-clause-fault
-returns-in_err-end-clause-fault g c = on_fault c.from_residual-in_err-end.result c.in_err-end.field-0.0 IsWriteFault c.from_residual-in_err-end.ensures.1 c.in_err-end.ensures.fault
+pub returns-in_err-height-clause-fault : goal.returns-in_err-height-clause-fault
+returns-in_err-height-clause-fault g c = on_fault c.from_residual-in_err-height.result c.in_err-height.field-0.0 IsWriteFault c.from_residual-in_err-height.ensures.1 c.in_err-height.ensures.fault

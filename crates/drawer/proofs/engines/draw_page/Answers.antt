@@ -1,12 +1,8 @@
-use Rattle.std.proofs.Common.{refl}
-use Rattle.plain_store.specs.{opening_store}
 use Rattle.companions.specs.picture.{page_names}
 use Rattle.companions.specs.picture.declared.page.Form.TheVariants as form
 use Rattle.scenario.specs.{script}
-use Rattle.companions.specs.{store_words}
 use Rattle.course.proofs.Written.{ok_then}
-use Rattle.drawer.proofs.Drawn.{draws_framed}
-use Rattle.drawer.proofs.Pictured.{is_page}
+use Rattle.drawer.proofs.Pictured.{draws_framed, is_page}
 use Rattle.drawer.proofs.engines.draw_page.Goals as goal
 
 pub returns : goal.returns
@@ -18,7 +14,7 @@ returns g c =
     record {
       ok = ok_then c.draw_framed.result
           (λ framed. draws_framed c.args.reads form.Page c.args.file.now said (g.W.Sink.taken c.args.output.now) (g.W.Sink.taken c.draw_framed.new.output) c.in_ok-head.head c.in_ok-end.end page_names (record { no_head = head.lines; begins = head.elements; no_end = end.lines; ends = end.elements }) framed
-          (is_page c.args.reads said c.args.file.now (store_words (opening_store c.args.scenario.now.setup)) c.in_ok-head.head c.in_ok-end.end _ _ _ framed.bands refl head.draws end.draws))
+          (is_page c.args.reads said c.args.file.now c.in_ok-head.head c.in_ok-end.end _ _ _ framed.bands head.draws end.back))
           drew.ok;
       summary = drew.summary;
       fault = drew.fault;

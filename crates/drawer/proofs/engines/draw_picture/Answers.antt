@@ -2,8 +2,7 @@ use Rattle.companions.specs.picture.{picture_names}
 use Rattle.companions.specs.picture.declared.page.Form.TheVariants as form
 use Rattle.scenario.specs.{script}
 use Rattle.course.proofs.Written.{ok_then}
-use Rattle.drawer.proofs.Drawn.{draws_framed}
-use Rattle.drawer.proofs.Pictured.{is_picture}
+use Rattle.drawer.proofs.Pictured.{draws_framed, is_picture}
 use Rattle.drawer.proofs.engines.draw_picture.Goals as goal
 
 pub returns : goal.returns

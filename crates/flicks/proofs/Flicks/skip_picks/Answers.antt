@@ -1,4 +1,4 @@
-use Rattle.std.proofs.Common.{◌≡◌, sym, ◌∙◌, ap}
+use Rattle.std.proofs.Common.{sym, ◌∙◌, ap}
 use Rattle.rand_pcg.specs.Lcg.{Lcg}
 use Rattle.flicks.specs.{FlickState, Mode, picks_after}
 use Rattle.flicks.proofs.Skips.{picked}

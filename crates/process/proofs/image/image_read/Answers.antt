@@ -31,7 +31,7 @@ returns-clause-store c = λ bits long has.
     let n : ℕ = image_bytes s in
     let same : c.from.result ≡ n = c.from.ensures ∙ c.image_bytes.ensures.bytes in
     let room : n ≤ length c.args.bytes.now = omega (arith, c.image_bytes.ensures.bytes, c.image_bytes.ensures.most) in
-    c.image_in.ensures.store
+    c.read_or_empty.ensures.store
     ∙ ap (λ k. store_in s.slots (callers_of s) (take k c.args.bytes.now)) same
     ∙ ap (store_in s.slots (callers_of s))
     (c.bytes_go_by_their_bits.ensures.read n bits (take n c.args.bytes.now) long (length-take-le n c.args.bytes.now room) (bytes-taken c.args.bytes.now n room c.fits-bytes) (taken bits c.args.bytes.now n room long has))

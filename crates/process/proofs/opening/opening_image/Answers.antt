@@ -1,5 +1,5 @@
 use Rattle.std.proofs.Common.{arith, rules}
-use Rattle.process.proofs.GoodRanges.{few-callers, few-slots, some-slots}
+use Rattle.store_image.proofs.GoodRanges.{few-callers, few-slots, some-slots}
 use Rattle.process.proofs.opening.opening_image.Goals as goal
 
 pub empty-requires : goal.empty-requires

@@ -1,15 +1,12 @@
-use Rattle.std.proofs.Common.{w64, ap, ◌∙◌, sym, ◌==◌}
-use Rattle.std.proofs.lemmas.Nat.Bits.{bit_at_set_same, bit_at_set_other, bit_at_clear_same, bit_at_clear_other}
+use Rattle.std.proofs.Common.{ap, cond, ◌∙◌}
+use Rattle.reader_copies.specs.{flag_in}
 use Rattle.reader_copies.proofs.flag_words.with_flag.Goals as goal
 
-pub returns-then-flag : goal.returns-then-flag
-returns-then-flag c = record {
-  same = ap (λ b. b == 1) (bit_at_set_same w64 _ _ c.requires) ∙ sym c.if-flag.true;
-  others = λ i below apart. ap (λ b. b == 1) (bit_at_set_other w64 _ _ c.requires i apart);
-}
-
-pub returns-else-flag : goal.returns-else-flag
-returns-else-flag c = record {
-  same = ap (λ b. b == 1) (bit_at_clear_same w64 _ _ c.requires) ∙ sym c.if-flag.false;
-  others = λ i below apart. ap (λ b. b == 1) (bit_at_clear_other w64 _ _ c.requires i below apart);
-}
+pub returns : goal.returns
+returns c =
+    let flags = c.all_flags.result in
+    let word = c.args.word in
+    record {
+      same = c.choose.ensures c.args.k ∙ ap (λ b. cond b (flag_in flags c.args.k) (flag_in word c.args.k)) c.one_flag.ensures.there ∙ c.all_flags.ensures c.args.k c.requires;
+      others = λ i below apart. c.choose.ensures i ∙ ap (λ b. cond b (flag_in flags i) (flag_in word i)) (c.one_flag.ensures.nowhere_else i apart);
+    }

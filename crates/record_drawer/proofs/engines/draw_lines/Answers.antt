@@ -7,10 +7,11 @@ use Rattle.companions.specs.picture.{Form}
 use Rattle.companions.specs.picture.declared.reads.Reads.{Reads as Mode}
 use Rattle.record.specs.{Past}
 use Rattle.record_file.specs.{Progress, line_read}
-use Rattle.record_drawer.specs.{DrawnEntry, DrawsAllBands, EndsAt, IsDrawFault, Stands, failed_write}
+use Rattle.companions.specs.{failed_write}
+use Rattle.record_drawer.specs.{DrawnEntry, DrawsAllBands, EndsAt, IsDrawFault, Stands}
 use Rattle.judge.proofs.Ends.{if_err, none_told}
 use Rattle.record_drawer.proofs.Ends.{drawing_read, next_wrote, no_value, onwards_drawn, onwards_fault, onwards_none, onwards_on, onwards_start, onwards_stop, reading_same, read_some}
-use Rattle.record_drawer.proofs.Written.{failed_same}
+use Rattle.companions.proofs.Written.{failed_same}
 use Rattle.record_drawer.proofs.engines.draw_lines.Goals as goal
 
 pub lines-preserved : goal.lines-preserved

@@ -1,7 +1,7 @@
 use Rattle.std.proofs.Common.{[], arith}
 use Rattle.companions.specs.picture.declared.page.Form.TheVariants as form
 use Rattle.record_drawer.proofs.Whole.{drew_last, if_some, of_record_then}
-use Rattle.record_drawer.proofs.Written.{ok_then}
+use Rattle.companions.proofs.Written.{ok_then}
 use Rattle.record_drawer.proofs.engines.draw_record.Goals as goal
 
 pub returns : goal.returns

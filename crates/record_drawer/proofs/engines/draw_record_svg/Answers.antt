@@ -2,7 +2,7 @@ use Rattle.std.proofs.Common.{List, ℕ, [], Some, IfSome, subst, sym, arith}
 use Rattle.companions.specs.picture.declared.page.Form.TheVariants as form
 use Rattle.record_drawer.specs.{DrawsAllBands, DrawsBandsOf}
 use Rattle.record_drawer.proofs.Whole.{drew_last, if_some, of_record_then}
-use Rattle.record_drawer.proofs.Written.{ok_then}
+use Rattle.companions.proofs.Written.{ok_then}
 use Rattle.record_drawer.proofs.engines.draw_record_svg.Goals as goal
 
 pub returns-in-Ok : goal.returns-in-Ok

@@ -1,12 +1,10 @@
-use Rattle.std.proofs.Common.{ap, ◌∙◌}
-use Rattle.companions.specs.{store_words}
 use Rattle.record_drawer.proofs.Whole.{page_drawn}
-use Rattle.record_drawer.proofs.Written.{ok_then}
+use Rattle.companions.proofs.Written.{ok_then}
 use Rattle.record_drawer.proofs.engines.end_page.Goals as goal
 
 pub returns-clause-ok : goal.returns-clause-ok
 returns-clause-ok g c =
     ok_then c.write_markup.result
-    (λ written reads said told first bands. page_drawn reads said told c.args.drawn.now first (g.W.Sink.taken c.args.output.now) (g.W.Sink.taken c.write_markup.new.output) c.as_slice.result.now c.in_ok-end.end bands
-    (c.as_slice.ensures.value ∙ c.in_ok-opening.ensures ∙ ap store_words c.in_ok-new.ensures.store) c.in_ok-end.ensures.draws c.in_ok-end.ensures.lines c.in_ok-end.ensures.elements written)
+    (λ written reads said told first bands. page_drawn reads said told c.args.drawn.now first (g.W.Sink.taken c.args.output.now) (g.W.Sink.taken c.write_markup.new.output) c.in_ok-end.end bands
+    c.in_ok-end.ensures.back c.in_ok-end.ensures.lines c.in_ok-end.ensures.elements written)
     c.write_markup.ensures.written

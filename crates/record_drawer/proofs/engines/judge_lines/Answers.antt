@@ -2,10 +2,11 @@ use Rattle.std.proofs.Common.{◌≡◌, ℕ, ◌+◌, Bool, List, Option, Ok, E
 use Rattle.files.specs.{Fault, GoesToNext, UnlessMemory, coming, failed_reading}
 use Rattle.record_file.specs.{Progress, line_read}
 use Rattle.judge.proofs.Ends.{if_err, next_fault, none_told, onwards_fault, onwards_few}
-use Rattle.record_drawer.specs.{IsDrawFault, failed_write}
+use Rattle.companions.specs.{failed_write}
+use Rattle.record_drawer.specs.{IsDrawFault}
 use Rattle.record_drawer.proofs.Ends.{drawing_read, next_wrote, not_ok, reading_same}
 use Rattle.record_drawer.proofs.JudgedFile.{input_fault, judged_heard, judged_read, judged_shown, judged_start, read_fault, shown_few}
-use Rattle.record_drawer.proofs.Written.{failed_same}
+use Rattle.companions.proofs.Written.{failed_same}
 use Rattle.record_drawer.proofs.engines.judge_lines.Goals as goal
 
 pub lines-init : goal.lines-init

@@ -6,7 +6,7 @@ use Rattle.judge.specs.{IsOfRecord}
 use Rattle.judge.proofs.Ends.{if_err}
 use Rattle.record_drawer.specs.{DrawnEntry, DrawsBandsOf, IsDrawFault, IsJudged}
 use Rattle.record_drawer.proofs.Ends.{no_value, reading_same}
-use Rattle.record_drawer.proofs.Written.{failed_same, if_err_then, if_ok_then}
+use Rattle.companions.proofs.Written.{failed_same, if_err_then, if_ok_then}
 use Rattle.record_drawer.proofs.engines.judge_sheet.Goals as goal
 
 pub returns-in_err-judge_lines : goal.returns-in_err-judge_lines

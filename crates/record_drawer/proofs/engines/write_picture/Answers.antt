@@ -1,5 +1,5 @@
 use Rattle.record_drawer.proofs.Whole.{picture_drawn}
-use Rattle.record_drawer.proofs.Written.{ok_then}
+use Rattle.companions.proofs.Written.{ok_then}
 use Rattle.record_drawer.proofs.engines.write_picture.Goals as goal
 
 pub returns-clause-ok : goal.returns-clause-ok

@@ -1,6 +1,7 @@
 use Rattle.std.proofs.Common.{◌≡◌, ◌++◌, ◌∙◌, ap, flat_map, arith}
 use Rattle.std.specs.List.{range_with_len}
-use Rattle.snapshot.specs.{fields, lines_of_register}
+use Rattle.record.specs.{fields}
+use Rattle.snapshot.specs.{lines_of_register}
 use Rattle.snapshot.proofs.Ranges.{text_more}
 use Rattle.snapshot.proofs.register_lines.push_registers.Goals as goal
 

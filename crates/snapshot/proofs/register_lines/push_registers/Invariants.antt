@@ -1,7 +1,7 @@
 use Rattle.std.proofs.Common.{◌≡◌, ◌++◌, flat_map}
 use Rattle.std.specs.List.{range_with_len}
-use Rattle.record.specs.{Past}
-use Rattle.snapshot.specs.{CoreShows, fields, lines_of_register}
+use Rattle.record.specs.{Past, fields}
+use Rattle.snapshot.specs.{CoreShows, lines_of_register}
 use Rattle.snapshot.proofs.register_lines.push_registers.Given as goal
 
 -- those of the processes below were written

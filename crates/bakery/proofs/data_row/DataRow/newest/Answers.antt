@@ -71,7 +71,7 @@ returns c =
     let count : c.image_bytes-count.result ≡ image_bytes row.setup = c.image_bytes-count.ensures.bytes ∙ ap (λ (r : DataRow). image_bytes r.setup) c.self.view_is in
     let newest = c.loop-process.invariant ∙ ap (λ n. newest_of (map (version_in row) (range_with_len 0 n))) all in
     let store : List ℕ → Contents = store_in row.setup.slots (callers_of row.setup) in
-    c.image_in.ensures.store
+    c.read_or_empty.ensures.store
     ∙ (λ i. store_in (c.self.view_is i).setup.slots (callers_of (c.self.view_is i).setup) (take (c.from-3.ensures i) c.image-bytes.result))
     ∙ ap store (c.image-bytes.ensures.bytes ∙ (λ i. bytes_of_bits (count i) (values_of (register_of (part i) (image_field c.loop-process.newest.commit)))))
     ∙ ap (λ (n : Newest). store (bytes_of_bits (image_bytes row.setup) (values_of (register_of (data_of row n.process) (image_field n.commit))))) newest

@@ -3,4 +3,4 @@ use Rattle.columns.proofs.Texts.{ok_along, read_of}
 use Rattle.columns.proofs.reads.OverlappedRead.bit_read.Goals as goal
 
 pub returns : goal.returns
-returns c = ok_along string_bytes c.format.result _ _ c.format.ensures.ok (read_of c.args.self.now c.field_name-field.result.now c.field_name-field.ensures)
+returns c = ok_along string_bytes c.format.result _ _ c.format.ensures.ok (read_of c.args.self.now c.word-field.result.now c.word-field.ensures)

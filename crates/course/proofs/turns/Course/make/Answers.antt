@@ -1,42 +1,26 @@
-use Rattle.std.proofs.Common.{◌≤◌, ◌-◌, ◌∙◌, ap, sym, subst, arith}
+use Rattle.std.proofs.Common.{◌≤◌, ◌-◌, ◌∙◌, ap, sym, subst}
 use Rattle.std.specs.Prelude.{Some, None}
 use Rattle.scenario.specs.declared.lines.Line.TheVariants as line
 use Rattle.course.specs.{CourseState, Follows, Makes, Run, course, turn_of}
 use Rattle.course.specs.declared.told.Told.TheVariants as told
-use Rattle.course.proofs.CourseTurns.{flick_made, show_made, turn_ended, turn_made, turn_made_by}
-use Rattle.course.proofs.Played.{wanted_by}
+use Rattle.course.proofs.CourseTurns.{flick_made, show_made, turn_made, turn_made_by}
 use Rattle.course.proofs.turns.Course.make.Goals as goal
-
-pub returns-then-self-eq0-clause-made : goal.returns-then-self-eq0-clause-made
-returns-then-self-eq0-clause-made c = turn_ended c.args.self.now c.args.line.now (ap (λ (s : CourseState). s.left) (sym c.self.view_is) ∙ c.if-self-eq0.true)
 
 pub returns-in-Call-clause-made : goal.returns-in-Call-clause-made
 returns-in-Call-clause-made c =
     turn_made_by c.args.self.now c.event.new.self c.args.line.now (line.Call c.in-Call.process c.in-Call.command) c.event.result (λ none. c.if-self-eq0.false (ap (λ (s : CourseState). s.left) c.self.view_is ∙ none)) c.in-Call.is c.event.ensures.made
 
-pub returns-in-Call-clause-left : goal.returns-in-Call-clause-left
-returns-in-Call-clause-left c = wanted_by c.event.result c.event.new.self.left c.args.self.now.left (omega (arith, c.event.ensures.left, c.if-self-eq0.false, ap (λ (s : CourseState). s.left) c.self.view_is))
-
 pub returns-in-Fail-clause-made : goal.returns-in-Fail-clause-made
 returns-in-Fail-clause-made c =
     turn_made_by c.args.self.now c.event-in-Fail.new.self c.args.line.now (line.Fail c.in-Fail.process) c.event-in-Fail.result (λ none. c.if-self-eq0.false (ap (λ (s : CourseState). s.left) c.self.view_is ∙ none)) c.in-Fail.is c.event-in-Fail.ensures.made
-
-pub returns-in-Fail-clause-left : goal.returns-in-Fail-clause-left
-returns-in-Fail-clause-left c = wanted_by c.event-in-Fail.result c.event-in-Fail.new.self.left c.args.self.now.left (omega (arith, c.event-in-Fail.ensures.left, c.if-self-eq0.false, ap (λ (s : CourseState). s.left) c.self.view_is))
 
 pub returns-in-Withdraw-clause-made : goal.returns-in-Withdraw-clause-made
 returns-in-Withdraw-clause-made c =
     turn_made_by c.args.self.now c.event-in-Withdraw.new.self c.args.line.now (line.Withdraw c.in-Withdraw.process) c.event-in-Withdraw.result (λ none. c.if-self-eq0.false (ap (λ (s : CourseState). s.left) c.self.view_is ∙ none)) c.in-Withdraw.is c.event-in-Withdraw.ensures.made
 
-pub returns-in-Withdraw-clause-left : goal.returns-in-Withdraw-clause-left
-returns-in-Withdraw-clause-left c = wanted_by c.event-in-Withdraw.result c.event-in-Withdraw.new.self.left c.args.self.now.left (omega (arith, c.event-in-Withdraw.ensures.left, c.if-self-eq0.false, ap (λ (s : CourseState). s.left) c.self.view_is))
-
 pub returns-in-Restart-clause-made : goal.returns-in-Restart-clause-made
 returns-in-Restart-clause-made c =
     turn_made_by c.args.self.now c.event-in-Restart.new.self c.args.line.now (line.Restart c.in-Restart.process) c.event-in-Restart.result (λ none. c.if-self-eq0.false (ap (λ (s : CourseState). s.left) c.self.view_is ∙ none)) c.in-Restart.is c.event-in-Restart.ensures.made
-
-pub returns-in-Restart-clause-left : goal.returns-in-Restart-clause-left
-returns-in-Restart-clause-left c = wanted_by c.event-in-Restart.result c.event-in-Restart.new.self.left c.args.self.now.left (omega (arith, c.event-in-Restart.ensures.left, c.if-self-eq0.false, ap (λ (s : CourseState). s.left) c.self.view_is))
 
 pub returns-in-Flick-clause-made : goal.returns-in-Flick-clause-made
 returns-in-Flick-clause-made c =

@@ -36,6 +36,3 @@ pub returns-clause-movers : goal.returns-clause-movers
 returns-clause-movers c = λ run follows.
     let all : c.loop-process.process ≡ c.args.self.now.world.setup.processes = omega (arith, c.loop-process-test.false, c.loop-process.auto.process-end, c.self.invariant.are, ap (λ (course : CourseState). course.world.setup.processes) c.self.view_is) in
     rw all at c.loop-process.invariant.so_far run follows
-
-pub returns-clause-few : goal.returns-clause-few
-returns-clause-few c = omega (arith, c.loop-process.invariant.within, c.loop-process.auto.process-end, c.self.invariant.few)

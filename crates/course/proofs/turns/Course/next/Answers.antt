@@ -1,10 +1,10 @@
-use Rattle.std.proofs.Common.{◌+◌, arith, inl}
+use Rattle.std.proofs.Common.{inl}
 use Rattle.scenario.specs.files.declared.faults.Fault.TheVariants.{Memory}
-use Rattle.course.specs.{Follows, HearsUpTo, IsAlone, Run, rest_of, room_wanted}
+use Rattle.course.specs.{Follows, HearsUpTo, IsAlone, Run, rest_of}
 use Rattle.course.proofs.Alone.{alone_whole}
 use Rattle.course.proofs.Endings.{if_err}
 use Rattle.course.proofs.Knowing.{nothing_yet}
-use Rattle.course.proofs.Played.{no_value, on_fault, unheard}
+use Rattle.course.proofs.Played.{on_fault, unheard}
 use Rattle.course.proofs.Runnings.{at_once, line_stops}
 use Rattle.course.proofs.turns.Course.next.Goals as goal
 
@@ -21,22 +21,9 @@ returns-then-not-makes_steps-clause-ok g c = λ run follows.
     at_once (HearsUpTo g.L.Listener.Hears g.L.Listener.Knows c.in_ok-make.field-0) c.args.line.now run c.args.self.now c.make.new.self c.args.listener.now c.in_ok-make.field-0
     (nothing_yet g.L.Listener.Hears g.L.Listener.Knows g.met.L.Listener.hears_nothing c.in_ok-make.field-0 c.args.listener.now c.args.self.now.world.setup run.happened) (c.in_ok-make.ensures.made run follows)
 
-pub returns-then-not-makes_steps-clause-room : goal.returns-then-not-makes_steps-clause-room
-returns-then-not-makes_steps-clause-room g c = λ more room.
-    g.met.L.Listener.room_less c.args.listener.now (more + room_wanted c.in_ok-make.field-0 c.make.new.self.left) (more + c.args.self.now.left) (let less = c.in_ok-make.ensures.left in omega (arith, less)) room
-
 pub returns-in-Step-clause-ok : goal.returns-in-Step-clause-ok
 returns-in-Step-clause-ok g c =
     alone_whole (HearsUpTo g.L.Listener.Hears g.L.Listener.Knows) c.args.self.now c.run_alone.new.self c.args.line.now c.in-Step.process c.in-Step.field-1 c.args.listener.now c.run_alone.new.listener c.run_alone.result c.in-Step.is c.run_alone.ensures.ended c.run_alone.ensures.ok
-
-pub returns-in_err-make-clause-left : goal.returns-in_err-make-clause-left
-returns-in_err-make-clause-left g c = no_value c.from_residual.result Memory _ c.from_residual.ensures.1
-
-pub returns-in_err-make-clause-ok : goal.returns-in_err-make-clause-ok
-returns-in_err-make-clause-ok g c = no_value c.from_residual.result Memory _ c.from_residual.ensures.1
-
-pub returns-in_err-make-clause-room : goal.returns-in_err-make-clause-room
-returns-in_err-make-clause-room g c = no_value c.from_residual.result Memory _ c.from_residual.ensures.1
 
 pub returns-in-Step-clause-cut : goal.returns-in-Step-clause-cut
 returns-in-Step-clause-cut g c = if_err c.run_alone.result

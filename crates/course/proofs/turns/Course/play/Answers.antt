@@ -1,7 +1,7 @@
 use Rattle.std.proofs.Common.{◌+◌, ◌^◌, ap, arith, refl, subst}
 use Rattle.std.specs.Prelude.{Option}
 use Rattle.course.specs.{ComesTo, CourseState, Follows, HearsUpTo, Run, Told, run_after}
-use Rattle.course.proofs.Played.{not_ok, on_fault, played_cut, played_ended, played_on, played_start, played_torn}
+use Rattle.course.proofs.Played.{on_fault, played_cut, played_ended, played_on, played_start, played_torn}
 use Rattle.course.proofs.turns.Course.play.Goals as goal
 
 pub turns-init : goal.turns-init
@@ -73,21 +73,3 @@ returns-in_err-told-clause-cut g c =
     on_fault c.from_residual.result c.in_err-told.field-0.0 (λ fault. (run : Run) → Follows c.args.self.now run → g.L.Listener.Stops c.args.listener.now s run.happened (run_after s l run).happened fault c.next.new.listener) c.from_residual.ensures.1
     (λ run follows. played_torn g.L.Listener.Hears g.L.Listener.Knows s l run c.args.listener.now c.turns.listener c.next.new.listener c.turns.self c.next.new.self c.turns.invariant.left laws.hears_on
     g.L.Listener.Stops laws.stops_on c.in_err-told.field-0.0 (c.turns.invariant.played run follows) c.in_err-told.ensures.cut)
-
-pub returns-in_err-hear-clause-ok : goal.returns-in_err-hear-clause-ok
-returns-in_err-hear-clause-ok g c = not_ok c.from_residual-in_err-hear.result c.in_err-hear.field-0.0 _ c.from_residual-in_err-hear.ensures.1
-
-pub returns-in_err-hear-clause-knows : goal.returns-in_err-hear-clause-knows
-returns-in_err-hear-clause-knows g c = not_ok c.from_residual-in_err-hear.result c.in_err-hear.field-0.0 _ c.from_residual-in_err-hear.ensures.1
-
-pub returns-in_err-hear-clause-room : goal.returns-in_err-hear-clause-room
-returns-in_err-hear-clause-room g c = not_ok c.from_residual-in_err-hear.result c.in_err-hear.field-0.0 _ c.from_residual-in_err-hear.ensures.1
-
-pub returns-in_err-told-clause-ok : goal.returns-in_err-told-clause-ok
-returns-in_err-told-clause-ok g c = not_ok c.from_residual.result c.in_err-told.field-0.0 _ c.from_residual.ensures.1
-
-pub returns-in_err-told-clause-knows : goal.returns-in_err-told-clause-knows
-returns-in_err-told-clause-knows g c = not_ok c.from_residual.result c.in_err-told.field-0.0 _ c.from_residual.ensures.1
-
-pub returns-in_err-told-clause-room : goal.returns-in_err-told-clause-room
-returns-in_err-told-clause-room g c = not_ok c.from_residual.result c.in_err-told.field-0.0 _ c.from_residual.ensures.1

@@ -1,11 +1,11 @@
-use Rattle.std.proofs.Common.{true≢false, Some, ◌==◌, ◌+◌, ◌-◌, ◌∙◌, ℕ, ap, arith, inl, subst, sym}
-use Rattle.world.specs.flicks.{flick_of}
-use Rattle.course.specs.{ComesTo, CourseState, HearsFrom, HearsStep, IsAlone, KnowsEnough, KnowsOr, Learns, MakesStep, MaySteps, StopsAlone, StopsBy, course, tried}
-use Rattle.course.proofs.Alone.{KnowsAlone, MakesMore, alone_ended, alone_on, alone_passed, alone_told}
-use Rattle.course.proofs.Knowing.{quiet_steps, step_knows, step_needs, turns_above}
-use Rattle.course.proofs.Played.{no_value, on_fault}
-use Rattle.course.proofs.Runnings.{comes_start, comes_stop, comes_then, comes_to}
+use Rattle.std.proofs.Common.{None, Ok, Option, Result, IfOk, IfSome, ◌≡◌, subst, ◌+◌, ◌-◌, ◌∙◌, ℕ, ap, arith, inl, refl, sym}
+use Rattle.scenario.specs.files.{Fault}
+use Rattle.course.specs.{ComesOn, CourseState, HearsFrom, IsAlone, LeavesRoom, RunsAlone, StopsAlone, StopsBy, Told, course, left_told}
+use Rattle.course.proofs.Alone.{KnowsAlone, alone_ended, alone_stops, alone_then, alone_to}
+use Rattle.course.proofs.Played.{both_err, where_err, where_ok}
+use Rattle.course.proofs.Runnings.{comes_start, room_after, room_fewer, room_now}
 use Rattle.course.proofs.turns.Course.run_alone.Goals as goal
+use Rattle.course.proofs.turns.Course.run_alone.Goals.{else-not-is_quiet-via-then-not-is_quiet+else-not-goes_on, else-not-is_quiet-via-else-not-is_quiet}
 
 pub steps-init : goal.steps-init
 steps-init g c =
@@ -13,6 +13,7 @@ steps-init g c =
     let left = ap (λ (old : CourseState). old.left) c.self.view_is in
     record {
       on = λ line run follows next. comes_start (HearsFrom g.L.Listener.Hears g.L.Listener.Knows (KnowsAlone g.L.Listener.Knows c.args.process c.args.floor i.left)) line run c.args.self.now (course i.world i.flicks i.left) c.args.listener.now (IsAlone c.args.process c.args.floor) (g.met.L.Listener.hears_nothing c.args.listener.now c.args.self.now.world.setup run.happened, λ known. inl known) c.self.view_is follows next;
+      none = refl;
       kept = record { are = c.self.invariant.are; few = c.self.invariant.few };
       left = omega (arith, left);
       floor = omega (arith, left, c.requires.floor);
@@ -22,171 +23,68 @@ steps-init g c =
     }
 
 pub pass_by-requires-clause-room : goal.pass_by-requires-clause-room
-pass_by-requires-clause-room g c =
-    let laws = g.met.L.Listener in
-    laws.room_less c.steps.listener c.steps.self-inside.left (0 + c.steps.self-inside.left) (omega arith) (c.steps.invariant.room 0 (laws.room_less c.args.listener.now (0 + c.args.self.now.left) c.args.self.now.left (omega arith) c.requires.room))
+pass_by-requires-clause-room g c = room_now g.L.Listener.HasRoom g.met.L.Listener.room_less c.args.listener.now c.steps.listener c.args.self.now.left c.steps.self-inside.left c.steps.invariant.room c.steps.self-inside.left (omega arith) c.requires.room
 
-pub quiet_step-requires-clause-room : goal.quiet_step-requires-clause-room
-quiet_step-requires-clause-room g c =
-    let laws = g.met.L.Listener in
-    let left : ℕ = c.pass_by.new.left in
-    laws.room_less c.pass_by.new.listener 1 (0 + left) (omega (arith, c.pass_by.ensures.above))
-    (c.pass_by.ensures.room 0 (c.steps.invariant.room 0 (laws.room_less c.args.listener.now (0 + c.args.self.now.left) c.args.self.now.left (omega arith) c.requires.room)))
-
-pub any_step-requires : goal.any_step-requires
-any_step-requires g c =
-    let laws = g.met.L.Listener in
-    let left : ℕ = c.pass_by.new.left in
-    laws.room_less c.pass_by.new.listener 1 (0 + left) (omega (arith, c.pass_by.ensures.above))
-    (c.pass_by.ensures.room 0 (c.steps.invariant.room 0 (laws.room_less c.args.listener.now (0 + c.args.self.now.left) c.args.self.now.left (omega arith) c.requires.room)))
-
-pub steps-preserved-then-is_quiet : goal.steps-preserved-then-is_quiet
-steps-preserved-then-is_quiet g c =
-    let laws = g.met.L.Listener in
-    let Hears = g.L.Listener.Hears in
-    let Knows = g.L.Listener.Knows in
-    let s = c.args.self.now.world.setup in
-    let had : ℕ = c.args.self.now.left in
-    let p = c.args.process in
-    let floor = c.args.floor in
-    let i = c.steps.self-inside in
-    let w = c.pass_by.new.world in
-    let flicks = c.pass_by.new.flicks in
-    let left : ℕ = c.pass_by.new.left in
-    let heard : HearsStep Hears w p c.flick-flick.result c.quiet_step.new.world c.pass_by.new.listener c.quiet_step.new.listener = c.in_ok-quiet_step.ensures.ok in
-    let setup = c.quiet_step.ensures.setup ∙ c.pass_by.ensures.setup in
-    let knows : HearsStep (HearsFrom Hears (KnowsOr Knows (MaySteps p)) (KnowsAlone Knows p floor (left - 1))) w p c.flick-flick.result c.quiet_step.new.world c.pass_by.new.listener c.quiet_step.new.listener =
-    step_knows Hears Knows w c.quiet_step.new.world p c.flick-flick.result c.pass_by.new.listener c.quiet_step.new.listener (KnowsOr Knows (MaySteps p)) (MakesMore p floor (left - 1)) (left - 1 == floor) heard
-    (λ last. absurd (true≢false (sym last ∙ c.is_quiet.ensures.last c.if-is_quiet.true)))
-    (λ more before shows. (turns_above floor left c.pass_by.ensures.above more, quiet_steps w.setup p c.flick-flick.result before (Some heard.step.access, heard.step.adds (tried before) shows))) in
-    record {
-      on = λ line run follows next.
-          let v = alone_passed Hears Knows s line had p floor run c.args.listener.now c.steps.listener (course i.world i.flicks i.left) (c.steps.invariant.on line run follows next) laws.hears_on (course w flicks left) c.pass_by.new.listener c.pass_by.ensures.on in
-          comes_then Hears laws.hears_on Knows (KnowsOr Knows (MaySteps p)) s line had run c.args.listener.now c.pass_by.new.listener c.quiet_step.new.listener (course w flicks left) (IsAlone p floor) v (KnowsAlone Knows p floor (left - 1)) (course c.quiet_step.new.world c.flick-flick.new.self (left - 1)) (IsAlone p floor)
-          (λ run follows next. alone_on w c.quiet_step.new.world line left p floor c.flick-flick.result run flicks c.flick-flick.new.self c.pass_by.ensures.above c.flick-flick.ensures.flick c.flick-flick.ensures.after follows next
-          (HearsFrom Hears (KnowsOr Knows (MaySteps p)) (KnowsAlone Knows p floor (left - 1))) c.pass_by.new.listener c.quiet_step.new.listener knows);
-      kept = record { are = c.steps.invariant.kept.are ∙ ap (λ s. s.processes) (sym setup); few = c.steps.invariant.kept.few };
-      left = omega (arith, c.pass_by.ensures.fewer, c.steps.invariant.left);
-      floor = omega (arith, c.pass_by.ensures.above);
-      some = c.is_quiet.ensures.some;
-      known = omega (arith, c.is_quiet.ensures.within c.if-is_quiet.true, c.quiet_step.ensures.fewer);
-      room = λ more room. c.in_ok-quiet_step.ensures.room (more + (left - 1)) (laws.room_less c.pass_by.new.listener (more + (left - 1) + 1) (more + left) (omega (arith, c.pass_by.ensures.above)) (c.pass_by.ensures.room more (c.steps.invariant.room more room)));
-    }
+pub turn_step-is_quiet-requires-clause-room : goal.turn_step-is_quiet-requires-clause-room
+turn_step-is_quiet-requires-clause-room g c = room_now g.L.Listener.HasRoom g.met.L.Listener.room_less c.args.listener.now c.pass_by.new.listener c.args.self.now.left c.pass_by.new.left (λ more room. c.pass_by.ensures.room more (c.steps.invariant.room more room)) 1 (omega (arith, c.pass_by.ensures.above)) c.requires.room
 
 pub steps-preserved : goal.steps-preserved
 steps-preserved g c =
     let laws = g.met.L.Listener in
-    let Hears = g.L.Listener.Hears in
-    let Knows = g.L.Listener.Knows in
-    let s = c.args.self.now.world.setup in
-    let had : ℕ = c.args.self.now.left in
-    let p = c.args.process in
-    let floor = c.args.floor in
     let i = c.steps.self-inside in
-    let w = c.pass_by.new.world in
-    let flicks = c.pass_by.new.flicks in
-    let left : ℕ = c.pass_by.new.left in
-    let heard : HearsStep Hears w p c.flick-flick.result c.any_step.new.world c.pass_by.new.listener c.any_step.new.listener = rw c.in_default.is at c.in_ok-told.ensures.ok in
-    let setup = c.any_step.ensures.setup ∙ c.pass_by.ensures.setup in
-    let knows : HearsStep (HearsFrom Hears (KnowsOr Knows (MaySteps p)) (KnowsAlone Knows p floor (left - 1))) w p c.flick-flick.result c.any_step.new.world c.pass_by.new.listener c.any_step.new.listener =
-    step_knows Hears Knows w c.any_step.new.world p c.flick-flick.result c.pass_by.new.listener c.any_step.new.listener (KnowsOr Knows (MaySteps p)) (MakesMore p floor (left - 1)) (left - 1 == floor) heard
-    (λ last. subst (λ told. MakesStep (Learns Knows) w p c.flick-flick.result told c.any_step.new.world c.pass_by.new.listener c.any_step.new.listener) c.in_default.is c.in_ok-told.ensures.knows)
-    (λ more before shows. (turns_above floor left c.pass_by.ensures.above more, quiet_steps w.setup p c.flick-flick.result before (Some heard.step.access, heard.step.adds (tried before) shows))) in
+    let by = c.pass_by in
+    let one = c.turn_step-is_quiet in
+    let left : ℕ = by.new.left in
+    let setup = one.ensures.setup ∙ by.ensures.setup in
+    let none : one.new.outcome ≡ Ok None = elim c.else-not-is_quiet.branch [
+      | else-not-is_quiet-via-then-not-is_quiet+else-not-goes_on w ↦ w.goes_on.ensures.none w.if-not-goes_on.false
+      | else-not-is_quiet-via-else-not-is_quiet w ↦ one.ensures.quiet w.if-not-is_quiet.false
+    ] in
     record {
-      on = λ line run follows next.
-          let v = alone_passed Hears Knows s line had p floor run c.args.listener.now c.steps.listener (course i.world i.flicks i.left) (c.steps.invariant.on line run follows next) laws.hears_on (course w flicks left) c.pass_by.new.listener c.pass_by.ensures.on in
-          comes_then Hears laws.hears_on Knows (KnowsOr Knows (MaySteps p)) s line had run c.args.listener.now c.pass_by.new.listener c.any_step.new.listener (course w flicks left) (IsAlone p floor) v (KnowsAlone Knows p floor (left - 1)) (course c.any_step.new.world c.flick-flick.new.self (left - 1)) (IsAlone p floor)
-          (λ run follows next. alone_on w c.any_step.new.world line left p floor c.flick-flick.result run flicks c.flick-flick.new.self c.pass_by.ensures.above c.flick-flick.ensures.flick c.flick-flick.ensures.after follows next
-          (HearsFrom Hears (KnowsOr Knows (MaySteps p)) (KnowsAlone Knows p floor (left - 1))) c.pass_by.new.listener c.any_step.new.listener knows);
+      on = λ line run follows next. alone_then g.L.Listener.Hears g.L.Listener.Knows laws.hears_on c.args.self.now.world.setup line c.args.self.now.left c.args.process c.args.floor run c.args.listener.now c.steps.listener by.new.listener one.new.listener (course i.world i.flicks i.left) by.new.world one.new.world by.new.flicks one.new.flicks left (c.steps.invariant.on line run follows next) by.ensures.on by.ensures.above one.ensures.after
+          (rw none at one.ensures.ok);
+      none = none;
       kept = record { are = c.steps.invariant.kept.are ∙ ap (λ s. s.processes) (sym setup); few = c.steps.invariant.kept.few };
-      left = omega (arith, c.pass_by.ensures.fewer, c.steps.invariant.left);
-      floor = omega (arith, c.pass_by.ensures.above);
-      some = c.is_quiet.ensures.some;
-      known = let none = c.is_quiet.ensures.none c.if-is_quiet.false in omega (arith, none);
-      room = λ more room.
-          let wants = rw c.in_default.is at c.in_ok-told.ensures.room in
-          laws.room_less c.any_step.new.listener (more + (left - 1)) (more + (left - 1) + 0) (omega arith) (wants (more + (left - 1)) (laws.room_less c.pass_by.new.listener (more + (left - 1) + 1) (more + left) (omega (arith, c.pass_by.ensures.above)) (c.pass_by.ensures.room more (c.steps.invariant.room more room))));
+      left = omega (arith, by.ensures.fewer, c.steps.invariant.left);
+      floor = omega (arith, by.ensures.above);
+      some = one.ensures.some;
+      known = one.ensures.known;
+      room = room_after g.L.Listener.HasRoom laws.room_less c.args.listener.now by.new.listener c.args.self.now.left left (λ more room. by.ensures.room more (c.steps.invariant.room more room)) one.new.listener None (omega (arith, by.ensures.above))
+          (rw none at one.ensures.room);
     }
 
-pub returns-in_err-quiet_step : goal.returns-in_err-quiet_step
-returns-in_err-quiet_step g c =
+pub returns-then-not-goes_on-clause-ok : goal.returns-then-not-goes_on-clause-ok
+returns-then-not-goes_on-clause-ok g c =
     let laws = g.met.L.Listener in
-    let Hears = g.L.Listener.Hears in
-    let Knows = g.L.Listener.Knows in
-    let Stops = g.L.Listener.Stops in
-    let s = c.args.self.now.world.setup in
-    let had : ℕ = c.args.self.now.left in
-    let p = c.args.process in
-    let floor = c.args.floor in
     let i = c.steps.self-inside in
-    let w = c.pass_by.new.world in
-    let flicks = c.pass_by.new.flicks in
-    let left : ℕ = c.pass_by.new.left in
-    let fault = c.in_err-quiet_step.field-0.0 in
-    record {
-      left = no_value c.from_residual.result fault _ c.from_residual.ensures.1;
-      ended = no_value c.from_residual.result fault _ c.from_residual.ensures.1;
-      ok = no_value c.from_residual.result fault _ c.from_residual.ensures.1;
-      room = no_value c.from_residual.result fault _ c.from_residual.ensures.1;
-      cut = on_fault c.from_residual.result fault (StopsAlone Stops c.args.self.now p floor (course c.quiet_step.new.world c.flick-flick.new.self (left - 1)) c.args.listener.now c.quiet_step.new.listener) c.from_residual.ensures.1
-          (λ l run follows next.
-          let v = alone_passed Hears Knows s l had p floor run c.args.listener.now c.steps.listener (course i.world i.flicks i.left) (c.steps.invariant.on l run follows next) laws.hears_on (course w flicks left) c.pass_by.new.listener c.pass_by.ensures.on in
-          comes_stop Hears laws.hears_on Knows (KnowsOr Knows (MaySteps p)) s l had run c.args.listener.now c.pass_by.new.listener c.quiet_step.new.listener (course w flicks left) (IsAlone p floor) v Stops laws.stops_on fault (course c.quiet_step.new.world c.flick-flick.new.self (left - 1)) (IsAlone p floor)
-          (λ run follows next. alone_on w c.quiet_step.new.world l left p floor c.flick-flick.result run flicks c.flick-flick.new.self c.pass_by.ensures.above c.flick-flick.ensures.flick c.flick-flick.ensures.after follows next (StopsBy Stops fault) c.pass_by.new.listener c.quiet_step.new.listener
-          c.in_err-quiet_step.ensures.cut));
-    }
-
-pub returns-in_err-told : goal.returns-in_err-told
-returns-in_err-told g c =
-    let laws = g.met.L.Listener in
-    let Hears = g.L.Listener.Hears in
-    let Knows = g.L.Listener.Knows in
-    let Stops = g.L.Listener.Stops in
-    let s = c.args.self.now.world.setup in
-    let had : ℕ = c.args.self.now.left in
-    let p = c.args.process in
-    let floor = c.args.floor in
-    let i = c.steps.self-inside in
-    let w = c.pass_by.new.world in
-    let flicks = c.pass_by.new.flicks in
-    let left : ℕ = c.pass_by.new.left in
-    let fault = c.in_err-told.field-0.0 in
-    record {
-      left = no_value c.from_residual-in_err-told.result fault _ c.from_residual-in_err-told.ensures.1;
-      ended = no_value c.from_residual-in_err-told.result fault _ c.from_residual-in_err-told.ensures.1;
-      ok = no_value c.from_residual-in_err-told.result fault _ c.from_residual-in_err-told.ensures.1;
-      room = no_value c.from_residual-in_err-told.result fault _ c.from_residual-in_err-told.ensures.1;
-      cut = on_fault c.from_residual-in_err-told.result fault (StopsAlone Stops c.args.self.now p floor (course c.any_step.new.world c.flick-flick.new.self (left - 1)) c.args.listener.now c.any_step.new.listener) c.from_residual-in_err-told.ensures.1
-          (λ l run follows next.
-          let v = alone_passed Hears Knows s l had p floor run c.args.listener.now c.steps.listener (course i.world i.flicks i.left) (c.steps.invariant.on l run follows next) laws.hears_on (course w flicks left) c.pass_by.new.listener c.pass_by.ensures.on in
-          comes_stop Hears laws.hears_on Knows (KnowsOr Knows (MaySteps p)) s l had run c.args.listener.now c.pass_by.new.listener c.any_step.new.listener (course w flicks left) (IsAlone p floor) v Stops laws.stops_on fault (course c.any_step.new.world c.flick-flick.new.self (left - 1)) (IsAlone p floor)
-          (λ run follows next. alone_on w c.any_step.new.world l left p floor c.flick-flick.result run flicks c.flick-flick.new.self c.pass_by.ensures.above c.flick-flick.ensures.flick c.flick-flick.ensures.after follows next (StopsBy Stops fault) c.pass_by.new.listener c.any_step.new.listener
-          c.in_err-told.ensures.cut));
-    }
-
-pub returns-in-Some-clause-ok : goal.returns-in-Some-clause-ok
-returns-in-Some-clause-ok g c = λ l run follows next.
-    let laws = g.met.L.Listener in
-    let Hears = g.L.Listener.Hears in
-    let Knows = g.L.Listener.Knows in
-    let s = c.args.self.now.world.setup in
-    let had : ℕ = c.args.self.now.left in
-    let p = c.args.process in
-    let floor = c.args.floor in
-    let i = c.steps.self-inside in
-    let w = c.pass_by.new.world in
-    let flicks = c.pass_by.new.flicks in
-    let left : ℕ = c.pass_by.new.left in
+    let by = c.pass_by in
+    let one = c.turn_step-is_quiet in
     let left' : ℕ = c.left_after-self-inside.result in
-    let is = c.pass_by.new.listener in
-    let answer = c.in-Some.told in
-    let both = rw c.in-Some.is at c.in_ok-told.ensures.ok in
-    let v = alone_passed Hears Knows s l had p floor run c.args.listener.now c.steps.listener (course i.world i.flicks i.left) (c.steps.invariant.on l run follows next) laws.hears_on (course w flicks left) is c.pass_by.ensures.on in
-    let new : CourseState = course c.any_step.new.world c.flick-flick.new.self left' in
-    comes_to Hears laws.hears_on Knows (KnowsOr Knows (MaySteps p)) s l had run c.args.listener.now is c.any_step.new.listener (course w flicks left) (IsAlone p floor) v (KnowsEnough Knows (Some answer)) new (Some answer)
-    (λ run follows next. subst (λ b. ComesTo (HearsFrom Hears (KnowsOr Knows (MaySteps p)) (KnowsEnough Knows (Some answer))) w.setup l left run is b (Some answer) new) (sym both.1)
-    (alone_told w c.any_step.new.world l left p floor c.flick-flick.result run flicks c.flick-flick.new.self c.pass_by.ensures.above c.flick-flick.ensures.flick c.flick-flick.ensures.after follows next (HearsFrom Hears (KnowsOr Knows (MaySteps p)) (KnowsEnough Knows (Some answer))) is answer left'
-    (λ tells. (laws.hears_nothing is w.setup run.happened, λ may. step_needs w.setup p (flick_of run.flicks) run.happened answer (Knows is w.setup run.happened) tells may)) both.0 c.left_after-self-inside.ensures))
+    where_ok one.new.outcome _ (RunsAlone g.L.Listener.Hears g.L.Listener.Knows c.args.self.now c.args.process c.args.floor (course one.new.world one.new.flicks left') c.args.listener.now one.new.listener) one.ensures.ok (λ told is makes line run follows next.
+    alone_to g.L.Listener.Hears g.L.Listener.Knows laws.hears_on c.args.self.now.world.setup line c.args.self.now.left c.args.process c.args.floor run c.args.listener.now c.steps.listener by.new.listener one.new.listener (course i.world i.flicks i.left) by.new.world one.new.world by.new.flicks one.new.flicks by.new.left (c.steps.invariant.on line run follows next) by.ensures.on by.ensures.above one.ensures.after
+    laws.hears_nothing told left' (λ none. c.goes_on.ensures.some c.if-not-goes_on.true (is ∙ ap Ok none)) makes (subst (λ (outcome : Result (Option Told) Fault). IfOk outcome (λ told. IfSome told (λ answer. left' ≡ left_told answer (by.new.left - 1)))) is c.left_after-self-inside.ensures.told))
+
+pub returns-then-not-goes_on-clause-room : goal.returns-then-not-goes_on-clause-room
+returns-then-not-goes_on-clause-room g c =
+    let laws = g.met.L.Listener in
+    let by = c.pass_by in
+    let one = c.turn_step-is_quiet in
+    let before : LeavesRoom g.L.Listener.HasRoom c.args.listener.now c.args.self.now.left by.new.listener by.new.left None = λ more room. by.ensures.room more (c.steps.invariant.room more room) in
+    where_ok one.new.outcome _ _ one.ensures.room (λ told is leaves.
+    room_fewer g.L.Listener.HasRoom laws.room_less c.args.listener.now by.new.listener c.args.self.now.left by.new.left before one.new.listener told c.left_after-self-inside.result (by.new.left - 1) c.left_after-self-inside.ensures.fewer
+    (room_after g.L.Listener.HasRoom laws.room_less c.args.listener.now by.new.listener c.args.self.now.left by.new.left before one.new.listener told (omega (arith, by.ensures.above)) leaves))
+
+pub returns-then-not-goes_on-clause-cut : goal.returns-then-not-goes_on-clause-cut
+returns-then-not-goes_on-clause-cut g c =
+    let laws = g.met.L.Listener in
+    let i = c.steps.self-inside in
+    let by = c.pass_by in
+    let one = c.turn_step-is_quiet in
+    let left : ℕ = by.new.left in
+    where_err one.new.outcome _ (StopsAlone g.L.Listener.Stops c.args.self.now c.args.process c.args.floor (course one.new.world one.new.flicks c.left_after-self-inside.result) c.args.listener.now one.new.listener) (both_err one.new.outcome _ _ one.ensures.cut c.left_after-self-inside.ensures.fault) (λ fault stops line run follows next.
+    subst (λ n. ComesOn (StopsBy g.L.Listener.Stops fault) c.args.self.now.world.setup line c.args.self.now.left run c.args.listener.now one.new.listener (course one.new.world one.new.flicks n) (IsAlone c.args.process c.args.floor)) (sym stops.1)
+    (alone_stops g.L.Listener.Hears g.L.Listener.Knows laws.hears_on c.args.self.now.world.setup line c.args.self.now.left c.args.process c.args.floor run c.args.listener.now c.steps.listener by.new.listener one.new.listener (course i.world i.flicks i.left) by.new.world one.new.world by.new.flicks one.new.flicks left (c.steps.invariant.on line run follows next) by.ensures.on by.ensures.above one.ensures.after
+    g.L.Listener.Stops laws.stops_on fault stops.0))
 
 pub returns-clause-ok : goal.returns-clause-ok
 returns-clause-ok g c = λ l run follows next.

@@ -6,7 +6,7 @@ use Rattle.course.specs.declared.told.Told.TheVariants as told
 use Rattle.course.proofs.CourseTurns.{go_ends, go_lacks, turn_ended, turn_made}
 use Rattle.course.proofs.Goes.{go_tires, is_away}
 use Rattle.course.proofs.Knowing.{nothing_yet}
-use Rattle.course.proofs.Played.{no_value, on_fault}
+use Rattle.course.proofs.Played.{on_fault}
 use Rattle.course.proofs.Runnings.{at_once, line_stops}
 use Rattle.course.proofs.turns.Course.run_to.Goals as goal
 
@@ -83,12 +83,3 @@ returns-clause-room g c = λ more room.
     let ended = c.in_ok-told.ensures.ended c.in_default-2.is in
     let room = subst (λ told. (more : ℕ) → g.L.Listener.HasRoom c.args.listener.now (more + c.args.self.now.left) → g.L.Listener.HasRoom c.run_alone.new.listener (more + room_wanted told c.run_alone.new.self.left)) c.in_default-2.is c.in_ok-told.ensures.room more room in
     g.met.L.Listener.room_less c.run_alone.new.listener (more + 1) (more + c.run_alone.new.self.left) (omega (arith, ended)) room
-
-pub returns-in_err-told-clause-left : goal.returns-in_err-told-clause-left
-returns-in_err-told-clause-left g c = no_value c.from_residual.result c.in_err-told.field-0.0 _ c.from_residual.ensures.1
-
-pub returns-in_err-told-clause-ok : goal.returns-in_err-told-clause-ok
-returns-in_err-told-clause-ok g c = no_value c.from_residual.result c.in_err-told.field-0.0 _ c.from_residual.ensures.1
-
-pub returns-in_err-told-clause-room : goal.returns-in_err-told-clause-room
-returns-in_err-told-clause-room g c = no_value c.from_residual.result c.in_err-told.field-0.0 _ c.from_residual.ensures.1

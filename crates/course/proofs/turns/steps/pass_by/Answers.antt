@@ -20,9 +20,6 @@ returns-then-within-eq0-clause-on g c = λ l run follows next.
     let here = course c.args.world.now c.args.flicks.now c.args.left.now in
     comes_start (Alert g.L.Listener.Hears g.L.Listener.Knows c.args.process) l run here here c.args.listener.now (IsAlone c.args.process c.args.floor) (g.met.L.Listener.hears_nothing c.args.listener.now c.args.world.now.setup run.happened, λ known. known) refl follows next
 
-pub pass-requires-clause-room : goal.pass-requires-clause-room
-pass-requires-clause-room g c = g.met.L.Listener.room_less c.args.listener.now c.min-within.result c.args.left.now (omega (arith, c.requires.floor, c.min-within.ensures)) c.requires.room
-
 pub returns-clause-setup : goal.returns-clause-setup
 returns-clause-setup g c = walks_setup c.min-within.result c.run-made.result.newest c.run-made.result.overlapped c.args.world.now c.run-made.new.self c.args.flicks.now c.run-made.new.flicks c.args.process c.run-made.ensures.runs
 

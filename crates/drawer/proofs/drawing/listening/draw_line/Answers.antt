@@ -1,8 +1,10 @@
 use Rattle.std.proofs.Common.{◌∙◌, ap, subst, sym}
-use Rattle.course.proofs.Endings.{failures_by, if_err, ok_with}
+use Rattle.course.proofs.Endings.{if_err, ok_with}
 use Rattle.course.proofs.Written.{ok_then}
 use Rattle.course.specs.{CanCount, run_after}
-use Rattle.drawer.specs.{Drawing, HasDrawn, kept}
+use Rattle.companions.specs.{kept}
+use Rattle.drawer.specs.{Drawing, HasDrawn}
+use Rattle.drawer.proofs.Ends.{failures_by}
 use Rattle.drawer.proofs.Marked.{drawn_from}
 use Rattle.drawer.proofs.drawing.listening.draw_line.Goals as goal
 
@@ -16,9 +18,9 @@ returns-clause-ok g c = ok_then c.play.result (λ plays mode run follows counts 
     record {
       follows = played.follows;
       setup = played.setup;
-      drawn = subst (λ w. HasDrawn mode s run.happened (kept old.page) taken after c.drawing-1.given.0 (g.W.Sink.taken w)) (sym (c.output-1.given.1 (sym played.hears.0)))
-          (subst (λ (d : Drawing). HasDrawn mode s run.happened (kept old.page) taken after d (g.W.Sink.taken c.play.new.listener.output.now)) (sym (c.drawing-1.given.1 (sym played.hears.1)))
-          (played.hears.4 mode run.happened (kept old.page) taken (drawn_from mode s run.happened old taken counts recalls)));
+      drawn = subst (λ w. HasDrawn mode s run.happened (kept old.canvas) taken after c.drawing-1.given.0 (g.W.Sink.taken w)) (sym (c.output-1.given.1 (sym played.hears.0)))
+          (subst (λ (d : Drawing). HasDrawn mode s run.happened (kept old.canvas) taken after d (g.W.Sink.taken c.play.new.listener.output.now)) (sym (c.drawing-1.given.1 (sym played.hears.1)))
+          (played.hears.4 mode run.happened (kept old.canvas) taken (drawn_from mode s run.happened old taken counts recalls)));
     }) c.play.ensures.ok
 
 pub returns-clause-source : goal.returns-clause-source

@@ -5,7 +5,7 @@ use Rattle.companions.specs.picture.columns.{TakenChange}
 use Rattle.companions.specs.{changed}
 use Rattle.record_drawer.specs.{Knows, LastCall}
 use Rattle.record_drawer.proofs.Takings.{change_taking, is_taking, knows_called, knows_taking}
-use Rattle.record_drawer.proofs.Written.{if_ok_then, ok_then}
+use Rattle.companions.proofs.Written.{if_ok_then, ok_then}
 use Rattle.record_drawer.proofs.changes.RecordedChanges.made_by.Goals as goal
 
 pub returns-in-Called-clause-knows : goal.returns-in-Called-clause-knows

@@ -1,19 +1,16 @@
-use Rattle.std.proofs.Common.{◌+◌, ◌-◌, ℕ, List, [], ◌∷◌, ◌∙◌, take, arith, refl, subst}
-use Rattle.std.proofs.lemmas.List.{take_all}
-use Rattle.plain_store.specs.{Setup}
-use Rattle.record.specs.{Mark, Past}
-use Rattle.companions.specs.picture.columns.{OverlappedRead}
-use Rattle.companions.specs.picture.declared.reads.Reads.{Reads as Mode}
-use Rattle.record_drawer.specs.{DrawsOn, IsAmong, SaysMark, behind, change_of, kept, lines_given, says_marks, waiting}
-use Rattle.record_drawer.proofs.Drawn.{draws_on_both, draws_on_none}
-use Rattle.record_drawer.proofs.Giving.{behind_next, lines_next, waiting_next}
-use Rattle.record_drawer.proofs.Written.{failed_same}
+use Rattle.std.proofs.Common.{◌≡◌, ◌+◌, ◌-◌, ℕ, List, [], ◌∷◌, ◌++◌, ◌∙◌, ap, take, arith, refl, subst, sym}
+use Rattle.std.proofs.lemmas.List.{take_all, take_more}
+use Rattle.record.specs.{Mark}
+use Rattle.companions.specs.{DrawsLines}
+use Rattle.companions.proofs.Drawn.{draws_lines_both, draws_no_lines}
+use Rattle.companions.proofs.Written.{failed_same}
+use Rattle.record_drawer.specs.{HasTold, behind, says_marks}
+use Rattle.record_drawer.proofs.Giving.{behind_append, says_append}
 use Rattle.record_drawer.proofs.drawing.RecordDrawing.draw_marks.Goals as goal
 
 pub loop-mark-init : goal.loop-mark-init
 loop-mark-init g c = record {
-  drawn = λ mode s past reads before among. draws_on_none (kept c.args.self.now.page) (g.W.Sink.taken c.args.output.now);
-  among = λ mode s past reads before among. among;
+  drawn = λ s before told. (draws_no_lines c.args.self.now.canvas (g.W.Sink.taken c.args.output.now) (c.args.self.now.last - 1) c.args.self.now.entries, told);
   last = refl;
   entries = refl;
   whole = refl;
@@ -27,40 +24,34 @@ returns-in_err-draw_mark-clause-failures g c = omega (arith, c.in_err-draw_mark.
 
 pub loop-mark-preserved : goal.loop-mark-preserved
 loop-mark-preserved g c =
-    let marks : List Mark = c.args.marks.now in
-    let k : ℕ = c.loop-mark.mark-index in
-    let here : Mark = c.mark-item.result in
+    let fn = c.args.self.now in
+    let mid = c.loop-mark.self in
+    let now = c.draw_mark.new.self in
+    let a = g.W.Sink.taken c.args.output.now in
+    let b = g.W.Sink.taken c.loop-mark.output in
+    let d = g.W.Sink.taken c.draw_mark.new.output in
     let p : ℕ = c.args.process in
-    let within = c.loop-mark-test.true in
-    let drew = λ (n at : ℕ).
-    (mode : Mode) (s : Setup) (past : Past) (reads : List OverlappedRead) (before : List (ℕ × Mark)) → IsAmong mode s past reads before c.loop-mark.self →
-    DrawsOn (kept c.loop-mark.self.page) (kept c.draw_mark.new.self.page) (g.W.Sink.taken c.loop-mark.output) (g.W.Sink.taken c.draw_mark.new.output) (lines_given mode (n - 1) at reads (SaysMark p here (change_of s before p here) ∷ [])) in
-    let one : drew c.args.self.now.last c.args.self.now.entries =
-    subst (drew c.args.self.now.last) c.loop-mark.invariant.entries (subst (λ (n : ℕ). drew n c.loop-mark.self.entries) c.loop-mark.invariant.last c.in_ok-draw_mark.ensures.ok) in
+    let marks : List Mark = take c.loop-mark.mark-index c.args.marks.now in
+    let here : Mark = c.mark-item.result in
+    let next : take (c.loop-mark.mark-index + 1) c.args.marks.now ≡ marks ++ here ∷ [] = take_more c.args.marks.now c.loop-mark.mark-index here c.loop-mark-test.true ∙ ap (λ (m : Mark). marks ++ m ∷ []) (sym c.mark-item.is) in
     record {
-      drawn = λ mode s past reads before among.
-          let been = c.loop-mark.invariant.among mode s past reads before among in
-          subst (λ l. DrawsOn (kept c.args.self.now.page) (kept c.draw_mark.new.self.page) (g.W.Sink.taken c.args.output.now) (g.W.Sink.taken c.draw_mark.new.output) l)
-          (lines_next marks k here within c.mark-item.is mode s (c.args.self.now.last - 1) c.args.self.now.entries p reads before)
-          (draws_on_both _ _ _ _ _ _ (lines_given mode (c.args.self.now.last - 1) c.args.self.now.entries reads (says_marks s p before (take k marks)))
-          (lines_given mode (c.args.self.now.last - 1) c.args.self.now.entries (waiting (take k marks) reads) (SaysMark p here (change_of s (behind p (take k marks) before) p here) ∷ []))
-          (c.loop-mark.invariant.drawn mode s past reads before among) (one mode s past (waiting (take k marks) reads) (behind p (take k marks) before) been));
-      among = λ mode s past reads before among.
-          let been = c.loop-mark.invariant.among mode s past reads before among in
-          subst (λ (l : List (ℕ × Mark)). IsAmong mode s past (waiting (take (k + 1) marks) reads) l c.draw_mark.new.self) (behind_next marks k here within c.mark-item.is p before)
-          (subst (λ (l : List OverlappedRead). IsAmong mode s past l ((p, here) ∷ behind p (take k marks) before) c.draw_mark.new.self) (waiting_next marks k here within c.mark-item.is reads)
-          (c.in_ok-draw_mark.ensures.among mode s past (waiting (take k marks) reads) (behind p (take k marks) before) been));
+      drawn = λ s before told.
+          let been = c.loop-mark.invariant.drawn s before told in
+          let drew = c.in_ok-draw_mark.ensures.ok s (behind p marks before) been.1 in
+          let says = says_marks s p (behind p marks before) (here ∷ []) in
+          let one = subst (λ (n : ℕ). DrawsLines mid.canvas now.canvas b d (n - 1) fn.entries says) c.loop-mark.invariant.last (subst (λ (n : ℕ). DrawsLines mid.canvas now.canvas b d (mid.last - 1) n says) c.loop-mark.invariant.entries drew.0) in
+          subst (λ (l : List Mark). DrawsLines fn.canvas now.canvas a d (fn.last - 1) fn.entries (says_marks s p before l) × HasTold s (behind p l before) now.changes now.taken) (sym next) (
+            subst (DrawsLines fn.canvas now.canvas a d (fn.last - 1) fn.entries) (sym (says_append s p before marks (here ∷ [])))
+                (draws_lines_both fn.canvas mid.canvas now.canvas a b d (fn.last - 1) fn.entries (says_marks s p before marks) says been.0 one),
+            subst (λ l. HasTold s l now.changes now.taken) (sym (behind_append p marks (here ∷ []) before)) drew.1,
+          );
       last = c.in_ok-draw_mark.ensures.last ∙ c.loop-mark.invariant.last;
       entries = c.in_ok-draw_mark.ensures.entries ∙ c.loop-mark.invariant.entries;
       whole = omega (arith, c.in_ok-draw_mark.ensures.failures, c.loop-mark.invariant.whole);
     }
 
 pub returns-clause-ok : goal.returns-clause-ok
-returns-clause-ok g c = λ mode s past reads before among.
-    subst (λ (l : List Mark). DrawsOn (kept c.args.self.now.page) (kept c.loop-mark.self.page) (g.W.Sink.taken c.args.output.now) (g.W.Sink.taken c.loop-mark.output) (lines_given mode (c.args.self.now.last - 1) c.args.self.now.entries reads (says_marks s c.args.process before l)))
-    (take_all c.loop-mark.mark-index c.args.marks.now (omega arith)) (c.loop-mark.invariant.drawn mode s past reads before among)
-
-pub returns-clause-among : goal.returns-clause-among
-returns-clause-among g c = λ mode s past reads before among.
-    subst (λ (l : List Mark). IsAmong mode s past (waiting l reads) (behind c.args.process l before) c.loop-mark.self)
-    (take_all c.loop-mark.mark-index c.args.marks.now (omega arith)) (c.loop-mark.invariant.among mode s past reads before among)
+returns-clause-ok g c = λ s before told.
+    let fn = c.args.self.now in
+    subst (λ (l : List Mark). DrawsLines fn.canvas c.loop-mark.self.canvas (g.W.Sink.taken c.args.output.now) (g.W.Sink.taken c.loop-mark.output) (fn.last - 1) fn.entries (says_marks s c.args.process before l) × HasTold s (behind c.args.process l before) c.loop-mark.self.changes c.loop-mark.self.taken)
+    (take_all c.loop-mark.mark-index c.args.marks.now (omega arith)) (c.loop-mark.invariant.drawn s before told)

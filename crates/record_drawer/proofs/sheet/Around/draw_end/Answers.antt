@@ -1,11 +1,14 @@
-use Rattle.std.proofs.Common.{ℕ, List, [], ◌∷◌, ◌++◌, Option, ap, sym, subst, ◌∙◌}
-use Rattle.record_drawer.specs.{DrawsPast, DrawsRest, IsDrawn, RecordDrawing, SaysEnd, kept, lines_given, reads_since, says_judged}
+use Rattle.std.proofs.Common.{ℕ, List, Option, ap, sym, subst, ◌∙◌}
+use Rattle.companions.proofs.Written.{if_ok_then}
+use Rattle.record_drawer.specs.{DrawsPast, IsDrawn, RecordDrawing}
 use Rattle.record_drawer.proofs.Sheeted.{drawn_begun, drawn_end}
 use Rattle.record_drawer.proofs.sheet.Around.draw_end.Goals as goal
 use Rattle.record_drawer.proofs.sheet.Around.draw_end.Goals.{then-is_none+in_ok-begin, else-is_none}
 
-pub returns-in_ok-end-in-Some-clause-drawn : goal.returns-in_ok-end-in-Some-clause-drawn
-returns-in_ok-end-in-Some-clause-drawn g c = λ past first drawn.
+pub returns-in-Some-clause-drawn : goal.returns-in-Some-clause-drawn
+returns-in-Some-clause-drawn g c =
+    if_ok_then c.end.result
+    (λ height last past first drawn.
     let reads = c.args.self.reads in
     let form = c.args.self.form in
     let s = c.args.setup.now in
@@ -17,6 +20,5 @@ returns-in_ok-end-in-Some-clause-drawn g c = λ past first drawn.
       | else-is_none w ↦ subst (λ (o : Option RecordDrawing). DrawsPast reads form o s past first (g.W.Sink.taken c.if-is_none.output)) (sym w.drawing-is ∙ c.in-Some.is)
           (subst (λ (m : Option (List ℕ)). DrawsPast reads form c.args.drawing.now s past first m) (sym (ap g.W.Sink.taken w.output-is)) drawn)
     ] in
-    drawn_end reads form s past d c.args.told.now first _ _ c.height.result was
-    (subst (λ (n : ℕ). DrawsRest (kept d.page) (g.W.Sink.taken c.if-is_none.output) (g.W.Sink.taken c.end.new.output) (lines_given reads d.last d.entries (reads_since s past) (says_judged c.args.told.now ++ SaysEnd d.entries d.taken ∷ [])) n) (sym c.height.ensures)
-    (c.in_ok-end-in-Some.ensures.ok reads s past (reads_since s past) was.recalls.among.waits))
+    drawn_end reads form s past d c.args.told.now first _ _ height was last)
+    c.end.ensures.ok

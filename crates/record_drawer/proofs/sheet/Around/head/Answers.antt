@@ -1,6 +1,6 @@
 use Rattle.std.proofs.Common.{ℕ, List, ap, ◌∙◌}
 use Rattle.companions.specs.picture.{page_front}
-use Rattle.record_drawer.proofs.Written.{if_ok_then}
+use Rattle.companions.proofs.Written.{if_ok_then}
 use Rattle.record_drawer.proofs.sheet.Around.head.Goals as goal
 
 pub returns-clause-draws : goal.returns-clause-draws

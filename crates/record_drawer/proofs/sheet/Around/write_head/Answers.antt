@@ -2,7 +2,7 @@ use Rattle.std.proofs.Common.{subst, sym}
 use Rattle.companions.specs.picture.{Form}
 use Rattle.record_drawer.specs.{Heads}
 use Rattle.record_drawer.proofs.Sheeted.{heads_page}
-use Rattle.record_drawer.proofs.Written.{ok_then}
+use Rattle.companions.proofs.Written.{ok_then}
 use Rattle.record_drawer.proofs.sheet.Around.write_head.Goals as goal
 
 pub returns-in_ok-head-in-Page-clause-heads : goal.returns-in_ok-head-in-Page-clause-heads

@@ -1,11 +1,11 @@
 use Rattle.std.proofs.Common.{◌≡◌, ◌+◌, List, ap, ◌∙◌, subst, sym, arith}
 use Rattle.safe_bit.specs.Cell.{Cell}
 use Rattle.flicks.specs.{FlickState, flicks_after}
-use Rattle.registers.specs.{CursorState, Fits, next_answered}
+use Rattle.registers.specs.{CursorState, Fits}
 use Rattle.registers.proofs.Iterates.{overlapped-few}
-use Rattle.registers.proofs.Runs.{HasRun, leads-on, may-step, newest-last, run-fits, step-on}
+use Rattle.registers.proofs.Runs.{HasRun, MayStep, leads-on, may-step, newest-last, run-fits, step-on}
 use Rattle.registers.proofs.memory.BitMemory.run.Goals as goal
-use Rattle.registers.proofs.memory.BitMemory.run.Goals.{After-flick, After-from-overlapped, then-words-gt0, else-words-gt0}
+use Rattle.registers.proofs.memory.BitMemory.run.Goals.{After-from-overlapped, Else-word-gt0}
 
 abbrev State : Type 0
 State = CursorState × List (List Cell) × FlickState
@@ -13,52 +13,52 @@ State = CursorState × List (List Cell) × FlickState
 abbrev AreFit : State → Type 0
 AreFit (cursor, memory, flicks) = Fits memory cursor
 
-pub run_words-words-requires : goal.run_words-words-requires
-run_words-words-requires c = record { fits = subst AreFit (sym c.steps.invariant.1.now_is) (run-fits c.steps.made (c.args.cursor.now, c.args.self.now, c.args.flicks.now) c.requires.fits) }
+pub run_word-word-requires : goal.run_word-word-requires
+run_word-word-requires c = record { fits = subst AreFit (sym c.steps.invariant.1.now_is) (run-fits c.steps.made (c.args.cursor.now, c.args.self.now, c.args.flicks.now) c.requires.fits) }
 
--- the words were gone through
-passed : (c : After-flick) → HasRun (c.steps.made + c.run_words-words.result) c.steps.overlapped (c.args.cursor.now, c.args.self.now, c.args.flicks.now) (c.run_words-words.new.cursor, c.run_words-words.new.self, c.if-words-gt0.flicks)
-passed c =
-    let words = c.run_words-words in
-    let skipped : c.if-words-gt0.flicks ≡ flicks_after words.result c.steps.flicks = elim c.if-words-gt0.branch [
-      | then-words-gt0 w ↦ w.flicks-is ∙ w.skip.ensures
-      | else-words-gt0 w ↦ w.flicks-is ∙ ap (λ n. flicks_after n c.steps.flicks) (let none : 0 ≡ words.result = omega (arith, w.if-words-gt0.false) in none)
-    ] in
-    leads-on words.result c.steps.made c.steps.overlapped (c.args.cursor.now, c.args.self.now, c.args.flicks.now) c.steps.cursor words.new.cursor c.steps.self words.new.self c.steps.flicks c.if-words-gt0.flicks c.steps.invariant.1 words.ensures.leads skipped
+pub steps-preserved-then-word-gt0 : goal.steps-preserved-then-word-gt0
+steps-preserved-then-word-gt0 c =
+    let word = c.run_word-word in (
+      omega (arith, word.ensures.within, c.steps.invariant.0),
+      leads-on word.result c.steps.made c.steps.overlapped (c.args.cursor.now, c.args.self.now, c.args.flicks.now) c.steps.cursor word.new.cursor c.steps.self word.new.self c.steps.flicks c.skip.new.self c.steps.invariant.1 word.ensures.leads c.skip.ensures,
+    )
 
-pub step-one-requires : goal.step-one-requires
-step-one-requires c =
-    let may = may-step (c.steps.made + c.run_words-words.result) c.steps.overlapped (c.args.cursor.now, c.args.self.now, c.args.flicks.now) c.run_words-words.new.cursor c.run_words-words.new.self c.if-words-gt0.flicks c.requires.kind c.requires.fits (omega (arith, c.requires.within, c.run_words-words.ensures.within, c.steps.invariant.0)) (passed c) in
-    record { kind = may.kind; going = may.going; fits = may.fits }
-
--- and one more
-stepped : (c : After-from-overlapped) → HasRun (c.steps.made + (c.run_words-words.result + 1)) (c.steps.overlapped + c.from-overlapped.result) (c.args.cursor.now, c.args.self.now, c.args.flicks.now) (c.step-one.new.cursor, c.step-one.new.self, c.flick.new.self)
-stepped c =
+-- no word was gone through
+stayed : (c : Else-word-gt0) → HasRun c.steps.made c.steps.overlapped (c.args.cursor.now, c.args.self.now, c.args.flicks.now) (c.run_word-word.new.cursor, c.run_word-word.new.self, c.steps.flicks)
+stayed c =
+    let word = c.run_word-word in
     let before : State = (c.args.cursor.now, c.args.self.now, c.args.flicks.now) in
-    let words = c.run_words-words in
-    let one = c.step-one in
-    let total : c.steps.made + words.result + 1 ≡ c.steps.made + (words.result + 1) = omega arith in
-    subst (λ n. HasRun n (c.steps.overlapped + c.from-overlapped.result) before (one.new.cursor, one.new.self, c.flick.new.self)) total
-    (step-on (c.steps.made + words.result) c.steps.overlapped before words.new.cursor one.new.cursor words.new.self one.new.self c.if-words-gt0.flicks c.flick.new.self c.flick.result one.result.overlapped one.result.access c.from-overlapped.result (passed (goal.at.overflow_add-overlapped c).After-flick)
-    c.flick.ensures.flick one.ensures.access one.ensures.cursor one.ensures.memory c.flick.ensures.after one.ensures.overlapped c.from-overlapped.ensures)
+    let none : 0 ≡ word.result = omega (arith, c.if-word-gt0.false) in
+    subst (λ n. HasRun n c.steps.overlapped before (word.new.cursor, word.new.self, c.steps.flicks)) (let same : c.steps.made + word.result ≡ c.steps.made = omega (arith, none) in same)
+    (leads-on word.result c.steps.made c.steps.overlapped before c.steps.cursor word.new.cursor c.steps.self word.new.self c.steps.flicks c.steps.flicks c.steps.invariant.1 word.ensures.leads (ap (λ n. flicks_after n c.steps.flicks) none))
+
+may : (c : Else-word-gt0) → MayStep c.run_word-word.new.cursor c.run_word-word.new.self
+may c = may-step c.steps.made c.steps.overlapped (c.args.cursor.now, c.args.self.now, c.args.flicks.now) c.run_word-word.new.cursor c.run_word-word.new.self c.steps.flicks c.requires.kind c.requires.fits (omega (arith, c.requires.within, c.steps.invariant.0)) (stayed c)
+
+pub step_plain-one-requires : goal.step_plain-one-requires
+step_plain-one-requires c = let it = may (goal.at.step_plain-one-requires c).Else-word-gt0 in record { kind = it.kind; going = it.going; fits = it.fits }
+
+-- and then one access was made
+stepped : (c : After-from-overlapped) → HasRun (c.steps.made + 1) (c.steps.overlapped + c.from-overlapped.result) (c.args.cursor.now, c.args.self.now, c.args.flicks.now) (c.step_plain-one.new.cursor, c.step_plain-one.new.self, c.step_plain-one.new.flicks)
+stepped c =
+    let one = c.step_plain-one in
+    step-on c.steps.made c.steps.overlapped (c.args.cursor.now, c.args.self.now, c.args.flicks.now) c.run_word-word.new.cursor one.new.cursor c.run_word-word.new.self one.new.self c.steps.flicks one.new.flicks one.result.overlapped one.result.access c.from-overlapped.result (stayed (goal.at.overflow_add-overlapped c).Else-word-gt0)
+    one.ensures.access one.ensures.cursor one.ensures.memory one.ensures.flicks one.ensures.overlapped c.from-overlapped.ensures
 
 pub overflow_add-overlapped : goal.overflow_add-overlapped
-overflow_add-overlapped c =
-    omega (arith, overlapped-few (c.steps.made + (c.run_words-words.result + 1)) (c.args.cursor.now, c.args.self.now, c.args.flicks.now), (stepped c).counts, c.run_words-words.ensures.within, c.steps.invariant.0)
+overflow_add-overlapped c = omega (arith, overlapped-few (c.steps.made + 1) (c.args.cursor.now, c.args.self.now, c.args.flicks.now), (stepped c).counts, c.steps.invariant.0)
 
 pub steps-preserved : goal.steps-preserved
-steps-preserved c = (omega (arith, c.run_words-words.ensures.within, c.steps.invariant.0, c.if-made-steps.false), stepped (goal.at.steps-preserved c).After-from-overlapped)
+steps-preserved c = (omega (arith, c.steps.invariant.0, c.if-made-steps.false), stepped (goal.at.steps-preserved c).After-from-overlapped)
 
 pub returns-then-made-steps : goal.returns-then-made-steps
 returns-then-made-steps c =
     let before : State = (c.args.cursor.now, c.args.self.now, c.args.flicks.now) in
-    let words = c.run_words-words in
-    let all : HasRun c.args.steps (c.steps.overlapped + c.from-overlapped.result) before (c.step-one.new.cursor, c.step-one.new.self, c.flick.new.self) = subst (λ n. HasRun n (c.steps.overlapped + c.from-overlapped.result) before (c.step-one.new.cursor, c.step-one.new.self, c.flick.new.self)) c.if-made-steps.true (stepped (goal.at.returns-then-made-steps c).After-from-overlapped) in
+    let one = c.step_plain-one in
+    let all : HasRun c.args.steps (c.steps.overlapped + c.from-overlapped.result) before (one.new.cursor, one.new.self, one.new.flicks) = subst (λ n. HasRun n (c.steps.overlapped + c.from-overlapped.result) before (one.new.cursor, one.new.self, one.new.flicks)) c.if-made-steps.true (stepped (goal.at.returns-then-made-steps c).After-from-overlapped) in
     record {
       run = all.now_is;
       fits = subst AreFit (sym all.now_is) (run-fits c.args.steps before c.requires.fits);
-      newest =
-          c.step-one.ensures.access ∙ ap (next_answered words.new.cursor words.new.self) c.flick.ensures.flick
-          ∙ newest-last (c.steps.made + words.result) c.args.steps before (words.new.cursor, words.new.self, c.if-words-gt0.flicks) (passed (goal.at.returns-then-made-steps c).After-flick).now_is (omega (arith, c.if-made-steps.true));
+      newest = one.ensures.access ∙ newest-last c.steps.made c.args.steps before (c.run_word-word.new.cursor, c.run_word-word.new.self, c.steps.flicks) (stayed (goal.at.returns-then-made-steps c).Else-word-gt0).now_is (sym c.if-made-steps.true);
       overlapped = all.counts;
     }

@@ -18,7 +18,7 @@ bit_seen-requires-clause-reader c =
 pub bit_seen-requires-clause-bit : goal.bit_seen-requires-clause-bit
 bit_seen-requires-clause-bit c =
     let k = c.args.self.now in
-    let within : c.loop-bit.bit < width k.setup.now k.field = subst (λ n. c.loop-bit.bit < n) c.width-bit-end.ensures.width c.loop-bit-test.true in
+    let within : c.loop-bit.bit < width k.setup.now k.field = subst (λ n. c.loop-bit.bit < n) c.width_of-bit-end.ensures.width c.loop-bit-test.true in
     subst (λ (a : Access). a.bit < width c.args.opening.now.setup a.field) (sym c.copy_of.ensures) (subst (λ (s : Setup). c.loop-bit.bit < width s k.field) (sym c.requires.opening) within)
 
 pub loop-bit-preserved : goal.loop-bit-preserved
@@ -34,5 +34,5 @@ loop-bit-preserved c = λ past heard.
 pub returns : goal.returns
 returns c = λ past heard.
     let k = c.args.self.now in
-    let all : c.loop-bit.bit ≡ width k.setup.now k.field = omega (arith, c.loop-bit-test.false, c.loop-bit.auto.bit-end, c.width-bit-end.ensures.width) in
+    let all : c.loop-bit.bit ≡ width k.setup.now k.field = omega (arith, c.loop-bit-test.false, c.loop-bit.auto.bit-end, c.width_of-bit-end.ensures.width) in
     c.loop-bit.invariant past heard ∙ ap (λ m. list_any (λ n. is_changed k.setup.now past (copy_of k.owner k.field c.args.reader n)) (range_with_len 0 m)) all

@@ -31,7 +31,7 @@ pub returns-then-flickers : goal.returns-then-flickers
 returns-then-flickers c =
     let k = c.args.self.now in
     let s = k.setup.now in
-    let all : c.loop-bit.bit ≡ width s k.field = omega (arith, c.loop-bit-test.false, c.loop-bit.auto.bit-end, c.width-width.ensures.width) in
+    let all : c.loop-bit.bit ≡ width s k.field = omega (arith, c.loop-bit-test.false, c.loop-bit.auto.bit-end, c.width_of-width.ensures.width) in
     IfOk-weaker c.flickering.result _ _ (λ text is past heard.
     let open_now : flickers s past k.owner k.field c.args.reader ≡ true =
     sym (c.loop-bit.invariant.flickers past heard ∙ ap (λ m. list_any (λ n. is_none (bit_held s past (copy_of k.owner k.field c.args.reader n))) (range_with_len 0 m)) all) ∙ c.if-flickers.true in
@@ -41,7 +41,7 @@ pub returns : goal.returns
 returns c =
     let k = c.args.self.now in
     let s = k.setup.now in
-    let all : c.loop-bit.bit ≡ width s k.field = omega (arith, c.loop-bit-test.false, c.loop-bit.auto.bit-end, c.width-width.ensures.width) in
+    let all : c.loop-bit.bit ≡ width s k.field = omega (arith, c.loop-bit-test.false, c.loop-bit.auto.bit-end, c.width_of-width.ensures.width) in
     IfOk-weaker c.shown.result _ _ (λ text is past heard.
     let none : flickers s past k.owner k.field c.args.reader ≡ false =
     sym (c.loop-bit.invariant.flickers past heard ∙ ap (λ m. list_any (λ n. is_none (bit_held s past (copy_of k.owner k.field c.args.reader n))) (range_with_len 0 m)) all) ∙ c.if-flickers.false in

@@ -1,7 +1,7 @@
 use Rattle.std.proofs.Common.{◌≡◌, ◌++◌, ℕ, List, Option, ap, ◌∙◌, append_assoc}
 use Rattle.std.specs.Prelude.{option_map}
 use Rattle.std.specs.String.{string_bytes}
-use Rattle.calls.specs.read_law.laws.{Doing, doing}
+use Rattle.world.specs.laws.{Doing, doing}
 use Rattle.world.specs.process.{ProcessState, number_read, process_after, settling_of, ticket_known}
 use Rattle.snapshot.specs.{busy_lines, call_kept, failed_words, line_if, open_by, open_words, ticket_lines}
 use Rattle.snapshot.proofs.Stand.{ok_then}

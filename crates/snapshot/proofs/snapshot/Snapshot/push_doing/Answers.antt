@@ -3,8 +3,8 @@ use Rattle.plain_store.specs.{Setup, checked}
 use Rattle.record.specs.{Access, Entry, Event, Past, entry_of, past_of}
 use Rattle.record.specs.declared.events.Event.TheVariants.{Step}
 use Rattle.record.proofs.Width.{is_good}
-use Rattle.calls.specs.read_law.laws.{Doing, IsThere, doing}
-use Rattle.calls.proofs.read_law.laws.HeldThere.{access_there}
+use Rattle.world.specs.laws.{Doing, IsThere, doing}
+use Rattle.world.proofs.laws_proofs.HeldThere.{access_there}
 use Rattle.world.specs.process.{number_read, settling_of, ticket_known}
 use Rattle.snapshot.specs.{ProcessKept, SnapshotState, Stands, access_in, busy_lines, call_kept, doing_by, doing_lines, doing_with, failed_words, kept, line_if, open_words}
 use Rattle.snapshot.proofs.OfCalls.{tickets_kept}

@@ -16,7 +16,7 @@ returns-in_default-clause-follows c =
     let then : CoreState → RunnerState = λ core. record { core = core; auditor = i.auditor; taken = i.taken } in
     let family : RunnerState → Type 0 = λ r. RunsOn r (then c.event.new.self) (λ events. c.args.event.now ∷ events) in
     subst family c.self.view_is (λ events follows. subst (λ core. Follows (then core) (c.args.event.now ∷ events)) (sym c.in_default.ensures.unchanged)
-    (follows_refused old c.args.event.now c.in_default.field-0 c.in_default.ensures.refused events follows c.sound_event.ensures))
+    (follows_refused old c.args.event.now c.in_default.field-0 c.in_default.ensures.refused events follows c.command_is_sound.ensures))
 
 pub returns-in_default-clause-accepted : goal.returns-in_default-clause-accepted
 returns-in_default-clause-accepted c =

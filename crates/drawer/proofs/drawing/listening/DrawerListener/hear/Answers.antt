@@ -1,6 +1,7 @@
 use Rattle.std.proofs.Common.{refl}
-use Rattle.course.proofs.Endings.{err_both, ok_both, ok_with}
+use Rattle.course.proofs.Endings.{ok_with}
 use Rattle.drawer.specs.{IsToDraw}
+use Rattle.drawer.proofs.Ends.{err_whole, ok_whole}
 use Rattle.drawer.proofs.Marked.{told_drawn}
 use Rattle.drawer.proofs.drawing.listening.DrawerListener.hear.Goals as goal
 
@@ -9,17 +10,17 @@ returns-clause-ok g c =
     let old = c.args.self.now in
     let told = c.args.told.now in
     let taken = c.args.taken.now in
-    ok_both c.tell.result (g.W.Sink.failures old.output.now) (g.W.Sink.failures c.tell.new.output) (λ drew both whole s before this happens. (
+    ok_whole c.tell.result (g.W.Sink.failures old.output.now) (g.W.Sink.failures c.tell.new.output) (λ both whole s before this happens. (
       refl,
       refl,
       c.tell.ensures.source,
       whole,
       λ mode start had from d.
-          let draws : IsToDraw mode s taken old.drawing.now.summary.events old.drawing.now.changes.store old.drawing.now.overlaps before this told = record { happens = happens; number = d.counts.events; recalls = d.recalls } in
-          told_drawn mode s start had from before this told taken old.drawing.now c.tell.new.self _ _ happens (drew mode s before this draws) (both.0 mode s before this draws) both.1 c.tell.ensures.source d,
-    )) c.tell.ensures.ok (ok_with c.tell.result _ _ c.tell.ensures.recalls c.tell.ensures.count) c.tell.ensures.failures
+          let draws : IsToDraw mode s taken old.drawing.now.summary.events old.drawing.now.changes.store old.drawing.now.canvas before this told = record { happens = happens; number = d.counts.events; recalls = d.recalls } in
+          told_drawn mode s start had from before this told taken old.drawing.now c.tell.new.self _ _ happens (both.0 mode s before this draws) both.1 c.tell.ensures.source d,
+    )) (ok_with c.tell.result _ _ c.tell.ensures.ok c.tell.ensures.count) c.tell.ensures.failures
 
 pub returns-clause-cut : goal.returns-clause-cut
 returns-clause-cut g c =
     let old = c.args.self.now in
-    err_both c.tell.result _ (g.W.Sink.failures old.output.now) (g.W.Sink.failures c.tell.new.output) (λ fault is fails s before this happens. (refl, is, fails)) c.tell.ensures.fault c.tell.ensures.failures
+    err_whole c.tell.result _ (g.W.Sink.failures old.output.now) (g.W.Sink.failures c.tell.new.output) (λ fault is fails s before this happens. (refl, is, fails)) c.tell.ensures.fault c.tell.ensures.failures

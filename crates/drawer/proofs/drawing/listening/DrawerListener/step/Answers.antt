@@ -17,8 +17,8 @@ returns-clause-ok g c = λ s before on.
       refl,
       refl,
       refl,
-      λ mode start had from d. quiet_drawn mode s start had from 1 before after drawing _ _ (step_passes s before made on) refl refl refl
-          (recalls_stepped mode s before made drawing.changes.store drawing.overlaps c.hear.new.overlaps drawing.summary.events on d.counts.events c.in_ok-hear.ensures d.recalls) d,
+      λ mode start had from d. quiet_drawn mode s start had from 1 before after drawing _ _ (step_passes s before made on) refl c.hear.ensures.kept refl
+          (recalls_stepped mode s before made drawing.changes.store drawing.canvas c.hear.new.self drawing.summary.events on d.counts.events c.in_ok-hear.ensures.hears d.recalls) d,
     )
 
 pub returns-in_err-hear-clause-cut : goal.returns-in_err-hear-clause-cut

@@ -1,5 +1,0 @@
-use Rattle.std.proofs.Common.{refl}
-use Rattle.course.proofs.turns.refused.Goals as goal
-
-pub returns-in_default : goal.returns-in_default
-returns-in_default c = (refl, c.in_default.not-Memory)
