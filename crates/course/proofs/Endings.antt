@@ -1,5 +1,5 @@
 -- What follows from how a listener's writing ended.
-use Rattle.std.proofs.Common.{◌≡◌, ℕ, ◌+◌, Result, Ok, Err, IfErr, OnErr, OnOk, List, Option, subst, sym, ◌∙◌, add-zero}
+use Rattle.std.proofs.Common.{◌≡◌, ℕ, ◌+◌, Result, Ok, Err, IfErr, OnOk, List, Option, subst, sym, ◌∙◌, add-zero}
 use Rattle.scenario.specs.files.{Fault}
 use Rattle.scenario.specs.files.declared.faults.Fault.TheVariants as fault
 use Rattle.course.specs.{IsWriteFault, Took, failed_write, took_none}
@@ -34,10 +34,6 @@ took_same P t u a n same = subst (λ u. Took P t u a a n n) (sym same) (took_non
 pub if_err : {A : Type 0} (r : Result A Fault) {P Q : Fault → Type 0} → ((f : Fault) → P f → Q f) → IfErr r P → IfErr r Q
 if_err (Ok done) then p = tt
 if_err (Err f) then p = then f p
-
-pub on_err_if : {A Q : Type 0} (r : Result A Fault) {P : Fault → Type 0} → ((f : Fault) → P f → Q) → IfErr r P → OnErr r Q
-on_err_if (Ok done) then p = tt
-on_err_if (Err f) then p = then f p
 
 pub failures_by : {A : Type 0} (r : Result A Fault) (m n : ℕ) → OnOk r (n ≡ m) → IfErr r (λ f. n ≡ m + failed_write {A = Unit {0}} (Err f)) → n ≡ m + failed_write r
 failures_by (Ok done) m n good bad = good ∙ sym (add-zero m)

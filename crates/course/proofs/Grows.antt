@@ -1,10 +1,10 @@
--- A run only adds to what has happened, and so to its text.
+-- A run only adds to what has happened.
 use Rattle.std.proofs.Common.{◌≡◌, ℕ, zero, suc, Bool, true, false, nat_lt, List, [], ◌∷◌, ◌++◌, refl, ap, sym, ◌∙◌, append_assoc}
 use Rattle.plain_store.specs.{Setup}
 use Rattle.record.specs.{stage}
 use Rattle.scenario.specs.{Line, Target}
 use Rattle.scenario.specs.declared.lines.Line.TheVariants as line
-use Rattle.course.specs.{Happening, Lacks, Run, Tires, go_rest, goes, is_there, may_step, movers, once, past_in, picked, rest_of, run_after, runs, stepped, steps, text_longer, text_of, wanders, with_happening}
+use Rattle.course.specs.{Happening, Lacks, Run, Tires, go_rest, goes, is_there, may_step, movers, once, past_in, picked, rest_of, run_after, runs, stepped, steps, wanders, with_happening}
 
 -- what has happened after is what had happened before, and more
 pub record Grows (before after : List Happening) : Type 0 where
@@ -22,16 +22,6 @@ grows_both a b c first next = record {
   more = next.more ++ first.more;
   is = next.is ∙ ap (λ l. next.more ++ l) first.is ∙ sym (append_assoc next.more first.more a);
 }
-
--- the text after is the text before, and more
-pub record TextGrows (s : Setup) (before after : List Happening) : Type 0 where
-  pub text : List ℕ
-  pub is : text_of s after ≡ text_of s before ++ text
-
-pub text_grows : (s : Setup) (before after : List Happening) → Grows before after → TextGrows s before after
-text_grows s before after grows =
-    let (text, is) = text_longer s before grows.more in
-    record { text = text; is = ap (text_of s) grows.is ∙ is }
 
 steps_grow : (s : Setup) (p n : ℕ) (run : Run) → Grows run.happened (steps s p n run).happened
 steps_grow s p zero run = grows_none run.happened

@@ -1,12 +1,11 @@
 -- A line that is being played: what was heard of it, and what is left.
-use Rattle.std.specs.Prelude.{OnOk}
 use Rattle.std.proofs.Common.{◌≡◌, ℕ, ◌<◌, ◌≤◌, List, [], ◌∷◌, ◌++◌, map, Option, None, Some, Result, Ok, Err, IfErr, IfOk, IsErrAnd, refl, ap, sym, subst, ◌∙◌, arith}
 use Rattle.plain_store.specs.{Setup, checked}
 use Rattle.record.specs.{AreGiven, Event, Taken, history}
 use Rattle.scenario.specs.{Line}
 use Rattle.scenario.specs.files.{Fault}
-use Rattle.course.specs.{ComesTo, CourseState, Follows, Happening, Happens, HearsUpTo, Keeps, LearnsTold, Plays, Run, Tells, Told, Tries, Turn, past_after, past_in, rest_of, room_wanted, run_after, run_at_start, runs, tried, turn_of, turns_in}
-use Rattle.course.proofs.Grows.{Grows, rest_grows}
+use Rattle.course.specs.{ComesTo, CourseState, Follows, Happening, Happens, HearsUpTo, Keeps, LearnsTold, Plays, PlaysLine, Run, StopsLine, Tells, Told, Tries, Turn, past_after, past_in, rest_of, room_wanted, run_after, runs, tried, turn_of, turns_in}
+use Rattle.course.proofs.Grows.{Grows, lines_grow, rest_grows}
 use Rattle.course.proofs.Runnings.{rest_quiet}
 use Rattle.course.proofs.TurnLaw.{rest_none, rest_whole, turn_on}
 use Rattle.course.proofs.Underways.{Turned, One, Nothing, silent_one, told_none, told_one, turned}
@@ -104,7 +103,7 @@ module _ {L : Type 0} (Hears : L → Setup → List Happening → List Happening
         }
 
     -- the end of the line
-    pub played_ended : PlayedOn s line start was course is → Comes None → Plays Hears s line start course' was is' × Plays (Keeps Knows) s line start course' was is'
+    pub played_ended : PlayedOn s line start was course is → Comes None → Plays Hears s start (run_after s line start) course' was is' × Plays (Keeps Knows) s start (run_after s line start) course' was is'
     played_ended u comes = by (turned s line c.left c.now)
       where
         c : ComesTo (HearsUpTo Hears Knows None) s line course.left u.now is is' None course'
@@ -113,7 +112,7 @@ module _ {L : Type 0} (Hears : L → Setup → List Happening → List Happening
         t : Turn
         t = turn_of s line c.left c.now
 
-        by : Turned t c.now.happened → Plays Hears s line start course' was is' × Plays (Keeps Knows) s line start course' was is'
+        by : Turned t c.now.happened → Plays Hears s start (run_after s line start) course' was is' × Plays (Keeps Knows) s start (run_after s line start) course' was is'
         by (One this some same) = absurd (silent_one s (past_in s c.now) t.this this some c.tells)
         by (Nothing none ended same) =
             let all : t.run ≡ run_after s line start = sym (rest_none s line t.run) ∙ ap (λ n. rest_of s line n t.run) (sym ended) ∙ rest_after s line start was is is' course course' None few u c in
@@ -151,33 +150,56 @@ unheard Stops s line left run a fault stops_before cut =
     let more : Grows run.happened (rest_of s line left run).happened = rest_grows s line left run in
     subst (λ l. Stops a s run.happened l fault a) (sym more.is) (stops_before a a s run.happened run.happened more.more fault cut)
 
--- Between two lines.
+-- Lines, one after the other.
 
--- the run so far, of which this holds, and the lines to come
-pub record Between (s : Setup) (lines rest : List Line) (course : CourseState) (P : List Happening → Type 0) : Type 0 where
+-- some of them from a run on: the run now, what was heard, and the lines to come
+pub record PlayedTo {L : Type 0} (Hears : L → Setup → List Happening → List Happening → L → Type 0) (s : Setup) (lines rest : List Line) (start : Run) (course : CourseState) (was is : L) : Type 0 where
   pub now : Run
-  pub follows : Follows course now
-  pub setup : course.world.setup ≡ s
-  pub so_far : P now.happened
-  pub whole : runs s rest now ≡ runs s lines run_at_start
+  pub plays : Plays Hears s start now course was is
+  pub whole : runs s rest now ≡ runs s lines start
 
-pub between_start : (s : Setup) (lines : List Line) (course : CourseState) (P : List Happening → Type 0) → course.world.setup ≡ s → Follows course run_at_start → P [] → Between s lines lines course P
-between_start s lines course P setup follows so_far = record { now = run_at_start; follows = record { shows = follows.shows; flicks = follows.flicks }; setup = setup; so_far = so_far; whole = refl }
+module _ {L : Type 0} (Hears : L → Setup → List Happening → List Happening → L → Type 0) (s : Setup) (lines : List Line) (start : Run) (was : L) where
+  -- before the first
+  pub lines_start : (course : CourseState) → ((a : L) (s : Setup) (x : List Happening) → Hears a s x x a) → course.world.setup ≡ s → Follows course start → PlayedTo Hears s lines lines start course was was
+  lines_start course nothing setup follows = record {
+    now = start;
+    plays = record { follows = record { shows = follows.shows; flicks = follows.flicks }; setup = setup; hears = nothing was s start.happened };
+    whole = refl;
+  }
 
--- a line more, which was heard
-pub between_on : {L : Type 0} {Hears : L → Setup → List Happening → List Happening → L → Type 0} (s : Setup) (lines rest : List Line) (line : Line) (course course' : CourseState) (P Q : List Happening → Type 0) (was is : L) → Between s lines (line ∷ rest) course P →
-    ((run : Run) → Follows course run → Plays Hears course.world.setup line run course' was is) → ((x y : List Happening) → Hears was s x y is → P x → Q y) → Between s lines rest course' Q
-between_on {L} {Hears} s lines rest line course course' P Q was is u plays more =
-    let p : Plays Hears s line u.now course' was is = subst (λ s. Plays Hears s line u.now course' was is) u.setup (plays u.now u.follows) in
-    record { now = run_after s line u.now; follows = p.follows; setup = p.setup; so_far = more u.now.happened (run_after s line u.now).happened p.hears u.so_far; whole = u.whole }
+  -- after the last
+  pub lines_ended : (rest : List Line) (course : CourseState) (is : L) → rest ≡ [] → PlayedTo Hears s lines rest start course was is → Plays Hears s start (runs s lines start) course was is
+  lines_ended rest course is none u = subst (λ (r : Run). Plays Hears s start r course was is) (ap (λ l. runs s l u.now) (sym none) ∙ u.whole) u.plays
 
--- at the end it holds of all
-pub between_all : (s : Setup) (lines : List Line) (course : CourseState) (P : List Happening → Type 0) → Between s lines [] course P → P (runs s lines run_at_start).happened
-between_all s lines course P u = subst (λ (r : Run). P r.happened) u.whole u.so_far
+  module _ (rest more : List Line) (line : Line) (course : CourseState) (is is' : L) (next : rest ≡ line ∷ more) (u : PlayedTo Hears s lines rest start course was is) where
+    all_of : runs s more (run_after s line u.now) ≡ runs s lines start
+    all_of = ap (λ l. runs s l u.now) (sym next) ∙ u.whole
 
--- and the setup is good, and the run given
-pub between_good : (s : Setup) (lines : List Line) (course : CourseState) (P : List Happening → Type 0) → Between s lines [] course P → (checked s ≡ Ok tt) × AreGiven s (tried (runs s lines run_at_start).happened)
-between_good s lines course P u = subst (λ (r : Run). (checked s ≡ Ok tt) × AreGiven s (tried r.happened)) u.whole (good_of s course u.now u.setup u.follows)
+    -- a line more, which was heard
+    pub lines_on : (course' : CourseState) → ((a b c : L) (s : Setup) (x y z : List Happening) → Hears a s x y b → Hears b s y z c → Hears a s x z c) → PlaysLine Hears course line course' is is' → PlayedTo Hears s lines more start course' was is'
+    lines_on course' hears_on plays =
+        let after : Run = run_after s line u.now in
+        let p : Plays Hears s u.now after course' is is' = subst (λ s. Plays Hears s u.now (run_after s line u.now) course' is is') u.plays.setup (plays u.now u.plays.follows) in
+        record {
+          now = after;
+          plays = record { follows = p.follows; setup = p.setup; hears = hears_on was is is' s start.happened u.now.happened after.happened u.plays.hears p.hears };
+          whole = all_of;
+        }
+
+    -- a fault in it
+    pub lines_cut : (Stops : L → Setup → List Happening → List Happening → Fault → L → Type 0) (fault : Fault) → ((a b : L) (s : Setup) (x y more : List Happening) (fault : Fault) → Stops a s x y fault b → Stops a s x (more ++ y) fault b) →
+        ((a b c : L) (s : Setup) (x y z : List Happening) (fault : Fault) → Hears a s x y b → Stops b s y z fault c → Stops a s x z fault c) → StopsLine Stops course line is is' fault → Stops was s start.happened (runs s lines start).happened fault is'
+    lines_cut Stops fault stops_before stops_on cut =
+        let after : Run = run_after s line u.now in
+        let torn : Stops is s u.now.happened after.happened fault is' = subst (λ s. Stops is s u.now.happened (run_after s line u.now).happened fault is') u.plays.setup (cut u.now u.plays.follows) in
+        let grows : Grows after.happened (runs s more after).happened = lines_grow s more after in
+        let all : (runs s lines start).happened ≡ grows.more ++ after.happened = ap (λ (r : Run). r.happened) (sym all_of) ∙ grows.is in
+        subst (λ l. Stops was s start.happened l fault is') (sym all)
+        (stops_on was is is' s start.happened u.now.happened (grows.more ++ after.happened) fault u.plays.hears (stops_before is is' s u.now.happened after.happened grows.more fault torn))
+
+-- the setup of a run that was played is good, and the run given
+pub played_good : {L : Type 0} {Hears : L → Setup → List Happening → List Happening → L → Type 0} {s : Setup} {before after : Run} {course : CourseState} {was is : L} → Plays Hears s before after course was is → (checked s ≡ Ok tt) × AreGiven s (tried after.happened)
+played_good {L} {Hears} {s} {before} {after} {course} plays = good_of s course after plays.setup plays.follows
 
 -- Room, and faults that are passed on.
 
@@ -205,15 +227,6 @@ both_err (Err x) P Q p q = (p, q)
 pub where_err : {A : Type 0} (r : Result A Fault) (P Q : Fault → Type 0) → IfErr r P → ((x : Fault) → P x → Q x) → IfErr r Q
 where_err (Ok a) P Q p f = tt
 where_err (Err x) P Q p f = f x p
-
--- and there it owes nothing that is said of a value
-pub no_value : {A : Type 0} (r : Result A Fault) (e : Fault) (P : A → Type 0) → IsErrAnd r (λ x. x ≡ e) → IfOk r P
-no_value (Ok a) e P is = absurd is
-no_value (Err x) e P is = tt
-
-pub not_ok : {A : Type 0} (r : Result A Fault) (e : Fault) (P : Type 0) → IsErrAnd r (λ x. x ≡ e) → OnOk r P
-not_ok (Ok a) e P is = absurd is
-not_ok (Err x) e P is = tt
 
 -- events alone are what was tried
 pub tried_all : (events : List Event) → tried (map Tries events) ≡ events

@@ -7,7 +7,7 @@ use Rattle.std.specs.declared.alloc.AllocError.{AllocError}
 use Rattle.scenario.proofs.Places.{drop_in}
 use Rattle.scenario.specs.files.{Fault, WritesFront}
 use Rattle.scenario.specs.files.declared.faults.Fault.TheVariants as fault
-use Rattle.course.specs.{failed_write}
+use Rattle.course.specs.{Writes, WritesPart, failed_write}
 pub use Rattle.course.specs.Growing.{appends_both, appends_none, front_after, front_longer, take_after}
 
 -- nothing is a front of every text
@@ -20,6 +20,13 @@ front_whole a b text more whole = record { count = length text + 0; front = subs
 
 pub front_all : (a b : Option (List ℕ)) (text : List ℕ) → Appends a b text → WritesFront a b text
 front_all a b text whole = subst (λ l. WritesFront a b l) (append-nil text) (front_whole a b text [] whole)
+
+-- what a run wrote from its start on, and where it was cut short
+pub all_written : (text : List ℕ) (a b : Option (List ℕ)) → Writes [] text a b → Appends a b text
+all_written text a b w = subst (λ l. Appends a b l) (sym w.is) w.taken
+
+pub part_written : (text : List ℕ) (a b : Option (List ℕ)) → WritesPart [] text a b → WritesFront a b text
+part_written text a b w = subst (λ l. WritesFront a b l) (sym w.is) w.front
 
 module _ {X : Type 0} (bytes : X → List ℕ) where
   -- a line that was written, where there was memory for it

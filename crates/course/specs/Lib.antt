@@ -25,8 +25,8 @@ pub use Courses.{CourseState, Follows, IsQuiet, KeepsCourse, Makes, QuietTurns, 
 pub use Growing.{text_longer}
 pub use Happenings.{Happening, Lacks, Looks, Tires, Tries, accepted, past_after, refusals, refusals_at, tried}
 pub use Judging.{Audits}
-pub use Listening.{Comes, ComesOn, ComesTo, Happens, HearsFrom, HearsLast, HearsPassing, HearsStep, HearsUnmarked, HearsUpTo, IsNewest, Keeps, KnowsEnough, KnowsOr, Learns, LearnsTold, LeavesRoom, MakesStep, MaySteps, Needs, PassBy, PassQuietly, PassWithin, PassesAlone, Plays, RunsAlone, RunsTo, StepsOn, StepsWithin, StopsAlone, StopsBy, TellsStep, overlapped_in, room_wanted}
-pub use Replays.{CutsLine, InputKeepsHeadline, IsSummaryOf, MakesLine, Moves, RunKeepsHeadline, ended}
+pub use Listening.{Comes, ComesOn, ComesTo, Happens, HearsFrom, HearsLast, HearsPassing, HearsStep, HearsUnmarked, HearsUpTo, IsNewest, Keeps, KnowsEnough, KnowsOr, Learns, LearnsTold, LeavesRoom, MakesStep, MaySteps, Needs, PassBy, PassQuietly, PassWithin, PassesAlone, Plays, PlaysLine, PlaysLines, RunsAlone, RunsTo, StepsOn, StepsWithin, StopsAlone, StopsBy, StopsLine, StopsLines, TellsStep, overlapped_in, room_wanted}
+pub use Replays.{InputKeepsHeadline, IsSummaryOf, RunKeepsHeadline, ended}
 pub use RunRecords.{accepted_events, listed, run_record}
 pub use Runs.{Run, after_pick_in, go_limit, goes, happenings, has_step, is_there, may_step, movers, next_step, past_in, pick_among, picked, run_after, run_at_start, runs, stepped, steps, wanders, with_happening}
 pub use Steppers.{IsAlone, IsAway, left_told, turns_drawn}

@@ -13,7 +13,7 @@ use Rattle.world.specs.Shows.{Shows, WorldState}
 use Rattle.world.specs.Walks.{StepsQuietly, ends_overlapped, ends_overlapped_read}
 use Rattle.course.specs.Courses.{CourseState, Follows, IsQuiet, QuietTurns}
 use Rattle.course.specs.Happenings.{Happening, Tries, past_after, tried}
-use Rattle.course.specs.Runs.{Run, past_in, run_after}
+use Rattle.course.specs.Runs.{Run, past_in, run_after, runs}
 use Rattle.course.specs.Steppers.{IsAlone}
 use Rattle.course.specs.Telling.{IsMarked, Tells, TellsOf}
 use Rattle.course.specs.Turns.{rest_of, turn_of}
@@ -144,11 +144,11 @@ LeavesRoom HasRoom was turns is left told = (more : ℕ) → HasRoom was (more +
 abbrev pub InItsRun : CourseState → (Run → Type 0) → Type 0
 InItsRun course Holds = (run : Run) → Follows course run → Holds run
 
--- a line has made all its turns in a run, and was heard
-pub record Plays {L : Type 0} (Hears : L → Setup → List Happening → List Happening → L → Type 0) (s : Setup) (line : Line) (run : Run) (course : CourseState) (was is : L) : Type 0 where
-  pub follows : Follows course (run_after s line run)
+-- a run has gone on to another, and what happened was heard
+pub record Plays {L : Type 0} (Hears : L → Setup → List Happening → List Happening → L → Type 0) (s : Setup) (before after : Run) (course : CourseState) (was is : L) : Type 0 where
+  pub follows : Follows course after
   pub setup : course.world.setup ≡ s
-  pub hears : Hears was s run.happened (run_after s line run).happened is
+  pub hears : Hears was s before.happened after.happened is
 
 -- a Step without a mark is made, and heard
 pub record HearsStep {L : Type 0} (Hears : L → Setup → List Happening → List Happening → L → Type 0) (old : WorldState) (p : ℕ) (flick : Bool) (new : WorldState) (was is : L) : Type 0 where
@@ -218,4 +218,12 @@ PassesAlone Hears Knows old p floor new was is = (line : Line) → InItsRun old 
 
 -- all turns of a line are made, in each run that the course shows
 abbrev pub PlaysLine : {L : Type 0} → (L → Setup → List Happening → List Happening → L → Type 0) → CourseState → Line → CourseState → L → L → Type 0
-PlaysLine Hears old line new was is = InItsRun old (λ run. Plays Hears old.world.setup line run new was is)
+PlaysLine Hears old line new was is = InItsRun old (λ run. Plays Hears old.world.setup run (run_after old.world.setup line run) new was is)
+
+-- the same of lines, one after the other
+abbrev pub PlaysLines : {L : Type 0} → (L → Setup → List Happening → List Happening → L → Type 0) → CourseState → List Line → CourseState → L → L → Type 0
+PlaysLines Hears old lines new was is = InItsRun old (λ run. Plays Hears old.world.setup run (runs old.world.setup lines run) new was is)
+
+-- a listener stops amid them
+abbrev pub StopsLines : {L : Type 0} → (L → Setup → List Happening → List Happening → Fault → L → Type 0) → CourseState → List Line → L → L → Fault → Type 0
+StopsLines Stops old lines was is fault = InItsRun old (λ run. Stops was old.world.setup run.happened (runs old.world.setup lines run).happened fault is)

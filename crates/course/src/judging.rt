@@ -116,6 +116,10 @@ impl<L: Listener + Drop> Listener for Overheard<L> {
         true
     }
 
+    fn events(&self) -> u64 {
+        self.listener.events()
+    }
+
     ghost HasRoom = { λ judged more. L.HasRoom judged.listener more };
 
     ghost Hears = { λ a s x y b. L.Hears a.listener s x y b.listener × (Audits s (past_after s x) a.audit → Audits s (past_after s y) b.audit) };

@@ -21,6 +21,9 @@ pub trait Listener {
     fn hears_steps(&self) -> bool
         ensures { result ≡ hears_steps self.now };
 
+    /// How many events it has heard of, for who looks on.
+    fn events(&self) -> u64;
+
     /// It has room for so many things more.
     ghost HasRoom: { Self → ℕ → Type 0 };
 

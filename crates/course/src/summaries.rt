@@ -63,6 +63,10 @@ impl Listener for Summary {
         false
     }
 
+    fn events(&self) -> u64 {
+        self.events
+    }
+
     ghost HasRoom = { λ summary more. CanCount summary more };
 
     ghost Hears = { λ a s x y b. Counts s x a → Counts s y b };

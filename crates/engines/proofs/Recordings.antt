@@ -1,20 +1,19 @@
--- The record of a run as text, event by event and line by line.
-use Rattle.std.proofs.Common.{◌≡◌, ℕ, List, [], ◌∷◌, ◌++◌, flat_map, reverse, Option, None, Some, refl, ap, sym, subst, ◌∙◌, append-nil, append_assoc}
+-- The record of a run as text, event by event, and as a whole.
+use Rattle.std.proofs.Common.{◌≡◌, ℕ, List, [], ◌∷◌, ◌++◌, flat_map, reverse, Option, None, Some, Result, Ok, Err, IfErr, OnOk, refl, ap, sym, subst, ◌∙◌, append-nil}
 use Rattle.std.proofs.lemmas.List.{reverse-reverse}
 use Rattle.std.specs.Io.KnownBytes.{Appends}
-use Rattle.scenario.specs.files.{WritesFront}
+use Rattle.scenario.specs.files.{Fault, WritesFront}
 use Rattle.plain_store.specs.{Setup}
 use Rattle.course.specs.«record».declared.events.Event.TheVariants.{Step}
 use Rattle.course.specs.«record».{Entry, Past, Taken}
 use Rattle.judge.specs.record_file.{entry_line, head_words, step_entry}
-use Rattle.scenario.specs.{Line, Script, printed_line}
-use Rattle.course.specs.{CourseState, Follows, Happening, Happens, Lacks, Looks, Run, Stepped, StepsOn, TellsOf, Tires, Told, Tries, Writes, WritesPart, entry_made, past_after, run_after, run_at_start, run_record, runs, told_unmarked, tried}
-use Rattle.engines.specs.{Copies, CopiesLine, CutsCopy, entries_longer, entries_text, entry_told, lines_more, recorded}
+use Rattle.scenario.specs.{Script, printed_line}
+use Rattle.course.specs.{Happening, Happens, Lacks, Looks, Stepped, StepsOn, TellsOf, Tires, Told, Tries, Writes, WritesPart, entry_made, happenings, past_after, run_record, told_unmarked, tried}
+use Rattle.engines.specs.{entries_text, entry_told, lines_more, recorded}
 use Rattle.course.specs.declared.told.Told.TheVariants as told
-use Rattle.course.proofs.Grows.{Grows, lines_grow}
 use Rattle.course.proofs.Listeners.{run_past}
 use Rattle.course.proofs.Refusals.{past_kept}
-use Rattle.course.proofs.Written.{appends_both, front_after, front_longer}
+use Rattle.course.proofs.Written.{all_written, appends_both, front_after, front_longer, part_written}
 
 -- What is told.
 
@@ -46,72 +45,32 @@ step_copied s before made a b on wrote = record { text = entry_line (step_entry 
 pub step_cut : (s : Setup) (before : List Happening) (made : Stepped) (a b : Option (List ℕ)) → StepsOn s before made → WritesFront a b (entry_line (step_entry made.process made.access)) → WritesPart (entries_text s before) (entries_text s (Tries (Step made.process made.flick) ∷ before)) a b
 step_cut s before made a b on front = record { text = entry_line (step_entry made.process made.access); is = step_is s before made on; front = front }
 
--- Between two lines.
+-- The whole text.
 
 -- the lines before the entries
 abbrev pub head_text : Setup → List ℕ
 head_text s = flat_map printed_line (head_words s)
 
--- what was written is the head and the entries of what has happened
-pub record Copied (s : Setup) (lines rest : List Line) (course : CourseState) (old new : Option (List ℕ)) : Type 0 where
-  pub now : Run
-  pub follows : Follows course now
-  pub setup : course.world.setup ≡ s
-  pub taken : Appends old new (head_text s ++ entries_text s now.happened)
-  pub whole : runs s rest now ≡ runs s lines run_at_start
+whole_record : (said : Script) → recorded said ≡ head_text said.setup ++ entries_text said.setup (happenings said)
+whole_record said = ap (λ l. head_text said.setup ++ flat_map entry_line l) (sym (reverse-reverse (run_record said)) ∙ ap reverse (run_past said))
 
--- at the start
-pub copied_start : (s : Setup) (lines : List Line) (course : CourseState) (old new : Option (List ℕ)) → course.world.setup ≡ s → Follows course run_at_start → Appends old new (head_text s) → Copied s lines lines course old new
-copied_start s lines course old new setup follows head = record {
-  now = run_at_start;
-  follows = follows;
-  setup = setup;
-  taken = subst (λ l. Appends old new l) (sym (append-nil (head_text s))) head;
-  whole = refl;
-}
+-- all of it was written
+pub record_written : (said : Script) (a b c : Option (List ℕ)) → Appends a b (head_text said.setup) → Writes [] (entries_text said.setup (happenings said)) b c → Appends a c (recorded said)
+record_written said a b c head w =
+    let text : List ℕ = entries_text said.setup (happenings said) in
+    subst (λ l. Appends a c l) (sym (whole_record said)) (appends_both a b c (head_text said.setup) text head (all_written text b c w))
 
--- a line more
-pub copied_on : (s : Setup) (lines rest : List Line) (line : Line) (course course' : CourseState) (old mid new : Option (List ℕ)) → Copied s lines (line ∷ rest) course old mid → CopiesLine line course course' mid new → Copied s lines rest course' old new
-copied_on s lines rest line course course' old mid new u copies =
-    let family : Setup → Type 0 = λ s. Copies s u.now (run_after s line u.now) course' mid new in
-    let m : Copies s u.now (run_after s line u.now) course' mid new = subst family u.setup (copies u.now u.follows) in
-    record {
-      now = run_after s line u.now;
-      follows = m.follows;
-      setup = m.setup;
-      taken = subst (λ l. Appends old new l) (append_assoc (head_text s) (entries_text s u.now.happened) m.writes.text ∙ ap (λ l. head_text s ++ l) (sym m.writes.is))
-          (appends_both old mid new (head_text s ++ entries_text s u.now.happened) m.writes.text u.taken m.writes.taken);
-      whole = u.whole;
-    }
+-- cut short among the entries
+pub record_cut : (said : Script) (a b c : Option (List ℕ)) → Appends a b (head_text said.setup) → WritesPart [] (entries_text said.setup (happenings said)) b c → WritesFront a c (recorded said)
+record_cut said a b c head part =
+    let text : List ℕ = entries_text said.setup (happenings said) in
+    subst (λ l. WritesFront a c l) (sym (whole_record said)) (front_after a b c (head_text said.setup) text head (part_written text b c part))
 
--- the text of the whole record
-whole_record : (s : Setup) (lines : List Line) → recorded (record { setup = s; lines = lines }) ≡ head_text s ++ entries_text s (runs s lines run_at_start).happened
-whole_record s lines =
-    let said : Script = record { setup = s; lines = lines } in
-    ap (λ l. head_text s ++ flat_map entry_line l) (sym (reverse-reverse (run_record said)) ∙ ap reverse (run_past said))
-
--- at the end all of it was written
-pub copied_all : (s : Setup) (lines : List Line) (course : CourseState) (old new : Option (List ℕ)) → Copied s lines [] course old new → Appends old new (recorded (record { setup = s; lines = lines }))
-copied_all s lines course old new u =
-    subst (λ l. Appends old new l) (ap (λ (r : Run). head_text s ++ entries_text s r.happened) u.whole ∙ sym (whole_record s lines)) u.taken
-
--- what was written so far is a front of it, and so it is with a front of what follows
-whole_from : (s : Setup) (lines rest : List Line) (now : Run) (text : List ℕ) → runs s rest now ≡ runs s lines run_at_start → entries_text s now.happened ≡ text → (more : List ℕ) × (recorded (record { setup = s; lines = lines }) ≡ head_text s ++ (text ++ more))
-whole_from s lines rest now text whole is =
-    let grows : Grows now.happened (runs s rest now).happened = lines_grow s rest now in
-    let more = entries_longer s now.happened grows.more in
-    (more.0, whole_record s lines ∙ ap (λ (r : Run). head_text s ++ entries_text s r.happened) (sym whole) ∙ ap (λ l. head_text s ++ l) (ap (entries_text s) grows.is ∙ more.1 ∙ ap (λ l. l ++ more.0) is))
-
--- cut short in a line
-pub copied_torn : (s : Setup) (lines rest : List Line) (line : Line) (course : CourseState) (old mid new : Option (List ℕ)) → Copied s lines (line ∷ rest) course old mid → CutsCopy line course mid new → WritesFront old new (recorded (record { setup = s; lines = lines }))
-copied_torn s lines rest line course old mid new u cuts =
-    let family : Setup → Type 0 = λ s. WritesPart (entries_text s u.now.happened) (entries_text s (run_after s line u.now).happened) mid new in
-    let part : family s = subst family u.setup (cuts u.now u.follows) in
-    let here : List ℕ = entries_text s u.now.happened in
-    let (more, all) = whole_from s lines rest (run_after s line u.now) (here ++ part.text) u.whole part.is in
-    subst (λ l. WritesFront old new l) (sym (all ∙ ap (λ l. head_text s ++ l) (append_assoc here part.text more) ∙ sym (append_assoc (head_text s) here (part.text ++ more))))
-    (front_after old mid new (head_text s ++ here) (part.text ++ more) u.taken (front_longer mid new part.text more part.front))
+-- what is so however the writing ends
+pub either_way : {A P : Type 0} (r : Result A Fault) → OnOk r P → IfErr r (λ f. P) → P
+either_way (Ok done) good bad = good
+either_way (Err f) good bad = bad
 
 -- cut short in the head
-pub head_torn : (s : Setup) (lines : List Line) (old new : Option (List ℕ)) → WritesFront old new (head_text s) → WritesFront old new (recorded (record { setup = s; lines = lines }))
-head_torn s lines old new front = front_longer old new (head_text s) (flat_map entry_line (run_record (record { setup = s; lines = lines }))) front
+pub head_cut : (said : Script) (a b : Option (List ℕ)) → WritesFront a b (head_text said.setup) → WritesFront a b (recorded said)
+head_cut said a b front = front_longer a b (head_text said.setup) (flat_map entry_line (run_record said)) front

@@ -1,12 +1,14 @@
--- What is written of what is told.
-use Rattle.std.proofs.Common.{ℕ, List, ◌∷◌, Option}
+-- What is written of what is told, and of a whole replay.
+use Rattle.std.proofs.Common.{◌≡◌, ℕ, List, [], ◌∷◌, ◌++◌, Option, ap, subst}
 use Rattle.std.specs.Io.KnownBytes.{Appends}
 use Rattle.plain_store.specs.{Setup}
 use Rattle.course.specs.«record».{Taken}
 use Rattle.scenario.specs.files.{WritesFront}
-use Rattle.course.specs.{Happening, Happens, Summary, Told, text_of, told_text}
+use Rattle.scenario.specs.{Script}
+use Rattle.course.specs.{Happening, Happens, Summary, Told, end_line, happenings, replayed, summary_of, text_of, told_text}
 use Rattle.course.specs.Writing.{Counts, Writes, WritesPart}
 use Rattle.course.proofs.Counting.{text_heard}
+use Rattle.course.proofs.Written.{all_written, appends_both, front_after, front_longer, part_written}
 
 -- its text
 pub told_written : (s : Setup) (before : List Happening) (this : Happening) (told : Told) (taken : List Taken) (had : Summary) (a b : Option (List ℕ)) → Happens s before this told taken → Appends a b (told_text had.events told) → Counts s before had → Writes (text_of s before) (text_of s (this ∷ before)) a b
@@ -14,3 +16,26 @@ told_written s before this told taken had a b h wrote counts = record { text = t
 
 pub told_cut : (s : Setup) (before : List Happening) (this : Happening) (told : Told) (taken : List Taken) (had : Summary) (a b : Option (List ℕ)) → Happens s before this told taken → WritesFront a b (told_text had.events told) → Counts s before had → WritesPart (text_of s before) (text_of s (this ∷ before)) a b
 told_cut s before this told taken had a b h front counts = record { text = told_text had.events told; is = text_heard s before this told taken had h counts; front = front }
+
+-- a count that has just begun
+pub counts_none : (s : Setup) (summary : Summary) → summary ≡ record { events = 0; taken = 0; refused = 0 } → Counts s [] summary
+counts_none s summary none = record { events = ap (λ (n : Summary). n.events) none; refused = ap (λ (n : Summary). n.refused) none }
+
+-- The whole text.
+
+-- once its last line is written, or a front of that line
+pub replay_written : (said : Script) (a b c : Option (List ℕ)) (last : Summary) → Writes [] (text_of said.setup (happenings said)) a b → last ≡ summary_of said.setup (happenings said) → Appends b c (end_line last) → Appends a c (replayed said)
+replay_written said a b c last w numbers ends =
+    let text : List ℕ = text_of said.setup (happenings said) in
+    subst (λ n. Appends a c (text ++ end_line n)) numbers (appends_both a b c text (end_line last) (all_written text a b w) ends)
+
+pub replay_end_cut : (said : Script) (a b c : Option (List ℕ)) (last : Summary) → Writes [] (text_of said.setup (happenings said)) a b → last ≡ summary_of said.setup (happenings said) → WritesFront b c (end_line last) → WritesFront a c (replayed said)
+replay_end_cut said a b c last w numbers ends =
+    let text : List ℕ = text_of said.setup (happenings said) in
+    subst (λ n. WritesFront a c (text ++ end_line n)) numbers (front_after a b c text (end_line last) (all_written text a b w) ends)
+
+-- cut short before it
+pub replay_cut : (said : Script) (a b : Option (List ℕ)) → WritesPart [] (text_of said.setup (happenings said)) a b → WritesFront a b (replayed said)
+replay_cut said a b part =
+    let text : List ℕ = text_of said.setup (happenings said) in
+    front_longer a b text (end_line (summary_of said.setup (happenings said))) (part_written text a b part)

@@ -1,28 +1,63 @@
--- The calls among events, and what a sweep over a run finds, where every run is good.
-use Rattle.std.proofs.Common.{◌≡◌, ℕ, ◌+◌, ◌<◌, ◌≤◌, List, [], ◌∷◌, ◌++◌, get_or, length, reverse, take, Result, Ok, Err, IfOk, ap, sym, ◌∙◌, append-nil}
+-- The calls of a run, and the sweep that goes along it.
+use Rattle.std.proofs.Common.{◌≡◌, ℕ, zero, suc, Bool, List, [], ◌∷◌, ◌++◌, reverse, Option, None, Some, refl, ap, subst, sym, ◌∙◌, append-nil}
 use Rattle.std.proofs.lemmas.Grind.{flat_map-append}
-use Rattle.std.proofs.lemmas.List.{take_all, take_more}
-use Rattle.std.specs.declared.alloc.AllocError.{AllocError}
-use Rattle.plain_store.specs.{Command}
-use Rattle.course.specs.«record».{Event}
-use Rattle.scenario.specs.{Script}
-use Rattle.sweeper.proofs.Goods as goods
-use Rattle.sweeper.specs.{AreAllGood, IsSwept, Swept, all_good, cuts}
-use Rattle.engines.specs.{accepted_calls, call_of, calls_in, run_swept}
-use Rattle.course.specs.{accepted_events}
+use Rattle.std.proofs.lemmas.List.{reverse-append}
+use Rattle.plain_store.specs.{Command, Setup}
+use Rattle.course.specs.«record».{Event, Refusal, Taken, past_of, refused}
+use Rattle.course.specs.«record».declared.events.Event.TheVariants.{Step}
+use Rattle.sweeper.specs.{Sweeper, SweepsOn, SweptBy}
+use Rattle.engines.specs.{SweepsRun, call_of, calls_in, event_told}
+use Rattle.engines.proofs.Listed.{listed_more, reverse-front}
+use Rattle.course.specs.declared.told.Accepted.{Accepted as Made}
+use Rattle.course.specs.declared.told.Told.TheVariants.{Accepted, Refused, Shown, Tired}
+use Rattle.course.specs.{Happening, Happens, PassWithin, Told, Tries, accepted, listed, tried}
 
--- one event more
-pub calls_more : (events : List Event) (k : ℕ) (event : Event) → k < length events → event ≡ get_or events k event → calls_in (take (k + 1) events) ≡ calls_in (take k events) ++ call_of event
-calls_more events k event within is =
-    ap calls_in (take_more events k event within) ∙ flat_map-append call_of (take k events) (get_or events k event ∷ [])
-    ∙ ap (λ l. calls_in (take k events) ++ l) (append-nil (call_of (get_or events k event)) ∙ ap call_of (sym is))
+-- what is told adds its call, if it is one
+pub told_calls : (s : Setup) (before : List Happening) (this : Happening) (told : Told) (taken : List Taken) (calls calls' : List (ℕ × Command)) → Happens s before this told taken →
+    calls' ≡ calls ++ calls_in (event_told told) → calls ≡ calls_in (listed s before) → calls' ≡ calls_in (listed s (this ∷ before))
+told_calls s before this told taken calls calls' h more are =
+    more ∙ ap (λ l. l ++ calls_in (event_told told)) are
+    ∙ sym (flat_map-append call_of (listed s before) (event_told told)) ∙ ap calls_in (listed_more s before this told h.tells)
 
--- all of them
-pub calls_all : (events : List Event) (k : ℕ) → length events ≤ k → calls_in (take k events) ≡ calls_in events
-calls_all events k past = ap calls_in (take_all k events past)
+-- a Step is none, made or refused
+pub calls_same : (s : Setup) (before : List Happening) (p : ℕ) (flick : Bool) → calls_in (listed s (Tries (Step p flick) ∷ before)) ≡ calls_in (listed s before)
+calls_same s before p flick = by (refused s (past_of s (tried before)) (Step p flick))
+  where
+    by : (r : Option Refusal) → calls_in (reverse (elim r as (λ _. List Event) [ None ↦ Step p flick ∷ accepted s (tried before) | Some r ↦ accepted s (tried before) ])) ≡ calls_in (listed s before)
+    by None =
+        ap calls_in (reverse-front (Step p flick) (accepted s (tried before)))
+        ∙ flat_map-append call_of (listed s before) (Step p flick ∷ []) ∙ append-nil (calls_in (listed s before))
+    by (Some r) = refl
 
--- what is found of the accepted events and the accepted calls
-pub found_is : (result : Result Swept AllocError) (said : Script) (events : List Event) (calls : List (ℕ × Command)) → events ≡ accepted_events said → calls ≡ accepted_calls said → IfOk result (λ found. IsSwept said.setup events calls found) → IfOk result AreAllGood →
-    IfOk result (λ found. found ≡ run_swept said)
-found_is (Ok found) said events calls events_are calls_are is good = goods.found_is said.setup (cuts said.setup calls (reverse events)) found is good ∙ (λ i. all_good (cuts said.setup (calls_are i) (reverse (events_are i))))
-found_is (Err e) said events calls events_are calls_are is good = tt
+-- nor are many
+pub calls_passed : (s : Setup) (p n : ℕ) (before after : List Happening) → PassWithin s p n before after → calls_in (listed s after) ≡ calls_in (listed s before)
+calls_passed s p zero before after same = ap (λ l. calls_in (listed s l)) same
+calls_passed s p (suc n) before after (flick, within, more) = calls_passed s p n (Tries (Step p flick) ∷ before) after more ∙ calls_same s before p flick
+
+-- a sweeper goes along by an event that is listed
+pub swept_on : (s : Setup) (calls : List (ℕ × Command)) (before : List Happening) (this : Happening) (event : Event) (given given' : List (ℕ × Command)) (old new : Sweeper) → listed s before ++ event ∷ [] ≡ listed s (this ∷ before) → given' ≡ given →
+    SweepsOn given event old new → SweepsRun s calls before given old → SweepsRun s calls (this ∷ before) given' new
+swept_on s calls before this event given given' old new more same on swept = record {
+  given_are = same ∙ swept.given_are;
+  swept = subst (λ l. SweptBy s calls (reverse l) new) more (subst (λ l. SweptBy s calls l new) (sym (reverse-append (listed s before) (event ∷ []))) (subst (λ g. SweepsOn g event old new) swept.given_are on s (reverse (listed s before)) swept.swept));
+}
+
+-- what is told that is no event leaves all as it was
+pub swept_same : (s : Setup) (calls : List (ℕ × Command)) (before : List Happening) (this : Happening) (given : List (ℕ × Command)) (sweeper : Sweeper) → listed s before ++ [] ≡ listed s (this ∷ before) → SweepsRun s calls before given sweeper → SweepsRun s calls (this ∷ before) given sweeper
+swept_same s calls before this given sweeper same swept = record {
+  given_are = swept.given_are;
+  swept = subst (λ l. SweptBy s calls (reverse l) sweeper) (sym (append-nil (listed s before)) ∙ same) swept.swept;
+}
+
+-- what is told is an event, or none
+pub told_event : (s : Setup) (before : List Happening) (this : Happening) (told : Told) (taken : List Taken) (made : Made) → told ≡ Accepted made → Happens s before this told taken → listed s before ++ made.event ∷ [] ≡ listed s (this ∷ before)
+told_event s before this told taken made is h = subst (λ t. listed s before ++ event_told t ≡ listed s (this ∷ before)) is (listed_more s before this told h.tells)
+
+none_told : (told : Told) → ((made : Made) → told ≡ Accepted made → ⊥) → event_told told ≡ []
+none_told (Accepted made) none = absurd (none made refl)
+none_told (Refused p refusal) none = refl
+none_told (Tired p) none = refl
+none_told (Shown store) none = refl
+
+pub told_nothing : (s : Setup) (before : List Happening) (this : Happening) (told : Told) (taken : List Taken) → ((made : Made) → told ≡ Accepted made → ⊥) → Happens s before this told taken → listed s before ++ [] ≡ listed s (this ∷ before)
+told_nothing s before this told taken none h = ap (λ l. listed s before ++ l) (sym (none_told told none)) ∙ listed_more s before this told h.tells

@@ -13,5 +13,5 @@ pub use Audits.{IsRunVerdict, TellsVerdict, audited, run_length}
 pub use BitCells.{bit_after, bit_line_text, can_take, cell_text_from, made, made_text}
 pub use Listings.{Records, RecordsEvent, event_told}
 pub use RecordedRuns.{RecordedRunsAreReadAgain, WritesRecord}
-pub use Recordings.{Copies, CopiesLine, CutsCopy, entries_longer, entries_text, entry_told, lines_more, recorded}
-pub use Sweepings.{TellsSweep, accepted_calls, call_of, calls_in, run_swept, swept, swept_lines}
+pub use Recordings.{entries_longer, entries_text, entry_told, lines_more, recorded}
+pub use Sweepings.{SweepsRun, TellsSweep, accepted_calls, call_of, calls_in, run_swept, swept, swept_lines}

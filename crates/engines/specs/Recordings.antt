@@ -6,8 +6,8 @@ use Rattle.std.proofs.lemmas.List.{reverse-append}
 use Rattle.plain_store.specs.{Setup}
 use Rattle.judge.specs.record_file.{entry_line, record_text, step_entry}
 use Rattle.scenario.specs.files.{LineFault, text_by}
-use Rattle.scenario.specs.{Line, Script, scenario_of}
-use Rattle.course.specs.{CourseState, Follows, Happening, Lacks, Looks, Run, Tires, Told, Tries, Writes, WritesPart, entry_made, past_after, run_after, run_record}
+use Rattle.scenario.specs.{Script, scenario_of}
+use Rattle.course.specs.{Happening, Lacks, Looks, Tires, Told, Tries, entry_made, past_after, run_record}
 use Rattle.course.specs.«record».{Access, Entry, Past, entry_of}
 use Rattle.course.specs.declared.told.Told.TheVariants as told
 
@@ -33,20 +33,6 @@ entry_told (told.Shown store) = []
 -- the line of the entry of a Step
 abbrev pub step_line : ℕ → Access → List ℕ
 step_line p access = entry_line (step_entry p access)
-
--- from one run to another: the cursor, and the lines of the entries between, which were written
-pub record Copies (s : Setup) (before after : Run) (course : CourseState) (old new : Option (List ℕ)) : Type 0 where
-  pub follows : Follows course after
-  pub setup : course.world.setup ≡ s
-  pub writes : Writes (entries_text s before.happened) (entries_text s after.happened) old new
-
--- a line has made all its turns
-abbrev pub CopiesLine : Line → CourseState → CourseState → Option (List ℕ) → Option (List ℕ) → Type 0
-CopiesLine line old new taken then = (run : Run) → Follows old run → Copies old.world.setup run (run_after old.world.setup line run) new taken then
-
--- a line was cut short
-abbrev pub CutsCopy : Line → CourseState → Option (List ℕ) → Option (List ℕ) → Type 0
-CutsCopy line old taken then = (run : Run) → Follows old run → WritesPart (entries_text old.world.setup run.happened) (entries_text old.world.setup (run_after old.world.setup line run).happened) taken then
 
 -- the lines of one entry more, and of more that has happened
 pub lines_more : (e : Entry) (past : Past) → flat_map entry_line (reverse (e ∷ past)) ≡ flat_map entry_line (reverse past) ++ entry_line e

@@ -1,7 +1,7 @@
 -- What a replay writes and counts as its run goes on.
-use Rattle.std.specs.Prelude.{◌≡◌, ℕ, ◌+◌, ◌^◌, List, flat_map}
+use Rattle.std.specs.Prelude.{◌≡◌, ℕ, List, flat_map}
 use Rattle.course.specs.«record».{Mark}
-use Rattle.course.specs.{CanCount, Summary, Told, happenings, mark_line, summary_of, told_text}
+use Rattle.course.specs.{Summary, Told, happenings, mark_line, summary_of, told_text}
 use Rattle.scenario.specs.{Script}
 
 -- the lines of the marks of an event with this number
@@ -19,7 +19,3 @@ numbers events taken refused = record { events = events; taken = taken; refused 
 -- the numbers of a scenario's run
 abbrev pub IsRunSummary : Script → Summary → Type 0
 IsRunSummary said summary = summary ≡ summary_of said.setup (happenings said)
-
--- a line takes the room of 2^32 events at most
-abbrev pub TakesRoomOfLine : Summary → Summary → Type 0
-TakesRoomOfLine old new = (more : ℕ) → CanCount old (more + 2 ^ 32) → CanCount new more

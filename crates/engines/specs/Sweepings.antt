@@ -1,16 +1,16 @@
 -- What a sweep over a scenario's run answers and writes.
 use Rattle.std.specs.Prelude.{◌≡◌, ℕ, List, [], ◌∷◌, ◌++◌, codes, flat_map, reverse, Option, None, Some, IfSome, Result, Ok}
 use Rattle.std.specs.Io.KnownBytes.{Appends}
-use Rattle.plain_store.specs.{Command}
+use Rattle.plain_store.specs.{Command, Setup}
 use Rattle.course.specs.«record».{Event}
 use Rattle.course.specs.«record».declared.events.Event.TheVariants.{Call, Step, Fail, Withdraw, Restart}
 use Rattle.judge.specs.auditor.{Verdict}
 use Rattle.judge.specs.auditor.declared.verdicts.Verdict.TheVariants.{Good, Bad}
-use Rattle.sweeper.specs.{BadRun, IsSwept, Swept, all_good, cuts, swept_text}
+use Rattle.sweeper.specs.{BadRun, IsSwept, Sweeper, Swept, SweptBy, all_good, cuts, swept_text}
 use Rattle.scenario.specs.files.{LineFault, text_by}
 use Rattle.scenario.specs.{Script, scenario_of}
 use Rattle.judge.specs.{status_of_verdict}
-use Rattle.course.specs.{accepted_events}
+use Rattle.course.specs.{Happening, accepted_events, listed}
 
 -- the call that an event is, if it is one
 abbrev pub call_of : Event → List (ℕ × Command)
@@ -27,6 +27,11 @@ calls_in events = flat_map call_of events
 -- the accepted calls of a scenario's run
 abbrev pub accepted_calls : Script → List (ℕ × Command)
 accepted_calls said = calls_in (accepted_events said)
+
+-- a sweeper has gone along the accepted events of what has happened, and these calls ended each of its runs
+pub record SweepsRun (s : Setup) (calls : List (ℕ × Command)) (happened : List Happening) (given : List (ℕ × Command)) (sweeper : Sweeper) : Type 0 where
+  pub given_are : given ≡ calls
+  pub swept : SweptBy s calls (reverse (listed s happened)) sweeper
 
 -- what a sweep over a scenario's run finds: it goes along the accepted events, and the accepted calls follow in each run
 abbrev pub IsRunSwept : Script → Swept → Type 0

@@ -1,13 +1,13 @@
 //! The engine `audit`: the verdict on the record of a scenario's run, of which an auditor hears each entry as the
 //! run makes it. No record is held.
-ghost use Rattle.std.specs.Prelude.{◌≡◌, ◌+◌, ◌-◌, ◌^◌, ◌<◌, [], IfErr, IfOk, OnOk};
+ghost use Rattle.std.specs.Prelude.{◌≡◌, ◌+◌, ◌-◌, ◌^◌, ◌<◌, IfErr, IfOk, OnOk};
 ghost use Rattle.judge.specs.auditor.declared.verdicts.Verdict.TheVariants.{Good};
 ghost use Rattle.scenario.specs.files.Engines.{Ran, streams};
 ghost use Rattle.engines.specs.Sinks.{Wrote, WroteFront};
 ghost use Rattle.scenario.specs.files.{ReadsFront};
 ghost use Rattle.scenario.specs.{script};
 ghost use Rattle.engines.specs.Audits.{InputTellsVerdict, IsRunVerdict, TellsVerdict, audit_text, audited, run_length};
-ghost use Rattle.course.specs.{Audits, Follows, ended, run_at_start};
+ghost use Rattle.course.specs.{ended};
 ghost use Rattle.course.specs.Writing.{IsWriteFault, failed_write};
 
 use crate::writing::write_line;
@@ -15,7 +15,7 @@ use course::{Audit, Course, Overheard, Summary};
 use judge::{Audited, status_of, verdict_line};
 use scenario::{Fault, Scenario, Sink, Source, read_input, read_scenario};
 use std::alloc::{AllocError, Global};
-use sweeper::progress::{LinePlace, Onlooker};
+use sweeper::progress::Onlooker;
 
 /// Reads a whole file, makes its run, of which an auditor hears each entry, and then writes the verdict on its
 /// record, on one line; answers the exit status. However it ends, at most `INPUT_LIMIT` bytes are taken from the
@@ -77,33 +77,9 @@ fn audit_run<L: Onlooker>(
     let audit = Audit::new(alloc, &scenario.setup)?;
     let listener = Summary::new();
     let mut judged = Overheard { listener, audit };
-    audit_lines(file, scenario, &mut course, &mut judged, onlooker)
-}
-
-/// The same, lent a course and an auditor that have just begun. It is a function of its own, since values that are dropped
-/// at each way out of a function are dear to prove.
-fn audit_lines<L: Onlooker>(
-    file: &[u8],
-    scenario: &Scenario,
-    course: &mut Course,
-    judged: &mut Overheard<Summary>,
-    onlooker: &mut L,
-) -> Result<Audited, AllocError>
-    requires setup { course.old.world.setup ≡ scenario.now.setup }
-    requires follows { Follows course.old run_at_start }
-    requires counts { judged.old.listener ≡ record { events = 0; taken = 0; refused = 0 } }
-    requires audits { Audits scenario.now.setup [] judged.old.audit }
-    ensures verdict { IfOk result (λ audited. IsRunVerdict (script scenario.now) audited.verdict) }
-    ensures good { IfOk result (λ audited. audited.verdict ≡ Good) }
-    ensures entries { IfOk result (λ audited. audited.entries ≡ run_length (script scenario.now)) }
-{
-    let mut place = LinePlace::before(file, scenario.lines.len());
-    for line in &scenario.lines {
-        onlooker.reached(place.begin_line(judged.listener.events));
-        let Ok(()) = course.play(line, judged) else {
-            return Err(AllocError);
-        };
-    }
+    let Ok(()) = course.play_all(file, &scenario.lines, &mut judged, onlooker) else {
+        return Err(AllocError);
+    };
     Ok(Audited {
         verdict: judged.audit.verdict(),
         entries: judged.listener.events,

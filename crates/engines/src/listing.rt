@@ -13,6 +13,7 @@ use course::{Course, Entry, Event, Listener, Move, Record, Refusal, Stepped, Tak
 use plain_store::{NestedTypes, Setup};
 use scenario::{Fault, Scenario};
 use std::alloc::{AllocError, Global};
+use sweeper::progress::Nobody;
 
 /// The events of a scenario's run that are accepted, in order. The one fault is want of memory.
 pub fn events_of(alloc: Global, scenario: &Scenario) -> Result<Vec<Event>, AllocError>
@@ -21,11 +22,9 @@ pub fn events_of(alloc: Global, scenario: &Scenario) -> Result<Vec<Event>, Alloc
     let mut course = Course::new(alloc, &scenario.setup)?;
     let events = Vec::new(alloc);
     let mut lister = Lister { events };
-    for line in &scenario.lines {
-        let Ok(()) = course.play(line, &mut lister) else {
-            return Err(AllocError);
-        };
-    }
+    let Ok(()) = course.play_all(&[], &scenario.lines, &mut lister, &mut Nobody) else {
+        return Err(AllocError);
+    };
     Ok(lister.events)
 }
 
@@ -41,6 +40,10 @@ impl Listener for Lister {
     #[inline(always)]
     fn hears_steps(&self) -> bool {
         true
+    }
+
+    fn events(&self) -> u64 {
+        self.events.len() as u64
     }
 
     ghost HasRoom = { λ lister more. ⊤ };

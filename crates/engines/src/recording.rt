@@ -8,14 +8,14 @@ ghost use Rattle.scenario.specs.files.{ReadsFront};
 ghost use Rattle.judge.specs.record_file.{RecordsAreReadAgain, RecordsFitLines, entry_line};
 ghost use Rattle.scenario.specs.{script};
 ghost use Rattle.engines.specs.RecordedRuns.{InputWritesRecord, RecordedRunsAreReadAgain};
-ghost use Rattle.engines.specs.Recordings.{CopiesLine, CutsCopy, entries_longer, entries_text, entry_told, recorded, recording_text, step_line};
-ghost use Rattle.course.specs.{Follows, IsWriteFault, Took, TookPart, ended, failed_write, part_before, part_on, part_unheard, run_at_start, took_none, took_on};
+ghost use Rattle.engines.specs.Recordings.{entries_longer, entries_text, entry_told, recorded, recording_text, step_line};
+ghost use Rattle.course.specs.{IsWriteFault, Took, TookPart, ended, failed_write, part_before, part_on, part_unheard, took_none, took_on};
 
 use course::{Course, Entry, Listener, Move, Stepped, Taken, Told};
 use judge::{StepLine, print_entry, print_setup};
-use scenario::{Fault, Line, Scenario, Sink, Source, read_input, read_scenario, write_all};
+use scenario::{Fault, Scenario, Sink, Source, read_input, read_scenario, write_all};
 use std::alloc::{AllocError, Global};
-use sweeper::progress::{LinePlace, Onlooker};
+use sweeper::progress::Onlooker;
 
 /// Reads a whole scenario file, and then writes the record of its run, as it is made: the setup, and a line for each
 /// entry. However it ends, at most `INPUT_LIMIT` bytes are taken from the front of the input. What is written of a
@@ -60,72 +60,18 @@ fn record_scenario<W: Sink, L: Onlooker>(
     ensures failures { W.failures output.new ≡ W.failures output.old + failed_write result }
 {
     let mut course = Course::new(alloc, &scenario.setup)?;
+    write_bytes(output, print_setup(alloc, &scenario.setup))?;
     let mut room = Room {
         events: 0,
         text: Vec::new(alloc),
         printed: StepLine::new(),
     };
-    record_lines(
-        alloc,
-        file,
-        scenario,
-        &mut course,
-        &mut room,
-        output,
-        onlooker,
-    )
-}
-
-/// The same, lent a course that has just begun, and room. It is a function of its own, since values that are dropped at each
-/// way out of a function are dear to prove.
-fn record_lines<W: Sink, L: Onlooker>(
-    alloc: Global,
-    file: &[u8],
-    scenario: &Scenario,
-    course: &mut Course,
-    room: &mut Room,
-    output: &mut W,
-    onlooker: &mut L,
-) -> Result<(), Fault>
-    requires setup { course.old.world.setup ≡ scenario.now.setup }
-    requires follows { Follows course.old run_at_start }
-    requires writes { W.failures output.old < 2 ^ 64 - 1 }
-    ensures ok { Wrote W.taken result output.old output.new (recorded (script scenario.now)) }
-    ensures front { WroteFront W.taken output.old output.new (recorded (script scenario.now)) }
-    ensures fault { IfErr result IsWriteFault }
-    ensures failures { W.failures output.new ≡ W.failures output.old + failed_write result }
-{
-    write_bytes(output, print_setup(alloc, &scenario.setup))?;
-    let mut place = LinePlace::before(file, scenario.lines.len());
-    for line in &scenario.lines {
-        onlooker.reached(place.begin_line(room.events));
-        record_line(alloc, course, line, room, output)?;
-    }
-    Ok(())
-}
-
-/// Makes the turns of a line, and writes the entry of each before the next is made.
-fn record_line<W: Sink>(
-    alloc: Global,
-    course: &mut Course,
-    line: &Line,
-    room: &mut Room,
-    output: &mut W,
-) -> Result<(), Fault>
-    requires { W.failures output.old < 2 ^ 64 - 1 }
-    ensures ok { OnOk result (CopiesLine line.now course.old course.new
-        (W.taken output.old) (W.taken output.new)) }
-    ensures cut { OnErr result (CutsCopy line.now course.old
-        (W.taken output.old) (W.taken output.new)) }
-    ensures fault { IfErr result IsWriteFault }
-    ensures failures { W.failures output.new ≡ W.failures output.old + failed_write result }
-{
     let mut copier = Copier {
         alloc,
-        room,
+        room: &mut room,
         output,
     };
-    course.play(line, &mut copier)
+    course.play_all(file, &scenario.lines, &mut copier, onlooker)
 }
 
 /// What is kept from one entry to the next: how many there were, and room for a line.
@@ -150,6 +96,10 @@ impl<'a, W: Sink> Listener for Copier<'a, W> {
     #[inline(always)]
     fn hears_steps(&self) -> bool {
         true
+    }
+
+    fn events(&self) -> u64 {
+        self.room.events
     }
 
     ghost HasRoom = { λ copier more. W.failures copier.output.now < 2 ^ 64 - 1 };

@@ -1,19 +1,19 @@
 //! The engine `replay`: the marks of a scenario's run, each written before the next event is made.
-ghost use Rattle.std.specs.Prelude.{◌≡◌, ◌+◌, ◌-◌, ◌^◌, ◌<◌, IfErr, IfOk, OnErr, OnOk, false, refl, ⊤};
+ghost use Rattle.std.specs.Prelude.{◌≡◌, ◌+◌, ◌-◌, ◌^◌, ◌<◌, IfErr, IfOk, OnOk, false, refl, ⊤};
 ghost use Rattle.std.proofs.Common.{◌∙◌};
 ghost use Rattle.scenario.specs.files.Engines.{Ran, streams};
 ghost use Rattle.scenario.specs.{script};
-ghost use Rattle.engines.specs.Replayings.{IsRunSummary, TakesRoomOfLine};
+ghost use Rattle.engines.specs.Replayings.{IsRunSummary};
 ghost use Rattle.engines.specs.Sinks.{Wrote, WroteFront};
 ghost use Rattle.scenario.specs.files.{ReadsFront};
-ghost use Rattle.course.specs.{CanCount, CutsLine, Follows, InputKeepsHeadline, IsSummaryOf, MakesLine, RunKeepsHeadline, Took, TookPart, can_count_less, ended, part_before, part_on, part_unheard, replay_text, replayed, run_at_start, text_longer, text_of, took_none, took_on};
+ghost use Rattle.course.specs.{CanCount, InputKeepsHeadline, IsSummaryOf, RunKeepsHeadline, Took, TookPart, can_count_less, ended, part_before, part_on, part_unheard, replay_text, replayed, text_longer, text_of, took_none, took_on};
 ghost use Rattle.course.specs.Writing.{Counts, IsWriteFault, failed_write};
 
 use crate::writing::{tell, write_end};
 use course::{Course, Listener, Move, Stepped, Summary, Taken, Told};
-use scenario::{Fault, Line, Scenario, Sink, Source, read_input, read_scenario};
+use scenario::{Fault, Scenario, Sink, Source, read_input, read_scenario};
 use std::alloc::Global;
-use sweeper::progress::{LinePlace, Onlooker};
+use sweeper::progress::Onlooker;
 
 /// Reads a whole file, and then writes the marks of its run, as they are made, and its three numbers. However it
 /// ends, at most `INPUT_LIMIT` bytes are taken from the front of the input.
@@ -59,70 +59,20 @@ fn replay_scenario<W: Sink, L: Onlooker>(
     ensures failures { W.failures output.new ≡ W.failures output.old + failed_write result }
 {
     let mut course = Course::new(alloc, &scenario.setup)?;
-    replay_lines(alloc, file, scenario, &mut course, output, onlooker)
-}
-
-/// The same, lent a course that has just begun. It is a function of its own, since values that are dropped at each way out of
-/// a function are dear to prove.
-fn replay_lines<W: Sink, L: Onlooker>(
-    alloc: Global,
-    file: &[u8],
-    scenario: &Scenario,
-    course: &mut Course,
-    output: &mut W,
-    onlooker: &mut L,
-) -> Result<Summary, Fault>
-    requires setup { course.old.world.setup ≡ scenario.now.setup }
-    requires follows { Follows course.old run_at_start }
-    requires writes { W.failures output.old < 2 ^ 64 - 1 }
-    ensures ok { Wrote W.taken result output.old output.new (replayed (script scenario.now)) }
-    ensures front { WroteFront W.taken output.old output.new (replayed (script scenario.now)) }
-    ensures summary { IfOk result (IsRunSummary (script scenario.now)) }
-    ensures headline { OnOk result (RunKeepsHeadline (script scenario.now)) }
-    ensures fault { IfErr result IsWriteFault }
-    ensures failures { W.failures output.new ≡ W.failures output.old + failed_write result }
-{
-    let mut summary = Summary::new();
-    let mut place = LinePlace::before(file, scenario.lines.len());
-    for line in &scenario.lines {
-        onlooker.reached(place.begin_line(summary.events));
-        replay_line(alloc, course, line, &mut summary, output)?;
-    }
+    let summary = Summary::new();
+    let mut printer = Printer {
+        alloc,
+        summary,
+        output,
+    };
+    course.play_all(file, &scenario.lines, &mut printer, onlooker)?;
+    let mut summary = printer.summary;
     summary.taken = course.taken();
     write_end(alloc, &summary, output)?;
     Ok(summary)
 }
 
-/// Makes the turns of a line, and writes what each tells before the next is made. Steps without a mark tell nothing,
-/// and are counted.
-fn replay_line<W: Sink>(
-    alloc: Global,
-    course: &mut Course,
-    line: &Line,
-    summary: &mut Summary,
-    output: &mut W,
-) -> Result<(), Fault>
-    requires writes { W.failures output.old < 2 ^ 64 - 1 }
-    requires room { CanCount summary.old (2 ^ 32) }
-    ensures ok { OnOk result (MakesLine line.now course.old course.new summary.old summary.new
-        (W.taken output.old) (W.taken output.new)) }
-    ensures room { OnOk result (TakesRoomOfLine summary.old summary.new) }
-    ensures cut { OnErr result (CutsLine line.now course.old summary.old
-        (W.taken output.old) (W.taken output.new)) }
-    ensures fault { IfErr result IsWriteFault }
-    ensures failures { W.failures output.new ≡ W.failures output.old + failed_write result }
-{
-    let mut printer = Printer {
-        alloc,
-        summary: *summary,
-        output,
-    };
-    course.play(line, &mut printer)?;
-    *summary = printer.summary;
-    Ok(())
-}
-
-/// Writes the marks of a run as it hears them, and counts.
+/// Writes the marks of a run as it hears them, and counts. Steps without a mark tell nothing, and are counted.
 #[derive(Drop)]
 struct Printer<'a, W: Sink> {
     alloc: Global,
@@ -136,6 +86,10 @@ impl<'a, W: Sink> Listener for Printer<'a, W> {
     #[inline(always)]
     fn hears_steps(&self) -> bool {
         false
+    }
+
+    fn events(&self) -> u64 {
+        self.summary.events
     }
 
     ghost HasRoom = { λ printer more. CanCount printer.summary more × (W.failures printer.output.now < 2 ^ 64 - 1) };

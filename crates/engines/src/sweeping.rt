@@ -1,22 +1,27 @@
 //! The engine `sweep`: what a sweep over a scenario's run finds.
-ghost use Rattle.std.specs.Prelude.{◌≡◌, ◌+◌, ◌++◌, ◌-◌, ◌^◌, ◌<◌, IfErr, IfOk, OnOk, Ok};
+ghost use Rattle.std.specs.Prelude.{◌≡◌, ◌+◌, ◌++◌, ◌-◌, ◌^◌, ◌<◌, ◌≤◌, ℕ, List, false, length, true, IfErr, IfOk, OnOk, Ok, ⊤};
 ghost use Rattle.std.specs.String.{string_bytes};
+ghost use Rattle.plain_store.specs.declared.commands.Command.{Command as Said};
 ghost use Rattle.scenario.specs.files.Engines.{Ran, streams};
+ghost use Rattle.engines.specs.Listings.{event_told};
 ghost use Rattle.engines.specs.Sinks.{Wrote, WroteFront};
 ghost use Rattle.scenario.specs.files.{ReadsFront};
 ghost use Rattle.scenario.specs.{script};
-ghost use Rattle.course.specs.{IsWriteFault, ended, failed_write};
-ghost use Rattle.engines.specs.Sweepings.{InputTellsSweep, IsRunSwept, TellsSweep, call_of, calls_in as calls_among, run_swept, status_of_swept, sweep_text, swept, swept_lines as lines_of_swept};
+ghost use Rattle.course.specs.{Follows, IsWriteFault, ended, failed_write, listed, run_at_start};
+ghost use Rattle.sweeper.specs.{CanSweep, SweepsNone, SweepsOn, can_sweep_less};
+ghost use Rattle.engines.specs.Sweepings.{InputTellsSweep, IsRunSwept, SweepsRun, TellsSweep, accepted_calls, call_of, calls_in, run_swept, status_of_swept, sweep_text, swept, swept_lines as lines_of_swept};
 
-use crate::listing::events_of;
 use crate::writing::write_line;
-use course::Event;
+use course::{Course, Event, Listener, Move, Stepped, Taken, Told};
 use judge::{Verdict, status_of};
 use plain_store::{Command, NestedTypes};
 use scenario::{Fault, Scenario, Sink, Source, read_input, read_scenario};
 use std::alloc::{AllocError, Global};
-use sweeper::progress::Onlooker;
-use sweeper::{Swept, sweep_seen};
+use sweeper::progress::{Nobody, Onlooker, Reached};
+use sweeper::{Sweeper, Swept};
+
+/// More calls than any memory holds. Up to so many a sweep has room for.
+const MOST_CALLS: usize = 1 << 56;
 
 /// Reads a whole file, makes a sweep over its run, and then writes what that finds: the counts on one line, and on a
 /// second one the first bad run, if there is one. The sweep goes along the accepted events of the run, and in each of its
@@ -73,7 +78,8 @@ fn sweep_scenario<W: Sink, L: Onlooker>(
     Ok(status_of_sweep(&found))
 }
 
-/// Makes a sweep over a scenario's run. The one fault is want of memory.
+/// Makes a sweep over a scenario's run. That is made twice: for its calls, which end each run of the sweep, and then before the
+/// sweeper, which goes along its events as they are made. So none is kept. The one fault is want of memory.
 fn sweep_run<L: Onlooker>(
     alloc: Global,
     scenario: &Scenario,
@@ -82,37 +88,195 @@ fn sweep_run<L: Onlooker>(
     ensures swept { IfOk result (IsRunSwept (script scenario.now)) }
     ensures is { IfOk result (λ found. found ≡ run_swept (script scenario.now)) }
 {
-    let events = events_of(alloc, scenario)?;
-    let calls = calls_in(alloc, events.as_slice())?;
-    sweep_seen(
-        alloc,
-        &scenario.setup,
-        events.as_slice(),
-        calls.as_slice(),
+    let heard = calls_of(alloc, scenario)?;
+    let mut course = Course::new(alloc, &scenario.setup)?;
+    let mut along = Along {
+        sweeper: Sweeper::new(alloc, &scenario.setup)?,
+        calls: heard.calls.as_slice(),
+        of: heard.events,
         onlooker,
-    )
+    };
+    sweep_lines(scenario, &mut course, &mut along)
 }
 
-/// The calls among events, in their order.
-fn calls_in(alloc: Global, events: &[Event]) -> Result<Vec<(u8, Command)>, AllocError>
-    ensures { IfOk result (λ calls. calls.items ≡ calls_among events.now) }
+/// The accepted calls of a scenario's run, in their order, and how many events it has.
+fn calls_of(alloc: Global, scenario: &Scenario) -> Result<Calls, AllocError>
+    ensures calls { IfOk result (λ heard. heard.calls.items ≡ accepted_calls (script scenario.now)) }
+    ensures few { IfOk result (λ heard. length heard.calls.items ≤ 2 ^ 56) }
 {
-    let mut calls = Vec::new(alloc);
-    for event in events {
-        keep_call(event, &mut calls)?;
+    let mut course = Course::new(alloc, &scenario.setup)?;
+    let calls = Vec::new(alloc);
+    let mut heard = Calls { calls, events: 0 };
+    let Ok(()) = course.play_all(&[], &scenario.lines, &mut heard, &mut Nobody) else {
+        return Err(AllocError);
+    };
+    if MOST_CALLS < heard.calls.len() {
+        return Err(AllocError);
     }
-    Ok(calls)
+    Ok(heard)
 }
 
-/// One call more, if the event is one.
-fn keep_call(event: &Event, calls: &mut Vec<(u8, Command)>) -> Result<(), AllocError>
-    ensures { OnOk result (calls.new.items ≡ calls.old.items ++ call_of event.now) }
+/// The same sweep, lent a course and a sweeper that have just begun: values that are dropped at each way out of a function
+/// are dear to prove.
+fn sweep_lines<L: Onlooker>(
+    scenario: &Scenario,
+    course: &mut Course,
+    along: &mut Along<L>,
+) -> Result<Swept, AllocError>
+    requires setup { course.old.world.setup ≡ scenario.now.setup }
+    requires follows { Follows course.old run_at_start }
+    requires calls { along.old.calls.now ≡ accepted_calls (script scenario.now) }
+    requires swept { SweepsNone scenario.now.setup along.old.sweeper }
+    requires room { CanSweep along.old.calls.now (2 ^ 56) along.old.sweeper }
+    ensures swept { IfOk result (IsRunSwept (script scenario.now)) }
+    ensures is { IfOk result (λ found. found ≡ run_swept (script scenario.now)) }
+{
+    let Ok(()) = course.play_all(&[], &scenario.lines, along, &mut Nobody) else {
+        return Err(AllocError);
+    };
+    Ok(along.sweeper.found())
+}
+
+/// Lists the accepted calls of a run as it hears them, and counts its events.
+#[derive(Drop)]
+struct Calls {
+    calls: Vec<(u8, Command)>,
+    events: u64,
+}
+
+impl Listener for Calls {
+    ghost hears_steps = { λ _. false };
+
+    #[inline(always)]
+    fn hears_steps(&self) -> bool {
+        false
+    }
+
+    fn events(&self) -> u64 {
+        self.events
+    }
+
+    ghost HasRoom = { λ heard more. ⊤ };
+
+    ghost Hears = { λ a s x y b. a.calls.items ≡ calls_in (listed s x) → b.calls.items ≡ calls_in (listed s y) };
+
+    ghost Knows = { λ _ _ _. ⊤ };
+
+    ghost Stops = { λ a s x y fault b. ⊤ };
+
+    fn hear(&mut self, told: &Told, _taken: &[Taken]) -> Result<(), Fault> {
+        let is_event = matches!(told, Told::Accepted(_));
+        self.events = self.events.saturating_add(u64::from(is_event));
+        Ok(keep_told(told, &mut self.calls)?)
+    }
+
+    fn step(&mut self, _made: Stepped) -> Result<(), Fault> {
+        self.events = self.events.saturating_add(1);
+        Ok(())
+    }
+
+    fn pass(&mut self, _process: u8, steps: u32, _newest: Move, _overlapped: u32) {
+        self.events = self.events.saturating_add(u64::from(steps));
+    }
+
+    ghost room_less = { λ a n k few room. tt };
+
+    ghost hears_nothing = { λ a s x are. are };
+
+    ghost hears_on = { λ a b c s x y z p q are. q (p are) };
+
+    ghost stops_unheard = { λ a s x. tt };
+
+    ghost stops_before = { λ a b s x y more fault p. tt };
+
+    ghost stops_on = { λ a b c s x y z fault p q. tt };
+}
+
+/// One call more, if what is told is one that is accepted.
+fn keep_told(told: &Told, calls: &mut Vec<(u8, Command)>) -> Result<(), AllocError>
+    ensures { OnOk result (calls.new.items ≡ calls.old.items ++ calls_in (event_told told.now)) }
 {
     let _nested: NestedTypes = None;
-    if let Event::Call(process, command) = event {
-        calls.push((*process, *command))?;
+    if let Told::Accepted(made) = told {
+        if let Event::Call(process, command) = made.event {
+            calls.push((process, command))?;
+        }
     }
     Ok(())
+}
+
+/// A sweep that goes along a run as it is made, before an onlooker, who hears how many of so many events it has gone along.
+#[derive(Drop)]
+struct Along<'a, L: Onlooker> {
+    sweeper: Sweeper,
+    calls: &'a [(u8, Command)],
+    of: u64,
+    onlooker: &'a mut L,
+}
+
+impl<'a, L: Onlooker> Along<'a, L> {
+    /// The sweep goes along one more event.
+    fn go_on(&mut self, event: &Event)
+        requires room { CanSweep self.old.calls.now 1 self.old.sweeper }
+        ensures swept { SweepsOn self.old.calls.now event.now self.old.sweeper self.new.sweeper }
+        ensures calls { self.new.calls.now ≡ self.old.calls.now }
+        ensures room { (more : ℕ) → CanSweep self.old.calls.now (more + 1) self.old.sweeper
+            → CanSweep self.old.calls.now more self.new.sweeper }
+    {
+        self.onlooker.reached(Reached::Swept {
+            events: self.sweeper.events(),
+            of: self.of,
+        });
+        self.sweeper.event(event, self.calls);
+    }
+}
+
+impl<'a, L: Onlooker> Listener for Along<'a, L> {
+    ghost hears_steps = { λ _. true };
+
+    #[inline(always)]
+    fn hears_steps(&self) -> bool {
+        true
+    }
+
+    fn events(&self) -> u64 {
+        self.sweeper.events()
+    }
+
+    ghost HasRoom = { λ along more. CanSweep along.calls.now more along.sweeper };
+
+    ghost Hears = { λ a s x y b. (calls : List (ℕ × Said)) → SweepsRun s calls x a.calls.now a.sweeper → SweepsRun s calls y b.calls.now b.sweeper };
+
+    ghost Knows = { λ _ _ _. ⊤ };
+
+    ghost Stops = { λ a s x y fault b. ⊤ };
+
+    fn hear(&mut self, told: &Told, _taken: &[Taken]) -> Result<(), Fault> {
+        let _nested: NestedTypes = None;
+        if let Told::Accepted(made) = told {
+            self.go_on(&made.event);
+        }
+        Ok(())
+    }
+
+    fn step(&mut self, made: Stepped) -> Result<(), Fault> {
+        self.go_on(&Event::Step(made.process, made.flick));
+        Ok(())
+    }
+
+    fn pass(&mut self, _process: u8, _steps: u32, _newest: Move, _overlapped: u32) {}
+
+    ghost room_less = { λ a n k. can_sweep_less a.calls.now a.sweeper n k };
+
+    ghost hears_nothing = { λ a s x calls swept. swept };
+
+    ghost hears_on = { λ a b c s x y z p q calls swept. q calls (p calls swept) };
+
+    ghost stops_unheard = { λ a s x. tt };
+
+    ghost stops_before = { λ a b s x y more fault p. tt };
+
+    ghost stops_on = { λ a b c s x y z fault p q. tt };
 }
 
 /// The lines of what a sweep finds.

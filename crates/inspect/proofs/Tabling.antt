@@ -1,21 +1,19 @@
--- The lines of the calls that end, turn by turn and line by line.
-use Rattle.std.proofs.Common.{◌≡◌, ◌+◌, ◌&&◌, ℕ, Bool, true, false, not, cond, List, [], ◌∷◌, ◌++◌, Option, None, Some, Result, Ok, Err, IfErr, OnErr, refl, ap, sym, subst, ◌∙◌, append-nil, append_assoc, eq-eqb}
+-- The lines of the calls that end, turn by turn, and the whole table.
+use Rattle.std.proofs.Common.{◌≡◌, ◌+◌, ◌&&◌, ℕ, Bool, true, false, not, cond, List, [], ◌∷◌, ◌++◌, Option, None, Some, Result, Ok, Err, IfErr, OnErr, refl, ap, sym, subst, ◌∙◌, append-nil, eq-eqb}
 use Rattle.std.specs.Io.KnownBytes.{Appends}
 use Rattle.scenario.specs.files.{Fault, WritesFront}
 use Rattle.plain_store.specs.{Setup}
 use Rattle.record.specs.{Access, Entry, Event, Mark, Past, Taken, entry_of, past_of, process_of, width}
-use Rattle.scenario.specs.{Line}
-use Rattle.snapshot.specs.calls.{ComesInTurn, HasHeard, TableState, called, ended_call, ended_lines, ends_number, header, is_calling, is_unmarked, open_lines, table_text}
-use Rattle.course.specs.{Accepted, CourseState, Happening, Happens, IsMarked, IsWriteFault, Lacks, Looks, Run, TellsOf, Tires, Told, Tries, Writes, WritesPart, entry_made, failed_write, past_after, run_after, run_at_start, runs, tried}
+use Rattle.scenario.specs.{Script}
+use Rattle.snapshot.specs.calls.{ComesInTurn, HasHeard, TableState, called, ended_call, ended_lines, ends_number, header, is_calling, is_unmarked, open_lines}
+use Rattle.course.specs.{Accepted, Happening, Happens, IsMarked, IsWriteFault, Lacks, Looks, TellsOf, Tires, Told, Tries, Writes, WritesPart, entry_made, failed_write, happenings, past_after, tried}
 use Rattle.course.specs.world.{ends_overlapped_read}
 use Rattle.course.specs.declared.told.Told.TheVariants as told
 use Rattle.course.proofs.Endings.{err_both}
-use Rattle.course.proofs.Grows.{lines_grow}
 use Rattle.course.proofs.InTurn.{process_there}
-use Rattle.course.proofs.Played.{Between}
 use Rattle.course.proofs.Refusals.{past_kept}
-use Rattle.course.proofs.Written.{appends_both, front_after, front_longer}
-use Rattle.inspect.specs.Tables.{CutsTable, CutsTold, HasTabled, IsInTurn, Tables, TablesLine, Tells, known_told, lines_after, lines_longer, past_with, tabled, told_line}
+use Rattle.course.proofs.Written.{all_written, appends_both, front_after, front_longer, part_written}
+use Rattle.inspect.specs.Tables.{CutsTold, HasTabled, IsInTurn, Tells, known_told, lines_after, past_with, tabled, told_line}
 
 -- marks that there are
 some_marks : (marks : List Mark) → (marks ≡ [] → ⊥) → is_unmarked marks ≡ false
@@ -130,74 +128,42 @@ pub err_all : {A P : Type 0} (r : Result A Fault) (R : Fault → Type 0) (m n : 
 err_all (Ok done) R m n then p is e = tt
 err_all {A} (Err f) R m n then p is e = err_both {A = A} (Err f) R m n (λ f is e. then f p is e) is e
 
--- Between two lines.
-
--- a table has heard what has happened, and what was written is the first line and those of the calls that have ended
-abbrev pub Tabled : Setup → TableState → Option (List ℕ) → Option (List ℕ) → List Happening → Type 0
-Tabled s table old new happened = HasTabled s happened table × Appends old new (header ++ lines_after s happened)
+-- The whole text.
 
 -- at the start
-pub tabled_start : (s : Setup) (table : TableState) (old new : Option (List ℕ)) → table.setup ≡ s → HasHeard table [] → Appends old new header → Tabled s table old new []
-tabled_start s table old new kept heard head = (record { setup = kept; heard = heard }, subst (λ l. Appends old new l) (sym (append-nil header)) head)
+pub nothing_tabled : (s : Setup) (table : TableState) → table.setup ≡ s → HasHeard table [] → HasTabled s [] table
+nothing_tabled s table kept heard = record { setup = kept; heard = heard }
 
--- a line more
-pub tabled_on : (s : Setup) (lines rest : List Line) (line : Line) (course course' : CourseState) (table table' : TableState) (old mid new : Option (List ℕ)) → Between s lines (line ∷ rest) course (Tabled s table old mid) →
-    TablesLine line course course' table table' mid new → Between s lines rest course' (Tabled s table' old new)
-tabled_on s lines rest line course course' table table' old mid new u makes =
-    let here : List ℕ = lines_after s u.now.happened in
-    let m : Tables s u.now (run_after s line u.now) course' table' mid new =
-    subst (λ (s : Setup). HasTabled s u.now.happened table → Tables s u.now (run_after s line u.now) course' table' mid new) u.setup (makes u.now u.follows) u.so_far.0 in
-    record {
-      now = run_after s line u.now;
-      follows = m.follows;
-      setup = m.setup;
-      so_far = (m.tabled, subst (λ l. Appends old new l) (append_assoc header here m.writes.text ∙ ap (λ l. header ++ l) (sym m.writes.is)) (appends_both old mid new (header ++ here) m.writes.text u.so_far.1 m.writes.taken));
-      whole = u.whole;
-    }
+-- at the end: what the table has heard, and the lines of the calls that have ended
+pub all_tabled : {was said : Script} {table table' : TableState} {a b b' : Option (List ℕ)} → was ≡ said → table' ≡ table → b' ≡ b → HasTabled was.setup (happenings was) table → Writes [] (lines_after was.setup (happenings was)) a b →
+    HasTabled said.setup (happenings said) table' × Writes [] (lines_after said.setup (happenings said)) a b'
+all_tabled {was} {said} {table} {table'} {a} {b} {b'} same is taken has writes = (
+  subst (λ t. HasTabled said.setup (happenings said) t) (sym is) (subst (λ (said : Script). HasTabled said.setup (happenings said) table) same has),
+  subst (λ o. Writes [] (lines_after said.setup (happenings said)) a o) (sym taken) (subst (λ (said : Script). Writes [] (lines_after said.setup (happenings said)) a b) same writes),
+)
 
--- the whole table
-whole_table : (s : Setup) (lines : List Line) (run : Run) → run ≡ runs s lines run_at_start → table_text s (past_after s run.happened) ≡ tabled (record { setup = s; lines = lines })
-whole_table s lines run is = ap (λ (r : Run). table_text s (past_after s r.happened)) is
+-- once the lines of the calls that go on are written, or a front of them
+pub table_written : (said : Script) (a b c d : Option (List ℕ)) → Appends a b header → Writes [] (lines_after said.setup (happenings said)) b c → Appends c d (open_lines said.setup (past_after said.setup (happenings said))) → Appends a d (tabled said)
+table_written said a b c d head w ends =
+    let text : List ℕ = lines_after said.setup (happenings said) in
+    let last : List ℕ = open_lines said.setup (past_after said.setup (happenings said)) in
+    appends_both a b d header (text ++ last) head (appends_both b c d text last (all_written text b c w) ends)
 
--- at the end the calls follow that go on
-pub tabled_all : (s : Setup) (lines : List Line) (course : CourseState) (table : TableState) (old mid new : Option (List ℕ)) → Between s lines [] course (Tabled s table old mid) →
-    ((past : Past) → HasHeard table past → Appends mid new (open_lines s past)) → Appends old new (tabled (record { setup = s; lines = lines }))
-tabled_all s lines course table old mid new u ends =
-    let past : Past = past_after s u.now.happened in
-    subst (λ l. Appends old new l) (append_assoc header (ended_lines s past) (open_lines s past) ∙ whole_table s lines u.now u.whole)
-    (appends_both old mid new (header ++ ended_lines s past) (open_lines s past) u.so_far.1 (ends past u.so_far.0.heard))
+pub open_cut : (said : Script) (a b c d : Option (List ℕ)) → Appends a b header → Writes [] (lines_after said.setup (happenings said)) b c → WritesFront c d (open_lines said.setup (past_after said.setup (happenings said))) → WritesFront a d (tabled said)
+open_cut said a b c d head w ends =
+    let text : List ℕ = lines_after said.setup (happenings said) in
+    let last : List ℕ = open_lines said.setup (past_after said.setup (happenings said)) in
+    front_after a b d header (text ++ last) head (front_after b c d text last (all_written text b c w) ends)
 
--- or a front of their lines
-pub tabled_end_torn : (s : Setup) (lines : List Line) (course : CourseState) (table : TableState) (old mid new : Option (List ℕ)) → Between s lines [] course (Tabled s table old mid) →
-    ((past : Past) → HasHeard table past → WritesFront mid new (open_lines s past)) → WritesFront old new (tabled (record { setup = s; lines = lines }))
-tabled_end_torn s lines course table old mid new u ends =
-    let past : Past = past_after s u.now.happened in
-    subst (λ l. WritesFront old new l) (append_assoc header (ended_lines s past) (open_lines s past) ∙ whole_table s lines u.now u.whole)
-    (front_after old mid new (header ++ ended_lines s past) (open_lines s past) u.so_far.1 (ends past u.so_far.0.heard))
-
--- cut short in a line
-pub tabled_torn : (s : Setup) (lines rest : List Line) (line : Line) (course : CourseState) (table : TableState) (old mid new : Option (List ℕ)) → Between s lines (line ∷ rest) course (Tabled s table old mid) →
-    CutsTable line course table mid new → WritesFront old new (tabled (record { setup = s; lines = lines }))
-tabled_torn s lines rest line course table old mid new u cuts =
-    let then : Run = run_after s line u.now in
-    let end : Run = runs s rest then in
-    let here : List ℕ = lines_after s u.now.happened in
-    let part : WritesPart here (lines_after s then.happened) mid new =
-    subst (λ (s : Setup). HasTabled s u.now.happened table → WritesPart (lines_after s u.now.happened) (lines_after s (run_after s line u.now).happened) mid new) u.setup (cuts u.now u.follows) u.so_far.0 in
-    let grows = lines_grow s rest then in
-    let more : (text : List ℕ) × (lines_after s end.happened ≡ lines_after s then.happened ++ text) =
-    subst (λ (l : List Happening). (text : List ℕ) × (lines_after s l ≡ lines_after s then.happened ++ text)) (sym grows.is) (lines_longer s then.happened grows.more) in
-    let last : List ℕ = open_lines s (past_after s end.happened) in
-    let all : lines_after s end.happened ≡ here ++ (part.text ++ more.0) = more.1 ∙ ap (λ l. l ++ more.0) part.is ∙ append_assoc here part.text more.0 in
-    subst (λ l. WritesFront old new l)
-    (append_assoc header here ((part.text ++ more.0) ++ last)
-    ∙ ap (λ l. header ++ l) (sym (append_assoc here (part.text ++ more.0) last) ∙ ap (λ l. l ++ last) (sym all))
-    ∙ whole_table s lines end u.whole)
-    (front_after old mid new (header ++ here) ((part.text ++ more.0) ++ last) u.so_far.1
-    (subst (λ l. WritesFront mid new l) (sym (append_assoc part.text more.0 last)) (front_longer mid new part.text (more.0 ++ last) part.front)))
+-- cut short before them
+pub table_cut : (said : Script) (a b c : Option (List ℕ)) → Appends a b header → WritesPart [] (lines_after said.setup (happenings said)) b c → WritesFront a c (tabled said)
+table_cut said a b c head part =
+    let text : List ℕ = lines_after said.setup (happenings said) in
+    let last : List ℕ = open_lines said.setup (past_after said.setup (happenings said)) in
+    front_after a b c header (text ++ last) head (front_longer b c text last (part_written text b c part))
 
 -- cut short in the first line
-pub head_torn : (s : Setup) (lines : List Line) (old new : Option (List ℕ)) → WritesFront old new header → WritesFront old new (tabled (record { setup = s; lines = lines }))
-head_torn s lines old new front =
-    let past : Past = past_after s (runs s lines run_at_start).happened in
-    front_longer old new header (ended_lines s past ++ open_lines s past) front
+pub head_cut : (said : Script) (a b : Option (List ℕ)) → WritesFront a b header → WritesFront a b (tabled said)
+head_cut said a b front =
+    let past : Past = past_after said.setup (happenings said) in
+    front_longer a b header (ended_lines said.setup past ++ open_lines said.setup past) front

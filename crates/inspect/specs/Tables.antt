@@ -5,8 +5,8 @@ use Rattle.std.specs.Io.KnownBytes.{Appends}
 use Rattle.plain_store.specs.{Setup}
 use Rattle.record.specs.{Entry, Past, entry_of}
 use Rattle.scenario.specs.files.{LineFault, WritesFront, text_by}
-use Rattle.scenario.specs.{Line, Script, scenario_of}
-use Rattle.course.specs.{Accepted, CourseState, Follows, Happening, Lacks, Looks, Run, Stepped, Tires, Told, Tries, Writes, WritesPart, entry_made, happenings, past_after, run_after}
+use Rattle.scenario.specs.{Script, scenario_of}
+use Rattle.course.specs.{Accepted, Happening, Lacks, Looks, Stepped, Tires, Told, Tries, entry_made, happenings, past_after}
 use Rattle.course.specs.declared.told.Told.TheVariants as told
 use Rattle.snapshot.specs.calls.{ComesInTurn, EntryKnown, HasHeard, TableState, ended_call, ended_lines, line_of, table_text}
 
@@ -64,24 +64,6 @@ pub record HasTabled (s : Setup) (happened : List Happening) (table : TableState
 -- the lines of the calls that have ended
 abbrev pub lines_after : Setup → List Happening → List ℕ
 lines_after s happened = ended_lines s (past_after s happened)
-
--- from one run to another: the cursor, the table, and the lines of the calls that ended between, which were written
-pub record Tables (s : Setup) (before after : Run) (course : CourseState) (table : TableState) (old new : Option (List ℕ)) : Type 0 where
-  pub follows : Follows course after
-  pub setup : course.world.setup ≡ s
-  pub tabled : HasTabled s after.happened table
-  pub writes : Writes (lines_after s before.happened) (lines_after s after.happened) old new
-
--- a line has made all its turns
-abbrev pub TablesLine : Line → CourseState → CourseState → TableState → TableState → Option (List ℕ) → Option (List ℕ) → Type 0
-TablesLine line old new had has taken then =
-    (run : Run) → Follows old run → HasTabled old.world.setup run.happened had → Tables old.world.setup run (run_after old.world.setup line run) new has taken then
-
--- or was cut short: a front of those lines was written
-abbrev pub CutsTable : Line → CourseState → TableState → Option (List ℕ) → Option (List ℕ) → Type 0
-CutsTable line old had taken then =
-    (run : Run) → Follows old run → HasTabled old.world.setup run.happened had →
-    WritesPart (lines_after old.world.setup run.happened) (lines_after old.world.setup (run_after old.world.setup line run).happened) taken then
 
 -- a run only adds to the lines
 one_longer : (s : Setup) (before : List Happening) (this : Happening) → (text : List ℕ) × (lines_after s (this ∷ before) ≡ lines_after s before ++ text)

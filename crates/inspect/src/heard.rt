@@ -165,6 +165,10 @@ impl Listener for HeardRun {
         false
     }
 
+    fn events(&self) -> u64 {
+        self.snapshot.entries()
+    }
+
     ghost HasRoom = { λ heard more. heard.snapshot.entries + more < 2 ^ 64 };
 
     ghost Hears = { Hears };

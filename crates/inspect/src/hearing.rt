@@ -30,6 +30,10 @@ impl<'a, W: Sink> Listener for Tabler<'a, W> {
         false
     }
 
+    fn events(&self) -> u64 {
+        self.table.entries()
+    }
+
     ghost HasRoom = { λ tabler more. (tabler.table.now.entries + more < 2 ^ 64) × (W.failures tabler.output.now < 2 ^ 64 - 1) };
 
     ghost Hears = { λ a s x y b. (b.output.ghost_name ≡ a.output.ghost_name) × (b.table.ghost_name ≡ a.table.ghost_name) × (HasTabled s x a.table.now → HasTabled s y b.table.now) × Took (HasTabled s x a.table.now) (lines_after s x) (lines_after s y) (W.taken a.output.now) (W.taken b.output.now) (W.failures a.output.now) (W.failures b.output.now) };

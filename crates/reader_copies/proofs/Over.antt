@@ -16,14 +16,14 @@ over-outside (suc n) f from i cells out =
     get_or-set_other (over n f from cells) (from + n) i _ (new_cell false) (out n (omega arith)) ∙ over-outside n f from i cells (λ j h. out j (omega arith))
 
 -- and each of these is changed
-pub over-inside : (n : ℕ) (f : ℕ → Cell → Cell) (from j : ℕ) (cells : List Cell) → j < n → from + n ≤ length cells → cell_in (over n f from cells) (from + j) ≡ f (from + j) (cell_in cells (from + j))
-over-inside zero f from j cells h fits = absurd (omega arith)
-over-inside (suc n) f from j cells h fits = elim (cases_eq j n) [
-  | inl e ↦ ap (λ x. cell_in (over (suc n) f from cells) (from + x)) e
+pub over-inside : (n : ℕ) (f : ℕ → Cell → Cell) (from i : ℕ) (cells : List Cell) → from ≤ i → i < from + n → from + n ≤ length cells → cell_in (over n f from cells) i ≡ f i (cell_in cells i)
+over-inside zero f from i cells low high fits = absurd (omega arith)
+over-inside (suc n) f from i cells low high fits = elim (cases_eq i (from + n)) [
+  | inl e ↦ ap (cell_in (over (suc n) f from cells)) e
       ∙ get_or-set_same (over n f from cells) (from + n) (f (from + n) (cell_in (over n f from cells) (from + n))) (new_cell false) (omega (arith, length-over n f from cells))
       ∙ ap (f (from + n)) (over-outside n f from (from + n) cells (λ x below. omega arith))
-      ∙ ap (λ x. f (from + x) (cell_in cells (from + x))) (sym e)
-  | inr e ↦ get_or-set_other (over n f from cells) (from + n) (from + j) _ (new_cell false) (omega arith) ∙ over-inside n f from j cells (omega arith) (omega arith)
+      ∙ ap (λ x. f x (cell_in cells x)) (sym e)
+  | inr e ↦ get_or-set_other (over n f from cells) (from + n) i _ (new_cell false) e ∙ over-inside n f from i cells low (omega arith) (omega arith)
 ]
 
 -- it matters only what is made of these

@@ -3,7 +3,7 @@ use Rattle.std.specs.Prelude.{◌≡◌, ◌≢◌, ℕ, ◌<◌, ◌≤◌, ◌
 use Rattle.std.specs.Int.{bit_at}
 use Rattle.std.specs.List.{range_with_len}
 use Rattle.safe_bit.specs.Cell.{Cell}
-use Rattle.reader_copies.specs.declared.flag_words.Flags.{Flags}
+use Rattle.reader_copies.specs.declared.copies.Flags.{Flags}
 
 -- bit k of a word is 1
 abbrev pub flag_in : ℕ → ℕ → Bool
@@ -13,17 +13,13 @@ flag_in word k = bit_at word k == 1
 abbrev pub cell_in_flags : Flags → ℕ → Cell
 cell_in_flags flags k = record { value = flag_in flags.value k; writing = flag_in flags.writing k; reading = flag_in flags.reading k; touched = flag_in flags.touched k }
 
--- copies that open at 0
-abbrev pub no_flags : Flags
-no_flags = record { value = 0; writing = 0; reading = 0; touched = 0 }
-
 -- copies that open at the bits of a word
 abbrev pub open_flags : ℕ → Flags
 open_flags word = record { value = word; writing = 0; reading = 0; touched = 0 }
 
 -- copy k of many, sixty-four to a place
 abbrev pub cell_among : List Flags → ℕ → Cell
-cell_among flags k = cell_in_flags (slice_index_or flags (k / 64) no_flags) (k % 64)
+cell_among flags k = cell_in_flags (slice_index_or flags (k / 64) (open_flags 0)) (k % 64)
 
 -- the first n copies
 abbrev pub cells_of : List Flags → ℕ → List Cell
@@ -33,11 +29,6 @@ cells_of flags n = map (cell_among flags) (range_with_len 0 n)
 pub record SetsFlag (word k : ℕ) (flag : Bool) (new : ℕ) : Type 0 where
   pub same : flag_in new k ≡ flag
   pub others : (i : ℕ) → i < 64 → i ≢ k → flag_in new i ≡ flag_in word i
-
--- copy k is this cell now, and the others of the sixty-four are as they were
-pub record ChangesAt (flags : Flags) (k : ℕ) (cell : Cell) (new : Flags) : Type 0 where
-  pub same : cell_in_flags new k ≡ cell
-  pub others : (i : ℕ) → i < 64 → i ≢ k → cell_in_flags new i ≡ cell_in_flags flags i
 
 -- n ones from one place on
 pub record IsMask (from n mask : ℕ) : Type 0 where

@@ -1,16 +1,40 @@
 ghost use Rattle.std.specs.Prelude.{◌≡◌, ℕ, ◌<◌, ◌≤◌, ◌+◌, ◌*◌, ◌/◌, ◌%◌, true, false, length, map, replicate, slice_set, if◌then◌else◌, IfNone, IfOk, IfSome, OnSome};
 ghost use Rattle.safe_bit.specs.{new_cell, cell_after, read_answer, without_read};
-ghost use Rattle.reader_copies.specs.Flags.{flag_in};
+ghost use Rattle.reader_copies.specs.Flags.{flag_in, open_flags};
 ghost use Rattle.reader_copies.specs.Wordwise.{after_read, after_write, over};
 ghost use Rattle.reader_copies.specs.Row.{cell_in};
 ghost use Rattle.reader_copies.specs.Seeing.{bit_seen};
 ghost use Rattle.reader_copies.specs.Words.{bits_of_words};
 
 use crate::bit_seen::BitSeen;
-use crate::flag_words::{Flags, mask};
+use crate::flag_words::{all_flags, choose, has_flag, mask, one_flag, with_flag};
 use safe_bit::Move;
 use std::alloc::{AllocError, Global};
 use std::marker::Model;
+
+/// What sixty-four copies are: bit `k` of each word is a flag of copy `k`. So all that an access to
+/// a copy looks at, and all that it changes, lies in one place.
+#[derive(Clone, Copy)]
+struct Flags {
+    value: u64,
+    writing: u64,
+    reading: u64,
+    touched: u64,
+}
+
+impl Flags {
+    /// Copies that open at the bits of `word`.
+    fn open(word: u64) -> Flags
+        ensures { result ≡ open_flags word }
+    {
+        Flags {
+            value: word,
+            writing: 0,
+            reading: 0,
+            touched: 0,
+        }
+    }
+}
 
 /// One reader's copies of all bits of a row: four flags for each.
 #[derive(Drop)]
@@ -37,7 +61,7 @@ impl Copies {
     pub fn new(alloc: Global, width: usize) -> Result<Copies, AllocError>
         ensures { IfOk result (λ copies. copies ≡ replicate width (new_cell false)) }
     {
-        let flags = vec![in alloc; Flags::none(); width.div_ceil(64)]?;
+        let flags = vec![in alloc; Flags::open(0); width.div_ceil(64)]?;
         Ok(Copies { flags, len: width })
     }
 
@@ -53,13 +77,34 @@ impl Copies {
         Ok(Copies { flags, len: width })
     }
 
-    /// The copy of bit `k` goes on by one access.
+    /// The copy of bit `k` goes on by one access. Begin and end of a read have no branch between
+    /// them.
     #[inline]
     pub fn go_on(&mut self, k: usize, how: Move)
         requires { k < length self.old }
         ensures { self.new ≡ slice_set self.old k (cell_after (cell_in self.old k) how) }
     {
-        self.flags[k / 64].go_on(k % 64, how);
+        let flags = &mut self.flags[k / 64];
+        let bit = k % 64;
+        match how {
+            Move::BeginWrite(value) => {
+                flags.value = with_flag(flags.value, bit, value);
+                flags.writing = with_flag(flags.writing, bit, true);
+                flags.touched = with_flag(flags.touched, bit, true);
+            }
+            Move::EndWrite => flags.writing = with_flag(flags.writing, bit, false),
+            Move::Settle(value) => {
+                flags.value = with_flag(flags.value, bit, value);
+                flags.writing = with_flag(flags.writing, bit, false);
+            }
+            // (in a crowd nothing foretells which of the two comes next)
+            Move::BeginRead | Move::EndRead(_) => {
+                let begins = matches!(how, Move::BeginRead);
+                let here = one_flag(bit) & all_flags(begins);
+                flags.touched = choose(here, flags.writing, flags.touched);
+                flags.reading = with_flag(flags.reading, bit, begins);
+            }
+        }
     }
 
     /// Drops the open read of bit `k`.
@@ -67,7 +112,8 @@ impl Copies {
         requires { k < length self.old }
         ensures { self.new ≡ slice_set self.old k (without_read (cell_in self.old k)) }
     {
-        self.flags[k / 64].drop_read(k % 64);
+        let flags = &mut self.flags[k / 64];
+        flags.reading = with_flag(flags.reading, k % 64, false);
     }
 
     /// Bit `k` is as if it had opened at `value`.
@@ -75,7 +121,12 @@ impl Copies {
         requires { k < length self.old }
         ensures { self.new ≡ slice_set self.old k (new_cell value) }
     {
-        self.flags[k / 64].preset(k % 64, value);
+        let flags = &mut self.flags[k / 64];
+        let bit = k % 64;
+        flags.value = with_flag(flags.value, bit, value);
+        flags.writing = with_flag(flags.writing, bit, false);
+        flags.reading = with_flag(flags.reading, bit, false);
+        flags.touched = with_flag(flags.touched, bit, false);
     }
 
     /// Drops every open read.
@@ -83,7 +134,7 @@ impl Copies {
         ensures { self.new ≡ map without_read self.old }
     {
         for place in 0..self.flags.len() {
-            self.flags[place].drop_reads();
+            self.flags[place].reading = 0;
         }
     }
 
@@ -101,11 +152,16 @@ impl Copies {
         requires { k < length self.now }
         ensures { result ≡ read_answer (cell_in self.now k) flick }
     {
-        self.flags[k / 64].answer(k % 64, flick)
+        let flags = &self.flags[k / 64];
+        if has_flag(flags.touched, k % 64) {
+            flick
+        } else {
+            has_flag(flags.value, k % 64)
+        }
     }
 
-    /// So many bits of one word go on by begin and end of a read, and the word is answered. Where one of them is being written,
-    /// it answers none and does nothing.
+    /// So many bits of one word go on by begin and end of a read, and the word is answered. Where one
+    /// of them is being written, it answers none and does nothing.
     pub fn read_word(&mut self, k: usize, n: usize) -> Option<u64>
         requires some { 1 ≤ n }
         requires word { k % 64 + n ≤ 64 }
@@ -115,7 +171,14 @@ impl Copies {
         ensures word { IfSome result (λ word. (j : ℕ) → j < n → flag_in word ((k + j) % 64) ≡ (cell_in self.old (k + j)).value) }
         ensures read { OnSome result (self.new ≡ over n (λ i c. after_read c) k self.old) }
     {
-        self.flags[k / 64].read_where(mask(k % 64, n))
+        let flags = &mut self.flags[k / 64];
+        let mask = mask(k % 64, n);
+        if flags.writing & mask != 0 {
+            return None;
+        }
+        flags.touched = choose(mask, flags.writing, flags.touched);
+        flags.reading = choose(mask, 0, flags.reading);
+        Some(flags.value)
     }
 
     /// So many bits of one word go on by begin and end of a write of these.
@@ -125,7 +188,11 @@ impl Copies {
         requires there { k + n ≤ length self.old }
         ensures { self.new ≡ over n (λ i c. after_write (flag_in word (i % 64)) c) k self.old }
     {
-        self.flags[k / 64].write_where(mask(k % 64, n), word);
+        let flags = &mut self.flags[k / 64];
+        let mask = mask(k % 64, n);
+        flags.value = choose(mask, word, flags.value);
+        flags.writing = choose(mask, 0, flags.writing);
+        flags.touched = choose(mask, u64::MAX, flags.touched);
     }
 
     /// The word that bit `k` stands in.
@@ -133,7 +200,7 @@ impl Copies {
         requires { k < length self.now }
         ensures { (i : ℕ) → i / 64 ≡ k / 64 → i < length self.now → flag_in result (i % 64) ≡ (cell_in self.now i).value }
     {
-        self.flags[k / 64].word()
+        self.flags[k / 64].value
     }
 
     /// What the copy of bit `k` is.
@@ -142,6 +209,12 @@ impl Copies {
         requires { k < length self.now }
         ensures { result ≡ bit_seen (cell_in self.now k) }
     {
-        self.flags[k / 64].seen(k % 64)
+        let flags = &self.flags[k / 64];
+        let bit = k % 64;
+        BitSeen {
+            value: has_flag(flags.value, bit),
+            writing: has_flag(flags.writing, bit),
+            touched: has_flag(flags.touched, bit),
+        }
     }
 }

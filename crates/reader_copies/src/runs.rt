@@ -137,23 +137,6 @@ impl CopyRead {
         self.value
     }
 
-    /// Whether it has begun.
-    #[inline]
-    pub fn has_begun(&self) -> bool
-        ensures { result ≡ self.now.begun }
-    {
-        self.begun
-    }
-
-    /// Goes on by its begin.
-    #[inline]
-    pub fn begin(&mut self)
-        requires { self.old.begun ≡ false }
-        ensures { self.new ≡ record self.old { begun = true } }
-    {
-        self.begun = true;
-    }
-
     /// The next access of this reader's read: the begin, and then the end, which gives `value`.
     #[inline]
     pub fn next(&self, reader: u8, value: bool) -> Made

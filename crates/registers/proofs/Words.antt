@@ -3,6 +3,7 @@ use Rattle.std.proofs.Common.{true, ◌≡◌, ◌≢◌, ℕ, zero, suc, ◌+�
 use Rattle.std.proofs.lemmas.Bool.{cases_eq}
 use Rattle.std.proofs.lemmas.List.{get_or-set_same, get_or-set_other}
 use mir.Val.{bool_byte}
+use Rattle.reader_copies.proofs.Words.{bit-found}
 use Rattle.reader_copies.specs.{IsMask, SetsFlag, bit_of_words, bits_of_words, flag_in}
 use Rattle.registers.specs.{more_bits}
 
@@ -62,3 +63,10 @@ bits-gone false v words bit old now there is sets = ap (bits_of_words (set words
 pub next-bit : (begun : Bool) (bit : ℕ) → bit + bool_byte begun ≡ cond begun (bit + 1) bit
 next-bit true bit = refl
 next-bit false bit = omega arith
+
+-- a bit that is written is one of its word
+pub word-written : (words : List ℕ) (bits : List Bool) (word bit width i : ℕ) → i / 64 ≡ bit / 64 → i < width → word ≡ get_or words (bit / 64) 0 → bits_of_words words width ≡ bits → flag_in word (i % 64) ≡ get_or bits i false
+word-written words bits word bit width i same inside word_is bits_are =
+    ap (λ w. flag_in w (i % 64)) (word_is ∙ ap (λ p. get_or words p 0) (sym same))
+    ∙ sym (bit-found words width i inside)
+    ∙ ap (λ l. get_or l i false) bits_are

@@ -40,18 +40,18 @@ pub struct Cursor {
     /// The reader whose copies are read; of a write or a settling 0.
     reader: u8,
     /// How many copies each bit has.
-    copies: u8,
+    pub(crate) copies: u8,
     width: u16,
     /// The lane of its reader, and the first of those that it writes.
-    lane: usize,
+    pub(crate) lane: usize,
     run: NumberRun,
     /// The present bit, its copy that a write has come to, and whether the access to it has begun.
-    bit: u16,
+    pub(crate) bit: u16,
     copy: u8,
-    begun: bool,
+    pub(crate) begun: bool,
     /// What is read or written: bit `k` is bit `k % 64` of word `k / 64`. Of a read, what stands above the bits that were
     /// read is of no meaning.
-    words: [u64; 27],
+    pub(crate) words: [u64; 27],
 }
 
 impl Model for Cursor {
@@ -332,7 +332,7 @@ impl Cursor {
 
 /// The word that a bit stands in.
 #[inline(always)]
-fn word_at(words: &[u64; 27], bit: usize) -> u64
+pub(crate) fn word_at(words: &[u64; 27], bit: usize) -> u64
     requires { bit < 1728 }
     ensures { result ≡ slice_index_or words.now (bit / 64) 0 }
 {

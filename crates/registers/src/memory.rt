@@ -14,7 +14,7 @@ mod held;
 mod seeing;
 
 use crate::access_made::{AccessMade, AccessesMade};
-use crate::cursor::{Cursor, NumberRun};
+use crate::cursor::{Cursor, NumberRun, word_at};
 use flicks::Flicks;
 use plain_store::Setup;
 use reader_copies::Copies;
@@ -102,7 +102,7 @@ impl BitMemory {
         ensures memory { self.new ≡ applied cursor.old.copies self.old result.access }
         ensures flicks { flicks.new ≡ after_flick flicks.old }
     {
-        let bit = cursor.bit();
+        let bit = cursor.bit as usize;
         let NumberRun::Settles { .. } = cursor.run() else {
             return self.step_plain(cursor, flicks);
         };
@@ -128,9 +128,9 @@ impl BitMemory {
         ensures memory { self.new ≡ applied cursor.old.copies self.old result.access }
         ensures flicks { flicks.new ≡ after_flick flicks.old }
     {
-        let bit = cursor.bit();
+        let bit = cursor.bit as usize;
         if let NumberRun::Reads = cursor.run() {
-            let copies = &mut self.lanes[cursor.lane()];
+            let copies = &mut self.lanes[cursor.lane];
             let seen = copies.seen(bit);
             let value = if seen.touched {
                 flicks.flick()
@@ -139,7 +139,7 @@ impl BitMemory {
                 seen.value
             };
             let how = cursor.read_move(value);
-            let made = cursor.made(how, cursor.has_begun() && seen.touched);
+            let made = cursor.made(how, cursor.begun && seen.touched);
             copies.go_on(bit, how);
             cursor.read_on(value);
             made
@@ -169,7 +169,7 @@ impl BitMemory {
         requires { Fits self.old cursor.now }
         ensures { self.new ≡ without_reads self.old (first_lane cursor.now) }
     {
-        self.lanes[cursor.lane()].drop_reads();
+        self.lanes[cursor.lane].drop_reads();
     }
 
     /// Goes through the next bits of one word at once, on each of their lanes. It answers how many accesses that is, so many at
@@ -184,7 +184,7 @@ impl BitMemory {
         if bits == 0 {
             return 0;
         }
-        let (lane, bit, n) = (cursor.lane(), cursor.bit(), bits as usize);
+        let (lane, bit, n) = (cursor.lane, cursor.bit as usize, bits as usize);
         match cursor.run() {
             NumberRun::Reads => {
                 let Some(word) = self.lanes[lane].read_word(bit, n) else {
@@ -194,11 +194,11 @@ impl BitMemory {
                 2 * bits
             }
             NumberRun::Writes => {
-                let (copies, word) = (cursor.copies(), cursor.word());
+                let (copies, word) = (u32::from(cursor.copies), word_at(&cursor.words, bit));
                 for copy in 0..copies as usize {
                     self.lanes[lane + copy].write_word(bit, n, word);
                 }
-                cursor.skip(bits as u16);
+                cursor.bit += bits as u16;
                 2 * (copies * bits)
             }
             NumberRun::Settles { .. } => 0,

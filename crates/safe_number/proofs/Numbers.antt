@@ -2,12 +2,10 @@
 use Rattle.std.proofs.Common.{◌≡◌, ℕ, zero, suc, ◌+◌, ◌*◌, ◌/◌, ◌%◌, ◌<◌, ◌≤◌, ◌==◌, Bool, true, false, not, cond, List, [], ◌∷◌, ◌++◌, map, set, get_or, length, take, replicate, ap, refl, sym, ◌∙◌, arith, inl, inr}
 use Rattle.std.specs.List.{range_with_len}
 use Rattle.std.specs.Int.{bit_at}
-use Rattle.std.proofs.lemmas.Bool.{cases_eq, cases_lt, ne_eqb}
+use Rattle.std.proofs.lemmas.Bool.{cases_eq, cases_lt}
 use Rattle.std.proofs.lemmas.List.{get_or-set_same, get_or-set_other, get_or_default, get_or-take, get_or_past, length-take-le}
 use Rattle.std.proofs.lemmas.List.FromFn.{length-map-range_with_len, get_or-map-range_with_len, map-range_with_len_more, fill_by_all}
 use Rattle.std.proofs.lemmas.Nat.Bits.{bit_at-zero}
-use Rattle.reader_copies.specs.declared.Progress.TheVariants.{Going}
-use Rattle.reader_copies.specs.{progress_of}
 use Rattle.safe_number.specs.{NumberRead, bit_in, bits_in, little_endian, number_read_after}
 
 -- a read that has come so far
@@ -81,14 +79,6 @@ bits-told bytes bit n fits room rest k = elim (cases_lt k bit) [
       ∙ sym (get_or_past (bits_in bytes bit) k false (omega (arith, length_bits bytes bit)))
 ]
 
--- the begin of a bit's read, and its end
-pub read-begins : (r : NumberRead) (v : Bool) → r.begun ≡ false → record r { begun = true } ≡ number_read_after r v
-read-begins r v is = ap (λ b. read-with r (cond b (r.bits ++ v ∷ []) r.bits) (not b)) (sym is)
-
+-- the end of a bit's read
 pub read-ends : (r : NumberRead) (v : Bool) → r.begun ≡ true → record r { bits = r.bits ++ v ∷ []; begun = false } ≡ number_read_after r v
 read-ends r v is = ap (λ b. read-with r (cond b (r.bits ++ v ∷ []) r.bits) (not b)) (sym is)
-
--- after its begin a bit is still to be read
-pub read-going : (r now : NumberRead) (v : Bool) → r.begun ≡ false → length r.bits < r.width → now ≡ number_read_after r v → Going ≡ progress_of (length now.bits == now.width)
-read-going r now v none going is =
-    sym (ap (λ (x : NumberRead). progress_of (length x.bits == x.width)) (is ∙ sym (read-begins r v none)) ∙ ap progress_of (ne_eqb (length r.bits) r.width (λ same. omega (arith, same, going))))

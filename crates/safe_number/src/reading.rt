@@ -94,38 +94,18 @@ impl ReadRun {
         ensures run { self.new ≡ number_read_after self.old value }
         ensures progress { result ≡ progress_of (length self.new.bits == self.new.width) }
     {
-        if !self.has_begun() {
-            self.begin();
+        if let Progress::Going = self.run.advance(value) {
             return Progress::Going;
         }
-        self.end(value);
+        self.run = CopyRead::new();
+        let k = self.bit as usize;
+        self.bytes[k / 8] = bytes::with_next_bit(self.bytes[k / 8], k % 8, value);
+        self.bit += 1;
         if self.bit == self.width {
             Progress::Done
         } else {
             Progress::Going
         }
-    }
-
-    /// Goes on by that access where it is the begin of a bit's read.
-    #[inline]
-    pub(crate) fn begin(&mut self)
-        requires { self.old.begun ≡ false }
-        ensures { (value : Bool) → self.new ≡ number_read_after self.old value }
-    {
-        self.run.begin();
-    }
-
-    /// Goes on by that access where it is the end of a bit's read, which gives `value`.
-    #[inline]
-    pub(crate) fn end(&mut self, value: bool)
-        requires begun { self.old.begun ≡ true }
-        requires going { length self.old.bits < self.old.width }
-        ensures { self.new ≡ number_read_after self.old value }
-    {
-        self.run = CopyRead::new();
-        let k = self.bit as usize;
-        self.bytes[k / 8] = bytes::with_next_bit(self.bytes[k / 8], k % 8, value);
-        self.bit += 1;
     }
 
     /// The bit that is read now.
@@ -134,13 +114,5 @@ impl ReadRun {
         ensures { result ≡ length self.now.bits }
     {
         self.bit
-    }
-
-    /// Whether the read of that bit has begun.
-    #[inline]
-    pub(crate) fn has_begun(&self) -> bool
-        ensures { result ≡ self.now.begun }
-    {
-        self.run.has_begun()
     }
 }

@@ -1,35 +1,21 @@
 -- What a sweep has counted, after one run and after one event more.
-use Rattle.std.proofs.Common.{◌≡◌, ℕ, zero, suc, ◌+◌, ◌<◌, ◌&&◌, Bool, true, false, cond, List, [], ◌∷◌, ◌++◌, filter, length, reverse, take, get_or, Option, None, Some, refl, ap, sym, subst, ◌∙◌, arith, append-nil, append_assoc}
-use Rattle.std.specs.Prelude.{option_map}
-use Rattle.std.specs.List.{All}
+use Rattle.std.proofs.Common.{◌≡◌, ℕ, ◌+◌, ◌*◌, ◌<◌, ◌≤◌, ◌&&◌, Bool, true, false, cond, List, [], ◌∷◌, ◌++◌, filter, length, reverse, take, get_or, Option, None, Some, refl, ap, sym, subst, ◌∙◌, arith, append-nil, append_assoc}
+use Rattle.std.specs.Prelude.{not, option_map}
 use Rattle.std.proofs.lemmas.List.{length-append, length_push, reverse-append, take_more}
-use Rattle.std.proofs.lemmas.List.Elements.{All-append, filter-append}
+use Rattle.std.proofs.lemmas.List.Elements.{All-push, filter-append}
+use Rattle.std.proofs.lemmas.List.Filters.{length-filter_both}
 use Rattle.plain_store.specs.{Command, Setup}
 use Rattle.record.specs.{Event, KeepsHeadlineThroughout, past_of, process_of}
 use Rattle.record.specs.declared.events.Event.TheVariants.{Fail}
 use Rattle.auditor.specs.{AllKeep}
 use Rattle.world.proofs.history_laws_proofs.Headlines.{throughout}
 use Rattle.auditor.proofs.Whole.{good_of}
-use Rattle.sweeper.specs.{BadRun, Counts, Cut, Follows, HasSwept, IsRun, RunnerState, RunsOn, Swept, bad_run, counted, cut, cut_off, cuts, is_accepted, is_cut, on_from}
+use Rattle.sweeper.specs.{Accepts, BadRun, CanRun, CanSweep, Counts, CountsRun, Cut, HasSwept, IsRun, MakesRun, OfSweep, RunnerState, RunsOn, Swept, Sweeper, SweepsOn, bad_run, counted, cut, cut_off, cuts, is_accepted, is_cut, on_from}
+use Rattle.sweeper.proofs.Dues.{few_due}
 
 -- One run.
 
--- the record that a runner shows is good
-kept_of : (r : RunnerState) (s : Setup) → r.core.setup ≡ s → (events : List Event) → Follows r events → AllKeep s (past_of s events)
-kept_of r s same events follows = subst (λ (s : Setup). AllKeep s (past_of s events)) same (good_of r.core.setup follows.shows.good events follows.shows.given)
-
--- and keeps the headline
-headline_of : (r : RunnerState) (s : Setup) → r.core.setup ≡ s → (events : List Event) → Follows r events → KeepsHeadlineThroughout s (past_of s events)
-headline_of r s same events follows = subst (λ (s : Setup). KeepsHeadlineThroughout s (past_of s events)) same (throughout r.core.setup follows.shows.good events follows.shows.given)
-
--- one run more, for which this holds too
-all_more : (P : Cut → Type 0) (cs : List Cut) (c : Cut) → All P cs → P c → All P (cs ++ c ∷ [])
-all_more P cs c all keeps = All-append P cs (c ∷ []) all one
-  where
-    one : All P (c ∷ [])
-    one zero d l = keeps
-    one (suc k) d l = absurd (omega (arith, l))
-
+-- the stuck ones with one run more
 stuck_more : (cs : List Cut) (c : Cut) → length (filter (λ (c : Cut). c.run.stuck) (cs ++ c ∷ [])) ≡ length (filter (λ (c : Cut). c.run.stuck) cs) + cond c.run.stuck 1 0
 stuck_more cs c =
     ap length (filter-append (λ (c : Cut). c.run.stuck) cs (c ∷ [])) ∙ length-append (filter (λ (c : Cut). c.run.stuck) cs) (filter (λ (c : Cut). c.run.stuck) (c ∷ []))
@@ -39,122 +25,130 @@ stuck_more cs c =
     by true = refl
     by false = refl
 
-counts_more : (s : Setup) (cs : List Cut) (found : Swept) (c : Cut) (number : ℕ) (value met : Bool) → met ≡ c.run.stuck → AllKeep s (past_of s c.run.events) → KeepsHeadlineThroughout s (past_of s c.run.events) → Counts s cs found → Counts s (cs ++ c ∷ []) (counted found number value met None)
-counts_more s cs found c number value met is keeps whole counts = record {
-  good = all_more (λ (c : Cut). AllKeep s (past_of s c.run.events)) cs c counts.good keeps;
-  headline = all_more (λ (c : Cut). KeepsHeadlineThroughout s (past_of s c.run.events)) cs c counts.headline whole;
+-- one run more, which a runner has made
+counts_more : (s : Setup) (cs : List Cut) (found : Swept) (c : Cut) (r : RunnerState) (number : ℕ) (value met : Bool) → r.core.setup ≡ s → IsRun r met c.run → Counts s cs found → Counts s (cs ++ c ∷ []) (counted found number value met None)
+counts_more s cs found c r number value met same run counts = record {
+  good = All-push (λ (c : Cut). AllKeep s (past_of s c.run.events)) cs c counts.good
+      (subst (λ (s : Setup). AllKeep s (past_of s c.run.events)) same (good_of r.core.setup run.follows.shows.good c.run.events run.follows.shows.given));
+  headline = All-push (λ (c : Cut). KeepsHeadlineThroughout s (past_of s c.run.events)) cs c counts.headline
+      (subst (λ (s : Setup). KeepsHeadlineThroughout s (past_of s c.run.events)) same (throughout r.core.setup run.follows.shows.good c.run.events run.follows.shows.given));
   runs = ap (λ n. n + 1) counts.runs ∙ sym (length_push cs c);
   all = ap (λ n. n + 1) counts.all ∙ sym (length_push cs c);
-  stuck = (λ i. counts.stuck i + cond (is i) 1 0) ∙ sym (stuck_more cs c);
+  stuck = (λ i. counts.stuck i + cond (run.stuck i) 1 0) ∙ sym (stuck_more cs c);
   none_bad = ap (λ (o : Option BadRun). elim o as (λ _. Option BadRun) [ Some first ↦ Some first | None ↦ option_map (bad_run number value) None ]) counts.none_bad;
 }
 
 -- a run that was made from where the walker stands
-pub run_counts : (calls : List (ℕ × Command)) (walker copy new : RunnerState) (v : Bool) (p number : ℕ) (met : Bool) (found : Swept) → copy ≡ walker → new.core.setup ≡ copy.core.setup →
-    ((events : List Event) → Follows copy events → IsRun new met (on_from copy.core.setup calls v (cut_off copy.core.setup p v events))) →
-    (event : Event) (before : List Event) (cs : List Cut) → p ≡ process_of event → Follows walker (event ∷ before) → Counts walker.core.setup cs found →
-    Counts walker.core.setup (cs ++ cut walker.core.setup calls event before v ∷ []) (counted found number v met None)
-run_counts calls walker copy new v p number met found same kept makes event before cs own follows counts =
-    counts_more s cs found (cut s calls event before v) number v met is.stuck (kept_of new s setup events is.follows) (headline_of new s setup events is.follows) counts
-  where
-    s : Setup
-    s = walker.core.setup
-
-    setup : new.core.setup ≡ walker.core.setup
-    setup = kept ∙ ap (λ (r : RunnerState). r.core.setup) same
-
-    events : List Event
-    events = (cut walker.core.setup calls event before v).run.events
-
-    made : (events : List Event) → Follows walker events → IsRun new met (on_from walker.core.setup calls v (cut_off walker.core.setup p v events))
-    made = subst (λ (r : RunnerState). (events : List Event) → Follows r events → IsRun new met (on_from r.core.setup calls v (cut_off r.core.setup p v events))) same makes
-
-    is : IsRun new met (on_from walker.core.setup calls v (cut_off walker.core.setup (process_of event) v (event ∷ before)))
-    is = subst (λ p. IsRun new met (on_from walker.core.setup calls v (cut_off walker.core.setup p v (event ∷ before)))) own (made (event ∷ before) follows)
-
--- One event.
-
--- where no run is cut
-uncut : (s : Setup) (calls : List (ℕ × Command)) (event : Event) (before : List Event) → is_cut s event before ≡ false → cuts s calls before ≡ cuts s calls (event ∷ before)
-uncut s calls event before none =
-    sym (ap (λ b. cuts s calls before ++ cond b (cut s calls event before false ∷ cut s calls event before true ∷ []) []) none ∙ append-nil (cuts s calls before))
-
-first_false : (a b : Bool) → a ≡ false → (a && b) ≡ false
-first_false true b h = absurd (cc)
-first_false false b h = refl
-
-both_are : (a b c : Bool) → a ≡ true → b ≡ c → (a && b) ≡ c
-both_are true b c h k = k
-both_are false b c h k = absurd (cc)
-
--- an event that is refused
-pub swept_refused : (s : Setup) (calls : List (ℕ × Command)) (event : Event) (before : List Event) (walker new runner : RunnerState) (found : Swept) → HasSwept s calls before walker runner found → ((events : List Event) → Follows walker events → false ≡ is_accepted walker.core.setup events event) →
-    RunsOn walker new (λ events. event ∷ events) → new.core.setup ≡ walker.core.setup → HasSwept s calls (event ∷ before) new runner found
-swept_refused s calls event before walker new runner found swept away makes kept = record {
-  follows = makes before swept.follows;
-  walker_setup = kept ∙ swept.walker_setup;
-  runner_setup = swept.runner_setup;
-  counts = subst (λ cs. Counts s cs found) (uncut s calls event before (first_false (is_accepted s before event) (is_accepted s (event ∷ before) (Fail (process_of event))) away_then)) swept.counts;
+pub run_counts : (calls : List (ℕ × Command)) (old : Sweeper) (copy new : RunnerState) (found : Swept) (v : Bool) (p number : ℕ) (met : Bool) → copy ≡ old.walker → new.core.setup ≡ copy.core.setup → MakesRun copy calls p v met new →
+    found ≡ counted old.found number v met None → CountsRun p v calls old (record { walker = old.walker; runner = new; found = found })
+run_counts calls old copy new found v p number met same kept makes is s event before cs own swept = record {
+  follows = swept.follows;
+  walker_setup = swept.walker_setup;
+  runner_setup = setup;
+  counts = subst (Counts s (cs ++ cut s calls event before v ∷ [])) (sym is) (counts_more s cs old.found (cut s calls event before v) new number v met setup run swept.counts);
 }
   where
-    away_then : is_accepted s before event ≡ false
-    away_then = sym (away before swept.follows ∙ ap (λ s. is_accepted s before event) swept.walker_setup)
-
--- an event that is made, after which its process may fail or not
-abbrev pub MayFail : RunnerState → ℕ → Bool → Type 0
-MayFail r p b = (events : List Event) → Follows r events → b ≡ is_accepted r.core.setup events (Fail p)
-
-pub is_cut_as : (s : Setup) (calls : List (ℕ × Command)) (event : Event) (before : List Event) (walker new runner : RunnerState) (found : Swept) (p : ℕ) (b : Bool) → HasSwept s calls before walker runner found →
-    ((events : List Event) → Follows walker events → true ≡ is_accepted walker.core.setup events event) → RunsOn walker new (λ events. event ∷ events) → new.core.setup ≡ walker.core.setup → p ≡ process_of event → MayFail new p b → is_cut s event before ≡ b
-is_cut_as s calls event before walker new runner found p b swept made makes kept own may =
-    both_are (is_accepted s before event) (is_accepted s (event ∷ before) (Fail (process_of event))) b
-    (sym (made before swept.follows ∙ ap (λ s. is_accepted s before event) swept.walker_setup))
-    (sym (may (event ∷ before) (makes before swept.follows) ∙ ap (λ s. is_accepted s (event ∷ before) (Fail p)) (kept ∙ swept.walker_setup) ∙ ap (λ p. is_accepted s (event ∷ before) (Fail p)) own))
-
-pub swept_uncut : (s : Setup) (calls : List (ℕ × Command)) (event : Event) (before : List Event) (walker new runner : RunnerState) (found : Swept) → HasSwept s calls before walker runner found → RunsOn walker new (λ events. event ∷ events) →
-    new.core.setup ≡ walker.core.setup → is_cut s event before ≡ false → HasSwept s calls (event ∷ before) new runner found
-swept_uncut s calls event before walker new runner found swept makes kept none = record {
-  follows = makes before swept.follows;
-  walker_setup = kept ∙ swept.walker_setup;
-  runner_setup = swept.runner_setup;
-  counts = subst (λ cs. Counts s cs found) (uncut s calls event before none) swept.counts;
-}
-
--- the two runs that are cut after it
-abbrev pub CountsRun : List (ℕ × Command) → RunnerState → ℕ → Bool → Swept → Swept → Type 0
-CountsRun calls walker p v old new = (event : Event) (before : List Event) (cs : List Cut) → p ≡ process_of event → Follows walker (event ∷ before) → Counts walker.core.setup cs old → Counts walker.core.setup (cs ++ cut walker.core.setup calls event before v ∷ []) new
-
-pub swept_cut : (s : Setup) (calls : List (ℕ × Command)) (event : Event) (before : List Event) (walker new first then runner after : RunnerState) (p : ℕ) (found once twice : Swept) → HasSwept s calls before walker runner found → RunsOn walker new (λ events. event ∷ events) →
-    new.core.setup ≡ walker.core.setup → is_cut s event before ≡ true → p ≡ process_of event → first ≡ new → then ≡ first → CountsRun calls new p false found once → CountsRun calls first p true once twice → after.core.setup ≡ first.core.setup → HasSwept s calls (event ∷ before) then after twice
-swept_cut s calls event before walker new first then runner after p found once twice swept makes kept two_runs own same same_then zeros ones left = record {
-  follows = subst (λ (r : RunnerState). Follows r (event ∷ before)) (sym (same_then ∙ same)) here;
-  walker_setup = ap (λ (r : RunnerState). r.core.setup) (same_then ∙ same) ∙ setup;
-  runner_setup = left ∙ ap (λ (r : RunnerState). r.core.setup) same ∙ setup;
-  counts = subst (λ cs. Counts s cs twice) both two;
-}
-  where
-    here : Follows new (event ∷ before)
-    here = makes before swept.follows
-
     setup : new.core.setup ≡ s
-    setup = kept ∙ swept.walker_setup
+    setup = kept ∙ ap (λ (r : RunnerState). r.core.setup) same ∙ swept.walker_setup
 
-    runs : List Cut
-    runs = cuts s calls before
+    run : IsRun new met (on_from s calls v (cut_off s (process_of event) v (event ∷ before)))
+    run = subst (λ p. IsRun new met (on_from s calls v (cut_off s p v (event ∷ before)))) own
+        (subst (λ s. IsRun new met (on_from s calls v (cut_off s p v (event ∷ before)))) swept.walker_setup
+        (subst (λ (r : RunnerState). MakesRun r calls p v met new) same makes (event ∷ before) swept.follows))
 
-    one : Counts s (runs ++ cut s calls event before false ∷ []) once
-    one = subst (λ (x : Setup). Counts x runs found → Counts x (runs ++ cut x calls event before false ∷ []) once) setup (zeros event before runs own here) swept.counts
+-- One event more.
 
-    next : CountsRun calls new p true once twice
-    next = subst (λ (r : RunnerState). CountsRun calls r p true once twice) same ones
+-- there is room for one event less then
+pub room_on : (calls : List (ℕ × Command)) (event : Event) (old new : Sweeper) → SweepsOn calls event old new → (more : ℕ) → CanSweep calls (more + 1) old → CanSweep calls more new
+room_on calls event old new on more room = record {
+  setup = room.setup;
+  before = event ∷ room.before;
+  swept = on room.setup room.before room.swept;
+  few_events = let few = room.few_events in omega (arith, few);
+  few_calls = room.few_calls;
+}
 
-    two : Counts s ((runs ++ cut s calls event before false ∷ []) ++ cut s calls event before true ∷ []) twice
-    two = subst (λ (x : Setup). Counts x (runs ++ cut s calls event before false ∷ []) once → Counts x ((runs ++ cut s calls event before false ∷ []) ++ cut x calls event before true ∷ []) twice) setup
-        (next event before (runs ++ cut s calls event before false ∷ []) own here) one
+-- at most two runs are cut after each event
+few_cuts : (s : Setup) (calls : List (ℕ × Command)) (events : List Event) → length (cuts s calls events) ≤ 2 * length events
+few_cuts s calls [] = omega arith
+few_cuts s calls (event ∷ before) = by (is_cut s event before) (few_cuts s calls before)
+  where
+    two : List Cut
+    two = cut s calls event before false ∷ cut s calls event before true ∷ []
 
-    both : (runs ++ cut s calls event before false ∷ []) ++ cut s calls event before true ∷ [] ≡ cuts s calls (event ∷ before)
-    both = append_assoc runs (cut s calls event before false ∷ []) (cut s calls event before true ∷ [])
-        ∙ sym (ap (λ b. runs ++ cond b (cut s calls event before false ∷ cut s calls event before true ∷ []) []) two_runs)
+    by : (b : Bool) → length (cuts s calls before) ≤ 2 * length before → length (cuts s calls before ++ cond b two []) ≤ 2 * length (event ∷ before)
+    by true few = let long = length-append (cuts s calls before) two in omega (arith, few, long)
+    by false few = let long = ap length (append-nil (cuts s calls before)) in omega (arith, few, long)
+
+-- the walker goes along the event, and tells whether it is accepted
+module _ (calls : List (ℕ × Command)) (event : Event) (old : Sweeper) (walker : RunnerState) (told : Bool) (goes : RunsOn old.walker walker (λ events. event ∷ events)) (kept : walker.core.setup ≡ old.walker.core.setup) (tells : Accepts old.walker event told) where
+  abbrev pub mid : Sweeper
+  mid = record { walker = walker; runner = old.runner; found = old.found }
+
+  walked : (s : Setup) (before : List Event) (cs : List Cut) → HasSwept s before cs old → HasSwept s (event ∷ before) cs mid
+  walked s before cs swept = record { follows = goes before swept.follows; walker_setup = kept ∙ swept.walker_setup; runner_setup = swept.runner_setup; counts = swept.counts }
+
+  accepted_as : (b : Bool) → told ≡ b → OfSweep old (λ s calls before. is_accepted s before event ≡ b)
+  accepted_as b is s calls before swept = sym (tells before swept.follows ∙ ap (λ s. is_accepted s before event) swept.walker_setup) ∙ is
+
+  -- there is room for a run after the event, and for one more
+  room_for : (room : CanSweep calls 1 old) (cs : List Cut) (sweeper : Sweeper) → length cs ≤ length (cuts room.setup calls room.before) + 1 → HasSwept room.setup (event ∷ room.before) cs sweeper → CanRun calls sweeper
+  room_for room cs sweeper one swept =
+      let few = few_cuts room.setup calls room.before in
+      let events = room.few_events in
+      let counts = swept.counts in
+      record {
+        setup = swept.runner_setup ∙ sym swept.walker_setup;
+        due = let due = few_due sweeper.walker (event ∷ room.before) swept.follows in let ended = room.few_calls in omega (arith, due, events, ended);
+        few = record {
+          runs = let is = counts.runs in omega (arith, is, one, few, events);
+          good = let is = counts.all in omega (arith, is, one, few, events);
+          stuck =
+              let is = counts.stuck in
+              let both = length-filter_both (λ (c : Cut). c.run.stuck) (λ (c : Cut). not c.run.stuck) (λ c. refl) cs in
+              omega (arith, is, both, one, few, events);
+        };
+      }
+
+  pub room_for_first : CanSweep calls 1 old → CanRun calls mid
+  room_for_first room = let runs = cuts room.setup calls room.before in room_for room runs mid (omega arith) (walked room.setup room.before runs room.swept)
+
+  pub room_for_second : (once : Sweeper) (p : ℕ) → p ≡ process_of event → CountsRun p false calls mid once → CanSweep calls 1 old → CanRun calls once
+  room_for_second once p own first room =
+      let runs = cuts room.setup calls room.before in
+      let run = cut room.setup calls event room.before false in
+      let one = length_push runs run in
+      room_for room (runs ++ run ∷ []) once (omega (arith, one)) (first room.setup event room.before runs own (walked room.setup room.before runs room.swept))
+
+  -- no run is cut
+  uncut_on : OfSweep old (λ s calls before. is_cut s event before ≡ false) → SweepsOn calls event old mid
+  uncut_on none s before swept =
+      subst (λ cs. HasSwept s (event ∷ before) cs mid)
+      (sym (ap (λ b. cuts s calls before ++ cond b (cut s calls event before false ∷ cut s calls event before true ∷ []) []) (none s calls before swept) ∙ append-nil (cuts s calls before)))
+      (walked s before (cuts s calls before) swept)
+
+  pub refused_on : told ≡ false → SweepsOn calls event old mid
+  refused_on is = uncut_on (λ s calls before swept. ap (λ b. b && is_accepted s (event ∷ before) (Fail (process_of event))) (accepted_as false is s calls before swept))
+
+  -- it is accepted, and then its process may fail or not
+  cut_as : (p : ℕ) (may b : Bool) → told ≡ true → p ≡ process_of event → Accepts walker (Fail p) may → may ≡ b → OfSweep old (λ s calls before. is_cut s event before ≡ b)
+  cut_as p may b is own asks fails s calls before swept =
+      let then = walked s before (cuts s calls before) swept in
+      ap (λ b. b && is_accepted s (event ∷ before) (Fail (process_of event))) (accepted_as true is s calls before swept)
+      ∙ sym (asks (event ∷ before) then.follows ∙ (λ i. is_accepted (then.walker_setup i) (event ∷ before) (Fail (own i)))) ∙ fails
+
+  pub standing_on : (p : ℕ) (may : Bool) → told ≡ true → p ≡ process_of event → Accepts walker (Fail p) may → may ≡ false → SweepsOn calls event old mid
+  standing_on p may is own asks fails = uncut_on (cut_as p may false is own asks fails)
+
+  -- two runs are cut
+  pub cut_on : (once new : Sweeper) (p : ℕ) (may : Bool) → told ≡ true → p ≡ process_of event → Accepts walker (Fail p) may → may ≡ true → CountsRun p false calls mid once → CountsRun p true calls once new → SweepsOn calls event old new
+  cut_on once new p may is own asks fails first second s before swept =
+      let runs = cuts s calls before in
+      let run = cut s calls event before false in
+      let last = cut s calls event before true in
+      subst (λ cs. HasSwept s (event ∷ before) cs new)
+      (append_assoc runs (run ∷ []) (last ∷ []) ∙ sym (ap (λ b. runs ++ cond b (run ∷ last ∷ []) []) (cut_as p may true is own asks fails s calls before swept)))
+      (second s event before (runs ++ run ∷ []) own (first s event before runs own (walked s before runs swept)))
 
 -- the events up to the next one
 pub events_more : (events : List Event) (k : ℕ) (event : Event) → k < length events → event ≡ get_or events k event → reverse (take (k + 1) events) ≡ event ∷ reverse (take k events)

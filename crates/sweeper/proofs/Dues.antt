@@ -1,13 +1,15 @@
 -- How many commands are taken or may still be, before and after an event.
-use Rattle.std.proofs.Common.{◌≡◌, ℕ, ◌+◌, ◌≤◌, Bool, true, false, cond, List, length, refl, ap, arith}
-use Rattle.std.proofs.lemmas.List.{length-map}
+use Rattle.std.proofs.Common.{◌≡◌, ℕ, ◌+◌, ◌≤◌, Bool, true, false, cond, List, [], ◌∷◌, ◌++◌, length, Option, None, Some, refl, ap, arith}
+use Rattle.std.proofs.lemmas.List.{length-map, length_push}
 use Rattle.std.proofs.lemmas.List.FromFn.{length-range_with_len}
 use Rattle.plain_store.proofs.GoodSetups.{few-processes}
-use Rattle.record.specs.{Event, Taken, is_call, past_of, processes}
+use Rattle.plain_store.specs.{Reply, Setup}
+use Rattle.record.specs.{Entry, Event, Past, Taken, entry_of, history, is_call, past_of, processes, reply_taken}
 use Rattle.world.specs.process.{Effect}
 use Rattle.world.specs.{CoreState, Seat, pending_in, seat_of, taking, with_history}
 use Rattle.world.specs.Shows.{Shows, WorldState}
 use Rattle.world.proofs.WorldPending.{pending-most}
+use Rattle.sweeper.specs.{Follows, RunnerState, due}
 
 -- there are at most 16 seats
 pub few_seats : (c : CoreState) (taken : List Taken) (events : List Event) → Shows (with_history c taken) events → length c.seats ≤ 16
@@ -18,12 +20,30 @@ few_seats c taken events shows =
     let few = few-processes c.setup shows.good in
     omega (arith, are, mapped, many, few)
 
--- before the first event no command was taken
-pub few_start : (c : CoreState) (taken : List Taken) (events : List Event) → Shows (with_history c taken) events → 0 + pending_in c.seats ≤ 16
-few_start c taken events shows =
-    let seats = few_seats c taken events shows in
-    let most = pending-most c.seats in
-    omega (arith, seats, most)
+-- no more commands are taken than there are events
+few_taken : (s : Setup) (events : List Event) → length (history s (past_of s events)) ≤ length events
+few_taken s [] = omega arith
+few_taken s (event ∷ events) = by (entry_of s (past_of s events) event) (few_taken s events)
+  where
+    taken : List Taken
+    taken = history s (past_of s events)
+
+    with_one : (t : Reply → Taken) (o : Option Reply) → length taken ≤ length events → length (elim o as (λ _. List Taken) [ None ↦ taken | Some r ↦ taken ++ t r ∷ [] ]) ≤ length (event ∷ events)
+    with_one t None few = omega (arith, few)
+    with_one t (Some r) few = let more = length_push taken (t r) in omega (arith, few, more)
+
+    by : (o : Option Entry) → length taken ≤ length events → length (history s (elim o as (λ _. Past) [ None ↦ past_of s events | Some e ↦ e ∷ past_of s events ])) ≤ length (event ∷ events)
+    by None few = omega (arith, few)
+    by (Some e) few = with_one _ (reply_taken e.marks) few
+
+-- and at most 16 may still be
+pub few_due : (r : RunnerState) (events : List Event) → Follows r events → due r ≤ length events + 16
+few_due r events follows =
+    let taken = follows.taken in
+    let few = few_taken r.core.setup events in
+    let pending = pending-most r.core.seats in
+    let seats = few_seats r.core (history r.core.setup (past_of r.core.setup events)) events follows.shows in
+    omega (arith, taken, few, pending, seats)
 
 -- only a call makes them more
 pub few_made : (event : Event) (effect : Effect) (seats new : List Seat) (taken then : ℕ) → length seats ≤ 16 → then ≡ taken + taking effect →

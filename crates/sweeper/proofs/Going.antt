@@ -1,12 +1,14 @@
 -- What a runner does again and again as long as a test holds, and over a range of processes.
 use Rattle.std.proofs.Common.{◌≡◌, ℕ, zero, suc, ◌+◌, ◌-◌, ◌<◌, ◌||◌, Bool, true, false, cond, List, [], ◌∷◌, ◌++◌, fold, slice_index_or, refl, ap, sym, subst, ◌∙◌, arith}
+use Rattle.std.proofs.lemmas.Bool.{or_from}
 use Rattle.std.proofs.lemmas.List.Folds.{list_any-append, list_any_at}
 use Rattle.std.proofs.lemmas.List.FromFn.{get_or-range_with_len, length-range_with_len}
 use Rattle.std.proofs.lemmas.List.Sums.{fold-append}
 use Rattle.std.specs.List.{list_any, range_with_len}
+use Rattle.plain_store.specs.{Setup}
 use Rattle.record.specs.{Event}
 use Rattle.record.specs.declared.events.Event.TheVariants.{Step}
-use Rattle.sweeper.specs.{Follows, RunnerState, RunsOn, as_long_as}
+use Rattle.sweeper.specs.{Follows, OfRun, RunnerState, RunsBy, as_long_as}
 
 -- some of it is done: what is left makes of the present run what all makes of the first
 pub record Going (test : List Event → Bool) (on : List Event → List Event) (most : ℕ) (events : List Event) (r : RunnerState) (left : ℕ) : Type 0 where
@@ -26,19 +28,23 @@ pub ended : (test : List Event → Bool) (on : List Event → List Event) (left 
 ended test on zero now fails = refl
 ended test on (suc n) now fails = ap (λ b. cond b (as_long_as test on n (on now)) now) fails
 
-module _ (test : List Event → Bool) (on : List Event → List Event) (most : ℕ) (events : List Event) (r : RunnerState) (left : ℕ) where
-  pub going_on : (new : RunnerState) → 0 < left → ((now : List Event) → Follows r now → test now ≡ true) → RunsOn r new on → Going test on most events r left → Going test on most events new (left - 1)
-  going_on new some holds makes g = record {
-    now = on g.now;
-    follows = makes g.now g.follows;
-    whole = sym (again test on left g.now some (holds g.now g.follows)) ∙ g.whole;
+-- what a runner of this setup does, which tells whether the test holds
+module _ (test : Setup → List Event → Bool) (on : Setup → List Event → List Event) (s : Setup) (most : ℕ) (events : List Event) (r : RunnerState) (left : ℕ) (same : r.core.setup ≡ s) where
+  asked : (told b : Bool) → OfRun r (λ s now. told ≡ test s now) → told ≡ b → (now : List Event) → Follows r now → test s now ≡ b
+  asked told b asks is now here = sym (asks now here ∙ ap (λ s. test s now) same) ∙ is
+
+  pub going_on : (new : RunnerState) (told : Bool) → 0 < left → OfRun r (λ s now. told ≡ test s now) → told ≡ true → RunsBy r new on → Going (test s) (on s) most events r left → Going (test s) (on s) most events new (left - 1)
+  going_on new told some asks holds makes g = record {
+    now = on s g.now;
+    follows = subst (λ s. Follows new (on s g.now)) same (makes g.now g.follows);
+    whole = sym (again (test s) (on s) left g.now some (asked told true asks holds g.now g.follows)) ∙ g.whole;
   }
 
-  pub going_ended : ((now : List Event) → Follows r now → test now ≡ false) → Going test on most events r left → Follows r (as_long_as test on most events)
-  going_ended fails g = subst (Follows r) (sym (ended test on left g.now (fails g.now g.follows)) ∙ g.whole) g.follows
+  pub going_ended : (told : Bool) → OfRun r (λ s now. told ≡ test s now) → told ≡ false → Going (test s) (on s) most events r left → Follows r (as_long_as (test s) (on s) most events)
+  going_ended told asks fails g = subst (Follows r) (sym (ended (test s) (on s) left g.now (asked told false asks fails g.now g.follows)) ∙ g.whole) g.follows
 
-  pub going_over : left ≡ 0 → Going test on most events r left → Follows r (as_long_as test on most events)
-  going_over none g = subst (Follows r) (sym (ap (λ n. as_long_as test on n g.now) none) ∙ g.whole) g.follows
+  pub going_over : left ≡ 0 → Going (test s) (on s) most events r left → Follows r (as_long_as (test s) (on s) most events)
+  going_over none g = subst (Follows r) (sym (ap (λ n. as_long_as (test s) (on s) n g.now) none) ∙ g.whole) g.follows
 
 -- Over a range.
 
@@ -53,12 +59,7 @@ range_more k = let on : k + 1 ≡ suc k = omega arith in ap (range_with_len 0) o
 -- no process of it, and one more, passes a test
 pub none_more : (f : ℕ → Bool) (k : ℕ) → list_any f (range_with_len 0 k) ≡ false → f k ≡ false → list_any f (range_with_len 0 (k + 1)) ≡ false
 none_more f k none here =
-    ap (list_any f) (range_more k) ∙ list_any-append f (range_with_len 0 k) (k ∷ []) ∙ both (list_any f (range_with_len 0 k)) (f k) none here
-  where
-    both : (a b : Bool) → a ≡ false → b ≡ false → (a || (b || false)) ≡ false
-    both false false x y = refl
-    both true b x y = absurd (cc)
-    both false true x y = absurd (cc)
+    ap (list_any f) (range_more k) ∙ list_any-append f (range_with_len 0 k) (k ∷ []) ∙ or_from (list_any f (range_with_len 0 k)) (f k || false) none (or_from (f k) false here refl)
 
 -- one of it passes
 pub any_here : (f : ℕ → Bool) (k n : ℕ) → k < n → f k ≡ true → list_any f (range_with_len 0 n) ≡ true

@@ -1,6 +1,7 @@
 -- The record of each run is that of a list of events, and so it is good.
-use Rattle.std.proofs.Common.{◌≡◌, suc, List, [], ◌∷◌, filter, length, map, reverse, None, Ok, refl, ap, sym, subst, ◌∙◌, arith}
+use Rattle.std.proofs.Common.{◌≡◌, suc, List, [], ◌∷◌, filter, length, map, reverse, None, Ok, refl, ap, sym, subst, ◌∙◌}
 use Rattle.std.proofs.lemmas.List.{reverse-reverse}
+use Rattle.std.proofs.lemmas.List.Elements.{All-head, All-tail}
 use Rattle.std.specs.List.{All, AllZip}
 use Rattle.plain_store.specs.{Setup, checked}
 use Rattle.record.specs.{AreGiven, past_of}
@@ -15,13 +16,6 @@ use Rattle.sweeper.proofs.Soundness.{given_cuts}
 abbrev pub IsGoodRun : Setup → Cut → Type 0
 IsGoodRun s c = AllKeep s (past_of s c.run.events)
 
--- the first of a list, and the others
-first_of : (P : Cut → Type 0) (c : Cut) (cs : List Cut) → All P (c ∷ cs) → P c
-first_of P c cs all = all 0 c (omega arith)
-
-others_of : (P : Cut → Type 0) (c : Cut) (cs : List Cut) → All P (c ∷ cs) → All P cs
-others_of P c cs all k d l = all (suc k) d (omega (arith, l))
-
 -- so its verdict is that
 is_verdict : (s : Setup) (c : Cut) → IsGoodRun s c → IsVerdict s (record_of_cut s c) Good
 is_verdict s c keeps = subst (AllKeep s) (sym (reverse-reverse (past_of s c.run.events))) keeps
@@ -31,9 +25,9 @@ all_kept : (s : Setup) (cs : List Cut) (vs : List Verdict) → All (IsGoodRun s)
 all_kept s [] [] keeps each = (refl, refl)
 all_kept s [] (v ∷ vs) keeps each = absurd each
 all_kept s (c ∷ cs) [] keeps each = absurd each
-all_kept s (c ∷ cs) (Bad k l ∷ vs) keeps each = absurd (not_bad s (record_of_cut s c) k l (is_verdict s c (first_of (IsGoodRun s) c cs keeps)) each.0)
+all_kept s (c ∷ cs) (Bad k l ∷ vs) keeps each = absurd (not_bad s (record_of_cut s c) k l (is_verdict s c (All-head (IsGoodRun s) c cs keeps)) each.0)
 all_kept s (c ∷ cs) (Good ∷ vs) keeps each =
-    let more = all_kept s cs vs (others_of (IsGoodRun s) c cs keeps) each.1 in
+    let more = all_kept s cs vs (All-tail (IsGoodRun s) c cs keeps) each.1 in
     (ap suc more.0, more.1)
 
 -- events that are given make good runs
@@ -51,7 +45,7 @@ swept_good s good events calls given commands found is =
 
 all_verdicts : (s : Setup) (cs : List Cut) → All (IsGoodRun s) cs → AllZip (λ c v. IsVerdict s (record_of_cut s c) v) cs (map (λ (c : Cut). Good) cs)
 all_verdicts s [] keeps = tt
-all_verdicts s (c ∷ cs) keeps = (is_verdict s c (first_of (IsGoodRun s) c cs keeps), all_verdicts s cs (others_of (IsGoodRun s) c cs keeps))
+all_verdicts s (c ∷ cs) keeps = (is_verdict s c (All-head (IsGoodRun s) c cs keeps), all_verdicts s cs (All-tail (IsGoodRun s) c cs keeps))
 
 pub is_found : (s : Setup) (cs : List Cut) (found : Swept) → Counts s cs found → IsFound s cs found
 is_found s cs found counts =

@@ -1,7 +1,7 @@
 -- A runner makes an event, and its auditor hears the entry, which keeps all laws.
 use Rattle.std.proofs.Common.{◌≡◌, ℕ, ◌+◌, Bool, true, false, List, ◌∷◌, length, map, Option, None, Some, refl, ap, sym, subst, ◌∙◌}
 use Rattle.std.specs.Prelude.{is_none, is_some, not}
-use Rattle.record.specs.{Access, AreGiven, Entry, Event, Mark, Past, Refusal, Taken, entry_of, history, is_event, past_of, placed, process_of, reply_taken}
+use Rattle.record.specs.{Access, AreGiven, Entry, Event, Mark, Past, Refusal, Taken, entry_of, history, is_event, past_of, placed, process_of, refused, reply_taken}
 use Rattle.plain_store.specs.{Setup}
 use Rattle.world.specs.process.{Effect, act_of, marks_of}
 use Rattle.world.specs.{Adds, CoreMakes, CoreRefuses, CoreState, call_in, entry_with, taking, with_history, with_taken}
@@ -11,7 +11,7 @@ use Rattle.world.proofs.WorldShows.{past-after}
 use Rattle.auditor.specs.{AuditorState, HasHeard, IsHeard, KeepsAll, Law}
 use Rattle.auditor.specs.read_law.{entry_by}
 use Rattle.auditor.proofs.Obeys.{obeys}
-use Rattle.sweeper.specs.{Follows, RunnerState, is_accepted}
+use Rattle.sweeper.specs.{Accepts, Follows, RunnerState, RunsOn, is_accepted}
 use Rattle.sweeper.proofs.Accepted.{adds_accepted, past_kept, refused_not, shows_refused}
 
 -- with a history the core shows events: so it is theirs
@@ -101,19 +101,22 @@ module _ (old : RunnerState) (event : Event) (access : Option Access) (effect : 
             ∙ ap length its;
       }
 
--- A refused event leaves the runner, which shows it too.
-module _ (old : RunnerState) (event : Event) (r : Refusal) (away : CoreRefuses old.core event (Some r)) (events : List Event) (follows : Follows old events) where
-  pub refused_left : is_accepted old.core.setup events event ≡ false
-  refused_left = refused_not old.core.setup events event r (away (history old.core.setup (past_of old.core.setup events)) events follows.shows)
+-- A refused event leaves the runner that is seen, and it shows it too.
+module _ (old seen : RunnerState) (is_seen : old ≡ seen) (event : Event) (r : Refusal) (away : CoreRefuses old.core event (Some r)) where
+  away_from : (events : List Event) → Follows old events → refused old.core.setup (past_of old.core.setup events) event ≡ Some r
+  away_from events follows = away (history old.core.setup (past_of old.core.setup events)) events follows.shows
 
-  pub follows_refused : is_event event ≡ true → Follows old (event ∷ events)
-  follows_refused given =
+  pub accepts_refused : Accepts seen event false
+  accepts_refused = subst (λ (r : RunnerState). Accepts r event false) is_seen (λ events follows. sym (refused_not old.core.setup events event r (away_from events follows)))
+
+  pub follows_refused : (core : CoreState) → core ≡ old.core → is_event event ≡ true → RunsOn seen (record { core = core; auditor = old.auditor; taken = old.taken }) (λ events. event ∷ events)
+  follows_refused core left given = subst (λ (r : RunnerState). RunsOn r (record { core = core; auditor = old.auditor; taken = old.taken }) (λ events. event ∷ events)) is_seen (λ events follows.
       let s : Setup = old.core.setup in
-      let is = away (history s (past_of s events)) events follows.shows in
+      let is = away_from events follows in
       let same : past_of s (event ∷ events) ≡ past_of s events = past_kept s events event r is in
-      record {
+      subst (λ (core : CoreState). Follows (record { core = core; auditor = old.auditor; taken = old.taken }) (event ∷ events)) (sym left) (record {
         shows = subst (λ (past : Past). Shows (with_history old.core (history s past)) (event ∷ events)) (sym same) (shows_refused (with_history old.core (history s (past_of s events))) events event r follows.shows given is);
         heard = subst (HasHeard old.auditor) (sym same) follows.heard;
         alike = follows.alike;
         taken = follows.taken ∙ ap (λ (past : Past). length (history s past)) (sym same);
-      }
+      }))

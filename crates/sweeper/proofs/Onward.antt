@@ -1,5 +1,6 @@
 -- How a run goes on: its parts, one after the other.
-use Rattle.std.proofs.Common.{◌≡◌, ℕ, ◌+◌, ◌<◌, ◌||◌, Bool, true, false, cond, List, [], ◌∷◌, fold, length, take, get_or, refl, ap, sym, subst, ◌∙◌}
+use Rattle.std.proofs.Common.{◌≡◌, ℕ, ◌+◌, ◌<◌, ◌||◌, Bool, true, false, cond, List, [], ◌∷◌, fold, length, take, get_or, ap, sym, subst, ◌∙◌}
+use Rattle.std.proofs.Math.Bool.{or-false}
 use Rattle.std.proofs.lemmas.List.{take_more}
 use Rattle.std.proofs.lemmas.List.Sums.{fold-append}
 use Rattle.plain_store.specs.{Command, Setup}
@@ -7,15 +8,11 @@ use Rattle.record.specs.{Event}
 use Rattle.record.specs.declared.events.Event.TheVariants.{Call, Step, Fail, Restart}
 use Rattle.sweeper.specs.{Follows, IsRun, Run, RunnerState, RunsOn, cut_off, goes, is_accepted, most, on_from, rounds, steps_of, with_call, with_calls}
 
-or_false : (b : Bool) → (b || false) ≡ b
-or_false true = refl
-or_false false = refl
-
 -- a call that is refused
 pub call_refused : (old new : RunnerState) (v : Bool) (p : ℕ) (command : Command) → new ≡ old → ((events : List Event) → Follows old events → false ≡ is_accepted old.core.setup events (Call p command)) →
     (run : Run) → Follows old run.events → IsRun new (run.stuck || false) (with_call old.core.setup v run (p, command))
 call_refused old new v p command same away run follows = subst (λ b. IsRun new (run.stuck || false) (cond b made run)) (away run.events follows)
-    (record { follows = subst (λ (r : RunnerState). Follows r run.events) (sym same) follows; stuck = or_false run.stuck })
+    (record { follows = subst (λ (r : RunnerState). Follows r run.events) (sym same) follows; stuck = or-false run.stuck })
   where
     after : List Event
     after = steps_of old.core.setup p v most (Call p command ∷ run.events)

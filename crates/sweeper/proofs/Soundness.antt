@@ -1,7 +1,7 @@
 -- The events of each run are given, if those of the sweep and its calls are.
-use Rattle.std.proofs.Common.{◌≡◌, ℕ, zero, suc, ◌&&◌, ◌||◌, Bool, true, false, cond, List, [], ◌∷◌, fold, refl, arith}
-use Rattle.std.proofs.lemmas.Bool.{and_from}
-use Rattle.std.proofs.lemmas.List.Elements.{All-append, All-nil}
+use Rattle.std.proofs.Common.{◌≡◌, ℕ, zero, suc, ◌||◌, Bool, true, false, cond, List, [], ◌∷◌, fold, refl}
+use Rattle.std.proofs.lemmas.Bool.{and_from, and_parts, cond_both}
+use Rattle.std.proofs.lemmas.List.Elements.{All-append, All-cons, All-nil}
 use Rattle.std.specs.List.{All, list_all}
 use Rattle.plain_store.specs.{Command, Setup, is_command}
 use Rattle.record.specs.{AreGiven, Event, is_event, process_of, processes}
@@ -18,20 +18,13 @@ given_with s events event is given = record { opening = given.opening; commands 
 
 -- and without the last one
 given_before : (s : Setup) (events : List Event) (event : Event) → AreGiven s (event ∷ events) → AreGiven s events
-given_before s events event given = record { opening = given.opening; commands = rest (is_event event) (list_all is_event events) given.commands }
-  where
-    rest : (a b : Bool) → (a && b) ≡ true → b ≡ true
-    rest true b h = h
-    rest false b h = absurd (cc)
+given_before s events event given = record { opening = given.opening; commands = (and_parts (is_event event) (list_all is_event events) given.commands).1 }
 
 -- what goes on as long as a test holds
 given_repeated : (s : Setup) (test : List Event → Bool) (on : List Event → List Event) → ((events : List Event) → AreGiven s events → AreGiven s (on events)) → (n : ℕ) (events : List Event) → AreGiven s events → AreGiven s (as_long_as test on n events)
 given_repeated s test on kept zero events given = given
-given_repeated s test on kept (suc n) events given = by (test events) (given_repeated s test on kept n (on events) (kept events given))
-  where
-    by : (b : Bool) → AreGiven s (as_long_as test on n (on events)) → AreGiven s (cond b (as_long_as test on n (on events)) events)
-    by true more = more
-    by false more = given
+given_repeated s test on kept (suc n) events given =
+    cond_both (test events) (as_long_as test on n (on events)) events (AreGiven s) (λ h. given_repeated s test on kept n (on events) (kept events given)) (λ h. given)
 
 given_steps : (s : Setup) (p : ℕ) (v : Bool) (n : ℕ) (events : List Event) → AreGiven s events → AreGiven s (steps_of s p v n events)
 given_steps s p v n events given = given_repeated s (λ events. is_accepted s events (Step p v)) (λ events. Step p v ∷ events) (λ events. given_with s events (Step p v) refl) n events given
@@ -48,23 +41,16 @@ given_rounds : (s : Setup) (v : Bool) (n : ℕ) (events : List Event) → AreGiv
 given_rounds s v n events given = given_repeated s (goes s v) (round s v) (given_round s v (processes s)) n events given
 
 given_call : (s : Setup) (v : Bool) (run : Run) (p : ℕ) (command : Command) → is_command command ≡ true → AreGiven s run.events → AreGiven s (with_call s v run (p, command)).events
-given_call s v run p command is given = by (is_accepted s run.events (Call p command))
-  where
-    after : List Event
-    after = steps_of s p v most (Call p command ∷ run.events)
-
-    by : (b : Bool) → AreGiven s (cond b (let r : Run = record { events = after; stuck = run.stuck || is_accepted s after (Step p v) } in r) run).events
-    by true = given_steps s p v most (Call p command ∷ run.events) (given_with s run.events (Call p command) is given)
-    by false = given
+given_call s v run p command is given =
+    let after : List Event = steps_of s p v most (Call p command ∷ run.events) in
+    cond_both (is_accepted s run.events (Call p command)) (record { events = after; stuck = run.stuck || is_accepted s after (Step p v) }) run (λ (run : Run). AreGiven s run.events)
+    (λ h. given_steps s p v most (Call p command ∷ run.events) (given_with s run.events (Call p command) is given)) (λ h. given)
 
 given_calls : (s : Setup) (v : Bool) (calls : List (ℕ × Command)) (run : Run) → are_commands calls ≡ true → AreGiven s run.events → AreGiven s (with_calls s calls v run).events
 given_calls s v [] run are given = given
 given_calls s v ((p, command) ∷ calls) run are given =
-    given_calls s v calls (with_call s v run (p, command)) (rest (is_command command) (are_commands calls) are).1 (given_call s v run p command (rest (is_command command) (are_commands calls) are).0 given)
-  where
-    rest : (a b : Bool) → (a && b) ≡ true → (a ≡ true) × (b ≡ true)
-    rest true b h = (refl, h)
-    rest false b h = absurd (cc)
+    let both = and_parts (is_command command) (are_commands calls) are in
+    given_calls s v calls (with_call s v run (p, command)) both.1 (given_call s v run p command both.0 given)
 
 given_on : (s : Setup) (calls : List (ℕ × Command)) (v : Bool) (events : List Event) → are_commands calls ≡ true → AreGiven s events → AreGiven s (on_from s calls v events).events
 given_on s calls v events are given =
@@ -75,16 +61,12 @@ pub given_cuts : (s : Setup) (calls : List (ℕ × Command)) → are_commands ca
 given_cuts s calls are [] given = All-nil (λ (c : Cut). AreGiven s c.run.events)
 given_cuts s calls are (event ∷ before) given =
     All-append (λ (c : Cut). AreGiven s c.run.events) (cuts s calls before) (cond (is_cut s event before) (cut s calls event before false ∷ cut s calls event before true ∷ []) [])
-    (given_cuts s calls are before (given_before s before event given)) (by (is_cut s event before))
+    (given_cuts s calls are before (given_before s before event given))
+    (cond_both (is_cut s event before) (cut s calls event before false ∷ cut s calls event before true ∷ []) [] (All Given)
+    (λ h. All-cons Given (cut s calls event before false) (cut s calls event before true ∷ []) (one false) (All-cons Given (cut s calls event before true) [] (one true) (All-nil Given))) (λ h. All-nil Given))
   where
-    one : (v : Bool) → AreGiven s (cut s calls event before v).run.events
+    Given : Cut → Type 0
+    Given c = AreGiven s c.run.events
+
+    one : (v : Bool) → Given (cut s calls event before v)
     one v = given_on s calls v (cut_off s (process_of event) v (event ∷ before)) are (given_cut s (process_of event) v (event ∷ before) given)
-
-    two : All (λ (c : Cut). AreGiven s c.run.events) (cut s calls event before false ∷ cut s calls event before true ∷ [])
-    two zero d l = one false
-    two (suc zero) d l = one true
-    two (suc (suc k)) d l = absurd (omega (arith, l))
-
-    by : (b : Bool) → All (λ (c : Cut). AreGiven s c.run.events) (cond b (cut s calls event before false ∷ cut s calls event before true ∷ []) [])
-    by true = two
-    by false = All-nil (λ (c : Cut). AreGiven s c.run.events)

@@ -1,6 +1,7 @@
 -- The memory unit of a run has made its steps when its process is restarted.
-use Rattle.std.proofs.Common.{◌≡◌, ℕ, zero, suc, ◌+◌, ◌≤◌, ◌&&◌, nat_lt, Bool, true, false, cond, List, [], ◌∷◌, length, Option, None, Some, Ok, refl, ap, sym, ◌∙◌, arith, inl, inr, eq-eqb}
+use Rattle.std.proofs.Common.{◌≡◌, ℕ, zero, suc, ◌+◌, ◌≤◌, ◌&&◌, nat_lt, Bool, true, cond, List, [], ◌∷◌, length, Option, None, Some, Ok, refl, ap, sym, ◌∙◌, arith, inl, inr, eq-eqb}
 use Rattle.std.specs.Prelude.{is_none}
+use Rattle.std.proofs.lemmas.Bool.{and_parts}
 use Rattle.plain_store.specs.{Setup, checked}
 use Rattle.record.specs.{Entry, Event, Past, Refusal, Stage, added, is_failed, own, past_of, process_of, refused, since, stage}
 use Rattle.record.specs.declared.events.Event.TheVariants.{Step, Fail}
@@ -14,10 +15,6 @@ use Rattle.sweeper.proofs.Movers.{fails_of_standing, steps_of_movers}
 -- how many accesses the unit of p has made
 abbrev pub made_by : Setup → ℕ → List Event → ℕ
 made_by s p events = length (since is_failed (own p (past_of s events)))
-
-first_of : (a b : Bool) → (a && b) ≡ true → a ≡ true
-first_of true b h = refl
-first_of false b h = h
 
 none_of : (o : Option Refusal) → is_none o ≡ true → o ≡ None
 none_of None h = refl
@@ -65,7 +62,7 @@ down_in_time s good events p v may = unit_ends s good p v there most (Fail p ∷
     e = record { process = p; access = None; marks = Failed ∷ [] }
 
     there : nat_lt p s.processes ≡ true
-    there = first_of (nat_lt p s.processes) (stands (stage p past)) (sym (fails_of_standing s events p) ∙ may)
+    there = (and_parts (nat_lt p s.processes) (stands (stage p past)) (sym (fails_of_standing s events p) ∙ may)).0
 
     after : past_of s (Fail p ∷ events) ≡ e ∷ past
     after = failed_past s events p (none_of (refused s past (Fail p)) may)

@@ -1,6 +1,7 @@
 -- What has been counted so far, and what a sweep keeps between two events.
-use Rattle.std.specs.Prelude.{◌≡◌, ℕ, ◌+◌, ◌≤◌, Bool, List, [], ◌∷◌, ◌++◌, length, filter, Option, None, Some, cond, is_none, option_map}
+use Rattle.std.specs.Prelude.{◌≡◌, ℕ, ◌+◌, ◌*◌, ◌^◌, ◌<◌, ◌≤◌, Bool, List, [], ◌∷◌, ◌++◌, length, filter, Option, None, Some, cond, is_none, option_map}
 use Rattle.std.specs.List.{All}
+use Rattle.std.proofs.Common.{arith}
 use Rattle.plain_store.specs.{Command, Setup}
 use Rattle.record.specs.{Event, past_of, process_of}
 use Rattle.auditor.specs.{AllKeep}
@@ -8,7 +9,7 @@ use Rattle.sweeper.specs.declared.runner.BadEntry.{BadEntry}
 use Rattle.sweeper.specs.declared.swept.BadRun.{BadRun}
 use Rattle.sweeper.specs.declared.swept.Swept.{Swept}
 use Rattle.sweeper.specs.declared.sweeping.Sweeper.{Sweeper}
-use Rattle.sweeper.specs.Runners.{Follows, RunnerState}
+use Rattle.sweeper.specs.Runners.{Follows, due}
 use Rattle.sweeper.specs.Sweeps.{Cut, KeepHeadline, cut, cuts}
 
 -- in these runs each entry keeps all laws and the headline, and so they are counted
@@ -33,22 +34,22 @@ counted found number value stuck bad = record {
   first_bad = elim found.first_bad as (λ _. Option BadRun) [ Some first ↦ Some first | None ↦ option_map (bad_run number value) bad ];
 }
 
--- no count is above this
-pub record AreFew (most : ℕ) (found : Swept) : Type 0 where
-  pub runs : found.runs ≤ most
-  pub good : found.good ≤ most
-  pub stuck : found.stuck ≤ most
+-- there is room for one run more in each count
+pub record AreFew (found : Swept) : Type 0 where
+  pub runs : found.runs ≤ 2 ^ 58
+  pub good : found.good ≤ 2 ^ 58
+  pub stuck : found.stuck ≤ 2 ^ 58
 
--- after these events: a runner shows them, another one has the same setup, and their runs are counted
-pub record HasSwept (s : Setup) (calls : List (ℕ × Command)) (before : List Event) (walker runner : RunnerState) (found : Swept) : Type 0 where
-  pub follows : Follows walker before
-  pub walker_setup : walker.core.setup ≡ s
-  pub runner_setup : runner.core.setup ≡ s
-  pub counts : Counts s (cuts s calls before) found
+-- after these events: the walker shows them, the other runner has the same setup, and these runs are counted
+pub record HasSwept (s : Setup) (before : List Event) (cs : List Cut) (sweeper : Sweeper) : Type 0 where
+  pub follows : Follows sweeper.walker before
+  pub walker_setup : sweeper.walker.core.setup ≡ s
+  pub runner_setup : sweeper.runner.core.setup ≡ s
+  pub counts : Counts s cs sweeper.found
 
--- the same, as a sweeper keeps it
+-- it has gone along these events, and these calls ended each run that is cut after one of them
 abbrev pub SweptBy : Setup → List (ℕ × Command) → List Event → Sweeper → Type 0
-SweptBy s calls before sweeper = HasSwept s calls before sweeper.walker sweeper.runner sweeper.found
+SweptBy s calls before sweeper = HasSwept s before (cuts s calls before) sweeper
 
 -- before the first event, whatever calls are to follow
 abbrev pub SweepsNone : Setup → Sweeper → Type 0
@@ -58,8 +59,33 @@ SweepsNone s sweeper = (calls : List (ℕ × Command)) → SweptBy s calls [] sw
 abbrev pub SweepsOn : List (ℕ × Command) → Event → Sweeper → Sweeper → Type 0
 SweepsOn calls event sweeper then = (s : Setup) (before : List Event) → SweptBy s calls before sweeper → SweptBy s calls (event ∷ before) then
 
--- and counts the run in which the process of the last event fails, and that goes on by this flick
+-- this holds of all that it has gone along
+abbrev pub OfSweep : Sweeper → (Setup → List (ℕ × Command) → List Event → Type 0) → Type 0
+OfSweep sweeper P = (s : Setup) (calls : List (ℕ × Command)) (before : List Event) → SweptBy s calls before sweeper → P s calls before
+
+-- there is room for so many events more: with those before they are at most 2^56, and so are the calls
+pub record CanSweep (calls : List (ℕ × Command)) (more : ℕ) (sweeper : Sweeper) : Type 0 where
+  pub setup : Setup
+  pub before : List Event
+  pub swept : SweptBy setup calls before sweeper
+  pub few_events : length before + more ≤ 2 ^ 56
+  pub few_calls : length calls ≤ 2 ^ 56
+
+-- so there is for fewer
+pub can_sweep_less : (calls : List (ℕ × Command)) (sweeper : Sweeper) (n k : ℕ) → n ≤ k → CanSweep calls k sweeper → CanSweep calls n sweeper
+can_sweep_less calls sweeper n k fewer room = record { setup = room.setup; before = room.before; swept = room.swept; few_events = omega (arith, fewer, room.few_events); few_calls = room.few_calls }
+
+-- there is room for 2^56 events, each before at most 2^56 calls
+abbrev pub RoomAtFirst : Sweeper → Type 0
+RoomAtFirst sweeper = (calls : List (ℕ × Command)) → length calls ≤ 2 ^ 56 → CanSweep calls (2 ^ 56) sweeper
+
+-- there is room for one run more
+pub record CanRun (calls : List (ℕ × Command)) (sweeper : Sweeper) : Type 0 where
+  pub setup : sweeper.runner.core.setup ≡ sweeper.walker.core.setup
+  pub due : due sweeper.walker + 16 * length calls + 16 < 2 ^ 64
+  pub few : AreFew sweeper.found
+
+-- it counts the run in which the process of the last event fails, and that goes on by this flick
 abbrev pub CountsRun : ℕ → Bool → List (ℕ × Command) → Sweeper → Sweeper → Type 0
 CountsRun p v calls sweeper then =
-    let s = sweeper.walker.core.setup in
-    (event : Event) (before : List Event) (cs : List Cut) → p ≡ process_of event → Follows sweeper.walker (event ∷ before) → Counts s cs sweeper.found → Counts s (cs ++ cut s calls event before v ∷ []) then.found
+    (s : Setup) (event : Event) (before : List Event) (cs : List Cut) → p ≡ process_of event → HasSwept s (event ∷ before) cs sweeper → HasSwept s (event ∷ before) (cs ++ cut s calls event before v ∷ []) then

@@ -10,6 +10,16 @@
 //!     Err(AllocError) => sweep(alloc, setup, events, calls),
 //! }
 //! ```
+//!
+//! Whoever holds no list of the events tells them one by one:
+//!
+//! ```rust
+//! let mut sweeper = Sweeper::new(alloc, setup)?;
+//! for event in events {
+//!     sweeper.event(event, calls);
+//! }
+//! Ok(sweeper.found())
+//! ```
 #![tactic(auto)]
 
 mod laws_of_sweeps;
@@ -23,5 +33,5 @@ pub use files::progress;
 pub use laws_of_sweeps::{
     fails_are_of_whom_stands, steps_are_of_whom_moves, swept_runs_are_good, units_are_down_in_time,
 };
-pub use sweeping::{sweep, sweep_seen};
+pub use sweeping::{Sweeper, sweep};
 pub use swept::{BadRun, Swept};

@@ -53,7 +53,6 @@ impl Runner {
         requires { checked setup.now ≡ Ok tt }
         ensures setup { IfOk result (λ r. r.core.setup ≡ setup.now) }
         ensures follows { IfOk result (λ r. Follows r []) }
-        ensures few { IfOk result (λ r. due r ≤ 16) }
     {
         Ok(Runner {
             alloc,
@@ -83,6 +82,11 @@ impl Runner {
         ensures { result ≡ self.now.core.setup.processes }
     {
         self.processes
+    }
+
+    /// How many entries were made.
+    pub fn entries(&self) -> u64 {
+        self.entries
     }
 
     /// The first bad entry; there is none.

@@ -1,5 +1,5 @@
 //! What is found in the runs of a sweep.
-ghost use Rattle.std.specs.Prelude.{◌≡◌, ◌+◌, ◌^◌, ◌<◌, None, option_map};
+ghost use Rattle.std.specs.Prelude.{◌≡◌, option_map};
 ghost use Rattle.sweeper.specs.Tallies.{AreFew, bad_run as bad_run_of, counted};
 
 use crate::runner::BadEntry;
@@ -32,21 +32,9 @@ pub struct Swept {
 }
 
 impl Swept {
-    /// Before the first run.
-    pub(crate) fn none() -> Swept
-        ensures { result ≡ record { runs = 0; good = 0; stuck = 0; first_bad = None } }
-    {
-        Swept {
-            runs: 0,
-            good: 0,
-            stuck: 0,
-            first_bad: None,
-        }
-    }
-
     /// One run more: where it is cut, by which flick it goes on, whether it is stuck, and its first bad entry.
     pub(crate) fn with_run(self, cut: u64, value: bool, stuck: bool, bad: Option<BadEntry>) -> Swept
-        requires { AreFew (2 ^ 63) self }
+        requires { AreFew self }
         ensures { result ≡ counted self cut value stuck bad }
     {
         Swept {

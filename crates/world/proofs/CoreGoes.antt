@@ -22,7 +22,7 @@ use Rattle.laws.proofs.Steps.{StepIs, step_is}
 use Rattle.laws.proofs.Theorems.{less, not_less}
 use Rattle.process.specs.{ProcessState, answered_at, next_number, process_after, stage_doing}
 use Rattle.process.specs.registers.{answered}
-use Rattle.world.specs.{CoreState, Seat, access_made, core_after, is_waiting, marks_made, registers_after, seat_after, seat_of, told, waiting_in, waits_in}
+use Rattle.world.specs.{CoreState, Seat, access_made, core_after, is_waiting, marks_made, registers_made, seat_after, seat_of, told, waiting_in, waits_in}
 use Rattle.world.proofs.QueueAfter.{before-called}
 use Rattle.world.proofs.QueueBegun.{begun-after}
 use Rattle.world.proofs.WorldLists.{get-beyond, get-mapped}
@@ -34,7 +34,7 @@ use Rattle.world.proofs.WorldStages.{stage-process}
 
 -- the entry of an event, as a core and a history tell it
 abbrev pub entry_told : CoreState → Seat → ℕ → Event → Entry
-entry_told c seat taken what = record { process = process_of what; access = access_made c seat what; marks = map (placed taken) (marks_made c seat what) }
+entry_told c seat taken what = record { process = process_of what; access = access_made c.registers seat what; marks = map (placed taken) (marks_made c.registers seat what) }
 
 -- after a past
 abbrev pub entry_made : Setup → Past → Event → Entry
@@ -93,7 +93,7 @@ made s ok events (event.Restart p) h = entry-added s (past_of s events) (event.R
 -- The registers.
 
 registers-goes : (s : Setup) → checked s ≡ Ok tt → (events : List Event) (what : Event) → let past : Past = past_of s events in let e : Entry = entry_made s past what in entry_of s past what ≡ Some e →
-    registers_after (core_of s past) (seat_of s past (process_of what)) what ≡ registers_at s (e ∷ past)
+    registers_made (core_of s past).registers (seat_of s past (process_of what)) what ≡ registers_at s (e ∷ past)
 registers-goes s ok events (event.Call p command) h = sym (registers-stay s (past_of s events) (entry_made s (past_of s events) (event.Call p command)) refl refl)
 registers-goes s ok events (event.Step p flick) h =
     let past : Past = past_of s events in

@@ -1,4 +1,5 @@
 -- A core goes on by an event that is not refused, with each history with which it shows something.
+use Rattle.std.proofs.lemmas.Option.{slice_get_within}
 use Rattle.std.proofs.Common.{◌≡◌, ℕ, zero, suc, ◌+◌, ◌<◌, ◌≤◌, Bool, true, false, cond, List, [], ◌∷◌, Option, None, Some, length, map, refl, sym, ap, subst, ◌∙◌, arith}
 use Rattle.std.specs.Prelude.{slice_get, slice_index_or, slice_set}
 use Rattle.std.proofs.lemmas.List.{length-map, length-set, length_push}
@@ -9,7 +10,7 @@ use Rattle.process.specs.{Effect, answered_at, marks_of}
 use Rattle.world.specs.{CoreGoes, CoreRefuses, CoreState, KeepsCore, Seat, access_made, call_in, core_after, history_with, is_pending, is_waiting, marks_made, pending, pending_in, seat_after, seat_of, told, with_history, with_taken}
 use Rattle.world.specs.Shows.{Shows}
 use Rattle.world.proofs.CoreGoes.{core-goes, entry_made, entry_told, made}
-use Rattle.world.proofs.WorldOpen.{core-shown, core_of, history-shown, is-allowed, many-seats, seat-below, seat-indexed, seat-shown}
+use Rattle.world.proofs.WorldOpen.{core-shown, core_of, history-shown, is-allowed, many-seats, seat-indexed, seat-shown}
 use Rattle.world.proofs.WorldPending.{fails-pending, keeps, pending-most, pending-set, pending-told, takes}
 use Rattle.world.proofs.WorldShows.{history-then, reply-placed, shows-on}
 
@@ -33,8 +34,8 @@ call-set (x ∷ seats) waited waits p zero then l = refl
 call-set (x ∷ seats) waited waits p (suc i) then l = call-set seats waited waits p i then (omega (arith, l))
 
 -- what is taken by the call of the seat before it, is taken by the call after it
-taken-then : (c : CoreState) (seat : Seat) (what : Event) (h : List Taken) → with_taken h (process_of what) (seat_after c seat what).process.command (seat_after c seat what).process.number (reply_taken (marks_made c seat what))
-    ≡ with_taken h (process_of what) seat.process.command seat.process.number (reply_taken (marks_made c seat what))
+taken-then : (c : CoreState) (seat : Seat) (what : Event) (h : List Taken) → with_taken h (process_of what) (seat_after c seat what).process.command (seat_after c seat what).process.number (reply_taken (marks_made c.registers seat what))
+    ≡ with_taken h (process_of what) seat.process.command seat.process.number (reply_taken (marks_made c.registers seat what))
 taken-then c seat (event.Call p command) h = refl
 taken-then c seat (event.Step p flick) h = refl
 taken-then c seat (event.Fail p) h = refl
@@ -43,13 +44,13 @@ taken-then c seat (event.Restart p) h = refl
 
 -- the history after the event
 abbrev history_after : CoreState → Seat → Event → List Taken → List Taken
-history_after c seat what h = history_with h (core_after c seat what) (process_of what) (reply_taken (marks_made c seat what))
+history_after c seat what h = history_with h (core_after c seat what) (process_of what) (reply_taken (marks_made c.registers seat what))
 
 history-is : (c : CoreState) (seat : Seat) (what : Event) (h : List Taken) → process_of what < length c.seats →
-    history_after c seat what h ≡ with_taken h (process_of what) seat.process.command seat.process.number (reply_taken (marks_made c seat what))
+    history_after c seat what h ≡ with_taken h (process_of what) seat.process.command seat.process.number (reply_taken (marks_made c.registers seat what))
 history-is c seat what h l =
     let last = call-set c.seats (is_waiting seat) (is_waiting (seat_after c seat what)) (process_of what) (process_of what) (seat_after c seat what) l in
-    (λ i. with_taken h (process_of what) (last i).0 (last i).1 (reply_taken (marks_made c seat what))) ∙ taken-then c seat what h
+    (λ i. with_taken h (process_of what) (last i).0 (last i).1 (reply_taken (marks_made c.registers seat what))) ∙ taken-then c seat what h
 
 -- With one history.
 
@@ -83,9 +84,9 @@ module _ (c : CoreState) (taken : List Taken) (events : List Event) (what : Even
 
   history-goes : history_after c seat what taken ≡ history s (entry_made s past what ∷ past)
   history-goes =
-      history-is c seat what taken (seat-below c.seats p seat n.there)
-      ∙ (λ i. with_taken (taken-is i) p (seat-is i).process.command (seat-is i).process.number (reply_taken (marks_made (core-is i) (seat-is i) what)))
-      ∙ ap (with_taken (history s past) p (last_command (own p past)) (call_number s (own p past))) (sym (reply-placed (length (history s past)) (marks_made (core_of s past) (seat_of s past p) what)))
+      history-is c seat what taken (slice_get_within c.seats p seat n.there)
+      ∙ (λ i. with_taken (taken-is i) p (seat-is i).process.command (seat-is i).process.number (reply_taken (marks_made (core-is i).registers (seat-is i) what)))
+      ∙ ap (with_taken (history s past) p (last_command (own p past)) (call_number s (own p past))) (sym (reply-placed (length (history s past)) (marks_made (core_of s past).registers (seat_of s past p) what)))
       ∙ sym (history-then s past (entry_made s past what))
 
   pub next-shows : Shows (with_history (core_after c seat what) (history_after c seat what taken)) (what ∷ events)
@@ -110,14 +111,14 @@ counted-taken false b was now = cc
 abbrev taking_of : Option Reply → ℕ
 taking_of o = elim o as (λ _. ℕ) [ None ↦ 0 | Some r ↦ 1 ]
 
-seat-pending : (c : CoreState) (seat : Seat) (what : Event) → is_call what ≡ false → pending (seat_after c seat what) + taking_of (reply_taken (marks_made c seat what)) ≤ pending seat
+seat-pending : (c : CoreState) (seat : Seat) (what : Event) → is_call what ≡ false → pending (seat_after c seat what) + taking_of (reply_taken (marks_made c.registers seat what)) ≤ pending seat
 seat-pending c seat (event.Call p command) other = cc
-seat-pending c seat (event.Step p flick) other = go (reply_taken (marks_made c seat (event.Step p flick))) refl
+seat-pending c seat (event.Step p flick) other = go (reply_taken (marks_made c.registers seat (event.Step p flick))) refl
   where
     v : Bool
     v = value_of (answered_at seat.process c.registers flick).how
 
-    go : (o : Option Reply) → reply_taken (marks_made c seat (event.Step p flick)) ≡ o → pending (seat_after c seat (event.Step p flick)) + taking_of o ≤ pending seat
+    go : (o : Option Reply) → reply_taken (marks_made c.registers seat (event.Step p flick)) ≡ o → pending (seat_after c seat (event.Step p flick)) + taking_of o ≤ pending seat
     go None is =
         let less = counted (is_pending seat.process.doing) (is_pending (seat_after c seat (event.Step p flick)).process.doing) (keeps seat.process.setup seat.process.process seat.process.doing flick v) in
         omega (arith, less)
@@ -137,7 +138,7 @@ next-pending c seat what there =
     omega (arith, told, set)
 
 pub next-fewer : (c : CoreState) (seat : Seat) (what : Event) → slice_get c.seats (process_of what) ≡ Some seat → is_call what ≡ false →
-    pending_in (core_after c seat what).seats + taking_of (reply_taken (marks_made c seat what)) ≤ pending_in c.seats
+    pending_in (core_after c seat what).seats + taking_of (reply_taken (marks_made c.registers seat what)) ≤ pending_in c.seats
 next-fewer c seat what there other = let all = next-pending c seat what there in let own = seat-pending c seat what other in omega (arith, all, own)
 
 many-after : (c : CoreState) (seat : Seat) (what : Event) → length (core_after c seat what).seats ≡ length c.seats
@@ -146,7 +147,7 @@ many-after c seat what =
     ∙ length-set c.seats (process_of what) (seat_after c seat what)
 
 next-few : (c : CoreState) (seat : Seat) (what : Event) → slice_get c.seats (process_of what) ≡ Some seat →
-    pending_in (core_after c seat what).seats + taking_of (reply_taken (marks_made c seat what)) ≤ length c.seats
+    pending_in (core_after c seat what).seats + taking_of (reply_taken (marks_made c.registers seat what)) ≤ length c.seats
 next-few c seat (event.Call p command) there =
     let most = pending-most (core_after c seat (event.Call p command)).seats in let many = many-after c seat (event.Call p command) in omega (arith, most, many)
 next-few c seat (event.Step p flick) there = let fewer = next-fewer c seat (event.Step p flick) there refl in let most = pending-most c.seats in omega (arith, fewer, most)
@@ -182,12 +183,12 @@ next-keeps c new what seat k n is = subst KeepsCore (sym is) (keeps_core _ _ _ (
 
 -- and goes on by the event
 pub next-goes : (c d new : CoreState) (what : Event) (effect : Effect) (access : Option Access) (seat : Seat) → c ≡ d → IsNext c what seat →
-    access ≡ access_made c seat what → marks_of effect ≡ marks_made c seat what → new ≡ core_after c seat what → CoreGoes d what effect access new
+    access ≡ access_made c.registers seat what → marks_of effect ≡ marks_made c.registers seat what → new ≡ core_after c seat what → CoreGoes d what effect access new
 next-goes c d new what effect access seat view n access_is marks is =
     subst (λ (d : CoreState). CoreGoes d what effect access new) view (subst (CoreGoes c what effect access) (sym is) (record {
       adds = λ taken events shows. next-adds c taken events what seat shows n ∙ (λ i. let e : Entry = record { process = process_of what; access = sym access_is i; marks = map (placed (length taken)) (sym marks i) } in Some e);
       makes = record {
-        there = let l = seat-below c.seats (process_of what) seat n.there in let many = many-after c seat what in omega (arith, l, many);
+        there = let l = slice_get_within c.seats (process_of what) seat n.there in let many = many-after c seat what in omega (arith, l, many);
         goes = λ taken events shows. subst (λ o. Shows (with_history (core_after c seat what) (history_with taken (core_after c seat what) (process_of what) o)) (what ∷ events)) (ap reply_taken (sym marks)) (next-shows c taken events what seat shows n);
       };
       pending = λ other. subst (λ o. pending_in (core_after c seat what).seats + taking_of o ≤ pending_in c.seats) (ap reply_taken (sym marks)) (next-fewer c seat what n.there other);

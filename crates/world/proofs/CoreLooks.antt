@@ -1,5 +1,5 @@
 -- What a core is looked at for: a process, and a bit.
-use Rattle.std.proofs.Common.{◌≡◌, ℕ, ◌≤◌, length, ap, arith, refl, ◌∙◌}
+use Rattle.std.proofs.Common.{◌≡◌, ℕ, None, ap, refl, ◌∙◌}
 use Rattle.std.specs.Prelude.{slice_get, Some}
 use Rattle.record.specs.{Access, past_of}
 use Rattle.record.proofs.Width.{is_good}
@@ -9,17 +9,15 @@ use Rattle.process.specs.registers.{cell_at, lane_of_access}
 use Rattle.process.specs.{process_after}
 use Rattle.process.proofs.Memories.{with-cell}
 use Rattle.world.specs.{CoreState, InEachCorePast, Seat, WorldState, with_history}
-use Rattle.world.proofs.WorldOpen.{many-seats, seat-shown}
+use Rattle.world.proofs.WorldOpen.{seat-shown, seatless}
 
 -- a process is that of the past
 pub process-shown : (c : CoreState) (p : ℕ) (seat : Seat) → slice_get c.seats p ≡ Some seat → InEachCorePast c (λ s past. seat.process ≡ process_after s past p)
 process-shown c p seat there taken events shows = ap (λ (x : Seat). x.process) (seat-shown (with_history c taken) events p seat shows there)
 
 -- and one that there is not rests
-pub none-shown : (c : CoreState) (p : ℕ) → length c.seats ≤ p → InEachCorePast c (λ s past. doing s p past ≡ Rests)
-none-shown c p beyond taken events shows =
-    let many = many-seats (with_history c taken) events shows in
-    doing-above c.setup (is_good c.setup shows.good) events p (omega (arith, many, beyond))
+pub none-shown : (c : CoreState) (p : ℕ) → slice_get c.seats p ≡ None → InEachCorePast c (λ s past. doing s p past ≡ Rests)
+none-shown c p none taken events shows = doing-above c.setup (is_good c.setup shows.good) events p (seatless (with_history c taken) events p shows none)
 
 -- and so is the cell of a bit that there is
 pub cell-shown : (c : CoreState) (a : Access) → IsThere c.setup a → InEachCorePast c (λ s past. cell_at c.registers (lane_of_access s.processes a) a.bit ≡ cell_held s past a)

@@ -1,5 +1,6 @@
 -- Why an event is refused, by the seat of its process.
-use Rattle.std.proofs.Common.{◌≡◌, ℕ, ◌<◌, ◌≤◌, ◌==◌, ◌&&◌, Bool, true, false, cond, List, Option, Some, None, length, refl, sym, ap, subst, ◌∙◌, arith}
+use Rattle.std.proofs.lemmas.Option.{slice_get_within}
+use Rattle.std.proofs.Common.{◌≡◌, ℕ, ◌<◌, ◌≤◌, ◌==◌, ◌&&◌, Bool, true, false, cond, List, Option, Some, None, refl, sym, ap, subst, ◌∙◌, arith}
 use Rattle.std.proofs.lemmas.Bool.Decides.{nat_tests}
 use Rattle.std.specs.Prelude.{nat_le, nat_lt, slice_get}
 use Rattle.plain_store.specs.{Setup}
@@ -10,7 +11,7 @@ use Rattle.record.proofs.Width.{is_good}
 use Rattle.process.specs.{is_full, left_at, may_step, refusal_of, stage_doing}
 use Rattle.world.specs.{CoreRefuses, CoreState, Seat, seat_of, with_history}
 use Rattle.world.specs.Shows.{Shows}
-use Rattle.world.proofs.WorldOpen.{many-seats, seat-below, seat-shown}
+use Rattle.world.proofs.WorldOpen.{many-seats, seat-shown, seatless}
 use Rattle.world.proofs.WorldStages.{left-may, stage-process, step-refused}
 
 refused-by : (s : Setup) (past : Past) (what : Event) (b : Bool) (r : Option Refusal) (f : Bool) → nat_lt (process_of what) s.processes ≡ b → refused_at what (stage (process_of what) past) ≡ r → calls_full s past what ≡ f →
@@ -24,11 +25,11 @@ pub is-below : (p n : ℕ) → p < n → nat_lt p n ≡ true
 is-below p n h = grind (arith, nat_tests)
 
 -- of a process that there is not
-pub refused-beyond : (c : CoreState) (what : Event) → length c.seats ≤ process_of what → CoreRefuses c what (Some NoProcess)
-refused-beyond c what beyond taken events shows =
-    let many = many-seats (with_history c taken) events shows in
+pub refused-beyond : (c : CoreState) (what : Event) → slice_get c.seats (process_of what) ≡ None → CoreRefuses c what (Some NoProcess)
+refused-beyond c what none taken events shows =
     let past : Past = past_of c.setup events in
-    refused-by c.setup past what false (refused_at what (stage (process_of what) past)) (calls_full c.setup past what) (is-above (process_of what) c.setup.processes (omega (arith, many, beyond))) refl refl
+    let above = is-above (process_of what) c.setup.processes (seatless (with_history c taken) events (process_of what) shows none) in
+    refused-by c.setup past what false (refused_at what (stage (process_of what) past)) (calls_full c.setup past what) above refl refl
 
 -- of one that there is, with one history
 module _ (c : CoreState) (taken : List Taken) (events : List Event) (what : Event) (seat : Seat) (shows : Shows (with_history c taken) events) (there : slice_get c.seats (process_of what) ≡ Some seat) where
@@ -45,7 +46,7 @@ module _ (c : CoreState) (taken : List Taken) (events : List Event) (what : Even
   seat_is = seat-shown (with_history c taken) events p seat shows there
 
   pub below-is : nat_lt p s.processes ≡ true
-  below-is = let many = many-seats (with_history c taken) events shows in let l = seat-below c.seats p seat there in is-below p s.processes (omega (arith, many, l))
+  below-is = let many = many-seats (with_history c taken) events shows in let l = slice_get_within c.seats p seat there in is-below p s.processes (omega (arith, many, l))
 
   pub stage-told : stage_doing seat.process.doing ≡ stage p past
   stage-told = ap (λ (x : Seat). stage_doing x.process.doing) seat_is ∙ stage-process s (is_good s shows.good) events p

@@ -1,9 +1,10 @@
 -- Steps of a process within a number access, and the core that they leave.
 use Rattle.std.proofs.Common.{◌≡◌, ℕ, zero, suc, ◌+◌, ◌<◌, ◌≤◌, ◌&&◌, ◌||◌, Bool, true, false, cond, List, [], ◌∷◌, Some, map, refl, sym, ap, subst, ◌∙◌, arith}
 use Rattle.std.specs.Prelude.{is_some, slice_get, slice_set}
-use Rattle.std.proofs.lemmas.List.{set-set}
+use Rattle.std.proofs.lemmas.List.{get_or-set_same, length-set, set-get_or, set-set}
+use Rattle.std.proofs.lemmas.Option.{get_or_from_slice_get, slice_get-get_or, slice_get_within}
 use Rattle.record.specs.safe_bit.Cell.{Cell}
-use Rattle.record.specs.{Access, Part, Past, Raises, Taken, doorway_begin, is_fresh, is_over, past_of, value_of}
+use Rattle.record.specs.{Access, Event, Part, Past, Raises, Taken, doorway_begin, is_fresh, is_over, past_of, process_of, value_of}
 use Rattle.record.proofs.Width.{is_good}
 use Rattle.laws.specs.{Closes, Doing, Lies, Rests, Runs, doing}
 use Rattle.laws.proofs.DoorwayParts.{has_begun}
@@ -12,15 +13,15 @@ use Rattle.flicks.specs.{FlickState, flick_of}
 use Rattle.process.specs.declared.told.Effect.TheVariants.{Steps}
 use Rattle.process.specs.declared.told.StepTold.TheVariants.{Nothing}
 use Rattle.process.specs.{ProcessState, answered_at, answered_next, left_at, newest_of, overlapped_steps, is_told, overlaps_step, process_after, step_by, steps_of}
-use Rattle.world.specs.{CoreGoes, CoreState, CoreTellsOverlapped, CoreWalks, KeepOthers, KeepsCore, Seat, StepsQuietly, core_after, is_at_door, is_waiting, left_in, pending_in, seat_of, seat_stepped, seat_with, told, with_history}
+use Rattle.world.specs.{CoreGoes, CoreState, CoreTellsOverlapped, CoreWalks, KeepOthers, KeepsCore, Seat, StepsQuietly, core_after, is_at_door, is_waiting, left_in, pending_in, seat_after, seat_of, seat_stepped, seat_with, told, with_history}
 use Rattle.world.proofs.CoreKeeps.{IsNext, next-goes, next-keeps}
 use Rattle.world.proofs.CoreOverlaps.{tells-overlapped}
 use Rattle.world.proofs.CoreRefused.{step-within}
 use Rattle.process.proofs.Left.{left-fewer, left-quiet, left-stays}
 use Rattle.world.proofs.WorldHeadline.{keeps_headline}
-use Rattle.world.proofs.WorldLists.{map-same}
+use Rattle.world.proofs.WorldTelling.{told-same}
 use Rattle.world.proofs.QueueBegun.{begun-at}
-use Rattle.world.proofs.WorldOpen.{is-seated, seat-below, seat-left, seat-shown}
+use Rattle.world.proofs.WorldOpen.{is-seated, seat-left, seat-shown}
 
 -- How many accesses are left to another process.
 
@@ -38,16 +39,11 @@ left-told [] p q waited waits = refl
 left-told (x ∷ seats) p zero waited waits = refl
 left-told (x ∷ seats) p (suc q) waited waits = left-told seats p q waited waits
 
-pub next-others : (c d new : CoreState) (p : ℕ) (flick : Bool) (seat : Seat) → c ≡ d → new ≡ core_after c seat (Step p flick) → KeepOthers d.seats p new.seats
-next-others c d new p flick seat view is = subst (λ (d : CoreState). KeepOthers d.seats p new.seats) view (subst (λ (new : CoreState). KeepOthers c.seats p new.seats) (sym is)
-    (λ q apart. let then : Seat = seat_stepped (step_by flick (seat.process, c.registers)).0 seat in left-told (slice_set c.seats p then) p q (is_waiting seat) (is_waiting then) ∙ left-other c.seats p then q apart))
+pub next-others : (c d new : CoreState) (what : Event) (seat : Seat) → c ≡ d → new ≡ core_after c seat what → KeepOthers d.seats (process_of what) new.seats
+next-others c d new what seat view is = subst (λ (d : CoreState). KeepOthers d.seats (process_of what) new.seats) view (subst (λ (new : CoreState). KeepOthers c.seats (process_of what) new.seats) (sym is)
+    (λ q apart. let then : Seat = seat_after c seat what in left-told (slice_set c.seats (process_of what) then) (process_of what) q (is_waiting seat) (is_waiting then) ∙ left-other c.seats (process_of what) then q apart))
 
 -- One step.
-
--- nobody is told where nothing has changed
-pub told-same : (p : ℕ) (b : Bool) (seats : List Seat) → map (told p b b) seats ≡ seats
-told-same p true seats = map-same (told p true true) seats (λ seat. refl)
-told-same p false seats = map-same (told p false false) seats (λ seat. refl)
 
 -- the core after it
 abbrev core_within : CoreState → ℕ → Seat → List (List Cell) → CoreState
@@ -89,14 +85,12 @@ within-goes c d new p flick access seat view there some access_is is =
 
 -- a seat that was put there
 seat-set : (seats : List Seat) (p : ℕ) (then seat : Seat) → slice_get seats p ≡ Some seat → slice_get (slice_set seats p then) p ≡ Some then
-seat-set [] p then seat is = cc
-seat-set (x ∷ seats) zero then seat is = refl
-seat-set (x ∷ seats) (suc p) then seat is = seat-set seats p then seat is
+seat-set seats p then seat is =
+    let l = slice_get_within seats p seat is in
+    slice_get-get_or (slice_set seats p then) p then (omega (arith, l, length-set seats p then)) ∙ ap Some (get_or-set_same seats p then then l)
 
 seat-again : (seats : List Seat) (p : ℕ) (seat : Seat) → slice_get seats p ≡ Some seat → slice_set seats p seat ≡ seats
-seat-again [] p seat is = cc
-seat-again (x ∷ seats) zero seat is = let item : seat ≡ x = let both : Some x ≡ Some seat = is in cc in ap (λ x. x ∷ seats) item
-seat-again (x ∷ seats) (suc p) seat is = ap (λ seats. x ∷ seats) (seat-again seats p seat is)
+seat-again seats p seat is = ap (slice_set seats p) (sym (get_or_from_slice_get seats p seat seat is)) ∙ set-get_or seats p seat
 
 -- Its doorway has begun.
 
@@ -194,7 +188,7 @@ module _ (c : CoreState) (p : ℕ) (seat : Seat) (f : FlickState) (there : slice
   run-more n l before = record {
     keeps = next-keeps (core_ran n) (core_ran (suc n)) (Step p flick) (seat_ran n) before.keeps (within-next (core_ran n) p flick (seat_ran n) (seat-is n) some) (sym (core-more n l));
     runs = record {
-      there = seat-below (core_ran (suc n)).seats p (seat_ran (suc n)) (seat-is (suc n));
+      there = slice_get_within (core_ran (suc n)).seats p (seat_ran (suc n)) (seat-is (suc n));
       walks = λ taken. (
         with_history (core_ran n) taken,
         (ran n).2,
@@ -236,7 +230,7 @@ module _ (c : CoreState) (p : ℕ) (seat : Seat) (f : FlickState) (there : slice
   has-run k zero l = record {
     keeps = subst KeepsCore (sym core-zero) k;
     runs = record {
-      there = seat-below (core_ran zero).seats p (seat_ran zero) (seat-is zero);
+      there = slice_get_within (core_ran zero).seats p (seat_ran zero) (seat-is zero);
       walks = λ taken. (ap (λ (x : CoreState). with_history x taken) core-zero, refl, refl);
       pending = let same = ap (λ (x : CoreState). pending_in x.seats) core-zero in omega (arith, same);
     };

@@ -1,5 +1,5 @@
 -- What a core is asked: the stage of a process, and who is ahead of it, by its seat.
-use Rattle.std.proofs.Common.{◌≡◌, ℕ, ◌≤◌, Bool, true, false, cond, List, [], Some, None, length, sym, ap, ◌∙◌, arith}
+use Rattle.std.proofs.Common.{◌≡◌, ℕ, Bool, true, false, cond, List, [], Some, None, sym, ap, ◌∙◌}
 use Rattle.std.specs.Prelude.{slice_get}
 use Rattle.plain_store.specs.{Setup}
 use Rattle.record.specs.declared.events.Event.TheVariants as event
@@ -13,7 +13,7 @@ use Rattle.process.specs.{stage_doing}
 use Rattle.world.specs.{CoreState, InEachCorePast, Seat, is_at_door, listed, stage_in, with_history}
 use Rattle.world.proofs.CoreRefused.{below-is, is-above, stage-told}
 use Rattle.world.proofs.QueueListed.{ahead-listed}
-use Rattle.world.proofs.WorldOpen.{many-seats, seat-shown}
+use Rattle.world.proofs.WorldOpen.{seat-shown, seatless}
 
 -- of a process that there is
 pub stage-there : (c : CoreState) (p : ℕ) (seat : Seat) → slice_get c.seats p ≡ Some seat → InEachCorePast c (λ s past. Some (stage_doing seat.process.doing) ≡ stage_in s past p)
@@ -22,10 +22,9 @@ stage-there c p seat there taken events shows =
     ∙ sym (ap (λ b. cond b (Some (stage p (past_of c.setup events))) None) (below-is c taken events (event.Fail p) seat shows there))
 
 -- of one that there is not
-pub stage-beyond : (c : CoreState) (p : ℕ) → length c.seats ≤ p → InEachCorePast c (λ s past. None ≡ stage_in s past p)
-stage-beyond c p beyond taken events shows =
-    let many = many-seats (with_history c taken) events shows in
-    sym (ap (λ b. cond b (Some (stage p (past_of c.setup events))) None) (is-above p c.setup.processes (omega (arith, many, beyond))))
+pub stage-beyond : (c : CoreState) (p : ℕ) → slice_get c.seats p ≡ None → InEachCorePast c (λ s past. None ≡ stage_in s past p)
+stage-beyond c p none taken events shows =
+    sym (ap (λ b. cond b (Some (stage p (past_of c.setup events))) None) (is-above p c.setup.processes (seatless (with_history c taken) events p shows none)))
 
 -- who is ahead of a process that there is
 pub ahead-there : (c : CoreState) (p : ℕ) (seat : Seat) (queued : Bool) → slice_get c.seats p ≡ Some seat → is_at_door seat ≡ queued →
@@ -36,9 +35,8 @@ ahead-there c p seat queued there h taken events shows =
     sym (ahead-listed c.setup shows.good events p ∙ (λ i. elim (stands i) as (λ _. List ℕ) [ true ↦ listed (sym before i) | false ↦ [] ]))
 
 -- and of one that there is not
-pub ahead-beyond : (c : CoreState) (p : ℕ) → length c.seats ≤ p → InEachCorePast c (λ s past. [] ≡ ahead s p past)
-ahead-beyond c p beyond taken events shows =
+pub ahead-beyond : (c : CoreState) (p : ℕ) → slice_get c.seats p ≡ None → InEachCorePast c (λ s past. [] ≡ ahead s p past)
+ahead-beyond c p none taken events shows =
     let s : Setup = c.setup in
-    let many = many-seats (with_history c taken) events shows in
     let g = is_good s shows.good in
-    sym (queued-only s p (past_of s events) (ap is_queued (stage-is s g events p ∙ ap stage_of (doing-above s g events p (omega (arith, many, beyond))))))
+    sym (queued-only s p (past_of s events) (ap is_queued (stage-is s g events p ∙ ap stage_of (doing-above s g events p (seatless (with_history c taken) events p shows none)))))

@@ -1,5 +1,6 @@
 -- What a world that shows a record keeps: its core, its history and each of its seats are those of the past.
-use Rattle.std.proofs.Common.{◌≡◌, ℕ, zero, suc, ◌<◌, Bool, true, false, cond, List, [], ◌∷◌, Option, Some, None, length, map, refl, sym, ap, subst, ◌∙◌, arith}
+use Rattle.std.proofs.lemmas.Option.{slice_get_read, slice_get_within}
+use Rattle.std.proofs.Common.{◌≡◌, ℕ, zero, suc, ◌<◌, ◌≤◌, Bool, true, false, cond, List, [], ◌∷◌, Option, Some, None, length, map, refl, sym, ap, subst, ◌∙◌, arith}
 use Rattle.std.specs.Prelude.{nat_lt, slice_get, slice_index_or}
 use Rattle.std.proofs.lemmas.List.FromFn.{length-map-range_with_len}
 use Rattle.plain_store.specs.{Setup}
@@ -34,17 +35,7 @@ is-allowed s past what h = go (nat_lt (process_of what) s.processes) refl (refus
 
 -- by its index
 pub seat-indexed : (seats : List Seat) (i p : ℕ) (seat : Seat) → i ≡ p → i < length seats → seat ≡ slice_index_or seats i seat → slice_get seats p ≡ Some seat
-seat-indexed seats i p seat index l is = ap (slice_get seats) (sym index) ∙ there seats i l is
-  where
-    there : (seats : List Seat) (i : ℕ) → i < length seats → seat ≡ slice_index_or seats i seat → slice_get seats i ≡ Some seat
-    there [] i l is = absurd (omega (arith, l))
-    there (x ∷ seats) zero l is = ap Some (sym is)
-    there (x ∷ seats) (suc i) l is = there seats i (omega (arith, l)) is
-
-pub seat-below : (seats : List Seat) (p : ℕ) (seat : Seat) → slice_get seats p ≡ Some seat → p < length seats
-seat-below [] p seat is = cc
-seat-below (x ∷ seats) zero seat is = omega arith
-seat-below (x ∷ seats) (suc p) seat is = let less = seat-below seats p seat is in omega (arith, less)
+seat-indexed seats i p seat index l is = ap (slice_get seats) (sym index) ∙ slice_get_read seats (length seats) i seat refl l is
 
 -- a seat is there where accesses are left of its number access
 pub seat-there : (seats : List Seat) (p : ℕ) → 0 < left_in seats p → (seat : Seat) × (slice_get seats p ≡ Some seat) × (0 < left_at seat.process)
@@ -60,11 +51,20 @@ seat-left seats p seat is = ap (λ (o : Option Seat). elim o as (λ _. ℕ) [ No
 pub many-seats : (w : WorldState) (events : List Event) → Shows w events → length w.seats ≡ w.setup.processes
 many-seats w events shows = ap (λ (w : WorldState). length w.seats) shows.shown ∙ length-map-range_with_len (seat_of w.setup (past_of w.setup events)) 0 w.setup.processes
 
+-- a process without a seat is above those that there are
+pub seatless : (w : WorldState) (events : List Event) (p : ℕ) → Shows w events → slice_get w.seats p ≡ None → w.setup.processes ≤ p
+seatless w events p shows none = let many = many-seats w events shows in let beyond = past w.seats p none in omega (arith, many, beyond)
+  where
+    past : (seats : List Seat) (p : ℕ) → slice_get seats p ≡ None → length seats ≤ p
+    past [] p none = omega arith
+    past (x ∷ seats) zero none = cc
+    past (x ∷ seats) (suc p) none = let more = past seats p none in omega (arith, more)
+
 -- a seat is that of its process
 pub seat-shown : (w : WorldState) (events : List Event) (p : ℕ) (seat : Seat) → Shows w events → slice_get w.seats p ≡ Some seat → seat ≡ seat_of w.setup (past_of w.setup events) p
 seat-shown w events p seat shows is =
     let many = many-seats w events shows in
-    let l : p < w.setup.processes = let l = seat-below w.seats p seat is in omega (arith, l, many) in
+    let l : p < w.setup.processes = let l = slice_get_within w.seats p seat is in omega (arith, l, many) in
     let both : Some seat ≡ Some (seat_of w.setup (past_of w.setup events) p) =
     sym is ∙ ap (λ (w : WorldState). slice_get w.seats p) shows.shown ∙ get-mapped (seat_of w.setup (past_of w.setup events)) 0 w.setup.processes p p l (omega arith) in
     cc
@@ -90,7 +90,7 @@ pub record IsSeated (c : CoreState) (p : ℕ) (seat : Seat) : Type 0 where
 pub is-seated : (c : CoreState) (taken : List Taken) (events : List Event) (p : ℕ) (seat : Seat) → Shows (with_history c taken) events → slice_get c.seats p ≡ Some seat → IsSeated c p seat
 is-seated c taken events p seat shows there = record {
   there = there;
-  few = let l = seat-below c.seats p seat there in let many = many-seats (with_history c taken) events shows in let most = few-processes c.setup shows.good in omega (arith, l, many, most);
+  few = let l = slice_get_within c.seats p seat there in let many = many-seats (with_history c taken) events shows in let most = few-processes c.setup shows.good in omega (arith, l, many, most);
   setup = setup;
   registers = subst (λ s. AreOf s c.registers) (sym setup) (subst (AreOf c.setup) (sym (ap (λ (w : WorldState). w.registers) shows.shown)) (are_of c.setup (past_of c.setup events)));
 }

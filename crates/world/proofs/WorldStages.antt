@@ -11,7 +11,7 @@ use Rattle.laws.proofs.Doings.{stage_of}
 use Rattle.laws.proofs.Frame.{Does, at_rest, lying, running, leaving, settling}
 use Rattle.laws.proofs.FrameEvents.{does_all}
 use Rattle.laws.proofs.FrameInside.{stage-is}
-use Rattle.process.specs.{ProcessState, left_at, may_fail, may_step, stage_doing}
+use Rattle.process.specs.{ProcessState, left_at, may_step, refusal_of, stage_doing}
 
 -- the stage of what is done
 stage-doing : (d : Doing) → stage_doing d ≡ stage_of d
@@ -51,25 +51,15 @@ step-refused s g events p flick = go (does_all s g events p)
     go (leaving b st d) = by _ true d refl (ap (refused_at (event.Step p flick)) st)
     go (settling b st d) = by _ true d refl (ap (refused_at (event.Step p flick)) st)
 
--- and who is not refused it may
-pub steps-may : (p : ℕ) (flick : Bool) (d : Doing) → refused_at (event.Step p flick) (stage_doing d) ≡ None → may_step d ≡ true
-steps-may p flick Rests h = cc
-steps-may p flick Lies h = cc
-steps-may p flick (Runs command number at) h = refl
-steps-may p flick (Closes command number at) h = refl
-
--- nor who fails
-pub fails-may : (p : ℕ) (d : Doing) → refused_at (event.Fail p) (stage_doing d) ≡ None → may_fail d ≡ true
-fails-may p d h = go (stage_doing d) h
+-- a process that does not refuse a step may make it
+pub step-allowed : (p : ℕ) (flick : Bool) (now : ProcessState) → refusal_of now (event.Step p flick) ≡ None → may_step now.doing ≡ true
+step-allowed p flick now h = go now.doing h
   where
-    go : (st : Stage) → refused_at (event.Fail p) st ≡ None → elim st as (λ _. Bool) [ stages.Settling ↦ false | stages.Down ↦ false | _ ↦ true ] ≡ true
-    go stages.Idle h = refl
-    go stages.Doorway h = refl
-    go stages.Waiting h = refl
-    go stages.Inside h = refl
-    go stages.Leaving h = refl
-    go stages.Settling h = cc
-    go stages.Down h = cc
+    go : (d : Doing) → refusal_of (record now { doing = d }) (event.Step p flick) ≡ None → may_step d ≡ true
+    go Rests h = cc
+    go Lies h = cc
+    go (Runs command number at) h = refl
+    go (Closes command number at) h = refl
 
 -- a process within a number access has a step to make
 pub left-may : (now : ProcessState) → 0 < left_at now → may_step now.doing ≡ true

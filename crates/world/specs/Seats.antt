@@ -4,12 +4,8 @@ use Rattle.std.specs.List.{range_with_len}
 use Rattle.plain_store.specs.{Command, Setup}
 use Rattle.record.specs.{Past, doorway_begin, is_ahead, is_queued, is_waiting_stage}
 use Rattle.process.specs.{ProcessState, called, process_after, stage_doing}
-
 -- the process, whether the doorway of its last call has begun, and which processes wait in a doorway before it
-pub record Seat : Type 0 where
-  pub process : ProcessState
-  pub begun : Bool
-  pub before : List Bool
+pub use Rattle.world.specs.declared.seats.Seat.{Seat}
 
 -- its process waits
 abbrev pub is_waiting : Seat → Bool

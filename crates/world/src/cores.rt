@@ -1,5 +1,5 @@
 //! N processes over one set of registers, without a history.
-ghost use Rattle.std.specs.Prelude.{◌≡◌, ◌<◌, ◌≤◌, ◌+◌, Bool, length, true, None, Some, IfOk, IfErr, IfSome, IsOk, OnErr, OnOk, Ok, [], option_map};
+ghost use Rattle.std.specs.Prelude.{◌≡◌, ◌<◌, ◌≤◌, ◌+◌, Bool, length, true, None, Some, IfOk, IfErr, IfSome, IsOk, OnErr, OnOk, Ok, [], option_map, slice_get};
 ghost use Rattle.plain_store.specs.{checked, is_command};
 ghost use Rattle.record.specs.store_image.{image_of};
 ghost use Rattle.record.specs.declared.Event.TheVariants.{Call, Step, Fail, Withdraw, Restart};
@@ -16,11 +16,12 @@ mod copies;
 mod looking;
 
 use crate::queue::listed;
-use crate::seat::Seat;
-use crate::seats::{is_occupied, tell, waiting};
+use crate::seats::{Seat, is_occupied, tell, waiting};
 use flicks::Flicks;
 use plain_store::{Command, NestedTypes, Reply, Setup};
-use process::{AccessMade, AccessesMade, BitMemory, Effect, Image, StepTold, newest, open_memory};
+use process::{
+    AccessMade, AccessesMade, BitMemory, Effect, Image, Process, StepTold, newest, open_memory,
+};
 use record::{Access, Event, Refusal, Stage, Taken};
 use smallvec::SmallVec;
 use std::alloc::{AllocError, Global};
@@ -57,13 +58,25 @@ impl Core {
         setup.opening.pairs_are_sound();
         let mut seats = Vec::new(alloc);
         for process in 0..setup.processes {
-            seats.push(Seat::new(process, setup))?;
+            seats.push(Seat {
+                process: Process::new(process, setup),
+                begun: false,
+                before: [false; 16],
+            })?;
         }
         Ok(Core {
             setup: *setup,
             registers: open_memory(alloc, setup)?,
             seats,
         })
+    }
+
+    /// What is kept of a process; none, if there is no such process.
+    #[inline]
+    fn seat(&self, process: u8) -> Option<&Seat>
+        ensures { option_map (λ seat. seat.now) result ≡ slice_get self.now.seats process }
+    {
+        self.seats.get(usize::from(process))
     }
 
     /// How many processes there are.
@@ -77,11 +90,7 @@ impl Core {
     pub fn stage(&self, process: u8) -> Option<Stage>
         ensures { InEachCorePast self.now (λ s past. result ≡ stage_in s past process) }
     {
-        let at = usize::from(process);
-        if self.seats.len() <= at {
-            return None;
-        }
-        Some(self.seats[at].process().stage())
+        Some(self.seat(process)?.process.stage())
     }
 
     /// The processes that wait and whose doorways ended before that of this process began, ascending; none,
@@ -89,15 +98,9 @@ impl Core {
     pub fn ahead(&self, alloc: Global, process: u8) -> SmallVec<u8, 16>
         ensures { InEachCorePast self.now (λ s past. result.items ≡ ahead s process past) }
     {
-        let at = usize::from(process);
-        if self.seats.len() <= at {
-            return SmallVec::new(alloc);
-        }
-        let seat = &self.seats[at];
-        if seat.is_at_door() {
-            listed(alloc, seat.before())
-        } else {
-            SmallVec::new(alloc)
+        match self.seat(process) {
+            Some(seat) if seat.process.is_at_door() => listed(alloc, &seat.before),
+            _ => SmallVec::new(alloc),
         }
     }
 
@@ -117,7 +120,7 @@ impl Core {
         ensures { result ≡ taken_by self.now.seats process reply }
     {
         let _nested: NestedTypes = None;
-        let caller = self.seats[usize::from(process)].process();
+        let caller = &self.seats[usize::from(process)].process;
         Taken {
             process,
             command: caller.command(),
@@ -131,11 +134,10 @@ impl Core {
         ensures refused { CoreRefuses self.now event.now result }
         ensures never { IfSome result WantsNoMemory }
     {
-        let at = usize::from(event.process());
-        if self.seats.len() <= at {
-            return Some(Refusal::NoProcess);
+        match self.seat(event.process()) {
+            Some(seat) => seat.process.refusal(event),
+            None => Some(Refusal::NoProcess),
         }
-        self.seats[at].process().refusal(event)
     }
 
     /// One event, unless it is refused, and in `effect` what it leads to; the access of a step. The command that it takes,
@@ -201,14 +203,10 @@ impl Core {
         ensures refused { (flick : Bool) → CoreRefuses self.now (Step process flick) result }
         ensures never { IfSome result WantsNoMemory }
     {
-        let at = usize::from(process);
-        if self.seats.len() <= at {
-            return Some(Refusal::NoProcess);
-        }
-        if self.seats[at].process().goes() {
-            None
-        } else {
-            Some(Refusal::NotRunning)
+        match self.seat(process) {
+            Some(seat) if seat.process.goes() => None,
+            Some(_) => Some(Refusal::NotRunning),
+            None => Some(Refusal::NoProcess),
         }
     }
 
@@ -221,9 +219,9 @@ impl Core {
         ensures others { KeepOthers self.old.seats process self.new.seats }
     {
         let seat = &mut self.seats[usize::from(process)];
-        let waited = seat.is_waiting();
+        let waited = seat.process.is_waiting();
         let made = seat.step(&mut self.registers, flick, told);
-        let waits = seat.is_waiting();
+        let waits = seat.process.is_waiting();
         tell(&mut self.seats, process, waited, waits);
         made
     }
@@ -239,7 +237,9 @@ impl Core {
         ensures fewer { left_in self.old.seats process ≡ left_in self.new.seats process + steps }
         ensures others { KeepOthers self.old.seats process self.new.seats }
     {
-        self.seats[usize::from(process)].run(&mut self.registers, flicks, steps)
+        self.seats[usize::from(process)]
+            .process
+            .run(&mut self.registers, flicks, steps)
     }
 
     /// How many of the next steps of a process are within a number access of its call, whatever other processes do: they
@@ -248,11 +248,10 @@ impl Core {
     pub fn left(&self, process: u8) -> u32
         ensures { result ≡ left_in self.now.seats process }
     {
-        let at = usize::from(process);
-        if self.seats.len() <= at {
-            return 0;
+        match self.seat(process) {
+            Some(seat) => seat.process.left(),
+            None => 0,
         }
-        self.seats[at].process().left()
     }
 
     /// An event that is not refused, and in `effect` what it leads to; the access of a step.
@@ -260,74 +259,14 @@ impl Core {
         requires { CoreRefuses self.old event.now None }
         ensures { CoreGoes self.old event.now effect.new result self.new }
     {
-        match event {
-            Event::Call(process, command) => {
-                command.operands_are_sound();
-                self.call(*process, command);
-                *effect = Effect::Calls(*command);
-                None
-            }
-            Event::Step(process, flick) => {
-                let mut told = StepTold::Nothing;
-                let made = self.make_step(*process, *flick, &mut told);
-                *effect = Effect::Steps(told);
-                Some(made.access)
-            }
-            Event::Fail(process) => {
-                self.fail(*process);
-                *effect = Effect::Fails;
-                None
-            }
-            Event::Withdraw(process) => {
-                self.withdraw(*process);
-                *effect = Effect::Withdraws;
-                None
-            }
-            Event::Restart(process) => {
-                self.restart(*process);
-                *effect = Effect::Restarts;
-                None
-            }
-        }
-    }
-
-    /// A call begins.
-    fn call(&mut self, process: u8, command: &Command)
-        requires accepted { CoreRefuses self.old (Call process command.now) None }
-        requires given { is_command command.now ≡ true }
-        ensures { CoreGoes self.old (Call process command.now) (Calls command.now) None self.new }
-    {
-        let waiting = waiting(&self.seats);
+        event.command_is_sound();
+        let before = waiting(&self.seats, event);
+        let process = event.process();
         let seat = &mut self.seats[usize::from(process)];
-        let number = seat.process().next_number();
-        seat.call(*command, number, waiting);
-    }
-
-    /// A process halts, and its memory unit takes over.
-    fn fail(&mut self, process: u8)
-        requires { CoreRefuses self.old (Fail process) None }
-        ensures { CoreGoes self.old (Fail process) Fails None self.new }
-    {
-        let seat = &mut self.seats[usize::from(process)];
-        let waited = seat.is_waiting();
-        seat.fail(&mut self.registers);
-        tell(&mut self.seats, process, waited, false);
-    }
-
-    /// A process gives up waiting.
-    fn withdraw(&mut self, process: u8)
-        requires { CoreRefuses self.old (Withdraw process) None }
-        ensures { CoreGoes self.old (Withdraw process) Withdraws None self.new }
-    {
-        self.seats[usize::from(process)].withdraw(&mut self.registers);
-        tell(&mut self.seats, process, true, false);
-    }
-
-    /// A process that was down may call again.
-    fn restart(&mut self, process: u8)
-        requires { CoreRefuses self.old (Restart process) None }
-        ensures { CoreGoes self.old (Restart process) Restarts None self.new }
-    {
-        self.seats[usize::from(process)].restart();
+        let waited = seat.process.is_waiting();
+        let access = seat.make(&mut self.registers, before, event, effect);
+        let waits = seat.process.is_waiting();
+        tell(&mut self.seats, process, waited, waits);
+        access
     }
 }

@@ -21,7 +21,6 @@
 mod cores;
 mod marks;
 mod queue;
-mod seat;
 mod seats;
 mod world;
 

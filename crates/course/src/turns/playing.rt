@@ -1,16 +1,40 @@
-//! A line is played: its turns are made, one after the other, and a listener hears what they tell.
-ghost use Rattle.std.specs.Prelude.{◌≡◌, ◌+◌, ◌^◌, ◌≤◌, ℕ, IfErr, IfOk, OnOk};
+//! Lines are played: the turns of each are made, one after the other, and a listener hears what they tell.
+ghost use Rattle.std.specs.Prelude.{◌≡◌, ◌+◌, ◌*◌, ◌^◌, ◌≤◌, ℕ, IfErr, IfOk, OnOk, length};
 ghost use Rattle.course.specs.Courses.{Follows};
-ghost use Rattle.course.specs.Listening.{Comes, Keeps, LeavesRoom, PlaysLine, StopsAmid, StopsLine, TakesRoom, room_wanted};
+ghost use Rattle.course.specs.Listening.{Comes, Keeps, LeavesRoom, PlaysLine, PlaysLines, StopsAmid, StopsLine, StopsLines, TakesRoom, room_wanted};
 ghost use Rattle.course.specs.Runs.{Run, run_after};
 ghost use Rattle.course.specs.Turns.{makes_steps as has_steps, rest_of, turns_in as turns_of};
 
 use super::Course;
 use crate::listening::Listener;
 use crate::told::Told;
+use scenario::progress::{LinePlace, Onlooker};
 use scenario::{Fault, Line};
 
 impl Course {
+    /// Plays these lines of a file, one after the other. Before each an onlooker hears of its place, and of how many events
+    /// the listener has heard.
+    pub fn play_all<L: Listener, O: Onlooker>(
+        &mut self,
+        file: &[u8],
+        lines: &[Line],
+        listener: &mut L,
+        onlooker: &mut O,
+    ) -> Result<(), Fault>
+        requires { L.HasRoom listener.old (length lines.now * 2 ^ 32) }
+        ensures ok { OnOk result
+            (PlaysLines L.Hears self.old lines.now self.new listener.old listener.new) }
+        ensures cut { IfErr result
+            (StopsLines L.Stops self.old lines.now listener.old listener.new) }
+    {
+        let mut place = LinePlace::before(file, lines.len());
+        for line in lines {
+            onlooker.reached(place.begin_line(listener.events()));
+            self.play(line, listener)?;
+        }
+        Ok(())
+    }
+
     /// Makes the turns of a line, each of which is heard before the next is made. A course finds no memory only before a
     /// turn.
     pub fn play<L: Listener>(&mut self, line: &Line, listener: &mut L) -> Result<(), Fault>

@@ -1,13 +1,12 @@
 //! The lines that make Steps. A Step without a mark leaves every process where it is, so that only after one with
 //! marks a line has to look again who is where.
 ghost use Rattle.std.specs.Prelude.{◌≡◌, ◌<◌, ◌≤◌, ℕ, length, slice_index, IfErr, IfOk, IfSome, None, Ok};
-ghost use Rattle.world.specs.flicks.{after_flick, after_pick, pick_of};
 ghost use Rattle.record.specs.{stage};
 ghost use Rattle.record.specs.declared.Event.TheVariants.{Step};
 ghost use Rattle.scenario.specs.declared.lines.Line.TheVariants.{Go as GoLine, Wander as WanderLine};
 ghost use Rattle.course.specs.Listening.{Comes, InItsRun, LeavesRoom, RunsAlone, StopsAlone, StopsAmid, room_wanted};
 ghost use Rattle.course.specs.Runs.{has_step, is_there as is_target, movers, past_in};
-ghost use Rattle.course.specs.Steppers.{left_told, turns_drawn};
+ghost use Rattle.course.specs.Steppers.{left_told};
 ghost use Rattle.course.specs.Turns.{rest_of, turns_in};
 
 use super::Course;
@@ -17,7 +16,7 @@ use crate::told::Told;
 use record::{Refusal, Stage};
 use scenario::{Fault, Target};
 use smallvec::SmallVec;
-use world::{Divisor, Flicks};
+use world::Divisor;
 
 impl Course {
     /// Steps of this process, while more than so many turns are left, up to the first that is told; one that is
@@ -166,7 +165,8 @@ impl Course {
             );
             if !is_quiet && (left == 0 || !goes_on(&outcome)) {
                 self.left = left;
-                skip_turns(&mut self.flicks, had - left);
+                self.flicks.skip_picks(had - left);
+                self.flicks.skip(had - left);
                 return outcome;
             }
         }
@@ -197,15 +197,6 @@ impl Course {
             None => false,
         }
     }
-}
-
-/// The words of the picks and flicks of so many turns are taken.
-#[inline]
-fn skip_turns(flicks: &mut Flicks, turns: u32)
-    ensures { flicks.new ≡ turns_drawn turns flicks.old }
-{
-    flicks.skip_picks(turns);
-    flicks.skip(turns);
 }
 
 /// Whether a process in this stage runs, or its memory unit settles.

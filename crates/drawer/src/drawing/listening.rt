@@ -45,6 +45,10 @@ impl<'a, W: Sink> Listener for Drawer<'a, W> {
         self.drawing.canvas.shows_reads()
     }
 
+    fn events(&self) -> u64 {
+        self.drawing.summary.events
+    }
+
     ghost HasRoom = { λ drawer more. CanCount drawer.drawing.now.summary more × (W.failures drawer.output.now < 2 ^ 64 - 1) };
 
     ghost Hears = { λ a s x y b. (b.output.ghost_name ≡ a.output.ghost_name) × (b.drawing.ghost_name ≡ a.drawing.ghost_name) × (b.drawing.now.source ≡ a.drawing.now.source) × (W.failures b.output.now ≡ W.failures a.output.now) × GoesOnDrawing s x y a.drawing.now b.drawing.now (W.taken a.output.now) (W.taken b.output.now) };

@@ -2,18 +2,17 @@
 ghost use Rattle.std.specs.Prelude.{◌≡◌, ◌<◌, ◌≤◌, IfSome, true};
 ghost use Rattle.record.specs.{value_of};
 ghost use Rattle.record.specs.declared.stages.Stage.TheVariants.{Waiting};
-ghost use Rattle.registers.specs.{AreOf, IsAtPart, applied, ends_overlapped, run_at};
-ghost use Rattle.process.specs.Places.{changes_read, failed, left_at, left_of, marks_on, may_fail, may_step, stage_doing, stepped, withdrawn};
+ghost use Rattle.registers.specs.{AreOf, applied, ends_overlapped};
+ghost use Rattle.process.specs.Places.{changes_read, failed, left_at, marks_on, may_fail, may_step, stage_doing, stepped, withdrawn};
 ghost use Rattle.process.specs.Serving.{answered_at, dropped, newest_of, overlapped_steps, steps_of};
 ghost use Rattle.process.specs.Telling.{changes_told, marks_told};
 
 use super::Process;
 use super::advance::go_on;
-use crate::call_part::CallPart;
 use crate::told::StepTold;
 use crate::work::ProcessWork;
 use flicks::Flicks;
-use registers::{AccessMade, AccessesMade, BitMemory, Cursor};
+use registers::{AccessMade, AccessesMade, BitMemory};
 
 impl Process {
     /// How many of its next accesses are within a number access of its call: they have no mark, and none is the first of the
@@ -23,7 +22,9 @@ impl Process {
         ensures { result ≡ left_at self.now }
     {
         match self.work {
-            ProcessWork::Runs => left_of(&self.called, &self.cursor),
+            ProcessWork::Runs if !(self.cursor.is_fresh() && self.called.is_told()) => {
+                self.cursor.left().saturating_sub(1)
+            }
             _ => 0,
         }
     }
@@ -91,18 +92,5 @@ impl Process {
         if self.reads().is_some() {
             memory.drop_read(&self.cursor);
         }
-    }
-}
-
-/// How many accesses of a part come before its last one; none, where the next one begins the call or has a mark.
-#[inline]
-fn left_of(called: &CallPart, cursor: &Cursor) -> u32
-    requires { IsAtPart called.now.call called.now.part cursor.now }
-    ensures { result ≡ left_of called.now.call called.now.part (run_at cursor.now) }
-{
-    if cursor.is_fresh() && called.is_told() {
-        0
-    } else {
-        cursor.left().saturating_sub(1)
     }
 }

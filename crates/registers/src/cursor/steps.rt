@@ -11,38 +11,6 @@ use reader_copies::{all_flags, choose, has_flag, mask, one_flag};
 use record::{Access, Move};
 
 impl Cursor {
-    /// The lane of its reader, and the first of those that it writes.
-    #[inline(always)]
-    pub(crate) fn lane(&self) -> usize
-        ensures { result ≡ first_lane self.now }
-    {
-        self.lane
-    }
-
-    #[inline(always)]
-    pub(crate) fn bit(&self) -> usize
-        ensures bit { result ≡ self.now.bit }
-        ensures inside { result ≤ self.now.width }
-    {
-        self.bit as usize
-    }
-
-    #[inline(always)]
-    pub(crate) fn has_begun(&self) -> bool
-        ensures { result ≡ self.now.begun }
-    {
-        self.begun
-    }
-
-    /// How many copies each bit has.
-    #[inline(always)]
-    pub(crate) fn copies(&self) -> u32
-        ensures copies { result ≡ self.now.copies }
-        ensures most { result ≤ 16 }
-    {
-        self.copies as u32
-    }
-
     /// The next access of a read, whose end gives `value`.
     #[inline(always)]
     pub(crate) fn read_move(&self, value: bool) -> Move
@@ -144,24 +112,6 @@ impl Cursor {
         let old = word_at(&self.words, bit);
         self.words[bit / 64] = choose(mask(bit % 64, n), word, old);
         self.bit += n as u16;
-    }
-
-    /// The word of a write's value that the next bit stands in.
-    pub(crate) fn word(&self) -> u64
-        requires writes { self.now.run ≡ NumberRun.Writes }
-        requires going { self.now.bit < self.now.width }
-        ensures { (i : ℕ) → i / 64 ≡ self.now.bit / 64 → i < self.now.width → flag_in result (i % 64) ≡ slice_index_or self.now.bits i false }
-    {
-        word_at(&self.words, self.bit as usize)
-    }
-
-    /// So many bits were written.
-    pub(crate) fn skip(&mut self, n: u16)
-        requires writes { self.old.run ≡ NumberRun.Writes }
-        requires inside { self.old.bit + n ≤ self.old.width }
-        ensures { self.new ≡ record self.old { bit = self.old.bit + n } }
-    {
-        self.bit += n;
     }
 
     /// A write goes on by its next access.

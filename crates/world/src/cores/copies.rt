@@ -3,7 +3,7 @@ ghost use Rattle.std.specs.Prelude.{◌≡◌};
 ghost use Rattle.world.specs.Seats.{setups_in};
 
 use super::Core;
-use crate::seat::Seat;
+use crate::seats::Seat;
 
 impl Core {
     /// Becomes as the other, of the same setup: the same registers, with the same accesses open on them, and the same
@@ -23,6 +23,9 @@ fn copy_seats(seats: &mut [Seat], others: &[Seat])
     ensures { seats.new ≡ others.now }
 {
     for (process, other) in others.iter().enumerate() {
-        seats[process].copy_from(other);
+        let seat = &mut seats[process];
+        seat.process.copy_from(&other.process);
+        seat.begun = other.begun;
+        seat.before = other.before;
     }
 }

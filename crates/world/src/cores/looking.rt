@@ -16,7 +16,7 @@ impl Core {
         requires { process < self.now.setup.processes }
         ensures { InEachCorePast self.now (λ s past. result.now ≡ process_after s past process) }
     {
-        self.seats[usize::from(process)].process()
+        &self.seats[usize::from(process)].process
     }
 
     /// The number that a process has read so far of the register that it reads; 0, if it reads none, or an image, or if there
@@ -25,11 +25,10 @@ impl Core {
     pub fn number_read(&self, process: u8) -> u32
         ensures { InEachCorePast self.now (λ s past. result ≡ number_read (doing s process past)) }
     {
-        let at = usize::from(process);
-        if self.seats.len() <= at {
-            return 0;
+        match self.seat(process) {
+            Some(seat) => seat.process.number_read(),
+            None => 0,
         }
-        self.seats[at].process().number_read()
     }
 
     /// What the copy of a bit is that an access names.

@@ -1,4 +1,26 @@
+use Rattle.std.proofs.Common.{◌≡◌, ◌∙◌, [], length, subst, sym}
+use Rattle.plain_store.specs.{Setup}
+use Rattle.scenario.specs.{Script, script}
+use Rattle.course.specs.{Audits, run_at_start, run_record}
+use Rattle.judge.specs.auditor.{Verdict}
+use Rattle.course.proofs.Listeners.{run_is_good, run_length}
+use Rattle.course.proofs.Played.{played_good}
+use Rattle.engines.specs.{IsRunVerdict}
+use Rattle.engines.proofs.Replayings.{counts_none}
 use Rattle.engines.proofs.auditing.audit_run.Goals as goal
 
 pub returns : goal.returns
-returns g c = c.audit_lines.ensures
+returns g c =
+    let s = c.in_ok-course.course.world.setup in
+    let said : Script = record { setup = s; lines = c.deref.result.now } in
+    let same : said ≡ script c.args.scenario.now = λ i. record { setup = c.in_ok-course.ensures.setup i; lines = c.deref.ensures.value i } in
+    let plays = c.in-Ok.ensures.ok run_at_start c.in_ok-course.ensures.follows in
+    let counts = plays.hears.0 (counts_none s c.new-listener.result c.new-listener.ensures) in
+    let audits = plays.hears.1 (subst (λ (s : Setup). Audits s [] c.in_ok-audit.audit) (sym c.in_ok-course.ensures.setup) c.in_ok-audit.ensures) in
+    let (checked, given) = played_good plays in
+    let good = c.verdict.ensures s _ audits in
+    record {
+      verdict = subst (λ said. IsRunVerdict said c.verdict.result) same (subst (λ (v : Verdict). IsRunVerdict said v) (sym good) (run_is_good said checked given));
+      good = good;
+      entries = subst (λ said. c.play_all.new.listener.listener.events ≡ length (run_record said)) same (counts.events ∙ sym (run_length said));
+    }

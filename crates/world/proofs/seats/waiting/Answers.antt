@@ -16,7 +16,7 @@ loop-process-preserved c =
     )
 
 pub returns : goal.returns
-returns c =
+returns c = λ call.
     let p = c.loop-process.process in
     let all : p ≡ 16 = omega (arith, c.loop-process-test.false, c.loop-process.auto.process-end) in
     sym (take_all p c.loop-process.waiting (let long = c.loop-process.invariant.0 in omega (arith, long, all)))

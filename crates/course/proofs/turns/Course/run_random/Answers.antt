@@ -1,7 +1,7 @@
 use Rattle.std.proofs.Common.{[], None, Ok, ◌∷◌, ◌≡◌, ◌≤◌, ◌<◌, ◌+◌, ◌-◌, ◌∙◌, ℕ, ap, arith, inl, length, refl, set, slice_index, sym, subst}
 use Rattle.std.proofs.lemmas.Bool.{eqb-false, not-false, not-true}
 use Rattle.scenario.specs.declared.lines.Line.TheVariants.{Step as StepLine, Wander as WanderLine}
-use Rattle.world.specs.flicks.{FlickState, after_flick, after_pick, is_constant, pick_of}
+use Rattle.world.specs.flicks.{FlickState, after_flick, after_pick, flicks_after, is_constant, pick_of}
 use Rattle.course.specs.{ComesOn, ComesTo, CourseState, Follows, HearsFrom, HearsUpTo, IsAlone, IsCounted, Makes, Run, StopsBy, course, movers, past_in, rest_of, turn_of}
 use Rattle.course.proofs.Counted.{counted_put, none_known}
 use Rattle.course.proofs.CourseTurns.{turn_ended}
@@ -10,7 +10,7 @@ use Rattle.course.proofs.Lone.{lone_course, lone_on, lone_whole, only_one}
 use Rattle.course.proofs.Movers.{none_left, some_left}
 use Rattle.course.proofs.Played.{on_fault, wanted_by, where_err, where_ok}
 use Rattle.course.proofs.Runnings.{at_once, comes_start, line_stops, room_after, room_now}
-use Rattle.course.proofs.Wanders.{ArePicked, KnowsWhile, drawn_by, drawn_more, drawn_none, drawn_to, wander_ends, wander_on, wander_stops, wander_to}
+use Rattle.course.proofs.Wanders.{ArePicked, KnowsWhile, drawn_by, drawn_more, drawn_none, drawn_to, picks_first, wander_ends, wander_on, wander_stops, wander_to}
 use Rattle.course.proofs.turns.Course.run_random.Goals as goal
 use Rattle.course.proofs.turns.Course.run_random.Goals.{else-not-is_quiet-via-then-not-is_quiet+else-not-goes_on, then-left-eq0, else-left-eq0, else-not-is_quiet-via-else-not-is_quiet}
 
@@ -130,14 +130,15 @@ returns-then-not-goes_on-clause-ok g c =
     let old = c.args.self.now in
     let ps = c.as_slice-among.result.now in
     let some = some_left ps (sym c.is_empty.ensures ∙ c.if-is_empty.false) in
-    let drawn = c.skip_turns.ensures ∙ drawn_by old i.flicks c.self.inside.left (c.steps.left - 1) inv.same (ap (λ (old : CourseState). old.left) c.self.view_is) in
+    let turns = c.self.inside.left - (c.steps.left - 1) in
+    let drawn = c.skip.ensures ∙ ap (flicks_after turns) c.skip_picks-then-not-goes_on.ensures ∙ picks_first turns i.flicks ∙ drawn_by old i.flicks c.self.inside.left (c.steps.left - 1) inv.same (ap (λ (old : CourseState). old.left) c.self.view_is) in
     let last : one.new.outcome ≡ Ok None → c.steps.left - 1 ≡ 0 = λ none. elim c.if-left-eq0.branch [
       | then-left-eq0 w ↦ w.if-left-eq0.true
       | else-left-eq0 w ↦ absurd (w.goes_on.ensures.some (not-true w.goes_on.result (sym w.value-is ∙ c.if-not-goes_on.true)) none)
     ] in
-    where_ok one.new.outcome _ (λ told. (steps : ℕ) (run : Run) → Follows old run → ComesTo (HearsUpTo g.L.Listener.Hears g.L.Listener.Knows told) old.world.setup (WanderLine steps) old.left run c.args.listener.now one.new.listener told (course one.new.world c.skip_turns.new.flicks (c.steps.left - 1))) one.ensures.ok (λ told is makes steps run follows.
+    where_ok one.new.outcome _ (λ told. (steps : ℕ) (run : Run) → Follows old run → ComesTo (HearsUpTo g.L.Listener.Hears g.L.Listener.Knows told) old.world.setup (WanderLine steps) old.left run c.args.listener.now one.new.listener told (course one.new.world c.skip.new.self (c.steps.left - 1))) one.ensures.ok (λ told is makes steps run follows.
     wander_to g.L.Listener.Hears g.L.Listener.Knows laws.hears_on old steps c.steps.left c.steps.next ps run c.args.listener.now c.steps.listener one.new.listener i.world one.new.world c.twin-source.result inv.more inv.left some inv.process (c.twin-source.ensures ∙ inv.ahead) (inv.on steps run follows)
-    laws.hears_nothing told c.skip_turns.new.flicks makes (λ none. last (is ∙ ap Ok none)) drawn)
+    laws.hears_nothing told c.skip.new.self makes (λ none. last (is ∙ ap Ok none)) drawn)
 
 pub returns-then-not-goes_on-clause-room : goal.returns-then-not-goes_on-clause-room
 returns-then-not-goes_on-clause-room g c =

@@ -1,6 +1,6 @@
 use Rattle.std.proofs.Common.{◌-◌, ◌^◌, subst, arith}
 use Rattle.plain_store.specs.{Setup}
-use Rattle.course.specs.{Keeps, Plays}
+use Rattle.course.specs.{Keeps, Plays, run_after}
 use Rattle.inspect.specs.{Hears, Knows}
 use Rattle.inspect.proofs.part_of_run.PartOfRun.play.Goals as goal
 
@@ -15,6 +15,6 @@ returns-in-Ok-clause-entries c =
 
 pub returns-in-Ok-clause-made : goal.returns-in-Ok-clause-made
 returns-in-Ok-clause-made c = λ s run at.
-    let heard = subst (λ (s : Setup). Plays Hears s c.args.line.now run c.play.new.self c.args.self.now.heard c.play.new.listener) at.setup (c.in-Ok.ensures.ok run at.follows) in
-    let knows = subst (λ (s : Setup). Plays (Keeps Knows) s c.args.line.now run c.play.new.self c.args.self.now.heard c.play.new.listener) at.setup (c.in-Ok.ensures.knows run at.follows) in
+    let heard = subst (λ (s : Setup). Plays Hears s run (run_after s c.args.line.now run) c.play.new.self c.args.self.now.heard c.play.new.listener) at.setup (c.in-Ok.ensures.ok run at.follows) in
+    let knows = subst (λ (s : Setup). Plays (Keeps Knows) s run (run_after s c.args.line.now run) c.play.new.self c.args.self.now.heard c.play.new.listener) at.setup (c.in-Ok.ensures.knows run at.follows) in
     record { follows = heard.follows; setup = heard.setup; seen = heard.hears at.seen; knows = knows.hears at.knows }

@@ -1,6 +1,9 @@
+use Rattle.std.proofs.Common.{refl}
 use Rattle.safe_bit.specs.{without_read}
 use Rattle.reader_copies.proofs.Cells.{cells-moved}
+use Rattle.reader_copies.proofs.Flags.{kept}
 use Rattle.reader_copies.proofs.copies.Copies.drop_read.Goals as goal
 
 pub returns : goal.returns
-returns c = cells-moved c.self.inside.flags.items c.self.inside.len c.args.k c.index_mut.result.now c.drop_read.new.self c.args.self.now without_read c.self.view_is c.self.invariant c.requires c.index_mut.ensures.value c.drop_read.ensures
+returns c =
+    cells-moved _ _ c.args.k c.self.view_is c.self.invariant c.index_mut-flags.ensures.value c.requires without_read _ _ _ _ _ _ _ _ (kept _ _) (kept _ _) c.with_flag-flags.ensures (kept _ _) refl

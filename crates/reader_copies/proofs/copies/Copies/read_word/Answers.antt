@@ -1,29 +1,31 @@
-use Rattle.std.proofs.Common.{ℕ, ◌+◌, ◌%◌, IfSome, None, Option, Some, arith, ap, sym, ◌∙◌}
+use Rattle.std.proofs.Common.{◌≡◌, Bool, true, false, ℕ, ◌+◌, ◌%◌, cond, arith, ap, sym, ◌∙◌, refl}
 use Rattle.safe_bit.specs.Cell.{Cell}
-use Rattle.reader_copies.specs.{after_read}
-use Rattle.reader_copies.proofs.Cells.{cell-in_place, cells-over}
+use Rattle.reader_copies.specs.{after_read, flag_in}
+use Rattle.reader_copies.proofs.Cells.{cells-masked, cells-read}
+use Rattle.reader_copies.proofs.Flags.{cell, flag-zero, same_cell}
+use Rattle.reader_copies.proofs.Masks.{none_both}
 use Rattle.reader_copies.proofs.copies.Copies.read_word.Goals as goal
 
-if-some : {P Q : ℕ → Type 0} (o : Option ℕ) → ((word : ℕ) → P word → Q word) → IfSome o P → IfSome o Q
-if-some None f h = tt
-if-some (Some word) f h = f word h
-
 pub returns-clause-quiet : goal.returns-clause-quiet
-returns-clause-quiet c = if-some c.read_where.result
-    (λ word quiet j below.
+returns-clause-quiet c = λ j below.
     let i : ℕ = c.args.k + j in
-    let cell_is = cell-in_place c.self.inside.flags.items c.self.inside.len c.args.k i c.index_mut.result.now c.args.self.now c.self.view_is c.self.invariant (omega (arith, c.requires.there)) (omega (arith, c.requires.word)) c.index_mut.ensures.value in
-    ap (λ (x : Cell). x.writing) (sym cell_is) ∙ quiet (i % 64) (omega arith) (c.mask.ensures.inside (i % 64) (omega (arith, c.requires.word)) (omega (arith, c.requires.word))))
-    c.read_where.ensures.quiet
+    let bit : ℕ = i % 64 in
+    let flags = c.index_mut-flags.result.now in
+    ap (λ (x : Cell). x.writing) (sym (cells-read _ _ c.args.k i c.self.view_is c.self.invariant c.index_mut-flags.ensures.value (omega (arith, c.requires.there)) (omega (arith, c.requires.word))))
+    ∙ none_both flags.writing c.mask-mask.result bit c.if-flags-mask-ne0.false (c.mask-mask.ensures.inside bit (omega (arith, c.requires.word)) (omega (arith, c.requires.word)))
 
 pub returns-clause-word : goal.returns-clause-word
-returns-clause-word c = if-some c.read_where.result
-    (λ word values j below.
-    let i : ℕ = c.args.k + j in
-    values (i % 64) ∙ ap (λ (x : Cell). x.value) (cell-in_place c.self.inside.flags.items c.self.inside.len c.args.k i c.index_mut.result.now c.args.self.now c.self.view_is c.self.invariant (omega (arith, c.requires.there)) (omega (arith, c.requires.word)) c.index_mut.ensures.value))
-    c.read_where.ensures.word
+returns-clause-word c = λ j below.
+    ap (λ (x : Cell). x.value) (cells-read _ _ c.args.k (c.args.k + j) c.self.view_is c.self.invariant c.index_mut-flags.ensures.value (omega (arith, c.requires.there)) (omega (arith, c.requires.word)))
+
+read_chosen : (m v w r t : Bool) → cell v w (cond m false r) (cond m w t) ≡ cond m (after_read (cell v w r t)) (cell v w r t)
+read_chosen true v w r t = refl
+read_chosen false v w r t = refl
 
 pub returns-clause-read : goal.returns-clause-read
-returns-clause-read c = if-some c.read_where.result
-    (λ word read. cells-over c.self.inside.flags.items c.self.inside.len c.args.k c.args.n (λ i x. after_read x) c.index_mut.result.now c.read_where.new.self c.args.self.now c.mask.result c.self.view_is c.self.invariant c.requires.word c.requires.there c.requires.some c.index_mut.ensures.value c.mask.ensures read)
-    c.read_where.ensures.read
+returns-clause-read c =
+    let flags = c.index_mut-flags.result.now in
+    let mask = c.mask-mask.result in
+    cells-masked _ _ c.args.k c.args.n _ c.self.view_is c.self.invariant c.index_mut-flags.ensures.value c.requires.word c.requires.there c.requires.some c.mask-mask.ensures (λ i. after_read)
+    (λ i below. same_cell refl refl (c.choose-flags-2.ensures i ∙ ap (λ b. cond (flag_in mask i) b (flag_in flags.reading i)) (flag-zero i)) (c.choose-flags.ensures i)
+    ∙ read_chosen (flag_in mask i) (flag_in flags.value i) (flag_in flags.writing i) (flag_in flags.reading i) (flag_in flags.touched i))

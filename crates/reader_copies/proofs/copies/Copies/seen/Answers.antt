@@ -1,9 +1,9 @@
-use Rattle.std.proofs.Common.{◌∙◌, ap}
+use Rattle.std.proofs.Common.{◌∙◌, ap, refl}
 use Rattle.reader_copies.specs.{bit_seen}
 use Rattle.reader_copies.proofs.Cells.{cells-read}
 use Rattle.reader_copies.proofs.copies.Copies.seen.Goals as goal
 
 pub returns : goal.returns
 returns c =
-    c.seen.ensures
-    ∙ ap bit_seen (cells-read c.self.inside.flags.items c.self.inside.len c.args.k c.index.result.now c.args.self.now c.self.view_is c.self.invariant c.requires c.index.ensures)
+    (λ i. record { value = c.has_flag.ensures i; writing = c.has_flag-2.ensures i; touched = c.has_flag-3.ensures i })
+    ∙ ap bit_seen (cells-read _ _ c.args.k c.args.k c.self.view_is c.self.invariant c.index-flags.ensures c.requires refl)

@@ -1,29 +1,21 @@
-use Rattle.std.proofs.Common.{◌≡◌, ◌+◌, ◌≤◌, List, ◌∷◌, true, false, cond, None, ap, sym, subst, ◌∙◌}
+use Rattle.std.proofs.Common.{◌≡◌, ◌+◌, ◌≤◌, List, ◌∷◌, true, cond, None, ap, sym, subst, ◌∙◌}
 use Rattle.plain_store.specs.{Setup}
 use Rattle.record.specs.{Event, is_call}
-use Rattle.world.specs.{CoreState}
 use Rattle.sweeper.specs.{Follows, RunnerState, RunsOn, due, is_accepted}
 use Rattle.sweeper.proofs.Dues.{few_made, few_seats}
 use Rattle.auditor.specs.read_law.{entry_by}
-use Rattle.sweeper.proofs.Making.{IsAnswered, IsMade, follows_made, follows_refused, made_accepted, none_broken, refused_left}
+use Rattle.sweeper.proofs.Making.{IsAnswered, IsMade, accepts_refused, follows_made, follows_refused, made_accepted, none_broken}
 use Rattle.sweeper.proofs.runner.Runner.make.Goals as goal
 use Rattle.sweeper.proofs.runner.Runner.make.Goals.{After-more-self-inside}
 
 pub returns-in_default-clause-follows : goal.returns-in_default-clause-follows
 returns-in_default-clause-follows c =
     let i = c.self.inside in
-    let old : RunnerState = record { core = i.core; auditor = i.auditor; taken = i.taken } in
-    let then : CoreState → RunnerState = λ core. record { core = core; auditor = i.auditor; taken = i.taken } in
-    let family : RunnerState → Type 0 = λ r. RunsOn r (then c.event.new.self) (λ events. c.args.event.now ∷ events) in
-    subst family c.self.view_is (λ events follows. subst (λ core. Follows (then core) (c.args.event.now ∷ events)) (sym c.in_default.ensures.unchanged)
-    (follows_refused old c.args.event.now c.in_default.field-0 c.in_default.ensures.refused events follows c.command_is_sound.ensures))
+    follows_refused (record { core = i.core; auditor = i.auditor; taken = i.taken }) c.args.self.now c.self.view_is c.args.event.now c.in_default.field-0 c.in_default.ensures.refused c.event.new.self c.in_default.ensures.unchanged c.command_is_sound.ensures
 
 pub returns-in_default-clause-accepted : goal.returns-in_default-clause-accepted
 returns-in_default-clause-accepted c =
-    let i = c.self.inside in
-    let old : RunnerState = record { core = i.core; auditor = i.auditor; taken = i.taken } in
-    let family : RunnerState → Type 0 = λ r. (events : List Event) → Follows r events → false ≡ is_accepted r.core.setup events c.args.event.now in
-    subst family c.self.view_is (λ events follows. sym (refused_left old c.args.event.now c.in_default.field-0 c.in_default.ensures.refused events follows))
+    let i = c.self.inside in accepts_refused (record { core = i.core; auditor = i.auditor; taken = i.taken }) c.args.self.now c.self.view_is c.args.event.now c.in_default.field-0 c.in_default.ensures.refused
 
 abbrev before : After-more-self-inside → RunnerState
 before c = let i = c.self.inside in record { core = i.core; auditor = i.auditor; taken = i.taken }

@@ -1,33 +1,23 @@
-use Rattle.std.proofs.Common.{◌≡◌, List, ◌∷◌, false, true, map, None, Some, ap, refl, sym, subst, ◌∙◌}
+use Rattle.std.proofs.Common.{◌≡◌, List, ◌∷◌, true, map, None, Some, ap, refl, sym, subst, ◌∙◌}
 use Rattle.plain_store.specs.{Setup}
 use Rattle.record.specs.{Event, Mark, placed}
 use Rattle.record.specs.declared.events.Event.TheVariants.{Step}
 use Rattle.world.specs.process.declared.told.Effect.TheVariants.{Steps}
 use Rattle.world.specs.process.{marks_told}
-use Rattle.world.specs.{CoreState}
 use Rattle.sweeper.specs.{Follows, RunnerState, RunsOn, is_accepted}
 use Rattle.auditor.specs.read_law.{entry_by}
-use Rattle.sweeper.proofs.Making.{IsAnswered, IsMade, follows_made, follows_refused, made_accepted, none_broken, refused_left}
+use Rattle.sweeper.proofs.Making.{IsAnswered, IsMade, accepts_refused, follows_made, follows_refused, made_accepted, none_broken}
 use Rattle.sweeper.proofs.runner.Runner.step.Goals as goal
 use Rattle.sweeper.proofs.runner.Runner.step.Goals.{After-more-self-inside}
 
 pub returns-in_default-clause-follows : goal.returns-in_default-clause-follows
 returns-in_default-clause-follows c =
     let i = c.self.inside in
-    let step : Event = Step c.args.process c.args.value in
-    let old : RunnerState = record { core = i.core; auditor = i.auditor; taken = i.taken } in
-    let then : CoreState → RunnerState = λ core. record { core = core; auditor = i.auditor; taken = i.taken } in
-    let family : RunnerState → Type 0 = λ r. RunsOn r (then c.step.new.self) (λ events. step ∷ events) in
-    subst family c.self.view_is (λ events follows. subst (λ core. Follows (then core) (step ∷ events)) (sym c.in_default.ensures.unchanged)
-    (follows_refused old step c.in_default.field-0 c.in_default.ensures.refused events follows refl))
+    follows_refused (record { core = i.core; auditor = i.auditor; taken = i.taken }) c.args.self.now c.self.view_is (Step c.args.process c.args.value) c.in_default.field-0 c.in_default.ensures.refused c.step.new.self c.in_default.ensures.unchanged refl
 
 pub returns-in_default-clause-accepted : goal.returns-in_default-clause-accepted
 returns-in_default-clause-accepted c =
-    let i = c.self.inside in
-    let step : Event = Step c.args.process c.args.value in
-    let old : RunnerState = record { core = i.core; auditor = i.auditor; taken = i.taken } in
-    let family : RunnerState → Type 0 = λ r. (events : List Event) → Follows r events → false ≡ is_accepted r.core.setup events step in
-    subst family c.self.view_is (λ events follows. sym (refused_left old step c.in_default.field-0 c.in_default.ensures.refused events follows))
+    let i = c.self.inside in accepts_refused (record { core = i.core; auditor = i.auditor; taken = i.taken }) c.args.self.now c.self.view_is (Step c.args.process c.args.value) c.in_default.field-0 c.in_default.ensures.refused
 
 abbrev before : After-more-self-inside → RunnerState
 before c = let i = c.self.inside in record { core = i.core; auditor = i.auditor; taken = i.taken }

@@ -1,24 +1,37 @@
-use Rattle.std.proofs.Common.{true, false, sym, ◌∙◌}
-use Rattle.sweeper.proofs.Counting.{is_cut_as, swept_cut, swept_refused, swept_uncut}
+use Rattle.std.proofs.Common.{arith}
+use Rattle.sweeper.proofs.Counting.{cut_on, refused_on, room_for_first, room_for_second, room_on, standing_on}
+use Rattle.sweeper.proofs.Dues.{few_due}
 use Rattle.sweeper.proofs.sweeping.Sweeper.event.Goals as goal
 
-pub returns-then-not-make-clause-swept : goal.returns-then-not-make-clause-swept
-returns-then-not-make-clause-swept c = λ s before swept.
-    let old = c.args.self.now in
-    swept_refused s c.args.calls.now c.args.event.now before old.walker c.make.new.self old.runner old.found swept (λ events follows. sym c.if-not-make.true ∙ c.make.ensures.accepted events follows) c.make.ensures.follows c.make.ensures.setup
+pub make-requires : goal.make-requires
+make-requires c =
+    let room = c.requires.room in
+    let due = few_due c.args.self.now.walker room.before room.swept.follows in
+    let few = room.few_events in
+    omega (arith, due, few)
 
-pub returns-then-not-accepts-clause-swept : goal.returns-then-not-accepts-clause-swept
-returns-then-not-accepts-clause-swept c = λ s before swept.
-    let old = c.args.self.now in
-    swept_uncut s c.args.calls.now c.args.event.now before old.walker c.make.new.self old.runner old.found swept c.make.ensures.follows c.make.ensures.setup
-    (is_cut_as s c.args.calls.now c.args.event.now before old.walker c.make.new.self old.runner old.found c.process-process.result false swept (λ events follows. sym c.if-not-make.false ∙ c.make.ensures.accepted events follows)
-    c.make.ensures.follows c.make.ensures.setup c.process-process.ensures (λ events follows. sym c.if-not-accepts.true ∙ c.accepts.ensures events follows))
+pub returns-then-not-make : goal.returns-then-not-make
+returns-then-not-make c =
+    let on = refused_on c.args.calls.now c.args.event.now c.args.self.now c.make.new.self c.make.result c.make.ensures.follows c.make.ensures.setup c.make.ensures.accepted c.if-not-make.true in
+    record { swept = on; room = room_on c.args.calls.now c.args.event.now c.args.self.now _ on }
 
-pub returns-clause-swept : goal.returns-clause-swept
-returns-clause-swept c = λ s before swept.
-    let old = c.args.self.now in
-    swept_cut s c.args.calls.now c.args.event.now before old.walker c.make.new.self c.run.new.self.walker c.run-2.new.self.walker old.runner c.run-2.new.self.runner c.process-process.result old.found c.run.new.self.found c.run-2.new.self.found swept
-    c.make.ensures.follows c.make.ensures.setup
-    (is_cut_as s c.args.calls.now c.args.event.now before old.walker c.make.new.self old.runner old.found c.process-process.result true swept (λ events follows. sym c.if-not-make.false ∙ c.make.ensures.accepted events follows)
-    c.make.ensures.follows c.make.ensures.setup c.process-process.ensures (λ events follows. sym c.if-not-accepts.false ∙ c.accepts.ensures events follows))
-    c.process-process.ensures c.run.ensures.walker c.run-2.ensures.walker c.run.ensures.counts c.run-2.ensures.counts c.run-2.ensures.setup
+pub returns-then-not-accepts : goal.returns-then-not-accepts
+returns-then-not-accepts c =
+    let on =
+    standing_on c.args.calls.now c.args.event.now c.args.self.now c.make.new.self c.make.result c.make.ensures.follows c.make.ensures.setup c.make.ensures.accepted c.process-process.result c.accepts.result
+    c.if-not-make.false c.process-process.ensures c.accepts.ensures c.if-not-accepts.true in
+    record { swept = on; room = room_on c.args.calls.now c.args.event.now c.args.self.now _ on }
+
+pub run-requires : goal.run-requires
+run-requires c = room_for_first c.args.calls.now c.args.event.now c.args.self.now c.make.new.self c.make.result c.make.ensures.follows c.make.ensures.setup c.make.ensures.accepted c.requires.room
+
+pub run-requires-2 : goal.run-requires-2
+run-requires-2 c =
+    room_for_second c.args.calls.now c.args.event.now c.args.self.now c.make.new.self c.make.result c.make.ensures.follows c.make.ensures.setup c.make.ensures.accepted c.run.new.self c.process-process.result c.process-process.ensures c.run.ensures c.requires.room
+
+pub returns : goal.returns
+returns c =
+    let on =
+    cut_on c.args.calls.now c.args.event.now c.args.self.now c.make.new.self c.make.result c.make.ensures.follows c.make.ensures.setup c.make.ensures.accepted c.run.new.self c.run-2.new.self c.process-process.result c.accepts.result
+    c.if-not-make.false c.process-process.ensures c.accepts.ensures c.if-not-accepts.false c.run.ensures c.run-2.ensures in
+    record { swept = on; room = room_on c.args.calls.now c.args.event.now c.args.self.now c.run-2.new.self on }

@@ -1,34 +1,53 @@
-use Rattle.std.proofs.Common.{None, Some, sym, subst}
-use Rattle.process.specs.declared.told.Effect.TheVariants as effect
-use Rattle.world.specs.{CoreGoes, CoreRefuses}
+use Rattle.std.proofs.Common.{◌++◌, ◌∙◌, length, take, drop, slice_set, sym, ap, arith}
+use Rattle.record.specs.{process_of}
+use Rattle.world.specs.{CoreState, waiting_in}
+use Rattle.world.proofs.CoreCode.{HasMade, made-code, not-refused, seat-made, seated}
+use Rattle.world.proofs.CoreKeeps.{IsNext, core_in, next-at}
+use Rattle.world.proofs.WorldOpen.{IsSeated}
 use Rattle.world.proofs.cores.Core.make_event.Goals as goal
+use Rattle.world.proofs.cores.Core.make_event.Goals.{After-index_mut-seat, After-tell}
 
-pub call-requires-clause-accepted : goal.call-requires-clause-accepted
-call-requires-clause-accepted c = subst (λ e. CoreRefuses c.args.self.now e None) c.in-Call.is c.requires
+pub index_mut-seat-requires : goal.index_mut-seat-requires
+index_mut-seat-requires c =
+    let i = c.self.inside in
+    let core : CoreState = record { setup = i.setup; registers = i.registers; seats = i.seats.items } in
+    let inside = core_in core c.args.self.now c.args.event.now c.self.invariant c.self.view_is c.requires in
+    omega (arith, inside, c.from.ensures, c.process-process.ensures, i.seats.ok.0)
 
-pub make_step-made-requires : goal.make_step-made-requires
-make_step-made-requires c = subst (λ e. CoreRefuses c.args.self.now e None) c.in-Step.is c.requires
+abbrev core : After-index_mut-seat → CoreState
+core c = let i = c.self.inside in record { setup = i.setup; registers = i.registers; seats = i.seats.items }
 
-pub fail-requires : goal.fail-requires
-fail-requires c = subst (λ e. CoreRefuses c.args.self.now e None) c.in-Fail.is c.requires
+next : (c : After-index_mut-seat) → IsNext (core c) c.args.event.now c.index_mut-seat.result.now
+next c = next-at (core c) c.args.self.now c.args.event.now c.from.result c.index_mut-seat.result.now c.self.invariant c.self.view_is c.requires c.command_is_sound.ensures (c.from.ensures ∙ c.process-process.ensures) c.index_mut-seat.ensures.value
 
-pub withdraw-requires : goal.withdraw-requires
-withdraw-requires c = subst (λ e. CoreRefuses c.args.self.now e None) c.in-Withdraw.is c.requires
+own : (c : After-index_mut-seat) → IsSeated (core c) (process_of c.args.event.now) c.index_mut-seat.result.now
+own c = seated (core c) (process_of c.args.event.now) c.index_mut-seat.result.now c.self.invariant (next c).there
 
-pub restart-requires : goal.restart-requires
-restart-requires c = subst (λ e. CoreRefuses c.args.self.now e None) c.in-Restart.is c.requires
+pub make-access-requires : goal.make-access-requires
+make-access-requires c =
+    let a = (goal.at.make-access-requires c).After-index_mut-seat in
+    record { allowed = not-refused (core a) a.args.event.now a.index_mut-seat.result.now a.self.invariant (next a); registers = (own a).registers }
 
-pub returns-in-Call : goal.returns-in-Call
-returns-in-Call c = subst (λ e. CoreGoes c.args.self.now e (effect.Calls c.in-Call.command) None c.call.new.self) (sym c.in-Call.is) c.call.ensures
+pub tell-requires : goal.tell-requires
+tell-requires c = let few = (own (goal.at.tell-requires c).After-index_mut-seat).few in omega (arith, few, c.process-process.ensures)
 
-pub returns-in-Step : goal.returns-in-Step
-returns-in-Step c = subst (λ e. CoreGoes c.args.self.now e (effect.Steps c.make_step-made.new.told) (Some c.make_step-made.result.access) c.make_step-made.new.self) (sym c.in-Step.is) c.make_step-made.ensures.goes
+-- what is left
+made : (c : After-tell) → (let i = c.self.inside in let core : CoreState = record { setup = i.setup; registers = i.registers; seats = i.seats.items } in IsNext core c.args.event.now c.index_mut-seat.result.now) → (let i = c.self.inside in let then = slice_set i.seats.items c.from.result c.make-access.new.self in
+    let new : CoreState = record { setup = i.setup; registers = c.make-access.new.registers; seats = take i.seats.len (c.tell.new.seats ++ drop (length c.tell.new.seats) then) } in
+    HasMade c.args.self.now c.args.event.now c.make-access.new.effect c.make-access.result new)
+made c next =
+    let i = c.self.inside in
+    let core : CoreState = record { setup = i.setup; registers = i.registers; seats = i.seats.items } in
+    let seat = c.index_mut-seat.result.now in
+    made-code core c.args.self.now c.args.event.now c.make-access.new.effect c.make-access.result seat c.make-access.new.self c.make-access.new.registers c.deref_mut.result.now c.tell.new.seats
+    (drop (length c.tell.new.seats) (slice_set i.seats.items c.from.result c.make-access.new.self)) c.is_waiting-waited.result c.is_waiting-waits.result c.from.result c.process-process.result i.seats.len
+    c.self.invariant c.self.view_is next c.from.ensures c.process-process.ensures (sym i.seats.ok.0)
+    (c.make-access.ensures.seat ∙ seat-made core seat c.args.event.now c.waiting-before.result (λ call. c.waiting-before.ensures call ∙ ap waiting_in c.deref.ensures.value))
+    c.make-access.ensures.registers c.make-access.ensures.access c.make-access.ensures.marks
+    c.is_waiting-waited.ensures c.is_waiting-waits.ensures c.deref_mut.ensures.value c.tell.ensures
 
-pub returns-in-Fail : goal.returns-in-Fail
-returns-in-Fail c = subst (λ e. CoreGoes c.args.self.now e effect.Fails None c.fail.new.self) (sym c.in-Fail.is) c.fail.ensures
+pub invariant_of-self : goal.invariant_of-self
+invariant_of-self c = let a = goal.at.invariant_of-self c in (made a.After-tell (next a.After-index_mut-seat)).keeps
 
-pub returns-in-Withdraw : goal.returns-in-Withdraw
-returns-in-Withdraw c = subst (λ e. CoreGoes c.args.self.now e effect.Withdraws None c.withdraw.new.self) (sym c.in-Withdraw.is) c.withdraw.ensures
-
-pub returns-in-Restart : goal.returns-in-Restart
-returns-in-Restart c = subst (λ e. CoreGoes c.args.self.now e effect.Restarts None c.restart.new.self) (sym c.in-Restart.is) c.restart.ensures
+pub returns : goal.returns
+returns c = let a = goal.at.returns c in (made a.After-tell (next a.After-index_mut-seat)).goes

@@ -1,17 +1,15 @@
-use Rattle.std.proofs.Common.{◌≡◌, ◌++◌, ◌∙◌, ap, Some, length, take, drop, refl, slice_set, arith}
-use Rattle.std.proofs.lemmas.List.{length-set}
+use Rattle.std.proofs.Common.{◌++◌, ◌∙◌, ap, Some, length, take, drop, refl, slice_set, sym, arith}
 use Rattle.record.specs.{Access, value_of}
 use Rattle.record.specs.declared.events.Event.TheVariants.{Step}
 use Rattle.process.specs.registers.{applied}
 use Rattle.process.specs.declared.told.Effect.TheVariants.{Steps}
 use Rattle.process.specs.{marks_on, stepped}
-use Rattle.world.specs.{CoreState, core_after, is_waiting, registers_after, seat_after, seat_stepped, told}
-use Rattle.world.proofs.CoreCode.{seated, step-may, told-after}
-use Rattle.world.proofs.CoreKeeps.{IsNext, core_in, next-at, next-goes, next-keeps}
+use Rattle.world.specs.{CoreState, seat_stepped}
+use Rattle.world.proofs.CoreCode.{HasMade, made-code, not-refused, seated}
+use Rattle.world.proofs.CoreKeeps.{IsNext, core_in, next-at}
 use Rattle.world.proofs.CoreOverlaps.{tells-overlapped}
-use Rattle.world.proofs.CoreWalks.{next-others}
 use Rattle.world.proofs.WorldOpen.{IsSeated}
-use Rattle.world.proofs.WorldTelling.{told-back}
+use Rattle.world.proofs.WorldStages.{step-allowed}
 use Rattle.world.proofs.cores.Core.make_step.Goals as goal
 use Rattle.world.proofs.cores.Core.make_step.Goals.{After-index_mut-seat, After-tell}
 
@@ -34,48 +32,40 @@ own c = seated (core c) c.args.process c.index_mut-seat.result.now c.self.invari
 pub step-made-requires : goal.step-made-requires
 step-made-requires c =
     let a = (goal.at.step-made-requires c).After-index_mut-seat in
-    record { goes = step-may (core a) a.args.process a.args.flick a.index_mut-seat.result.now a.self.invariant (next a); registers = (own a).registers }
+    record { goes = step-allowed a.args.process a.args.flick a.index_mut-seat.result.now.process (not-refused (core a) (Step a.args.process a.args.flick) a.index_mut-seat.result.now a.self.invariant (next a)); registers = (own a).registers }
 
 pub tell-requires : goal.tell-requires
 tell-requires c = (own (goal.at.tell-requires c).After-index_mut-seat).few
 
 -- what is left
-left : (c : After-tell) → (let i = c.self.inside in let long = i.seats.len in let then = slice_set i.seats.items c.from.result c.step-made.new.self in
-    let new : CoreState = record { setup = i.setup; registers = c.step-made.new.registers; seats = take long (c.tell.new.seats ++ drop (length c.tell.new.seats) then) } in
-    new ≡ core_after (record { setup = i.setup; registers = i.registers; seats = i.seats.items }) c.index_mut-seat.result.now (Step c.args.process c.args.flick))
-left c =
+made : (c : After-tell) → (let i = c.self.inside in let core : CoreState = record { setup = i.setup; registers = i.registers; seats = i.seats.items } in IsNext core (Step c.args.process c.args.flick) c.index_mut-seat.result.now) → (let i = c.self.inside in let then = slice_set i.seats.items c.from.result c.step-made.new.self in
+    let new : CoreState = record { setup = i.setup; registers = c.step-made.new.registers; seats = take i.seats.len (c.tell.new.seats ++ drop (length c.tell.new.seats) then) } in
+    HasMade c.args.self.now (Step c.args.process c.args.flick) (Steps c.step-made.new.told) (Some c.step-made.result.access) new)
+made c next =
     let i = c.self.inside in
     let core : CoreState = record { setup = i.setup; registers = i.registers; seats = i.seats.items } in
     let seat = c.index_mut-seat.result.now in
-    let then = c.step-made.new.self in
-    let seats = slice_set i.seats.items c.from.result then in
-    let same = told-back (told c.args.process c.is_waiting-waited.result c.is_waiting-waits.result) i.seats.len c.tell.new.seats c.deref_mut.result.now seats (drop (length c.tell.new.seats) seats) c.tell.ensures c.deref_mut.ensures.value (let long = length-set i.seats.items c.from.result then in omega (arith, long, i.seats.ok.0)) in
     let a = c.step-made.ensures.access in
-    let stepped_is : then ≡ seat_after core seat (Step c.args.process c.args.flick) = c.step-made.ensures.seat ∙ ap (λ (a : Access). seat_stepped (stepped seat.process c.args.flick (value_of a.how)) seat) a in
-    let registers_are : c.step-made.new.registers ≡ registers_after core seat (Step c.args.process c.args.flick) = c.step-made.ensures.registers ∙ ap (applied seat.process.setup.processes i.registers) a in
-    told-after core (Step c.args.process c.args.flick) seat then c.step-made.new.registers _ c.is_waiting-waited.result c.is_waiting-waits.result c.from.result c.args.process c.from.ensures refl stepped_is registers_are c.is_waiting-waited.ensures (c.is_waiting-waits.ensures ∙ ap is_waiting stepped_is) same
+    made-code core c.args.self.now (Step c.args.process c.args.flick) (Steps c.step-made.new.told) (Some c.step-made.result.access) seat c.step-made.new.self c.step-made.new.registers c.deref_mut.result.now c.tell.new.seats
+    (drop (length c.tell.new.seats) (slice_set i.seats.items c.from.result c.step-made.new.self)) c.is_waiting-waited.result c.is_waiting-waits.result c.from.result c.args.process i.seats.len
+    c.self.invariant c.self.view_is next c.from.ensures refl (sym i.seats.ok.0)
+    (c.step-made.ensures.seat ∙ ap (λ (a : Access). seat_stepped (stepped seat.process c.args.flick (value_of a.how)) seat) a)
+    (c.step-made.ensures.registers ∙ ap (applied seat.process.setup.processes i.registers) a)
+    (ap Some a) (c.step-made.ensures.marks ∙ ap (λ (a : Access). marks_on seat.process c.args.flick (value_of a.how)) a)
+    c.is_waiting-waited.ensures c.is_waiting-waits.ensures c.deref_mut.ensures.value c.tell.ensures
 
 pub invariant_of-self : goal.invariant_of-self
-invariant_of-self c =
-    let b = (goal.at.invariant_of-self c).After-index_mut-seat in
-    next-keeps (core b) _ (Step b.args.process b.args.flick) b.index_mut-seat.result.now b.self.invariant (next b) (left (goal.at.invariant_of-self c).After-tell)
+invariant_of-self c = let a = goal.at.invariant_of-self c in (made a.After-tell (next a.After-index_mut-seat)).keeps
 
 pub returns-clause-goes : goal.returns-clause-goes
-returns-clause-goes c =
-    let b = (goal.at.returns-clause-goes c).After-index_mut-seat in
-    let seat = c.index_mut-seat.result.now in
-    let a = c.step-made.ensures.access in
-    next-goes (core b) c.args.self.now _ (Step c.args.process c.args.flick) (Steps c.step-made.new.leads) (Some c.step-made.result.access) seat c.self.view_is (next b) (ap Some a)
-    (c.step-made.ensures.marks ∙ ap (λ (a : Access). marks_on seat.process c.args.flick (value_of a.how)) a) (left (goal.at.returns-clause-goes c).After-tell)
+returns-clause-goes c = let a = goal.at.returns-clause-goes c in (made a.After-tell (next a.After-index_mut-seat)).goes
 
 pub returns-clause-overlapped : goal.returns-clause-overlapped
 returns-clause-overlapped c =
     let b = (goal.at.returns-clause-overlapped c).After-index_mut-seat in
     let made = c.step-made.result in
-    tells-overlapped (core b) c.args.self.now c.args.process c.args.flick made.access (Steps c.step-made.new.leads) made.overlapped c.index_mut-seat.result.now.process.setup c.self.view_is (own b).setup c.step-made.ensures.overlapped
+    tells-overlapped (core b) c.args.self.now c.args.process c.args.flick made.access (Steps c.step-made.new.told) made.overlapped c.index_mut-seat.result.now.process.setup c.self.view_is (own b).setup c.step-made.ensures.overlapped
     (returns-clause-goes c).adds
 
 pub returns-clause-others : goal.returns-clause-others
-returns-clause-others c =
-    let b = (goal.at.returns-clause-others c).After-index_mut-seat in
-    next-others (core b) c.args.self.now _ c.args.process c.args.flick c.index_mut-seat.result.now c.self.view_is (left (goal.at.returns-clause-others c).After-tell)
+returns-clause-others c = let a = goal.at.returns-clause-others c in (made a.After-tell (next a.After-index_mut-seat)).others

@@ -1,5 +1,5 @@
 use Rattle.std.proofs.Common.{slice_set, arith}
-use Rattle.world.specs.{CoreState}
+use Rattle.world.specs.{CoreState, seat_with}
 use Rattle.world.proofs.CoreCode.{IsLeft, is-left, left-there, run-code, seated}
 use Rattle.world.proofs.CoreWalks.{HasRun}
 use Rattle.world.proofs.cores.Core.run.Goals as goal
@@ -22,21 +22,23 @@ left c = is-left (core c) c.args.self.now c.args.process c.from.result c.args.st
 pub run-requires : goal.run-requires
 run-requires c =
     let a = (goal.at.run-requires c).After-index_mut in
-    record { some = c.requires.some; within = (left a).within; registers = (seated (core a) a.args.process a.index_mut.result.now a.self.invariant (left a).there).registers }
+    record { some = c.requires.some; left = (left a).within; memory = (seated (core a) a.args.process a.index_mut.result.now a.self.invariant (left a).there).registers }
 
 -- what is left
-ran : (c : After-run) → HasRun c.args.self.now c.args.flicks.now c.args.process c.args.steps c.run.result.newest c.run.result.overlapped (let i = c.self.inside in let then : CoreState = record { setup = i.setup; registers = c.run.new.registers; seats = slice_set i.seats.items c.from.result c.run.new.self } in then) c.run.new.flicks
-ran c =
+ran : (c : After-run) → (let i = c.self.inside in let core : CoreState = record { setup = i.setup; registers = i.registers; seats = i.seats.items } in IsLeft core c.args.process c.args.steps c.index_mut.result.now) →
+    HasRun c.args.self.now c.args.flicks.now c.args.process c.args.steps c.run.result.newest c.run.result.overlapped
+    (let i = c.self.inside in let then : CoreState = record { setup = i.setup; registers = c.run.new.memory; seats = slice_set i.seats.items c.from.result (seat_with c.run.new.self c.index_mut.result.now) } in then) c.run.new.flicks
+ran c left =
     let i = c.self.inside in
     let core : CoreState = record { setup = i.setup; registers = i.registers; seats = i.seats.items } in
-    let left = is-left core c.args.self.now c.args.process c.from.result c.args.steps c.index_mut.result.now c.self.view_is c.requires.some c.requires.within c.from.ensures c.index_mut.ensures.value in
-    run-code core c.args.self.now c.args.process c.from.result c.index_mut.result.now c.run.new.self c.run.new.registers c.args.flicks.now c.run.new.flicks c.args.steps c.run.result.newest c.run.result.overlapped c.self.invariant c.self.view_is left c.requires.some c.from.ensures
-    (c.run.ensures.seat, c.run.ensures.registers, c.run.ensures.flicks) c.run.ensures.newest c.run.ensures.overlapped
+    run-code core c.args.self.now c.args.process c.from.result c.index_mut.result.now c.run.new.self c.run.new.memory c.args.flicks.now c.run.new.flicks c.args.steps c.run.result.newest c.run.result.overlapped
+    c.self.invariant c.self.view_is left c.requires.some c.from.ensures c.run.ensures.steps c.run.ensures.newest c.run.ensures.overlapped
 
 pub invariant_of-self : goal.invariant_of-self
-invariant_of-self c = (ran (goal.at.invariant_of-self c).After-run).keeps
+invariant_of-self c = let a = goal.at.invariant_of-self c in (ran a.After-run (left a.After-index_mut)).keeps
 
 pub returns : goal.returns
 returns c =
-    let r = ran (goal.at.returns c).After-run in
+    let a = goal.at.returns c in
+    let r = ran a.After-run (left a.After-index_mut) in
     record { runs = r.runs; fewer = r.fewer; others = r.others }

@@ -23,6 +23,6 @@ returns c =
     let many : length i.seats.items ≡ length c.args.self.now.seats = ap (λ (core : CoreState). length core.seats) c.self.view_is in
     let inside : c.from.result < length i.seats.items = omega (arith, c.from.ensures, c.requires, many) in
     let there = seat-indexed i.seats.items c.from.result p seat c.from.ensures inside c.index.ensures in
-    let is = called i.seats.items p seat c.command.result c.number.result there (c.command.ensures ∙ ap (λ q. q.command) c.process-caller.ensures) (c.number.ensures ∙ ap (λ q. q.number) c.process-caller.ensures) in
+    let is = called i.seats.items p seat c.command.result c.number.result there c.command.ensures c.number.ensures in
     (λ k. record { process = p; command = (is k).0; reply = c.args.reply; number = (is k).1 })
     ∙ ap (λ (core : CoreState). taken_by core.seats p c.args.reply) c.self.view_is

@@ -2,7 +2,7 @@ use Rattle.std.proofs.Common.{◌≡◌, ◌<◌, List, get_or, set, length, ap,
 use Rattle.std.proofs.lemmas.List.{get_or-map, length-map}
 use Rattle.plain_store.specs.{Setup}
 use Rattle.record.proofs.reader_copies.Copying.{get_or-written_over, written_over-more}
-use Rattle.world.specs.{Seat}
+use Rattle.world.specs.{Seat, seat_with}
 use Rattle.world.proofs.cores.copies.copy_seats.Goals as goal
 
 pub copy_from-requires : goal.copy_from-requires
@@ -32,6 +32,6 @@ loop-process-preserved c =
     let others = c.args.others.now in
     let setup : Seat → Setup = λ seat. seat.process.setup in
     let same_len : length others ≡ length seats = sym (length-map others setup) ∙ sym (ap length c.requires) ∙ length-map seats setup in
-    ap (set c.loop-process.seats at) c.copy_from.ensures
+    ap (λ now. set c.loop-process.seats at (seat_with now c.index-others-process.result)) c.copy_from.ensures
     ∙ ap (λ xs. set xs at c.index-others-process.result) c.loop-process.invariant
     ∙ written_over-more others seats at c.index-others-process.result same_len c.loop-process-test.true c.index-others-process.is

@@ -1,0 +1,12 @@
+use Rattle.std.proofs.Common.{refl}
+use Rattle.course.specs.«record».declared.events.Event.TheVariants.{Step}
+use Rattle.course.specs.{Tries, told_unmarked}
+use Rattle.engines.proofs.Listed.{listed_more}
+use Rattle.engines.proofs.Sweepings.{swept_on}
+use Rattle.engines.proofs.sweeping.AlongListener.step.Goals as goal
+
+pub returns-clause-ok : goal.returns-clause-ok
+returns-clause-ok g c = λ s before on calls swept.
+    let made = c.args.made in
+    swept_on s calls before (Tries (Step made.process made.flick)) (Step made.process made.flick) _ _ _ _
+    (listed_more s before (Tries (Step made.process made.flick)) (told_unmarked made) (refl, on.adds, on.overlapped)) c.go_on.ensures.calls c.go_on.ensures.swept swept
