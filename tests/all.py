@@ -16,7 +16,7 @@ from lib.places import TOP
 
 SCRIPTS = [
     *["api", "names", "claims", "quotes", "layers", "links", "worked", "picture_parts", "pictures", "drawn_records"],
-    *["cut_file", "command_line", "terminal"],
+    *["cut_file", "command_line", "terminal", "kept_build"],
     *["record_files", "changed_records", "short_files", "other_locks", "fault_places", "any_lock_second", "lock_search", "run_script", "readme"],
     *["lessons", "races", "boards", "refused_threads", "inspected"],
 ]

@@ -22,7 +22,7 @@ from lib.proved import is_proved
 from lib.running import Ran
 from lib.unproved import FILE, Case, NotRun, runs
 
-PAGES = ["links", "layers", "api", "names", "claims", "quotes", "picture_parts", "lock_search"]
+PAGES = ["links", "layers", "api", "names", "claims", "quotes", "picture_parts", "lock_search", "kept_build"]
 ALL_EXAMPLES = ["worked", "record_files", "lessons"]
 RECORDS = TOP / "examples" / "records"
 LESSONS = TOP / "lessons"
