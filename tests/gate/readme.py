@@ -21,10 +21,10 @@ from lib.places import PROGRAM, TOP
 PAGES = [
     TOP / name
     for name in (
-        *("README.md", "examples/README.md", "lessons/README.md", "lessons/HOUR.md", "lessons/ANSWERS.md"),
+        *("README.md", "examples/README.md", "lessons/HOUR.md", "lessons/ANSWERS.md"),
         *("docs/RECORDS.md", "docs/FAULTS.md"),
     )
-]
+] + sorted(TOP.glob("lessons/[0-9]*.md"))
 # the most words of the README
 MOST_WORDS = 900
 BY_OTHERS = re.compile(r"(\brt (try|run)( --jobs \d+)? -- |^\./run )")
