@@ -7,8 +7,9 @@ name as `its clause`, a test as `its test`, a fact of a type as [`crate::Type`, 
 links are written anew. What a page of docs/ or bench/README.md names otherwise, as `Type::function`, is there too; so is each
 lemma that the pages on the two proofs name.
 
-docs/CLAIMS.md has each promise of README.md, word for word and in its order. Each of its rows says how strong it is; one that is
-proved names a clause, and one that is tested a script or a test that is there. docs/PLANTS.md names each must-fail edit, and no
+docs/CLAIMS.md has each promise of README.md, word for word and in its order. Each of its rows says how strong it is, and whether it
+is about the code that the program runs, other calls of the library, or the reference calls; one that names a clause of a reference
+crate is about these. One that is proved names a clause, and one that is tested a script or a test that is there. docs/PLANTS.md names each must-fail edit, and no
 other, and what an edit changes is there.
 """
 
@@ -35,6 +36,9 @@ LEMMA = re.compile(r"`([\w'-]+(?:\.antt)?)`")
 # the crates whose lemmas a page on a proof names
 PROOFS = {"PROOF_OF_THE_LOCK.md": ["laws", "record"], "PROOF_OF_THE_HISTORY.md": ["history_laws", "laws", "record", "plain_store"]}
 STRENGTHS = {"proved", "tested", "measured", "trusted"}
+PATHS = {"program", "library", "reference"}
+# the crates of the reference calls, as far as the program does not run them
+REFERENCE = {"bakery", "reader_copies", "safe_number"}
 
 
 def clause_at(path, words):
@@ -107,9 +111,14 @@ def rows(text):
 
 def fault_of_row(cells):
     """What is wrong with a row of the claims; none, if nothing is."""
-    if len(cells) != 4:
-        return f"has not four cells: {cells}"
-    told, where, _, strength = cells
+    if len(cells) != 5:
+        return f"has not five cells: {cells}"
+    told, where, _, path, strength = cells
+    if not PATHS.issuperset(path.split(", ")):
+        return f"says not which code it is about: {told}"
+    named = {found["path"].partition("::")[0] for found in CLAUSES.finditer(where)}
+    if bool(named & REFERENCE) != ("reference" in path):
+        return f"is about {path}, and names clauses of {sorted(named)}: {told}"
     if strength not in STRENGTHS:
         return f"says not how strong it is: {told}"
     if strength == "proved" and not CLAUSES.search(where):

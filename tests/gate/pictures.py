@@ -33,7 +33,7 @@ from lib.random_scenarios import scenario
 
 # the picture that README.md shows, and its run
 SHOWN = TOP / "docs" / "run.svg"
-SHOWN_RUN = WORKED / "failure-commit-settled-new" / "scenario"
+SHOWN_RUN = TOP / "examples" / "torn-commit.bakery"
 SVG = "{http://www.w3.org/2000/svg}"
 # the size of a word by its class, in pixels
 SIZES = {
