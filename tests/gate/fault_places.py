@@ -89,7 +89,7 @@ def try_block(counter, kind, text, told):
 
 def without_words(counter):
     """Without words it is told at a terminal, once, what is read; not otherwise."""
-    told = b"reads a scenario from this terminal, up to its end (how to get help: bakerystore --help)\n"
+    told = b"reading a scenario from this terminal until its end (for help: bakerystore --help)\n"
     for words, wanted in [([], told), (["plain", "-"], b""), (["--quiet"], b"")]:
         ours, end = pty.openpty()
         tty.setraw(end)

@@ -70,7 +70,7 @@ REFUSED = [
     (["--reads", "draw", "-"], "unexpected argument '--reads' found", "'draw --reads' exists", ANY),
     (["draw", "--reads"], "the following required arguments were not provided:\n  <FILE>", "", "draw --reads <FILE>"),
     (["draw", "--read", "-"], "unexpected argument '--read' found", "a similar argument exists: '--reads'", "draw --reads <FILE>"),
-    (["plain", b"\xff"], "a word is not UTF-8 (a file of such a name can be given by: bakerystore COMMAND - < FILE)", "", ANY),
+    (["plain", b"\xff"], "an argument is not UTF-8 (to read a file of such a name: bakerystore COMMAND - < FILE)", "", ANY),
 ]
 
 # words in the place of a command that are none

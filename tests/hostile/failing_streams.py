@@ -286,7 +286,7 @@ def names(command, good, folder):
     with open(name, "wb") as file:
         file.write(good.read_bytes())
     ran = run([*command.split(), name])
-    tries.compare(command, ran, (ran.status, ran.output) == (2, b"") and ran.errors.startswith(b"error: a word is not UTF-8"))
+    tries.compare(command, ran, (ran.status, ran.output) == (2, b"") and ran.errors.startswith(b"error: an argument is not UTF-8"))
     with open(name, "rb") as file:
         ran = run([*command.split(), "-"], stdin=file)
     tries.compare(command, ran, ran == whole)

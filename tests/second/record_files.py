@@ -1,6 +1,6 @@
 """A second reading of record files: of each text its setup and its entries, or the one fault that is told of it.
 
-It is written from the tables and the order of faults of docs/RECORDS.md alone, and shares nothing with the programs that it is
+It is written from the tables of docs/RECORDS.md and the order of faults of docs/FAULTS.md alone, and shares nothing with the programs that it is
 held against.
 """
 

@@ -1,6 +1,6 @@
 """A second reading of scenario files and of bits files: of each text, what it says, or the one fault that is told of it.
 
-It is written from the tables and the order of faults of docs/FAULTS.md and docs/FORMATS.md alone, and shares nothing with the
+It is written from the tables of docs/FORMATS.md and the order of faults of docs/FAULTS.md alone, and shares nothing with the
 programs that it is held against. A text is bytes, and so is each word.
 """
 

@@ -30,10 +30,10 @@ use std::time::Clock;
 
 /// What is told at a terminal where there are no words.
 const NO_WORDS: &str =
-    "reads a scenario from this terminal, up to its end (how to get help: bakerystore --help)";
+    "reading a scenario from this terminal until its end (for help: bakerystore --help)";
 
 /// What is told where `--at` of `state` is missing, or no such number.
-const NO_AT: &str = "state wants --at, and a number below 2^64 or `end` behind it";
+const NO_AT: &str = "state needs --at N, where N is a number below 2^64 or `end`";
 
 fn main(rt: HostRuntime) -> ExitCode {
     let terminals = Terminals {

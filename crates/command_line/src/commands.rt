@@ -82,7 +82,7 @@ pub const COMMANDS: [(&str, Engine, Intake, &[&str], &str, &str); 12] = [
         Engine::Plain,
         Intake::Whole,
         &[],
-        "the calls of a scenario, on the one-thread store",
+        "runs the calls of a scenario on the sequential store",
         "examples/counters.bakery",
     ),
     (
@@ -90,7 +90,7 @@ pub const COMMANDS: [(&str, Engine, Intake, &[&str], &str, &str); 12] = [
         Engine::Bits,
         Intake::Whole,
         &[],
-        "the accesses of a bits file, to one safe bit",
+        "makes the accesses of a bits file to one safe bit",
         "examples/overlap.bits",
     ),
     (
@@ -98,7 +98,7 @@ pub const COMMANDS: [(&str, Engine, Intake, &[&str], &str, &str); 12] = [
         Engine::Replay,
         Intake::Whole,
         &[],
-        "the run of a scenario: calls, single steps, failures, restarts",
+        "runs a scenario: calls, single steps, failures, restarts",
         "examples/torn-commit.bakery",
     ),
     (
@@ -106,7 +106,7 @@ pub const COMMANDS: [(&str, Engine, Intake, &[&str], &str, &str); 12] = [
         Engine::Audit,
         Intake::Whole,
         &[],
-        "the same run, each entry of its record judged",
+        "runs a scenario and judges each entry of its record",
         "examples/torn-commit.bakery",
     ),
     (
@@ -114,7 +114,7 @@ pub const COMMANDS: [(&str, Engine, Intake, &[&str], &str, &str); 12] = [
         Engine::Sweep,
         Intake::Whole,
         &[],
-        "runs in which a process fails after one event of that run, counted",
+        "counts the runs in which a process fails after one event",
         "examples/torn-commit.bakery",
     ),
     (
@@ -122,7 +122,7 @@ pub const COMMANDS: [(&str, Engine, Intake, &[&str], &str, &str); 12] = [
         Engine::Race,
         Intake::Whole,
         &[],
-        "the calls of a scenario, each process on a thread of its own",
+        "makes the calls of a scenario, each process on its thread",
         "examples/refusals.bakery",
     ),
     (
@@ -130,7 +130,7 @@ pub const COMMANDS: [(&str, Engine, Intake, &[&str], &str, &str); 12] = [
         Engine::Record,
         Intake::Whole,
         &[],
-        "the record of a scenario's run, entry by entry",
+        "prints the record of a scenario's run, entry by entry",
         "examples/failed-read.bakery",
     ),
     (
@@ -138,7 +138,7 @@ pub const COMMANDS: [(&str, Engine, Intake, &[&str], &str, &str); 12] = [
         Engine::State,
         Intake::Whole,
         &["at"],
-        "the state after the first events of that run",
+        "prints the state after the first events of a run",
         "--at 820 examples/torn-commit.bakery",
     ),
     (
@@ -146,7 +146,7 @@ pub const COMMANDS: [(&str, Engine, Intake, &[&str], &str, &str); 12] = [
         Engine::Calls,
         Intake::Whole,
         &[],
-        "what became of each call of that run, as comma-separated values",
+        "prints a table of the calls of a run (CSV)",
         "examples/torn-commit.bakery",
     ),
     (
@@ -154,7 +154,7 @@ pub const COMMANDS: [(&str, Engine, Intake, &[&str], &str, &str); 12] = [
         Engine::Judge,
         Intake::Streamed,
         &["any-lock", "why"],
-        "a record, whoever made it: good, or the first law that is broken",
+        "judges a record of this lock or of any lock",
         "examples/failed-read.record",
     ),
     (
@@ -162,7 +162,7 @@ pub const COMMANDS: [(&str, Engine, Intake, &[&str], &str, &str); 12] = [
         Engine::Draw,
         Intake::Whole,
         &["reads", "judge", "any-lock"],
-        "the picture of a scenario's run, as a page for a browser",
+        "draws a run or a record, as a page for a browser",
         "examples/torn-commit.bakery",
     ),
     (
@@ -170,7 +170,7 @@ pub const COMMANDS: [(&str, Engine, Intake, &[&str], &str, &str); 12] = [
         Engine::DrawSvg,
         Intake::Whole,
         &["reads", "judge", "any-lock"],
-        "the same as one picture",
+        "draws the same as one SVG",
         "examples/torn-commit.bakery",
     ),
 ];

@@ -1,13 +1,13 @@
-//! The pages that tell the program's words and faults. Each line behind `$ ` is a command, with what it prints below. Above
-//! the page of a command, and of all words, stands the usage line, as `clap` has it.
+//! The pages of the program's arguments and faults. Each line after `$ ` is a command, followed by what it prints. The usage
+//! line above the general page, and above the page of a command, comes from `clap`.
 
 /// The program's version, and the logic in which it was proved, as the toolchain names it. Builds of the toolchain
 /// whose logic is the same prove the same.
 pub const VERSION: &str = "0.1.0, proved in Rattle's logic dac8208d650f15bf";
 
-/// The page of all words, from its usage line to the commands.
+/// The general page, from its usage line to the commands.
 pub const WORDS: &str = r"       bakerystore COMMAND FILE   (FILE - is standard input)
-       bakerystore                does what `bakerystore plain -` does
+       bakerystore                is short for `bakerystore plain -`
 
 Commands, each with an example:
 
@@ -16,70 +16,71 @@ Commands, each with an example:
 /// The rest of that page, below the commands.
 pub const MORE_WORDS: &str = r"
   help COMMAND, COMMAND --help   what a command reads and prints
-  help run                       the words that a run prints
+  help run                       the marks that a run prints
   help faults                    the kinds of fault, with their causes
   help, --help, -h               this page
-  --version, -V                  the version, and the logic it was proved in
+  --version, -V                  the version, and the logic of its proof
 
 Options:
 
-  --reads   of draw and draw-svg: shows the reads too that writes overlapped
-  --at N    of state: after how many events; `end` is after all
-  --judge   of draw and draw-svg: shows the verdict on a record, and its reasons
-  --any-lock   of judge, draw and draw-svg: judges the record of any lock
-  --why     of judge: gives the reasons of a bad verdict
-  --explain   tells of a fault the line, the word, and what was expected there. So
-            does a run without it where standard error is a terminal
-  --quiet   shows no progress. Else, where standard error is a terminal and standard
-            output is none, a run of more than two seconds shows there how far it is
-            (but plain and bits, which are soon done, and race, of which all threads
-            run at once, show nothing)
-  --        ends the options: what is behind it is a file
+  --at N      state: after how many events; `end` means after all of them
+  --any-lock  judge, draw, draw-svg: judge the record of any lock
+  --explain   show the line and the word at fault, and what was expected there; this
+              is so without the option if standard error is a terminal
+  --judge     draw, draw-svg: show the verdict on a record, with its reasons
+  --quiet     show no progress. Without it, a run of more than two seconds shows its
+              progress if standard error is a terminal and standard output is not
+              (except plain and bits, which end soon, and race, whose threads all
+              run at once)
+  --reads     draw, draw-svg: show the reads that a write overlapped
+  --why       judge: give the reasons of a bad verdict
+  --          end the options: what follows is a file
 
 Exit status:
 
-  0   all is well
+  0   success
   1   a fault of the file (`line <n>: <kind>`), `read fault` or `write fault`
-  2   other words than these
+  2   invalid arguments
   3   a record or a race is `bad`
-  4   want of memory (`out of memory`, `line <n>: memory`), or `no thread`
+  4   out of memory (also `line <n>: memory`), or `no thread`
 
-Where to read on: README.md, examples/README.md and docs/MODEL.md.
+If you are new here, begin with lessons/README.md or docs/GUIDE.md.
 ";
 
 /// The words that a run prints.
 pub const RUN: &str =
-    r"A run is printed by `replay`, a line for each thing that happens: the number of the
-event, the process, and one of these. The entries of `record` have the same words.
+    r"`replay` prints a line for each notable event of a run: the number of the event, the
+process, and one of these marks. The entries of `record` have the same marks.
 
-  call COMMAND   it calls
-  wait T         it has ticket T, and its doorway ends: it waits
-  enter          it comes inside the critical section
-  taken K REPLY  its command is taken, as number K of the history, from 0
-  leave          it goes outside
+  call COMMAND   the process calls
+  wait T         it has ticket T; its doorway ends, and it waits
+  enter          it enters the critical section
+  taken K REPLY  its command takes effect, as number K of the history, from 0
+  leave          it leaves the critical section
   answer REPLY   its call is answered, or refused: `tickets-full P`, `stamps-full`,
                  or `withdrawn`
   fail           it halts, and its memory unit takes over
-  settled B      its unit settles the bit that it was writing at B, 0 or 1. Which bit
-                 that is tells `state --at` with the number of this line (`torn`)
+  settled B      its unit gives the bit whose write was interrupted the value B. The
+                 line `torn` of `state --at` names that bit, if N is the number of
+                 this line
   down           its unit has cleared its ticket and its choosing bit
   withdraw       it gives up waiting
-  restart        it is back
+  restart        it may call again
 
-Where nothing happens, `-` stands for the number of the event:
+A line that makes no event has `-` in place of the number:
 
-  turns                   of `go`: it has made 65,536 steps, and is not there
-  refused no-process      there is no such process
-  refused busy            a call: its call is not answered yet
-  refused is-down         a call: it has failed
-  refused not-running     a step: it is idle or down
-  refused not-waiting     `withdraw`: it does not wait
-  refused already-failed  `fail`: it has failed
-  refused not-down        `restart`: it is not down
-  refused calls-full      a call: it has made 65,535 (bakery 2)
+  turns                   `go` has made 65,536 steps without reaching its goal
+  refused no-process      the process does not exist
+  refused busy            a call: the previous call is not answered yet
+  refused is-down         a call: the process has failed
+  refused not-running     a step: the process is idle or down
+  refused not-waiting     `withdraw`: the process does not wait
+  refused already-failed  `fail`: the process has failed
+  refused not-down        `restart`: the process is not down
+  refused calls-full      a call: the process has made 65,535 (bakery 2)
 
-Behind `show`: the store, `empty`, or `busy` while somebody is inside. Behind `end`:
-how many events there were, commands taken, and lines `refused`.
+After `show` comes the store, or `empty`, or `busy` while a process is inside. The
+last line, `end`, counts the events, the commands taken and the lines `refused`.
 
   $ printf 'bakery 1\nwithdraw 0\nstep 2 1\nshow\n' | bakerystore replay -
   - 0 refused not-waiting
@@ -90,61 +91,62 @@ how many events there were, commands taken, and lines `refused`.
 
 /// The kinds of fault.
 pub const FAULTS: &str =
-    r"Of a file with faults one is told, on standard error: the first of the first faulty
-line, as `line <n>: <kind>`. Then nothing was run, no verdict is told, and the status
-is 1. Every line counts, from 1 on. The kinds, about in the order in which they are
-looked for:
+    r"If a file has faults, standard error reports one of them as `line <n>: <kind>`: the
+first fault of the first faulty line. Then nothing is run, no verdict is printed, and
+the status is 1. All lines of the file count, from 1 on. The kinds of fault, roughly in
+the order in which they are looked for:
 
 too-long    The line has more than 128 bytes.
               $ printf 'bakery 1\n# %0128d\n' 0 | bakerystore plain -
               line 2: too-long
-            Or it is line 4,097 of a scenario or a bits file, whatever it says. (Records
-            have any number of lines.)
+            Or it is line 4,097 of a scenario or a bits file, whatever it contains.
+            (Records have any number of lines.)
               $ yes '#' | head -n 4097 | bakerystore plain -
               line 4097: too-long
-            Or it is their 4,001st line behind the headings and `open` lines, where
-            empty lines and comments do not count.
+            Or it is the 4,001st line of such a file after the headings and `open`
+            lines, where empty lines and comments do not count.
               $ (echo bakery 1; yes show | head -n 4001) | bakerystore plain -
               line 4002: too-long
 
-not-first   The first line is not `bakery 1` or `bakery 2`; of a bits file `bits 1`;
-            of a record `record 1` or `record 2`. The file is of another version, or of
-            another kind than the command reads; or it begins with a byte order mark,
-            or is UTF-16; or it is empty.
+not-first   The first line is not `bakery 1` or `bakery 2` (in a bits file `bits 1`, in
+            a record `record 1` or `record 2`). The file has another version or another
+            kind than the command reads, or begins with a byte order mark, or is UTF-16,
+            or is empty.
               $ printf 'bits 1\nread\n' | bakerystore plain -
               line 1: not-first
               $ printf '\357\273\277bakery 1\n' | bakerystore plain -
               line 1: not-first
               $ bakerystore judge examples/failed-read.bakery
               line 1: not-first
-            Or a line stands too late: the first line or a heading once more, a
-            heading behind other lines, `open` behind other lines than these.
+            Or a line comes too late: the first line or a heading a second time, a
+            heading after other lines, or `open` after lines other than these.
               $ printf 'bakery 1\nshow\nslots 2\n' | bakerystore plain -
               line 3: not-first
 
-unknown     A key word is none: the first word of the line, the third of `call` and
-            of `go`, the second of `flick`. `open` and `ask` are none in a file that
-            begins with `bakery 1`.
+unknown     A word is not a key word: the first word of the line, the third of `call`
+            and of `go`, the second of `flick`. In a file that begins with `bakery 1`,
+            `open` and `ask` are not key words.
               $ printf 'bakery 2\ncall 0 rad a\n' | bakerystore plain -
               line 2: unknown
-            In a record: the first word is none, and begins with no digit (`open` is
-            none in `record 1`); a bit is not spelled as `0.ticket.3.1` is; or a word
-            is no move, mark, command, reply or answer.
+            In a record: the first word is neither a key word nor begins with a digit
+            (in `record 1`, `open` is not one); a bit does not have the form
+            `0.ticket.3.1`; or a word is not a move, mark, command, reply or answer.
               $ printf 'record 1\n0 0.tickets.3.1 read\n' | bakerystore judge -
               line 2: unknown
 
-words       There are too few words, or too many.
+words       The line has too few words, or too many.
               $ printf 'bakery 1\nstep 0\n' | bakerystore plain -
               line 2: words
-            An entry of a record has more than three marks.
+            Or an entry of a record has more than three marks.
               $ printf 'record 1\n0 : fail : down : fail : down\n' | bakerystore judge -
               line 2: words
 
-number      An operand is no number, begins with a needless 0, or is too large: 255
-            for processes and headings, 100,000 for `step` and `wander`, 64 bits
-            for a seed, and signed for what `add` adds; 1 in a bits file. In a record:
-            255 for processes, 65,535 for a bit and behind `last`, 32 bits for a
-            ticket, 64 bits for a place, 1 for what is read, written or settled.
+number      An operand is not a number, has a leading 0, or is too large. The greatest
+            values are 255 for processes and headings, 100,000 for `step` and `wander`,
+            64 bits for a seed, 64 bits with a sign for what `add` adds, and 1 in a
+            bits file. In a record they are 255 for processes, 65,535 for a bit and
+            after `last`, 32 bits for a ticket, 64 bits for a place, and 1 for what is
+            read, written or settled.
               $ printf 'bakery 1\nstep 0 100001\n' | bakerystore plain -
               line 2: number
 
@@ -152,8 +154,8 @@ bad-name    A name is not 1 to 8 of the characters a to z, 0 to 9 and _.
               $ printf 'bakery 1\ncall 0 read A\n' | bakerystore plain -
               line 2: bad-name
 
-bad-value   A value is neither c: and a count of 64 bits, signed, nor t: and a text
-            of at most 12 visible ASCII characters.
+bad-value   A value is neither `c:` and a count of 64 bits with a sign, nor `t:` and a
+            text of at most 12 visible ASCII characters.
               $ printf 'bakery 1\ncall 0 write a 5\n' | bakerystore plain -
               line 2: bad-value
 
@@ -161,21 +163,21 @@ bad-setup   A heading is out of range: `processes` 1 to 8, `tickets` and `stamps
             to 16 (twice that in a file that begins with `bakery 2`), `slots` 1 to 8.
               $ printf 'bakery 1\nprocesses 9\n' | bakerystore plain -
               line 2: bad-setup
-            Or a name is opened twice, or there are more `open` lines than slots.
+            Or a name is opened twice, or the file has more `open` lines than slots.
               $ printf 'bakery 2\nopen a c:1\nopen b c:2\n' | bakerystore plain -
               line 3: bad-setup
 
-memory      The system gave no memory for the line. The status is 4.
+memory      The system had no memory for the line. The status is 4.
 
 Other faults:
 
-read fault      The file is not there or may not be read; or reading has failed.
+read fault      The file does not exist or may not be read; or reading has failed.
                   $ bakerystore plain .
                   read fault
-write fault     Writing has failed: the disk is full, or the reader went away, as
+write fault     Writing has failed: the disk is full, or the reader has gone away, as
                 `| head -n 1` does once it has its line. The status is 1.
                   $ bakerystore plain examples/counters.bakery > /dev/full
                   write fault
-out of memory   The system gave no memory. The status is 4.
+out of memory   The system had no memory. The status is 4.
 no thread       A thread of a race could not be started. The status is 4.
 ";

@@ -14,7 +14,7 @@ pub const USAGE_STATUS: u8 = 2;
 
 /// What is told where a word is not UTF-8.
 const NOT_TEXT: &str =
-    "a word is not UTF-8 (a file of such a name can be given by: bakerystore COMMAND - < FILE)";
+    "an argument is not UTF-8 (to read a file of such a name: bakerystore COMMAND - < FILE)";
 
 /// How many bytes of a word an error shows.
 const MOST_SHOWN: usize = 64;
@@ -79,7 +79,7 @@ fn error_as_shown(alloc: Global, words: &[String], kind: ErrorKind) -> Result<Er
     let shown = shown_words(alloc, words)?;
     match error_of(alloc, shown.as_slice()) {
         Some(error) if error.kind() == kind || error.kind() == ErrorKind::OutOfMemory => Ok(error),
-        _ => program_error(alloc, kind, "the words ask for nothing that there is"),
+        _ => program_error(alloc, kind, "invalid arguments"),
     }
 }
 
@@ -138,7 +138,7 @@ pub fn no_such_page(alloc: Global, name: &str) -> Result<Error, AllocError> {
     words.push(shown_word(alloc, name)?)?;
     match error_of(alloc, words.as_slice()) {
         Some(error) if error.use_stderr() => Ok(error),
-        _ => program_error(alloc, ErrorKind::InvalidSubcommand, "there is no such page"),
+        _ => program_error(alloc, ErrorKind::InvalidSubcommand, "no such page"),
     }
 }
 
