@@ -6,7 +6,7 @@ Each folder of examples/inspect/ has the words behind `bakerystore` (`args`), a 
 the record that `record` writes. What it says must be what `bakerystore calls` writes: for these scenarios and those of the worked
 examples, and for 2,000 that `lib/random_scenarios.py` makes up, each of which has 10,000 events at most. Its reads, writes and
 overlapped reads must sum up to those of the record, without those of memory units. Each column must be filled in some line, and
-each must be empty that can be.
+each must be empty that can be. Some call must fail before its first access.
 
 `second/states.py` finds the state after an event in the same way. It must be what `bakerystore state` writes after an event picked
 at random, for as many scenarios, of 2,500 events at most; the entry that comes next, if it is a Step's, must be among the lines
@@ -48,6 +48,7 @@ KINDS = {kind: re.compile(kind) for kind in [
     r"process \d+ open .* read overlapped", r"process \d+ next", r"register \S+ \d+$", r"register \S+ readers",
     r"register .* flickers", r"register .* no-image", r"register .* numbers", r"store .* numbers",
 ]}
+UNIT_ALONE = "failed before its first access"
 ALWAYS = {"process", "call", "command", "called", "reads", "writes", "overlapped"}
 
 
@@ -65,6 +66,7 @@ def compare(name, text):
     wanted = (0, calls_text(record), b"")
     rows = list(csv.DictReader(wanted[1].decode().splitlines()))
     filled = collections.Counter((column, row[column] != "") for row in rows for column in HEADER)
+    filled[UNIT_ALONE] = sum(row["failed"] != "" and row["doorway"] == "" for row in rows)
     sums = {column: sum(int(row[column]) for row in rows) for column in ("reads", "writes", "overlapped")}
     if sums != sums_of(Entries(record)):
         return f"{name}: {sums}, and the record has {sums_of(Entries(record))}", filled
@@ -149,6 +151,7 @@ def main():
     for column in HEADER:
         counter.count(filled[column, True], f"no line that is made up has this column: {column}")
         counter.count(filled[column, False] or column in ALWAYS, f"no line that is made up lacks this column: {column}")
+    counter.count(filled[UNIT_ALONE] > 0, f"no call that is made up has {UNIT_ALONE}")
     counter.end()
 
 

@@ -60,6 +60,12 @@ def number_of(found):
     return None if found is None else found[0]
 
 
+def first_access(own):
+    """The number of the first access that the process makes itself in its call: after a failure its memory unit makes them."""
+    failed = number_of(first_with(own, "fail"))
+    return next((number for number, access, _ in own if access and (failed is None or number < failed)), None)
+
+
 def waits_for(entries, process, own):
     """For whom the process waited last: the owner of the last number whose read held it up."""
     wait = first_with(own, "wait")
@@ -82,7 +88,7 @@ def waits_for(entries, process, own):
 
 def row_of(entries, process, call, called, own):
     """The line of a call that began with this entry, by its later entries."""
-    events = {"called": called, "doorway": next((number for number, access, _ in own if access), None)}
+    events = {"called": called, "doorway": first_access(own)}
     events |= {column: number_of(first_with(own, word)) for column, word in MARKS.items()}
     taken, answered = first_with(own, "taken"), first_with(own, "answer")
     events["place"] = int(taken[1][1]) if taken else None

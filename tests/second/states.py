@@ -5,7 +5,7 @@ program that it is held against.
 """
 
 from second import programs
-from second.calls import first_with
+from second.calls import first_access, first_with
 from second.judge import Judge, entry_of
 from second.programs import Setup, image_of, pairs_in
 from second.runs import Run
@@ -276,8 +276,8 @@ def shown_store(store):
 
 
 def call_lines(its):
-    """What is told of a call by its marks."""
-    doorway = next((at for at, access, _ in its if access), None)
+    """What is told of a call by its marks and by the first access that the process makes itself."""
+    doorway = first_access(its)
     ends = {word: found[0] if (found := first_with(its, word)) else None for word in ("wait", "enter", "leave", "withdraw")}
     to = lambda at: "" if at is None else f" to {at}"
     if doorway is not None:

@@ -1,7 +1,7 @@
 -- How the look-backs over a call go on with an entry.
 use Rattle.std.proofs.Common.{◌≡◌, ℕ, suc, ◌≤◌, ◌==◌, Bool, true, false, cond, [], ◌∷◌, Option, None, Some, length, refl, eq-eqb, arith}
 use Rattle.record.specs.{Entry, Past, calls_in, first_of, has, is_called, number_in_call, own}
-use Rattle.calls.specs.{count_in_call, more_if, over_call}
+use Rattle.calls.specs.{count_in_call, first_if, first_in_call, more_if, over_call}
 
 -- the number of an entry, where a test holds
 abbrev pub if_there : Bool → ℕ → Option ℕ
@@ -36,6 +36,21 @@ over-called p start with e past h called = rw (eq-eqb e.process p h, called, ove
 pub over-other : {A : Type 0} (p : ℕ) (start : A) (with : Past → Entry → A → A) (e : Entry) (past : Past) → (e.process == p) ≡ false →
     over_call p start with (e ∷ past) ≡ over_call p start with past
 over-other p start with e past h = rw (h, over_call) refl
+
+-- The first of them that passes a test.
+
+abbrev first_passing : (Past → Entry → Bool) → Past → Entry → Option ℕ → Option ℕ
+first_passing test before e first = first_if (test before e) (length before) first
+
+pub first-mine : (p : ℕ) (test : Past → Entry → Bool) (e : Entry) (past : Past) → e.process ≡ p → has is_called e ≡ false →
+    first_in_call p test (e ∷ past) ≡ first_if (test past e) (length past) (first_in_call p test past)
+first-mine p test e past h called = over-mine {A = Option ℕ} p None (first_passing test) e past h called
+
+pub first-called : (p : ℕ) (test : Past → Entry → Bool) (e : Entry) (past : Past) → e.process ≡ p → has is_called e ≡ true → first_in_call p test (e ∷ past) ≡ None
+first-called p test e past h called = over-called {A = Option ℕ} p None (first_passing test) e past h called
+
+pub first-other : (p : ℕ) (test : Past → Entry → Bool) (e : Entry) (past : Past) → (e.process == p) ≡ false → first_in_call p test (e ∷ past) ≡ first_in_call p test past
+first-other p test e past h = over-other {A = Option ℕ} p None (first_passing test) e past h
 
 -- Counts are no more than the entries.
 

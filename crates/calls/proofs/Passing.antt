@@ -4,7 +4,7 @@ use Rattle.plain_store.specs.{Setup}
 use Rattle.record.specs.safe_bit.{Move}
 use Rattle.record.specs.safe_bit.declared.Move.TheVariants.{BeginWrite, EndWrite, BeginRead, EndRead, Settle}
 use Rattle.record.specs.{Access, Past, first_of, width}
-use Rattle.calls.specs.{Accesses, CallStanding, EntryKnown, HasNotFailed, IsKnown, Passes, begun_among, ends_number, follows, is_read, is_write, more_if, of_read, passed, quiet_entry, reads_begun, standing, with_access, with_passed, writes_begun}
+use Rattle.calls.specs.{Accesses, CallStanding, EntryKnown, HasNotFailed, IsKnown, Passes, begun_among, ends_number, first_if, follows, is_read, is_write, more_if, of_read, passed, quiet_entry, reads_begun, standing, with_access, with_passed, writes_begun}
 use Rattle.world.specs.{ends_overlapped_read}
 use Rattle.calls.proofs.Steps.{standing-heard, standing-other}
 
@@ -117,6 +117,10 @@ module _ (s : Setup) (p : ℕ) (a : Access) (past : Past) where
   itself : (test : Move → Bool) (k : CallStanding) → k.last.marks.failed ≡ None → (n : ℕ) → more_if (test a.how && is_none k.last.marks.failed) n ≡ more_if (test a.how && true) n
   itself test k none n = ap (λ (o : Option ℕ). more_if (test a.how && is_none o) n) none
 
+  -- and the first of them begins its doorway
+  begins : (k : CallStanding) → k.last.marks.failed ≡ None → (first : Option ℕ) → first_if (is_none k.last.marks.failed) (length past) first ≡ first_of first (Some (length past))
+  begins k none first = ap (λ (o : Option ℕ). first_if (is_none o) (length past) first) none
+
   quiet-heard : ends_number (width s a.field) a.bit a.how ≡ false → standing s p (quiet_entry p a ∷ past) ≡ after_one (standing s p past)
   quiet-heard ends = standing-heard s (quiet_entry p a) past known (turn ends)
 
@@ -125,7 +129,7 @@ module _ (s : Setup) (p : ℕ) (a : Access) (past : Past) where
       let k : CallStanding = standing s p past in
       let was : Accesses = k.last.accesses in
       quiet-heard ends ∙ ap (with_accesses k) (accesses_by (with_access s p (length past) known k.last.marks a was) (with_passed (length past) (reads_begun 1 a.how) (writes_begun 1 a.how) overlapped was)
-      refl (itself is_read k none was.reads ∙ (begun-one a.how was.reads was.writes).0) (itself is_write k none was.writes ∙ (begun-one a.how was.reads was.writes).1) (more-one known.overlapped was.overlapped 0 refl ∙ ap (λ n. was.overlapped + n) (sym is)) refl)
+      (begins k none was.doorway) (itself is_read k none was.reads ∙ (begun-one a.how was.reads was.writes).0) (itself is_write k none was.writes ∙ (begun-one a.how was.reads was.writes).1) (more-one known.overlapped was.overlapped 0 refl ∙ ap (λ n. was.overlapped + n) (sym is)) refl)
 
   again : (n number : ℕ) (before : Move) (count overlapped : ℕ) (first : CallStanding) → first.last.marks.failed ≡ None → standing s p past ≡ passed_by number (suc n) before count first → follows before a.how ≡ true → ends_number (width s a.field) a.bit a.how ≡ false →
       overlapped ≡ more_if known.overlapped count → standing s p (quiet_entry p a ∷ past) ≡ passed_by number (suc (suc n)) a.how overlapped first
@@ -134,7 +138,7 @@ module _ (s : Setup) (p : ℕ) (a : Access) (past : Past) where
       let mid : Accesses = with_passed number (reads_begun (suc n) before) (writes_begun (suc n) before) count was in
       quiet-heard ends ∙ ap after_one at
       ∙ ap (with_accesses first) (accesses_by (with_access s p (length past) known first.last.marks a mid) (with_passed number (reads_begun (suc (suc n)) a.how) (writes_begun (suc (suc n)) a.how) overlapped was)
-      (first-again was.doorway number (length past)) (itself is_read first none mid.reads ∙ (begun-more n before a.how was.reads was.writes follow).0) (itself is_write first none mid.writes ∙ (begun-more n before a.how was.reads was.writes follow).1)
+      (begins first none mid.doorway ∙ first-again was.doorway number (length past)) (itself is_read first none mid.reads ∙ (begun-more n before a.how was.reads was.writes follow).0) (itself is_write first none mid.writes ∙ (begun-more n before a.how was.reads was.writes follow).1)
       (more-again known.overlapped was.overlapped count ∙ ap (λ n. was.overlapped + n) (sym is)) refl)
 
 -- So many.

@@ -5,9 +5,9 @@ use Rattle.record.specs.{Access, Entry, Mark, Past, called_in, calls_in, has, is
 use Rattle.world.specs.laws.{doing}
 use Rattle.world.specs.process.{number_read}
 use Rattle.world.specs.{ends_overlapped, ends_overlapped_read}
-use Rattle.calls.specs.{Accesses, CallStanding, EntryKnown, IsKnown, Marked, TellsRead, accessed_by, accesses, answer_after, begun, called, called_at, count_in_call, ends_number, ends_waiting, first_if, has_access, heard, holds_up, is_answered, is_calling, is_left, is_read, is_taken, is_unmarked, is_withdrawal, is_write, makes_itself, marked, marked_all, more_if, no_accesses, no_marks, number_after, over_call, place_after, standing, tells_waiting, ticket_after, ticket_in_call, waited_for, waits_by, with_access, with_mark}
+use Rattle.calls.specs.{Accesses, CallStanding, EntryKnown, IsKnown, Marked, TellsRead, accessed_by, accesses, accesses_itself, answer_after, begun, called, called_at, count_in_call, ends_number, ends_waiting, first_if, first_in_call, heard, holds_up, is_answered, is_calling, is_left, is_read, is_taken, is_unmarked, is_withdrawal, is_write, makes_itself, marked, marked_all, more_if, no_accesses, no_marks, number_after, over_call, place_after, standing, tells_waiting, ticket_after, ticket_in_call, waited_for, waits_by, with_access, with_mark}
 use Rattle.calls.proofs.Folds.{answer-on, answered-on, called_has, door_end-on, entered-on, failed-on, fold-field, fold-first, left-on, marked_all-is, place-on, taken-on, ticket-on, wait_end-on, with_marks, withdrew-on}
-use Rattle.calls.proofs.InCall.{first_none, number-called, number-mine, number-other, over-called, over-mine, over-other}
+use Rattle.calls.proofs.InCall.{first-called, first-mine, first-other, number-called, number-mine, number-other, over-called, over-mine, over-other}
 
 -- Marks.
 
@@ -148,7 +148,8 @@ waits-told s p ticket wait_end past e a (Some n) h (none, same) =
 accesses-with : (s : Setup) (p : ℕ) (e : Entry) (past : Past) → e.process ≡ p → has is_called e ≡ false → (o : Option Access) → e.access ≡ o → (known : EntryKnown) → IsKnown s past e known →
     accesses s p (e ∷ past) ≡ elim o as (λ _. Accesses) [ None ↦ accesses s p past | Some a ↦ with_access s p (length past) known (marked p past) a (accesses s p past) ]
 accesses-with s p e past h called None none known turn =
-    let doorway = number-mine p has_access e past h called false (ap is_some none) ∙ first_none (number_in_call p has_access past) in
+    let doorway = first-mine p (accesses_itself p) e past h called
+    ∙ ap (λ (o : Option Access). first_if (is_some o && is_none (number_in_call p (has is_failed) past)) (length past) (first_in_call p (accesses_itself p) past)) none in
     let reads = over-mine {A = ℕ} p 0 (counting (makes_itself p is_read)) e past h called
     ∙ ap (λ (o : Option Access). more_if (elim o as (λ _. Bool) [ None ↦ false | Some a ↦ is_read a.how && is_none (number_in_call p (has is_failed) past) ]) (count_in_call p (makes_itself p is_read) past)) none in
     let writes = over-mine {A = ℕ} p 0 (counting (makes_itself p is_write)) e past h called
@@ -162,7 +163,8 @@ accesses-with s p e past h called None none known turn =
     ]) none in
     λ i. record { doorway = doorway i; reads = reads i; writes = writes i; overlapped = overlapped i; waited_for = waited i }
 accesses-with s p e past h called (Some a) some known turn =
-    let doorway = number-mine p has_access e past h called true (ap is_some some) in
+    let doorway = first-mine p (accesses_itself p) e past h called
+    ∙ ap (λ (o : Option Access). first_if (is_some o && is_none (number_in_call p (has is_failed) past)) (length past) (first_in_call p (accesses_itself p) past)) some in
     let reads = over-mine {A = ℕ} p 0 (counting (makes_itself p is_read)) e past h called
     ∙ ap (λ (o : Option Access). more_if (elim o as (λ _. Bool) [ None ↦ false | Some a ↦ is_read a.how && is_none (number_in_call p (has is_failed) past) ]) (count_in_call p (makes_itself p is_read) past)) some in
     let writes = over-mine {A = ℕ} p 0 (counting (makes_itself p is_write)) e past h called
@@ -183,7 +185,7 @@ accesses-called s p e past h some =
     let writes = over-called {A = ℕ} p 0 (counting (makes_itself p is_write)) e past h some in
     let overlapped = over-called {A = ℕ} p 0 (counting ends_overlapped_read) e past h some in
     let waited = over-called {A = Option ℕ} p None (waiting s p) e past h some in
-    λ i. record { doorway = number-called p has_access e past h some i; reads = reads i; writes = writes i; overlapped = overlapped i; waited_for = waited i }
+    λ i. record { doorway = first-called p (accesses_itself p) e past h some i; reads = reads i; writes = writes i; overlapped = overlapped i; waited_for = waited i }
 
 accesses-other : (s : Setup) (p : ℕ) (e : Entry) (past : Past) → (e.process == p) ≡ false → accesses s p (e ∷ past) ≡ accesses s p past
 accesses-other s p e past h =
@@ -191,7 +193,7 @@ accesses-other s p e past h =
     let writes = over-other {A = ℕ} p 0 (counting (makes_itself p is_write)) e past h in
     let overlapped = over-other {A = ℕ} p 0 (counting ends_overlapped_read) e past h in
     let waited = over-other {A = Option ℕ} p None (waiting s p) e past h in
-    λ i. record { doorway = number-other p has_access e past h i; reads = reads i; writes = writes i; overlapped = overlapped i; waited_for = waited i }
+    λ i. record { doorway = first-other p (accesses_itself p) e past h i; reads = reads i; writes = writes i; overlapped = overlapped i; waited_for = waited i }
 
 -- All that is kept.
 

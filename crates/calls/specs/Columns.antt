@@ -82,6 +82,14 @@ over_call p start with (e ∷ past) = elim (e.process == p) [
 abbrev pub count_in_call : ℕ → (Past → Entry → Bool) → Past → ℕ
 count_in_call p test past = over_call p 0 (λ before e n. more_if (test before e) n) past
 
+-- the first of two numbers, of which the second counts only where a test holds
+abbrev pub first_if : Bool → ℕ → Option ℕ → Option ℕ
+first_if b number found = cond b (first_of found (Some number)) found
+
+-- the number of the first entry of p's last call that passes a test, each with the past before it
+abbrev pub first_in_call : ℕ → (Past → Entry → Bool) → Past → Option ℕ
+first_in_call p test past = over_call p None (λ before e first. first_if (test before e) (length before) first) past
+
 -- What marks tell, the first of each.
 
 -- the place of a command that is taken
@@ -135,6 +143,10 @@ marked p past = record {
 -- an entry has an access
 abbrev pub has_access : Entry → Bool
 has_access e = is_some e.access
+
+-- p makes the access of this entry itself: it has not failed before in this call
+abbrev pub accesses_itself : ℕ → Past → Entry → Bool
+accesses_itself p before e = has_access e && is_none (number_in_call p (has is_failed) before)
 
 -- a read begins
 abbrev pub is_read : Move → Bool
@@ -195,7 +207,7 @@ waited_for s p past = over_call p None (λ before e newest. elim e.access [
 -- what the accesses of p's last call tell
 abbrev pub accesses : Setup → ℕ → Past → Accesses
 accesses s p past = record {
-  doorway = number_in_call p has_access past;
+  doorway = first_in_call p (accesses_itself p) past;
   reads = count_in_call p (makes_itself p is_read) past;
   writes = count_in_call p (makes_itself p is_write) past;
   overlapped = count_in_call p ends_overlapped_read past;

@@ -8,7 +8,7 @@ use Rattle.calls.specs.declared.called.Accesses.{Accesses}
 use Rattle.calls.specs.declared.called.EntryKnown.{EntryKnown}
 use Rattle.calls.specs.declared.called.Marked.{Marked}
 use Rattle.calls.specs.declared.standing.CallStanding.{CallStanding}
-use Rattle.calls.specs.Columns.{answer_after, called, goes_on_after, is_calling, is_read, is_write, more_if, number_after, tells_waiting}
+use Rattle.calls.specs.Columns.{answer_after, called, first_if, goes_on_after, is_calling, is_read, is_write, more_if, number_after, tells_waiting}
 
 -- what is kept of p
 abbrev pub standing : Setup → ℕ → Past → CallStanding
@@ -41,16 +41,12 @@ waits_by s p ticket wait_end a (Some n) = tells_waiting s p ticket wait_end a (n
 -- with an access of the entry with this number, of which this is known
 abbrev pub with_access : Setup → ℕ → ℕ → EntryKnown → Marked → Access → Accesses → Accesses
 with_access s p number known m a k = record {
-  doorway = first_of k.doorway (Some number);
+  doorway = first_if (is_none m.failed) number k.doorway;
   reads = more_if (is_read a.how && is_none m.failed) k.reads;
   writes = more_if (is_write a.how && is_none m.failed) k.writes;
   overlapped = more_if known.overlapped k.overlapped;
   waited_for = cond (waits_by s p m.ticket m.wait_end a known.read) (Some a.owner) k.waited_for;
 }
-
--- the first number of an entry that has such a mark
-abbrev pub first_if : Bool → ℕ → Option ℕ → Option ℕ
-first_if b number found = cond b (first_of found (Some number)) found
 
 -- with a mark of the entry with this number
 abbrev pub with_mark : ℕ → Marked → Mark → Marked

@@ -4,7 +4,7 @@ use plain_store::{Answer, Command};
 /// What the accesses of a call tell. Events are told by their numbers, from 0.
 #[derive(Clone, Copy)]
 pub struct Accesses {
-    /// The first one: there its doorway begins.
+    /// The event of the first access that the process makes itself, and not its memory unit: its doorway begins there.
     pub doorway: Option<u64>,
     /// How many reads of bits the process has begun itself, and not its memory unit.
     pub reads: u64,

@@ -11,5 +11,5 @@ mod table;
 pub use accesses::{ends_number, holds_up, number_after};
 pub use called::{Accesses, Called, EntryKnown, Marked};
 pub use printed::{HEADER, print_call};
-pub use standing::{CallStanding, called_in, first_of};
+pub use standing::{CallStanding, called_in, first_if};
 pub use table::CallTable;

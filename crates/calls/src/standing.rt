@@ -2,6 +2,7 @@
 ghost use Rattle.std.specs.Prelude.{◌≡◌, ◌-◌, ◌^◌, ◌<◌, ◌&&◌, not, cond, None, Some, Ok};
 ghost use Rattle.plain_store.specs.{checked};
 ghost use Rattle.record.specs.{called_in as command_in, first_of as first};
+ghost use Rattle.calls.specs.Columns.{first_if as first_number_if};
 ghost use Rattle.calls.specs.Passing.{HaveRoom, passed, with_passed};
 ghost use Rattle.calls.specs.Stepping.{AreFew, accessed, heard, at_rest, begun, marked_all, marked_on, no_accesses, no_marks, with_access, with_mark};
 
@@ -156,7 +157,7 @@ impl Accesses {
         }
     }
 
-    /// One more access of its process, of the entry with this number.
+    /// Adds the access of the entry with this number, which the process makes or its memory unit.
     #[inline]
     fn note(
         &mut self,
@@ -170,8 +171,8 @@ impl Accesses {
         requires { checked setup.now ≡ Ok tt }
         ensures { AreFew self.old → self.new ≡ with_access setup.now process number known.now marks.now access.now self.old }
     {
-        self.doorway = first_of(self.doorway, number);
         let itself = marks.failed.is_none();
+        self.doorway = first_if(self.doorway, itself, number);
         self.reads = more_if(self.reads, is_read(access.how) & itself);
         self.writes = more_if(self.writes, is_write(access.how) & itself);
         self.overlapped = more_if(self.overlapped, known.overlapped);
@@ -258,12 +259,24 @@ impl Marked {
 
 /// The first of two numbers, of which there may be none before.
 #[inline]
-pub fn first_of(before: Option<u64>, number: u64) -> Option<u64>
+fn first_of(before: Option<u64>, number: u64) -> Option<u64>
     ensures { result ≡ first before (Some number) }
 {
     match before {
         Some(before) => Some(before),
         None => Some(number),
+    }
+}
+
+/// Returns the number before, or, if there is none and the test holds, this one.
+#[inline]
+pub fn first_if(before: Option<u64>, test: bool, number: u64) -> Option<u64>
+    ensures { result ≡ first_number_if test number before }
+{
+    if test {
+        first_of(before, number)
+    } else {
+        before
     }
 }
 

@@ -3,7 +3,6 @@ pub mod Fronts
 pub mod Going
 pub mod Ranges
 pub mod Seeing
-pub mod Unfailed
 pub mod Passing
 pub mod Standing
 pub mod Tabling

@@ -13,7 +13,7 @@ use Rattle.course.proofs.laws.Steps.{step_is}
 use Rattle.inspect.specs.{HasTabled, known_step, lines_after}
 use Rattle.inspect.proofs.Seeing.{inside_never, not_so, steps_below}
 use Rattle.inspect.proofs.Tabling.{event_added, unmarked_ends}
-use Rattle.inspect.proofs.Unfailed.{within_unfailed}
+use Rattle.snapshot.proofs.Unfailed.{within_unfailed}
 
 -- no call ends with it
 unmarked_lines : (s : Setup) (before : List Happening) (p : ℕ) (flick : Bool) (access : Option Access) → entry_of s (past_after s before) (Step p flick) ≡ Some (record { process = p; access = access; marks = [] }) →

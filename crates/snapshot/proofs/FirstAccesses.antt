@@ -1,19 +1,20 @@
--- A process within a number access has made an access of its call.
+-- A process within a number access has itself made an access of its call.
 use Rattle.std.proofs.Common.{◌≡◌, ◌≢◌, ◌<◌, ◌==◌, ◌&&◌, ℕ, Bool, true, false, List, ◌∷◌, Option, None, Some, length, refl, sym, ap, subst, ◌∙◌, arith, eq-eqb, eqb-true, true≢false}
-use Rattle.std.specs.Prelude.{is_some}
+use Rattle.std.specs.Prelude.{is_none, is_some}
 use Rattle.plain_store.specs.{Command, Setup}
 use Rattle.plain_store.specs.declared.Command.TheVariants.{Ask}
-use Rattle.record.specs.{Entry, Event, Past, entry_of, first_of, has, is_called, number_in_call, past-induction, past_of}
+use Rattle.record.specs.{Entry, Event, Past, entry_of, has, is_called, is_failed, number_in_call, past-induction, past_of}
 use Rattle.record.specs.Closings.{Closing, Withdraws, Settles, Frees, Lowers, Quit, Ended, closing_after}
 use Rattle.record.proofs.Width.{IsGood}
-use Rattle.calls.specs.{has_access}
+use Rattle.calls.specs.{accesses_itself, first_if, first_in_call}
 use Rattle.world.specs.laws.{Doing, call, closes, doing}
-use Rattle.calls.proofs.InCall.{number-mine, number-other}
+use Rattle.calls.proofs.InCall.{first-mine, first-other}
 use Rattle.world.proofs.laws_proofs.Frame.{Happens, a_call, a_closing, a_failure, a_restart, a_step, a_withdrawal, doing-other}
 use Rattle.world.proofs.laws_proofs.FrameEvents.{accepted}
 use Rattle.world.proofs.laws_proofs.FrameMarks.{called-is, is_resting, is_running}
 use Rattle.world.specs.process.{left_at, process_after}
 use Rattle.snapshot.specs.{has_accessed}
+use Rattle.snapshot.proofs.Unfailed.{running_unfailed, runs_call}
 
 -- how many accesses are left to a process that does this
 abbrev left_doing : Setup → ℕ → Doing → ℕ
@@ -31,16 +32,16 @@ closing-none s p d command number Ended is = ap (left_doing s p) is
 some-none : {A : Type 0} (n : ℕ) → 0 < n → n ≡ 0 → A
 some-none n more none = absurd (omega (arith, more, none))
 
--- an entry after which some are left has an access, and begins no call
-steps-by : (s : Setup) (past : Past) (p : ℕ) (e : Entry) (d d' : Doing) → Happens s past p e d d' → 0 < left_doing s p d' → (is_some e.access ≡ true) × (is_resting d ≡ false)
+-- an entry after which some are left has an access, and its process ran its call before it
+steps-by : (s : Setup) (past : Past) (p : ℕ) (e : Entry) (d d' : Doing) → Happens s past p e d d' → 0 < left_doing s p d' → (is_some e.access ≡ true) × (is_resting d ≡ false) × (runs_call d ≡ true)
 steps-by s past p e d d' (a_call command number was none marks then) more = some-none (left_doing s p d') more (ap (left_doing s p) then)
 steps-by s past p e d d' (a_withdrawal command number t w ws run was none marks then) more = some-none (left_doing s p d') more (ap (left_doing s p) then)
 steps-by s past p e d d' (a_failure command number may none marks then) more = some-none (left_doing s p d') more (ap (left_doing s p) then)
 steps-by s past p e d d' (a_restart was none marks then) more = some-none (left_doing s p d') more (ap (left_doing s p) then)
-steps-by s past p e d d' (a_step command number at a flick was over access is marks then) more = (ap is_some access, ap is_resting was)
+steps-by s past p e d d' (a_step command number at a flick was over access is marks then) more = (ap is_some access, ap is_resting was, ap runs_call was)
 steps-by s past p e d d' (a_closing command number at flick n was next access same marks then) more = some-none (left_doing s p d') more (closing-none s p d' command number (closing_after (call s p command number) at flick) then)
 
-first-some : (first : Option ℕ) (n : ℕ) → is_some (first_of first (Some n)) ≡ true
+first-some : (first : Option ℕ) (n : ℕ) → is_some (first_if true n first) ≡ true
 first-some None n = refl
 first-some (Some k) n = refl
 
@@ -66,7 +67,10 @@ has-first s g events p = past-induction HasFirst s (λ g p more. absurd (omega (
             called-is s g events what e h
             ∙ ap (λ q. is_resting (doing s q past) && is_running (doing s q (e ∷ past))) mine
             ∙ ap (λ b. b && is_running (doing s p (e ∷ past))) steps.1 in
-            ap is_some (number-mine p has_access e past mine plain true steps.0) ∙ first-some (number_in_call p has_access past) (length past)
+            let unfailed : number_in_call p (has is_failed) past ≡ None = running_unfailed s p past steps.2 in
+            let itself : accesses_itself p past e ≡ true = λ i. steps.0 i && is_none (unfailed i) in
+            let first : Option ℕ = first_in_call p (accesses_itself p) past in
+            ap is_some (first-mine p (accesses_itself p) e past mine plain ∙ ap (λ b. first_if b (length past) first) itself) ∙ first-some first (length past)
         go false i =
             let other : e.process ≢ p = λ u. true≢false (sym (eq-eqb e.process p u) ∙ i) in
-            ap is_some (number-other p has_access e past i) ∙ ih g p (subst (λ d. 0 < left_doing s p d) (doing-other s p e past other) more)
+            ap is_some (first-other p (accesses_itself p) e past i) ∙ ih g p (subst (λ d. 0 < left_doing s p d) (doing-other s p e past other) more)

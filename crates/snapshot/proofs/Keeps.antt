@@ -4,11 +4,11 @@ use Rattle.std.proofs.lemmas.Bool.{cases_eq}
 use Rattle.std.proofs.lemmas.List.FromFn.{get_or-map-range_with_len, length-map-range_with_len, map-range_with_len_more}
 use Rattle.std.proofs.lemmas.Option.{get_or_from_slice_get, slice_get-get_or, slice_get_within}
 use Rattle.std.specs.List.{list_any, range_with_len}
-use Rattle.std.specs.Prelude.{is_some, slice_index_or}
+use Rattle.std.specs.Prelude.{is_none, is_some, slice_index_or}
 use Rattle.plain_store.specs.{Command, Setup}
-use Rattle.record.specs.{Access, Entry, Mark, Past, called_in, calls_in, first_of, has, is_failed, own, width}
+use Rattle.record.specs.{Access, Entry, Mark, Past, called_in, calls_in, has, is_failed, own, width}
 use Rattle.snapshot.specs.{FinishedRead, HasHeard, Passes, ProcessKept, SnapshotState, TellsNumber, failed_at, has_accessed, kept, kept_marked, kept_stepped, nothing_kept, opened_if, read_after, read_last, read_with, without_accesses}
-use Rattle.calls.specs.{CallStanding, EntryKnown, accessed_by, begun, ends_number, heard, marked_all, number_after, standing}
+use Rattle.calls.specs.{CallStanding, EntryKnown, accessed_by, begun, ends_number, first_if, heard, marked_all, number_after, standing}
 use Rattle.world.specs.laws.{doing}
 use Rattle.calls.proofs.Folds.{marked_all-is}
 use Rattle.calls.proofs.Heard.{slice_get-set_other, slice_get-set_same}
@@ -103,15 +103,17 @@ kept_on s p a past n tells =
 -- Entries within a number access.
 
 -- where the first access is known, another one changes nothing
-opened_same : (number : ℕ) (first : Option ℕ) → is_some first ≡ true → first_of first (Some number) ≡ first
-opened_same number None known = absurd (cc)
-opened_same number (Some k) known = refl
+opened_same : (number : ℕ) (itself : Bool) (first : Option ℕ) → is_some first ≡ true → first_if itself number first ≡ first
+opened_same number itself None known = absurd (cc)
+opened_same number true (Some k) known = refl
+opened_same number false (Some k) known = refl
 
 passed_on : (s : Setup) (p : ℕ) (a : Access) (past : Past) → ends_number (width s a.field) a.bit a.how ≡ false → has_accessed s p past ≡ true → kept s p (quiet_entry p a ∷ past) ≡ kept s p past
 passed_on s p a past none known =
     let k : ProcessKept = kept s p past in
     let n : ℕ = number_read (doing s p past) in
-    let first : first_of k.standing.last.accesses.doorway (Some (length past)) ≡ k.standing.last.accesses.doorway = opened_same (length past) k.standing.last.accesses.doorway known in
+    let itself : Bool = is_none k.standing.last.marks.failed in
+    let first : first_if itself (length past) k.standing.last.accesses.doorway ≡ k.standing.last.accesses.doorway = opened_same (length past) itself k.standing.last.accesses.doorway known in
     kept_on s p a past n (λ ends. refl)
     ∙ kept_by (kept_stepped s (length past) a n k) k
     (ap (λ (o : Option ℕ). let then : CallStanding = record k.standing { last = record k.standing.last { accesses = record k.standing.last.accesses { doorway = o } } } in then) first)

@@ -1,15 +1,15 @@
 -- What is kept of a process: found by looking back over its entries, and how it goes on with an entry.
-use Rattle.std.specs.Prelude.{◌≡◌, ℕ, zero, suc, ◌==◌, Bool, true, false, List, [], ◌∷◌, length, cond, Option, None, Some, is_some}
+use Rattle.std.specs.Prelude.{◌≡◌, ℕ, zero, suc, ◌==◌, Bool, true, false, List, [], ◌∷◌, length, cond, Option, None, Some, is_none, is_some}
 use Rattle.std.specs.List.{list_any}
 use Rattle.plain_store.specs.{Setup}
-use Rattle.record.specs.{Access, Entry, Mark, Past, called_in, first_of, has, is_failed, width}
-use Rattle.calls.specs.{CallStanding, Called, at_rest, begun, ends_number, marked_all, no_accesses, number_after, standing}
+use Rattle.record.specs.{Access, Entry, Mark, Past, called_in, has, is_failed, width}
+use Rattle.calls.specs.{CallStanding, Called, at_rest, begun, ends_number, first_if, marked_all, no_accesses, number_after, standing}
 use Rattle.snapshot.specs.declared.kept.FinishedRead.{FinishedRead}
 use Rattle.world.specs.laws.{doing}
 use Rattle.world.specs.process.{number_read}
 use Rattle.snapshot.specs.declared.kept.ProcessKept.{ProcessKept}
 
--- a call without what its accesses tell, but for the first of them
+-- a call without what its accesses tell, but for the first that the process makes itself
 abbrev pub without_accesses : CallStanding → CallStanding
 without_accesses k = record k { last = record k.last { accesses = record no_accesses { doorway = k.last.accesses.doorway } } }
 
@@ -39,9 +39,9 @@ kept s p past = record { standing = without_accesses (standing s p past); failed
 abbrev pub nothing_kept : ℕ → ProcessKept
 nothing_kept p = record { standing = at_rest p; failed = 0; read = None }
 
--- with an access of the entry with this number
+-- with an access of the entry with this number, which counts unless the process has failed in its call
 abbrev pub opened : ℕ → CallStanding → CallStanding
-opened number k = record k { last = record k.last { accesses = record k.last.accesses { doorway = first_of k.last.accesses.doorway (Some number) } } }
+opened number k = record k { last = record k.last { accesses = record k.last.accesses { doorway = first_if (is_none k.last.marks.failed) number k.last.accesses.doorway } } }
 
 abbrev pub opened_if : Bool → ℕ → CallStanding → CallStanding
 opened_if b number k = cond b (opened number k) k
@@ -66,7 +66,7 @@ call_kept k = cond k.standing.calling (Some k.standing.last) None
 abbrev pub TellsNumber : Setup → Past → ℕ → Access → ℕ → Type 0
 TellsNumber s past p a n = ends_number (width s a.field) a.bit a.how ≡ true → n ≡ number_read (doing s p past)
 
--- p has made an access of its last call
+-- p itself has made an access of its last call
 abbrev pub has_accessed : Setup → ℕ → Past → Bool
 has_accessed s p past = is_some (standing s p past).last.accesses.doorway
 

@@ -5,7 +5,7 @@ ghost use Rattle.plain_store.specs.{checked};
 ghost use Rattle.record.specs.{is_failed};
 ghost use Rattle.snapshot.specs.Keeping.{kept_marked, kept_stepped, nothing_kept, opened};
 
-use calls::{CallStanding, Called, called_in, ends_number, first_of, number_after};
+use calls::{CallStanding, Called, called_in, ends_number, first_if, number_after};
 use plain_store::{NestedTypes, Setup};
 use record::{Access, Field, Mark};
 
@@ -17,7 +17,7 @@ pub(crate) struct FinishedRead {
     pub number: u64,
 }
 
-/// What is kept of a process. Of the accesses of its last call only the first one is kept.
+/// The state of a process. Its last call stores no access except the first that the process makes itself.
 #[derive(Clone, Copy)]
 pub(crate) struct ProcessKept {
     pub standing: CallStanding,
@@ -87,13 +87,14 @@ impl ProcessKept {
         }
     }
 
-    /// An access of its call, of the entry with this number.
+    /// Adds the access of the entry with this number, which counts unless the process has failed in its call.
     #[inline]
     fn open(&mut self, number: u64)
         ensures { self.new ≡ record self.old { standing = opened number self.old.standing } }
     {
-        let accesses = &mut self.standing.last.accesses;
-        accesses.doorway = first_of(accesses.doorway, number);
+        let last = &mut self.standing.last;
+        let itself = last.marks.failed.is_none();
+        last.accesses.doorway = first_if(last.accesses.doorway, itself, number);
     }
 }
 

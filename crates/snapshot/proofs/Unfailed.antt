@@ -5,8 +5,8 @@ use Rattle.plain_store.specs.{Command, Setup}
 use Rattle.record.specs.{Access, Entry, Mark, Past, first_of, has, is_called, is_failed, number_in_call, own, start_in, starts}
 use Rattle.record.specs.declared.marks.Mark.TheVariants.{Called, Waiting, Entered, Taken, Left, Answered, Failed, Settled, Down, Withdrew, Restarted}
 use Rattle.record.specs.Closings.{Closing, Withdraws, Settles, Frees, Lowers, Quit, Ended}
-use Rattle.course.specs.world.laws.{Doing, Rests, Lies, Runs, Closes, closes, does_after, doing, goes_on}
-use Rattle.course.specs.world.process.{ProcessState, left_at, process_after}
+use Rattle.world.specs.laws.{Doing, Rests, Lies, Runs, Closes, closes, does_after, doing, goes_on}
+use Rattle.world.specs.process.{ProcessState, left_at, process_after}
 
 -- The mark with which a program begins.
 
@@ -48,7 +48,7 @@ some_called (Restarted ∷ marks) c is = some_called marks c is
 
 -- Who runs its call.
 
-abbrev runs_call : Doing → Bool
+abbrev pub runs_call : Doing → Bool
 runs_call Rests = false
 runs_call Lies = false
 runs_call (Runs command number at) = true
@@ -99,7 +99,7 @@ module _ (s : Setup) (p : ℕ) (e : Entry) (past : Past) (before : runs_call (do
   whoever false is = before is
   whoever true is = mine (start_in e.marks) refl is
 
-running_unfailed : (s : Setup) (p : ℕ) (past : Past) → runs_call (doing s p past) ≡ true → number_in_call p (has is_failed) past ≡ None
+pub running_unfailed : (s : Setup) (p : ℕ) (past : Past) → runs_call (doing s p past) ≡ true → number_in_call p (has is_failed) past ≡ None
 running_unfailed s p [] is = refl
 running_unfailed s p (e ∷ past) is = whoever s p e past (running_unfailed s p past) (e.process == p) is
 
