@@ -1,7 +1,7 @@
 #!/usr/bin/env bash
-# Tries wrong bodies under each contract, crate by crate, lowest first, and prints those that are still proved, functions
-# that any body would pass, and those that could not be tried. By hand: it takes an hour or more. Words name crates; with none
-# it is all of them. docs/PLANTS.md has what it found, and why each is left.
+# Tries mutants (wrong bodies) under each contract, crate by crate, lowest first. Prints the mutants that are still proved, the
+# functions that accept any body, and the functions that could not be tried. By hand: it takes an hour or more. Arguments name crates;
+# without arguments the script tries all of them. docs/TESTING.md lists what it found, and why each mutant was left.
 set -u
 cd "$(dirname "$0")/../.."
 minutes=${MINUTES:-40}

@@ -9,8 +9,9 @@ lemma that the pages on the two proofs name.
 
 docs/CLAIMS.md has each promise of README.md, word for word and in its order. Each of its rows says how strong it is, and whether it
 is about the code that the program runs, other calls of the library, or the reference calls; one that names a clause of a reference
-crate is about these. One that is proved names a clause, and one that is tested a script or a test that is there. docs/PLANTS.md names each must-fail edit, and no
-other, and what an edit changes is there.
+crate is about these. One that is proved names a clause, and one that is tested a script or a test that is there. docs/TESTING.md
+names each must-fail edit, and no other, and what an edit changes is there. The numbers before the words of `counts` on that page
+are counted again, and `--write` writes them anew.
 """
 
 import os
@@ -26,12 +27,14 @@ from lib.places import TOP
 from lib.sources import FOLDER, definition_at, facts_of, functions_named, names, tests_named, words_in
 from lib.wrong_bodies import wrong_bodies
 
-CLAIMS = TOP / "docs" / "CLAIMS.md"
+CLAIMS, TESTING = TOP / "docs" / "CLAIMS.md", TOP / "docs" / "TESTING.md"
 CLAUSES = re.compile(r"\[`(?P<path>\w+(?:::\w+)+)`(?P<words>(?:, (?:`\w+`|its clause|its test))*)\]\((?P<link>[^()\s]*)\)")
 DEFINITION = re.compile(r"\[`(?P<name>[^`\s]+)`, in `(?P<file>\w+/specs/[\w/]+\.antt)`\]\((?P<link>[^()\s]*)\)")
 SCRIPT = re.compile(r"`(tests/[\w/]+\.\w+)`")
 NAME = re.compile(r"(?<!\[)`(\w+(?:::\w+)+)`")
 EDIT = re.compile(r"`(\w+)/([\w-]+)`")
+# the second half of a row of the hostile tests: how many runs, and how many failures
+TRIES = re.compile(r" \| ([\d,]+) \| \d+ \|$", re.M)
 LEMMA = re.compile(r"`([\w'-]+(?:\.antt)?)`")
 # the crates whose lemmas a page on a proof names
 PROOFS = {"PROOF_OF_THE_LOCK.md": ["laws", "record"], "PROOF_OF_THE_HISTORY.md": ["history_laws", "laws", "record", "plain_store"]}
@@ -160,24 +163,77 @@ def check_claims(counter):
 
 
 def check_edits(counter):
-    """Whether docs/PLANTS.md names each must-fail edit, and no other; and whether what each changes is there."""
-    named = set(EDIT.findall((TOP / "docs" / "PLANTS.md").read_text()))
+    """Whether docs/TESTING.md names each must-fail edit, and no other; and whether what each changes is there."""
+    named = set(EDIT.findall(TESTING.read_text()))
     there = {(body.crate, body.name) for body in wrong_bodies()}
-    counter.count(named == there, f"PLANTS.md and the must-fail edits differ in {sorted(named ^ there)}")
+    counter.count(named == there, f"TESTING.md and the must-fail edits differ in {sorted(named ^ there)}")
     for body in wrong_bodies():
         counter.count(body.refused and body.changed({}), f"{body}: an old text does not stand once in its file")
 
 
+def lines_given(file):
+    """The lines of a file of examples that are neither empty nor comments."""
+    return [line for line in file.read_text().splitlines() if line and not line.startswith("#")]
+
+
+def tries_of(text, heading):
+    """How many runs the table of a part of the hostile tests has."""
+    part = text.partition(f"\n### {heading}\n")[2].partition("\n#")[0].partition("<!-- end -->")[0]
+    return sum(int(number.replace(",", "")) for number in TRIES.findall(part))
+
+
+def counts(text):
+    """What docs/TESTING.md counts: the words that follow a number, and the number."""
+    files = lambda pattern: len([*TOP.glob(pattern)])
+    return {
+        "worked scenarios": files("examples/worked/*/scenario"),
+        "worked bits files": files("examples/worked/*/bits-file"),
+        "record files": files("examples/records/*/record-file"),
+        "inspected runs": files("examples/inspect/*/args"),
+        "records of other locks": files("examples/other-locks/*/record"),
+        "short files": sum(len(lines_given(file)) for file in (TOP / "examples" / "short").iterdir()),
+        "scenarios of boards": len(lines_given(TOP / "examples" / "boards" / "turns")),
+        "lessons": files("lessons/[0-9]*.md"),
+        "must-fail edits": len(wrong_bodies()),
+        "tests in Rattle": sum(file.read_text().count("#[test]") for file in FOLDER.glob("*/src/**/*.rt")),
+        "runs on spoiled files": tries_of(text, "Spoiled files"),
+        "runs with failing streams": tries_of(text, "Failing streams"),
+        "runs with a failed allocation or thread": tries_of(text, "Failed allocations"),
+        "long runs": tries_of(text, "Long runs"),
+        "races under load": tries_of(text, "Races under load"),
+    }
+
+
+def counted(text):
+    """The page with the numbers that are counted, and the words that no number stands before."""
+    missing = []
+    for words, number in counts(text).items():
+        text, times = re.subn(rf"\b\d[\d,]* {words}\b", f"{number:,} {words}", text)
+        missing += [] if times else [words]
+    return text, missing
+
+
+def check_counts(counter):
+    """Whether the numbers of docs/TESTING.md are those that are counted."""
+    text = TESTING.read_text()
+    wanted, missing = counted(text)
+    counter.count(not missing, f"TESTING.md gives no number of {missing}")
+    counter.count(text == wanted, "TESTING.md has other numbers than are counted: python3 tests/gate/claims.py --write")
+
+
 def main():
     counter, pages = Counter(), sorted((TOP / "docs").glob("*.md"))
-    for page in pages:
-        if sys.argv[1:] == ["--write"]:
+    if sys.argv[1:] == ["--write"]:
+        for page in pages:
             page.write_text(written(page, page.read_text()))
+        TESTING.write_text(counted(TESTING.read_text())[0])
+    for page in pages:
         check_references(counter, page)
     for page in [*pages, TOP / "bench" / "README.md"]:
         check_names(counter, page)
     check_claims(counter)
     check_edits(counter)
+    check_counts(counter)
     counter.end()
 
 

@@ -1,8 +1,13 @@
-"""Failing streams: each read and each write in turn fails, takes one byte, or takes none; streams are closed or full; a reader
-goes away; an input never ends; files cannot be read.
+"""Failing streams: every command runs a file without a fault and a file with one, and each read and each write in turn fails, takes
+one byte, or takes no byte. In other runs a standard stream is closed or full, the reader of a pipe goes away, the input never
+ends, or the file cannot be read or has a name that is not UTF-8.
 
-After a `read fault` nothing was written. A failed write, and one that takes nothing, is a `write fault` behind a front of the
-text, and nothing is written after it. A fault that standard error does not take is told by the status alone.
+After a failed read the program must print `read fault` and nothing else. A read that takes no byte is the end of the file. After a
+failed write, or one that takes no byte, the program must report `write fault` and write no further output, and what it wrote before
+must be a prefix of the text. If standard error fails, the exit status and standard output must be unchanged. A call that takes one
+byte must change nothing. Every command except `judge` must stop reading at the greatest length of a file.
+
+The library `tests/preload/interrupt.c` is loaded before the program and spoils one call of a run.
 """
 
 import contextlib

@@ -1,6 +1,8 @@
-"""Races under load: soaks of races and of ports, beside twice as many busy processes as there are cores.
+"""Races under load: the program runs random races, and a test program random rounds of boards, next to twice as many busy processes
+as the machine has cores.
 
-What is raced is drawn from numbers; what is left is judged by a second reading.
+The script draws each race and each round from its number. The system decides how the threads meet. An independent implementation
+checks what each race or round leaves.
 """
 
 import contextlib
@@ -30,7 +32,7 @@ def busy():
 
 def soaked(folder, script, word, number):
     """A soak of so many, from the first on; each by its number."""
-    what, name = f"`tests/{script}` beside twice as many busy processes as cores", f"{word[2:]} 1 to {number}"
+    what, name = f"`tests/{script}`", f"{word[2:]} 1 to {number}"
     with busy():
         return script_row(what, name, script, word, str(number), "--keep", folder / "soak", number=number)
 

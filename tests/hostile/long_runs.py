@@ -1,7 +1,8 @@
-"""Long runs: `replay` and `audit` of hundreds of millions of events, and a record of millions of entries that `judge` reads from
-a pipe.
+"""Long runs: `replay` and `audit` make hundreds of millions of events, and `judge` reads a record of millions of entries from a
+pipe.
 
-What they print is worked out here. At most 16 MiB are resident beyond the file and the history.
+The script computes the number of events, and the first and last lines of the output, independently of the program. At most 16 MiB
+may be resident, in addition to the size of the file and 128 bytes for each command that was taken.
 """
 
 import os
@@ -13,6 +14,8 @@ from lib.places import PROGRAM
 from lib.refusing import Refuser, met_in
 from lib.running import Row
 
+# the heading of the second column of the table
+COLUMN = "Resident at most"
 # the bound, in KiB, and the most bytes of the history that a command taken may have
 ROOM, BYTES_OF_TAKEN = 16 * 1024, 128
 # the Steps of one line
@@ -73,7 +76,7 @@ def long_run(refuser, folder, long, command):
         wrong.append(f"{ran.returncode}, {ran.stderr}, {ran.stdout[:400]} .. {ran.stdout[-400:]}")
     if not 0 < met.peak <= bound(long, len(long.text)):
         wrong.append(f"{met.peak} KiB are resident")
-    return Row(f"`{command}` of {long.name}, {long.events:,} events", f"{met.peak:,} KiB resident", 1, wrong)
+    return Row(f"`{command}` of {long.name}, {long.events:,} events", f"{met.peak:,} KiB", 1, wrong)
 
 
 def long_record(refuser, folder, long):
@@ -92,8 +95,8 @@ def long_record(refuser, folder, long):
         wrong.append(f"{record.returncode}, {judge}")
     if not all(0 < peak <= bound(long, 0) for peak in peaks):
         wrong.append(f"{peaks} KiB are resident")
-    what = f"`record` to `judge` of {long.name}, {long.events:,} events"
-    return Row(what, f"{peaks[0]:,} and {peaks[1]:,} KiB resident", 2, wrong)
+    what = f"`record` of {long.name}, piped to `judge`, {long.events:,} events"
+    return Row(what, f"{peaks[0]:,} and {peaks[1]:,} KiB", 2, wrong)
 
 
 def rows(_examples, folder, is_short):

@@ -1,14 +1,17 @@
-"""Refused memory: each growth is refused in turn, of each command on each file of examples/, of races, of boards, of a long replay,
-and of the tests of the crates; and each thread of a race.
+"""Failed allocations: the test makes each memory allocation fail, one at a time. It does so for every command on the scenarios,
+bits files and record files of examples/ (without the records of other locks), for races, for boards, for a long replay, and for
+the tests of the crates. It also makes the start of each thread of a race fail.
 
-A run must end with status 4 and tell want of memory, behind a front of its text; a race and an answer to words, behind nothing.
-One growth is a hint, in the search for the nearest command to a word: there a run may end as with ample memory. A race tells
-`no thread` only where a thread is missing. A test must pass, or fail and tell want of memory.
+A run must end with status 4 and report `out of memory` or `line N: memory` after a prefix of its output. A race, or a run whose
+arguments name no file, must print nothing before that report. The search for the command nearest to a misspelled one may do
+without its allocation, so such a run may also end normally. A race may report `no thread` only if a thread did not start. A test
+must pass, or fail and report the allocation failure; a test of races may report a missing thread or a held port instead.
 
-The growths are those of the compiled programs, which a library loaded before them counts and refuses: where a program starts no
-thread, to a copy of a run that is made at the growth, and else in a run of its own for each growth. A run that has very many
-growths makes the same worlds and audits again and again: there a growth is refused if fewer than twenty like it were, of the same
-size, from the same depth of the stack, and behind seven that were alike.
+The library `tests/preload/refuse.c` is loaded before the program, counts its allocations and makes one of them fail. If a program
+starts no thread, the library copies the process at each allocation and lets the copy's allocation fail. Otherwise each allocation
+takes a run of its own. A run with more than 50,000 allocations repeats the same work, so there an allocation fails only if fewer
+than twenty similar ones have failed. Allocations are similar if they have the same size and stack depth, and so have the seven
+allocations before them.
 """
 
 import collections
@@ -26,7 +29,7 @@ from lib.running import COMMANDS, CORES, Row, script_row
 
 # a run that has more growths than these, and how often it is refused growths that are alike
 MANY, REPEATS = 50_000, 20
-OF_MANY = f"runs with more than {MANY:,} growths, alike ones {REPEATS} times each"
+OF_MANY = f"runs with more than {MANY:,} allocations, similar ones at most {REPEATS} times each"
 # a run of a command that takes longer with ample memory is not tried
 SECONDS = 30
 WANT_OF_MEMORY = re.compile(r"out of memory\n|line \d+: memory\n")
@@ -90,7 +93,7 @@ def met_none(tried):
 
 def named(what, name, met):
     """The row's words, by how many growths a run has met."""
-    return (OF_MANY, f"{what} {name}, {met.growths:,} growths") if met.growths > MANY else (what, name)
+    return (OF_MANY, f"{what} {name}, {met.growths:,} allocations") if met.growths > MANY else (what, name)
 
 
 def file_row(refuser, examples, command, file):
@@ -99,7 +102,7 @@ def file_row(refuser, examples, command, file):
     try:
         subprocess.run([PROGRAM, *command.split(), file], capture_output=True, timeout=SECONDS)
     except subprocess.TimeoutExpired:
-        return Row(f"`{command}`, where a run takes longer than {SECONDS} s", name, 0, [])
+        return Row(f"`{command}`, left out because a run takes more than {SECONDS} s", name, 0, [])
     _, met, tried, wrong = refused(refuser, [PROGRAM, *command.split(), file], is_lost)
     return Row(*named(f"`{command}`", name, met), tried, wrong or met_none(tried))
 
@@ -129,7 +132,7 @@ def words_row(refuser, words):
     _, _, tried, wrong = refused(refuser, [PROGRAM, *words], is_good)
     if not endings["lost"] or (words in COLLECTED) != (endings["whole"] > 0):
         wrong.append(f"how the runs ended: {dict(endings)}")
-    return Row("the words of the program", " ".join(words), tried, wrong or met_none(tried))
+    return Row("arguments that name no file", " ".join(words), tried, wrong or met_none(tried))
 
 
 def is_lost_race(ran, met, processes):
@@ -262,4 +265,4 @@ def rows(examples, folder, is_short):
     if not any(row.tried for row in tests):
         yield Row("tests of the crates", "no growth of a test was refused", 1, ["none"])
     if not is_short:
-        yield script_row("threads of races, each refused in turn", "`tests/gate/refused_threads.py`", "gate/refused_threads.py")
+        yield script_row("each thread of a race fails to start", "`tests/gate/refused_threads.py`", "gate/refused_threads.py")

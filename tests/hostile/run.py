@@ -1,10 +1,13 @@
 #!/usr/bin/env python3
-"""Hostile use: the proved programs under refused memory, failing streams, spoiled files, long runs, and races under load.
+"""Hostile use: the proved programs with spoiled files, failing streams, failed allocations, long runs, and races under load.
 
-run.py [short] [PART..] [--examples FOLDER]: all parts, or those named: files, streams, memory, long, races. The whole
-takes ten minutes on 4 idle cores, and writes docs/TESTED.md, a table of what was tried and how often. `short` tries a part of
-each, drawn by fixed numbers, in half a minute, and writes nothing. It needs `cc`, and what `rt ci` leaves: the proved
-programs, and the tests of the crates. The last line counts what was tried: `N passed, M failed`.
+run.py [short] [PART..] [--examples FOLDER]: runs all parts, or those named: files, streams, memory, long, races. The whole run
+takes 6.5 minutes on 4 idle cores, and writes its tables between two comments of docs/TESTING.md. Then `gate/claims.py --write`
+writes the totals of that page. `short` tries a part of each, drawn by fixed numbers, in half a minute, and writes nothing. The
+script needs `cc`, and what `rt ci` leaves: the proved programs, and the tests of the crates. The last line counts what was tried:
+`N passed, M failed`.
+
+The docstring of a part is its section of the page: the heading before the first colon, then the paragraphs above its table.
 """
 
 import argparse
@@ -23,24 +26,23 @@ from lib.places import TOP
 from lib.running import CORES
 
 PARTS = {"files": spoiled_files, "streams": failing_streams, "memory": refused_memory, "long": long_runs, "races": loaded_races}
-PAGE = TOP / "docs" / "TESTED.md"
-# the heading from which on the page is written by hand
-BY_HAND = "\n## What is only tested\n"
-HEAD = """# What was tried
+PAGE = TOP / "docs" / "TESTING.md"
+# the part of the page that this script writes, between two comments
+MADE = re.compile(r"(?P<begin><!-- made by tests/hostile/run.py -->\n).*?(?P<end><!-- end -->)", re.S)
+HEAD = """
+`python3 tests/hostile/run.py` made this part. It last ran whole on the program of {state}, and took {minutes:.1f} minutes on {cores} cores. **The figures do not cover later changes.** CI runs a part of each test on the present program (`tests/hostile/run.py short`).
 
-## By hostile use
-
-Made by `python3 tests/hostile/run.py`. It was last run whole over the program of {state}. **What was changed since is not in these numbers**; the gate runs a part of each on the present program (`tests/hostile/run.py short`). The columns: what was tried, on how many files, calls or tests, how often, and how many of these ended otherwise than they must.
+In the tables, a *case* is a combination of a command with a file, a stream, a test or a kind of change. A *try* is one run. A *failure* is a run that ended otherwise than it must.
 """
-# what is alike stands on one line of a table
+# rows of one kind share a line of a table
 ALIKE = {
-    r"^the same by `[\w -]+`": "the same by the other commands",
+    r"a fault, run by `[\w -]+`$": "a fault, run by the other commands",
     r"^each byte replaced by (0x\w\w|its neighbour)": "each byte replaced",
-    r"^each line (doubled|dropped|exchanged with the next)": "each line doubled, dropped, exchanged",
+    r"^each line (doubled|dropped|exchanged with the next)": "each line doubled, dropped or swapped with the next",
     r" in turn (takes one byte|takes no byte|fails)$": " in turn",
     r"^standard \w+ is closed$": "a standard stream is closed",
 }
-TABLE = "| What was tried | On | Tried | Otherwise |\n|---|---|---|---|\n"
+TABLE = "| Test | {column} | Tries | Failures |\n|---|---|---|---|\n"
 
 
 def told(rows, part):
@@ -51,7 +53,7 @@ def told(rows, part):
         if row.wrong:
             print(row.line(), flush=True)
     tried, wrong = sum(row.tried for row in found), sum(len(row.wrong) for row in found)
-    print(f"{part}: {tried} tried, {wrong} otherwise than they must, {time.time() - begun:.0f} s", flush=True)
+    print(f"{part}: {tried} tries, {wrong} failures, {time.time() - begun:.0f} s", flush=True)
     return found
 
 
@@ -69,29 +71,32 @@ def thing(row):
     return what
 
 
-def table_of(rows):
+def table_of(column, rows):
     things = dict.fromkeys(map(thing, rows))
-    return TABLE + "".join(line_of(what, [row for row in rows if thing(row) == what]) for what in things)
+    return TABLE.format(column=column) + "".join(line_of(what, [row for row in rows if thing(row) == what]) for what in things)
 
 
 def section_of(module, rows, seconds):
-    """The section of a part: its name, what is tried and what must come of it, as its module says, and its table."""
+    """The section of a part: its heading and paragraphs, which are the docstring of its module, and its table."""
     heading, _, about = module.__doc__.strip().partition(": ")
-    tried, wanted = (" ".join(text.split()) for text in about.split("\n\n")[:2])
-    told = f"{tried[0].upper()}{tried[1:]} {wanted} {seconds / 60:.1f} minutes, on {CORES} cores."
-    return f"\n### {heading}\n\n{told}\n\n{table_of(rows)}"
+    text = "\n\n".join(" ".join(paragraph.split()) for paragraph in about.split("\n\n"))
+    table = table_of(getattr(module, "COLUMN", "Cases"), rows)
+    return f"\n### {heading}\n\n{text[0].upper()}{text[1:]}\n\nThis part took {seconds / 60:.1f} minutes.\n\n{table}"
+
+
+def write(page, sections, seconds):
+    """Writes the sections, and how long all of them took, between the two comments of the page."""
+    made = HEAD.format(state=state(), minutes=seconds / 60, cores=CORES) + sections
+    text, times = MADE.subn(lambda found: found["begin"] + made + "\n" + found["end"], page.read_text())
+    if times != 1:
+        raise ValueError(f"{page} has {times} parts that are made here")
+    page.write_text(text)
 
 
 def state():
     """The state of the sources: the day and the commit."""
     words = ["git", "log", "-1", "--date=short", "--format=%cd (commit %h)"]
     return subprocess.run(words, cwd=TOP, capture_output=True, text=True, check=True).stdout.strip()
-
-
-def by_hand():
-    """The end of the page that is written by hand."""
-    _, heading, text = PAGE.read_text().partition(BY_HAND)
-    return heading + text
 
 
 def read_words():
@@ -109,16 +114,17 @@ def main():
     asked = read_words()
     is_short = "short" in asked.words
     parts = [part for part in PARTS if part in asked.words] or list(PARTS)
-    counter, page = Counter(), ""
+    counter, sections, seconds = Counter(), "", 0
     for part in parts:
         begun = time.time()
         with tempfile.TemporaryDirectory() as name:
             rows = told(PARTS[part].rows(asked.examples.resolve(), pathlib.Path(name), is_short), part)
         wrong = sum(len(row.wrong) for row in rows)
         counter.add(sum(row.tried for row in rows) - wrong, wrong)
-        page += section_of(PARTS[part], rows, time.time() - begun)
+        took = time.time() - begun
+        sections, seconds = sections + section_of(PARTS[part], rows, took), seconds + took
     if not is_short and parts == list(PARTS):
-        PAGE.write_text(HEAD.format(state=state()) + page + by_hand())
+        write(PAGE, sections, seconds)
     counter.end()
 
 

@@ -1,11 +1,13 @@
-"""Spoiled files: each example is cut after each byte; each byte is replaced by 0x00, 0x0D, 0xFF and its neighbour; each line is
-doubled, dropped and exchanged with the next.
+"""Spoiled files: the test spoils each example file of `plain`, `bits` and `judge`, one change at a time, and runs the result. It
+cuts the file after each byte, replaces each byte by 0x00, 0x0D, 0xFF and a neighbouring byte, and doubles, drops or swaps lines.
+Record files of more than 2,000 bytes are left out.
 
-Each command must tell the one fault that a second reading finds, and write nothing. Where there is none, `plain`, `bits` and
-`judge` must write what a second reading gives. `audit` and `record` must have as many entries as `replay` has events, `record`
-the setup of the file, and a race must be good.
+An independent implementation computes what `plain`, `bits` or `judge` must print for each spoiled file. If a scenario has a fault,
+the other commands must report that fault and print nothing else. If it has none, `audit` must print `good` and the number of events
+of `replay`, `record` must print the setup of the file and one entry for each event, and `race` must print `good`. Runs of more than
+20,000 events are not recorded.
 
-The second readings are `second/scenario_files.py`, `second/record_files.py`, `second/engines.py` and `second/judge.py`.
+The independent implementation consists of `scenario_files.py`, `record_files.py`, `engines.py` and `judge.py` in `tests/second/`.
 """
 
 import random
@@ -76,14 +78,14 @@ def tries(job):
     (how, text), command, others = job
     want, said = wanted(command, text)
     ran = runner().run([*command.split(), "-"], text)
-    found = [(f"{how}, by `plain`, `bits` or `judge`", f"`{command}`", unlike(text, ran, want))]
+    found = [(f"{how}, run by `plain`, `bits` or `judge`", f"`{command}`", unlike(text, ran, want))]
     if said is None:
         for other in others:
             ran = runner().run([*other.split(), "-"], text)
-            found.append((f"the same by `{other}`, where there is a fault", how, unlike(text, ran, want)))
+            found.append((f"a spoiled file with a fault, run by `{other}`", how, unlike(text, ran, want)))
     elif command == "plain":
         runs = whole_runs(text, said)
-        found += [(f"the same by `{other}`, where there is none", how, why and f"{text!r}: {why}") for other, why in runs]
+        found += [(f"a spoiled file without a fault, run by `{other}`", how, why and f"{text!r}: {why}") for other, why in runs]
     return found
 
 
