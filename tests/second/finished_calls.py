@@ -12,13 +12,15 @@ from second.store import Call, Store
 
 @dataclass
 class Left:
-    """What the ports of one board have left: their lists of calls, and the store at the end as it was told."""
+    """What the ports of one board have left: their lists of calls, and the store at the end as it was told; and what `drive` returned
+    to each, where that was told."""
 
     version: int
     processes: int
     slots: int
     opening: list = field(default_factory=list)
     lists: list = field(default_factory=list)
+    drives: list = field(default_factory=list)
     end: str = ""
 
     def add(self, process, place, command, answer):
@@ -62,6 +64,12 @@ def verdict(left, told):
             if is_bad(call, calls[:index], stores, several):
                 return f"bad {process} {index}"
     return "good" if left.end == told(stores[-1]) else "bad end"
+
+
+def are_returned(left):
+    """Whether `drive` returned to each port just the answers in its list, in their order."""
+    returned = [[driven for driven in drives if driven.startswith("answered ")] for drives in left.drives]
+    return returned == [[f"answered {call.answer}" for call in calls if call.answer is not None] for calls in left.lists]
 
 
 def changed(left):

@@ -1,20 +1,26 @@
 //! What a scenario leaves on a board, as text.
+use crate::drives::Drive;
 use board::{Closing, Image};
 use plain_store::{NestedTypes, Setup};
 use record::Placed;
 use std::fmt;
 
-/// The setup of a board, and what it has left: as text, the lines of the setup, a line for each finished call, list after list,
-/// and one with the image.
+/// The result of a scenario on a board. The text has the lines of the setup, a line for each drive, one for each finished call,
+/// list after list, and one with the image.
 #[derive(Drop)]
 pub struct Left<'a> {
     pub setup: &'a Setup,
+    /// The drives of the lines that were carried out by turns, in their order.
+    pub drives: Vec<Drive>,
     pub closing: Closing,
 }
 
 impl fmt::Display for Left<'_> {
     fn fmt<W: fmt::Write>(&self, f: &mut fmt::Formatter<W>) -> fmt::Result {
         setup_lines(f, self.setup)?;
+        for drive in &self.drives {
+            write!(f, "{drive}\n")?;
+        }
         for (process, calls) in self.closing.answers.iter().enumerate() {
             call_lines(f, process, calls)?;
         }

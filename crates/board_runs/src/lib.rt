@@ -1,13 +1,16 @@
-//! Ports that carry out the lines of a scenario, by turns on one thread or each on a thread of its own; and what they leave,
-//! as text.
+//! Ports that carry out the lines of a scenario, by turns on one thread or each on a thread of its own. The text of a run lists the
+//! drives of its ports, their finished calls and the image.
 #![tactic(auto)]
 
+mod drives;
 mod left;
 mod lines;
 mod running;
 
 pub use board::{Board, Closing, Driven, NotQuiet, Port};
+pub use drives::Drive;
 pub use left::Left;
+pub use lines::begin;
 pub use record::Placed;
-pub use running::{played, run, take_turns};
+pub use running::{Work, played, run, take_turns};
 pub use scenario::{Line, Scenario, read_scenario};

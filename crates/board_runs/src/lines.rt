@@ -36,29 +36,41 @@ pub fn set_flicks(flicks: &mut Flicks, line: &Line, more: u64) {
     }
 }
 
-/// A port does what a line asks of its process. What is refused is passed over.
-pub fn carry_out(board: &Board, port: &mut Port, line: &Line, flicks: &mut Flicks)
+/// Carries out a line of a port's process; a refused one changes nothing. Returns the value of the last [`Port::drive`] that the
+/// line calls, or `None` if it calls none.
+///
+/// `step P N` calls it once, with N turns. `go P TARGET` calls it with one turn for each step up to the target.
+pub fn carry_out(board: &Board, port: &mut Port, line: &Line, flicks: &mut Flicks) -> Option<Driven>
     requires { IsOf board.now port.old }
     ensures { SamePort port.old port.new }
 {
     let _nested: NestedTypes = None;
     match line {
-        Line::Call(_, command) => begin(board, port, command),
-        Line::Step(_, turns) => {
-            let _made: Driven = port.drive(board, u64::from(*turns), flicks);
+        Line::Call(_, command) => {
+            let _begun: Result<(), Refusal> = begin(board, port, command);
+            None
         }
+        Line::Step(_, turns) => Some(port.drive(board, u64::from(*turns), flicks)),
         Line::Go(_, target) => go(board, port, *target, flicks),
-        _ => change(port, line),
+        _ => {
+            change(port, line);
+            None
+        }
     }
 }
 
-/// Begins a call, at the second try where the first one was refused for want of memory.
-fn begin(board: &Board, port: &mut Port, command: &Command)
+/// Begins a call, and tries once more after an allocation failure.
+///
+/// # Errors
+///
+/// Returns the [`Refusal`] of the last try. The port is then unchanged.
+pub fn begin(board: &Board, port: &mut Port, command: &Command) -> Result<(), Refusal>
     requires { IsOf board.now port.old }
     ensures { SamePort port.old port.new }
 {
-    if port.begin(board, *command) == Err(Refusal::Memory) {
-        let _begun: Result<(), Refusal> = port.begin(board, *command);
+    match port.begin(board, *command) {
+        Err(Refusal::Memory) => port.begin(board, *command),
+        begun => begun,
     }
 }
 
@@ -75,17 +87,19 @@ fn change(port: &mut Port, line: &Line)
     };
 }
 
-/// Makes turns until the process is past its doorway, past its waiting, or idle or down.
-fn go(board: &Board, port: &mut Port, target: Target, flicks: &mut Flicks)
+/// Makes turns until the process is past its doorway, past its waiting, or idle or down. Returns the value of the last turn.
+fn go(board: &Board, port: &mut Port, target: Target, flicks: &mut Flicks) -> Option<Driven>
     requires { IsOf board.now port.old }
     ensures { SamePort port.old port.new }
 {
+    let mut last = None;
     for _ in 0..ALL {
         if is_past(port.stage(), target) {
-            return;
+            return last;
         }
-        let _turn: Driven = port.drive(board, 1, flicks);
+        last = Some(port.drive(board, 1, flicks));
     }
+    last
 }
 
 /// Whether a stage is one at which a process stops that goes to a target.

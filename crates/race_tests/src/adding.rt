@@ -1,78 +1,84 @@
-//! Two ports that add to one counter in a race.
-use crate::plans::{a, add, answer, raced};
-use plain_store::{Answer, Command, Reply, Store, Value};
-use race::{Closing, Gate, Moment, Pass};
-use std::alloc::Global;
-use std::process::Abort;
-use std::sync::Wait;
-use std::sync::atomic::AtomicU32;
-use std::sync::atomic::Ordering::SeqCst;
+//! Two ports that add to one counter, each on a thread of its own.
+ghost use Rattle.board.specs.{IsOf, SamePort};
+
+use crate::plans::add;
+use crate::threads::left;
+use board::Flicks;
+use board_runs::{Board, Driven, Port, Work, begin};
+use plain_store::{Answer, NestedTypes, Reply, Store, Value};
+use race::Closing;
 use std::test::Fail;
-use std::thread::Threads;
+use std::thread;
 
-/// Holds port 1 at its begin until port 0 has begun its second call.
+/// The setup of the board, and what port 0 does alone.
+const HEAD: &str = "bakery 1\ntickets 4\nstamps 4\ncall 0 write a c:0\ngo 0 idle\n";
+
+/// How many additions of each port are answered.
+const ADDITIONS: u32 = 3;
+
+/// The most turns of a port.
+const TURNS: u64 = 10_000_000;
+
+/// How many turns a port makes before it lets another thread go on.
+const AT_A_TIME: u64 = 1_000;
+
+/// The failure of a port that has made all its turns.
+const LATE: &str = "three additions of a port are not answered within 10,000,000 turns";
+
+/// The additions of 1 by each port, until three of them are answered with a reply.
 #[derive(Drop)]
-struct AfterTheFirst {
-    begun: AtomicU32,
+struct Adding;
+
+impl Work for Adding {
+    fn carry_out(&self, board: &Board, port: &mut Port, process: usize) {
+        add_up(board, port, process as u64)
+    }
 }
 
-impl Gate for AfterTheFirst {
-    fn at(&self, port: u8, moment: Moment) -> Pass {
-        match (port, moment) {
-            (0, Moment::Begun) => {
-                self.begun.fetch_add(1, SeqCst);
-                Pass::On
+/// Adds until three calls are answered with a reply, or all turns are made. A call that finds the tickets full begins again.
+fn add_up(board: &Board, port: &mut Port, seed: u64)
+    requires { IsOf board.now port.old }
+    ensures { SamePort port.old port.new }
+{
+    let _nested: NestedTypes = None;
+    let mut flicks = Flicks::pcg(seed);
+    let mut answered = 0u32;
+    for _ in 0..TURNS / AT_A_TIME {
+        match port.drive(board, AT_A_TIME, &mut flicks) {
+            Driven::Idle => {
+                if begin(board, port, &add()).is_err() {
+                    return;
+                }
             }
-            (1, Moment::Begun) if self.begun.load(SeqCst) < 2 => Pass::Again,
-            _ => Pass::On,
+            Driven::Answered(Answer::Reply(_)) => answered = answered.saturating_add(1),
+            _ => thread::yield_now(),
+        }
+        if answered == ADDITIONS {
+            return;
         }
     }
 }
 
-/// How many of these calls have a sum.
-fn sums(closing: &Closing, port: usize, calls: usize) -> i64 {
-    let mut count = 0i64;
-    for call in 0..calls.min(100) {
-        if let Some(Answer::Reply(Reply::Sum(_))) = answer(closing, port, call) {
-            count = count.saturating_add(1);
-        }
-    }
-    count
-}
-
-/// The count of the first name in the store that a race has left.
-fn counted(closing: &Closing) -> Option<i64> {
-    match closing.image.entry(0)? {
-        (_, Value::Count(count)) => Some(count),
-        _ => None,
-    }
-}
-
-/// A race of two ports that add, in which the calls that were answered with a sum are the count that it leaves: how many.
-fn added(rt: &(impl Threads + Wait + Abort + Sync), alloc: Global) -> Result<i64, Fail> {
-    let first = [Command::Write(a(), Value::Count(0)), add(), add(), add()];
-    let second = [add(), add(), add()];
-    let gate = AfterTheFirst {
-        begun: AtomicU32::new(0),
+/// How many calls of a port are answered with a sum.
+fn sums(closing: &Closing, port: usize) -> usize {
+    let Some(calls) = closing.answers.get(port) else {
+        return 0;
     };
-    let closing = raced(rt, alloc, 4, [&first, &second], &gate)?;
-    let added = sums(&closing, 0, 4).saturating_add(sums(&closing, 1, 3));
-    assert!(rt; matches!(answer(&closing, 0, 0), Some(Answer::Reply(Reply::Done))));
-    assert!(rt; counted(&closing) == Some(added));
-    Ok(added)
+    calls
+        .iter()
+        .filter(|call| matches!(call.answer, Some(Answer::Reply(Reply::Sum(_)))))
+        .count()
 }
 
-/// So often the race is run anew where a call found the tickets full.
-const RACES: u32 = 1000;
-
-// A flick may show a ticket with all bits set, and then a call finds the tickets full. So each race is held against the
-// calls that it answered with a sum, and it is run anew until all six were.
 #[test]
 fn two_threads_add(rt: HostRuntime) -> Result<(), Fail> {
-    for _ in 0..RACES {
-        if added(&rt, rt.alloc())? == 6 {
-            return Ok(());
-        }
+    let closing = left(&rt, HEAD, &Adding, LATE)?;
+    for port in 0..2 {
+        assert!(&rt; sums(&closing, port) == 3, "port {port}: {LATE}");
     }
-    panic!(&rt; "the tickets were full in each race")
+    let Some((_, Value::Count(count))) = closing.image.entry(0) else {
+        panic!(&rt; "the counter is not there");
+    };
+    assert!(&rt; count == 6, "{count}");
+    Ok(())
 }

@@ -1,6 +1,6 @@
 //! Boards that can't be closed.
-use board_runs::{Board, NotQuiet, read_scenario, take_turns};
-use plain_store::{Setup, Store};
+use board_runs::{Board, Driven, NotQuiet, read_scenario, take_turns};
+use plain_store::{Answer, NestedTypes, Reply, Setup, Store};
 use std::test::Fail;
 
 /// A write, and its last turn.
@@ -9,18 +9,26 @@ const WRITE: &str = "bakery 1\ntickets 2\nstamps 2\ncall 0 write a c:5\nstep 0 9
 // Before the last turn of the write the board and both ports come back, and the work goes on.
 #[test]
 fn a_board_with_an_open_call_comes_back(rt: HostRuntime) -> Result<(), Fail> {
+    let _nested: NestedTypes = None;
     let scenario = read_scenario(rt.alloc(), WRITE.as_bytes())?;
     let (begun, last) = scenario
         .lines
         .as_slice()
         .split_at(2.min(scenario.lines.len()));
     let (board, mut ports) = Board::new(rt.alloc(), &scenario.setup)?;
-    take_turns(&board, &mut ports, begun);
+    let drives = take_turns(rt.alloc(), &board, &mut ports, begun)?;
+    assert!(rt; drives.len() == 1 && matches!(drives[0].driven, Driven::Turns));
     let Err(NotQuiet { board, mut ports }) = board.close(ports) else {
         panic!(rt; "port 0 has a turn left");
     };
     assert!(rt; ports.len() == 2);
-    take_turns(&board, &mut ports, last);
+    let drives = take_turns(rt.alloc(), &board, &mut ports, last)?;
+    assert!(rt; drives.len() == 1);
+    let done = matches!(
+        drives[0].driven,
+        Driven::Answered(Answer::Reply(Reply::Done))
+    );
+    assert!(rt; done);
     let Ok(closing) = board.close(ports) else {
         panic!(rt; "both ports are idle");
     };
@@ -44,9 +52,10 @@ fn a_board_without_a_port_comes_back(rt: HostRuntime) -> Result<(), Fail> {
 // Ports are closed in whatever order they come; each list is that of its process.
 #[test]
 fn ports_come_in_any_order(rt: HostRuntime) -> Result<(), Fail> {
+    let _nested: NestedTypes = None;
     let scenario = read_scenario(rt.alloc(), WRITE.as_bytes())?;
     let (board, mut ports) = Board::new(rt.alloc(), &scenario.setup)?;
-    take_turns(&board, &mut ports, &scenario.lines);
+    take_turns(rt.alloc(), &board, &mut ports, &scenario.lines)?;
     ports.reverse();
     let Ok(closing) = board.close(ports) else {
         panic!(rt; "both ports are idle");

@@ -1,5 +1,5 @@
-//! Tests of boards that can't be closed yet, and of ports at rest; and of races: gates that no race on one thread passes, held
-//! ports, two ports that add to one counter, and exit statuses. What ports leave, by turns and on threads, stands under
+//! Tests of boards that can't be closed yet, of ports at rest, and of ports that add on threads and fail there; and of races:
+//! gates that no race on one thread passes, held ports, and exit statuses. Scenarios that ports carry out by turns are in
 //! examples/boards/.
 #![tactic(auto)]
 
@@ -8,6 +8,8 @@ mod adding;
 #[cfg(test)]
 mod closings;
 #[cfg(test)]
+mod failing;
+#[cfg(test)]
 mod gates;
 #[cfg(test)]
 mod plans;
@@ -15,3 +17,5 @@ mod plans;
 mod rest;
 #[cfg(test)]
 mod statuses;
+#[cfg(test)]
+mod threads;

@@ -1,4 +1,4 @@
-//! What the tests race: two processes with their calls, and what is expected of each race.
+//! What the tests race: two processes with their calls, and what is expected of what they leave.
 ghost use Rattle.std.specs.Prelude.{◌≡◌, Ok};
 ghost use Rattle.plain_store.specs.{checked};
 
@@ -50,17 +50,21 @@ pub fn raced<R: Threads + Wait + Abort + Sync, G: Gate + Sync>(
 ) -> Result<Closing, Fail> {
     match race_of_two(rt, alloc, tickets, calls, gate)? {
         Ok(closing) => {
-            assert!(rt; is_good(alloc, &closing)?);
+            assert!(rt; is_good(alloc, &Setup::one(2, 4, 4, 1), &closing)?);
             Ok(closing)
         }
         Err(fault) => panic!(rt; "{fault:?}"),
     }
 }
 
-/// Whether what two processes of version 1 have left stands in one history.
-fn is_good(alloc: Global, closing: &Closing) -> Result<bool, AllocError> {
-    let setup = Setup::one(2, 4, 4, 1);
-    let weighed = weigh(alloc, &setup, closing.answers.as_slice(), &closing.image)?;
+/// Whether what the processes of version 1 have left is one history.
+pub fn is_good(alloc: Global, setup: &Setup, closing: &Closing) -> Result<bool, AllocError>
+    requires { checked setup.now ≡ Ok tt }
+{
+    if setup.version != 1 {
+        return Ok(false);
+    }
+    let weighed = weigh(alloc, setup, closing.answers.as_slice(), &closing.image)?;
     Ok(weighed == Weighed::Good)
 }
 
