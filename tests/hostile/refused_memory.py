@@ -7,6 +7,9 @@ arguments name no file, must print nothing before that report. The search for th
 without its allocation, so such a run may also end normally. A race may report `no thread` only if a thread did not start. A test
 must pass, or fail and report the allocation failure; a test of races may report a missing thread or a held port instead.
 
+The test `refused_allocations_are_returned` must fail for each allocation, because it returns each failure; it does so only after
+the same call has succeeded.
+
 The library `tests/preload/refuse.c` is loaded before the program, counts its allocations and makes one of them fail. If a program
 starts no thread, the library copies the process at each allocation and lets the copy's allocation fail. Otherwise each allocation
 takes a run of its own. A run with more than 50,000 allocations repeats the same work, so there an allocation fails only if fewer
@@ -61,10 +64,12 @@ WORKED_IN_SHORT = ["one-process-write", "failure-commit-settled-new", "withdrawa
 COMMANDS_IN_SHORT = ["plain", "replay", "record", "audit"]
 # the programs of tests of which some are tried in short, and how many
 QUICK, DRAWN = ["register_tests_tests", "store_tests_tests"], 20
+# this test must fail wherever a growth is refused: it makes the refused call again, and then returns the refusal
+RETURNS_REFUSALS = "refused_allocations_are_returned"
 # and the tests that are tried there always: of calls that no command makes, or makes on threads
 ALWAYS = {
     "store_tests_tests": ["prints_scenarios", "weighs_lists"],
-    "scenario_tests_tests": ["calls_succeed_after_refused_growths", "hears_and_audits_a_record"],
+    "scenario_tests_tests": ["calls_succeed_after_refused_growths", RETURNS_REFUSALS],
 }
 
 
@@ -212,6 +217,11 @@ def is_want_of_memory(ran):
     return ran.returncode == 0 or (has_failed and tells)
 
 
+def is_returned_refusal(ran):
+    """Whether a test failed by its own error, which is want of memory."""
+    return ran.returncode == FAILED and is_want_of_memory(ran)
+
+
 def threaded_test(refuser, words):
     """Each growth of a test that starts threads, in a run of its own, up to a run that meets fewer."""
     runs = []
@@ -225,7 +235,8 @@ def threaded_test(refuser, words):
 def test_row(refuser, program, test):
     """Each growth of a test."""
     words, name = [program, test], f"{program.name} {test}"
-    ran, met, tried, wrong = refused(refuser, words, is_want_of_memory)
+    is_good = is_returned_refusal if test.rpartition("::")[2] == RETURNS_REFUSALS else is_want_of_memory
+    ran, met, tried, wrong = refused(refuser, words, is_good)
     what, told = named("tests of the crates", name, met)
     if met.started:
         runs = threaded_test(refuser, words)

@@ -3,13 +3,15 @@
 #![tactic(auto)]
 
 #[cfg(test)]
-mod failing;
+mod changed;
 #[cfg(test)]
 mod growths;
 #[cfg(test)]
 mod listed;
 #[cfg(test)]
 mod record_files;
+#[cfg(test)]
+mod refused;
 #[cfg(test)]
 mod scenarios;
 #[cfg(test)]
