@@ -216,7 +216,7 @@ one_longer s before (Lacks p) = ([], refl)
 one_longer s before (Tires p) = ([], refl)
 one_longer s before Looks = ([], refl)
 
-past_longer : (s : Setup) (before more : List Happening) → (es : Past) × (past_after s (more ++ before) ≡ es ++ past_after s before)
+pub past_longer : (s : Setup) (before more : List Happening) → (es : Past) × (past_after s (more ++ before) ≡ es ++ past_after s before)
 past_longer s before [] = ([], refl)
 past_longer s before (this ∷ more) =
     let u = past_longer s before more in

@@ -1,8 +1,11 @@
 pub mod Along
 pub mod Fronts
 pub mod Going
+pub mod Makers
+pub mod Numbering
 pub mod Ranges
 pub mod Seeing
 pub mod Passing
 pub mod Standing
 pub mod Tabling
+pub mod WholeInputs

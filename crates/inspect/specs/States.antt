@@ -7,12 +7,14 @@ use Rattle.record.specs.{Entry, Past}
 use Rattle.scenario.specs.files.{FaultKind, LineFault, text_by}
 use Rattle.scenario.specs.{Line, Script, Target, number_at, scenario_of}
 use Rattle.scenario.specs.declared.lines.Line.TheVariants as line
-use Rattle.course.specs.{Accepted, Follows, Happening, IsMarked, Needs, Run, Told, entry_made, happenings, past_after, past_in, run_after}
+use Rattle.course.specs.{Accepted, Follows, Happening, IsMarked, Needs, Run, Told, entry_made, happenings, past_after, past_in, run_after, run_at_start}
 use Rattle.snapshot.specs.{HasHeard, newest_line, state_lines}
+use Rattle.inspect.specs.Making.{events_in, making_line, remembered_line}
 use Rattle.inspect.specs.Tables.{IsInTurn, past_with}
 use Rattle.inspect.specs.declared.heard.HeardRun.{HeardRun}
 use Rattle.inspect.specs.declared.heard.Unmarked.{Unmarked}
 use Rattle.inspect.specs.declared.part_of_run.PartOfRun.{PartOfRun}
+use Rattle.inspect.specs.declared.stating.MakingLine.{MakingLine}
 
 -- The text.
 
@@ -24,17 +26,25 @@ first_of n past = drop (length past - n) past
 abbrev pub head_lines : Past → List ℕ
 head_lines past = (codes "events " ++ (decimal (length past) ++ codes "\n")) ++ newest_line past
 
--- the state after a past; `made`: the words of the line that made the newest event
+-- the state after a past; `made`: the line that made the newest event
 abbrev pub state_after : List ℕ → Setup → Past → List ℕ
 state_after made s past = head_lines past ++ (made ++ state_lines s past)
 
--- the state after the first n events of a scenario's run
+-- the line that made the newest event of a past of a file's script
+abbrev pub newest_made : List ℕ → Script → Past → List ℕ
+newest_made file said past = making_line file said.setup (length past) run_at_start said.lines
+
+-- the state after a past of a file's script
+abbrev pub state_of : List ℕ → Script → Past → List ℕ
+state_of file said past = state_after (newest_made file said past) said.setup past
+
+-- the state after the first n events of the run of a file's script
 abbrev pub stated : ℕ → List ℕ → Script → List ℕ
-stated n made said = state_after made said.setup (first_of n (past_after said.setup (happenings said)))
+stated n file said = state_of file said (first_of n (past_after said.setup (happenings said)))
 
 -- the text of a file, or its fault
-abbrev pub state_text : ℕ → List ℕ → List ℕ → Result (List ℕ) LineFault
-state_text n made = text_by scenario_of (stated n made)
+abbrev pub state_text : ℕ → List ℕ → Result (List ℕ) LineFault
+state_text n file = text_by scenario_of (stated n file) file
 
 -- After how many events a word asks for the state.
 
@@ -153,8 +163,7 @@ pub record ComesAlong (s : Setup) (whole : Run) (part : PartOfRun) : Type 0 wher
 abbrev pub GoesAlong : Line → PartOfRun → PartOfRun → Type 0
 GoesAlong line old new = (s : Setup) (whole : Run) → ComesAlong s whole old → ComesAlong s (run_after s line whole) new
 
--- it has the first n events of a scenario's run
-pub record IsPartOf (n : ℕ) (said : Script) (part : PartOfRun) : Type 0 where
-  pub run : Run
-  pub at : IsAt said.setup part run
-  pub past_is : past_in said.setup run ≡ first_of n (past_after said.setup (happenings said))
+-- The text is the whole state of a part of a run; `newest` is what is remembered of the line that made the newest event.
+abbrev pub WritesPart : List ℕ → PartOfRun → Option MakingLine → List ℕ → Type 0
+WritesPart file part newest text =
+    (s : Setup) (run : Run) → IsAt s part run → text ≡ state_after (remembered_line file (events_in s run) newest) s (past_in s run)

@@ -5,9 +5,12 @@
 mod calling;
 mod heard;
 mod hearing;
+mod laws_of_lines;
+mod line_numbers;
 mod part_of_run;
 mod stating;
 
 pub use calling::run_calls;
 pub use fault_place::{FileKind, KeptFile, KeptInput, explanation};
+pub use laws_of_lines::lines_make_events;
 pub use stating::{events_said, run_state};

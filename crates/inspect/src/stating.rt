@@ -1,11 +1,13 @@
 //! The engine `state`: the state after the first events of a scenario's run.
-ghost use Rattle.std.specs.Prelude.{◌≡◌, ◌-◌, ◌^◌, ◌<◌, ◌++◌, ℕ, IfOk, List, OnOk};
+ghost use Rattle.std.specs.Prelude.{◌≡◌, ◌-◌, ◌^◌, ◌<◌, ◌++◌, IfOk, OnOk};
 ghost use Rattle.scenario.specs.files.Engines.{Ran, streams};
 ghost use Rattle.scenario.specs.files.{ReadsFront};
-ghost use Rattle.scenario.specs.{Script, script};
+ghost use Rattle.scenario.specs.{script};
 ghost use Rattle.course.specs.{run_at_start};
-ghost use Rattle.inspect.specs.States.{IsAt, IsPartOf, events_said as said_by, state_text, stated};
+ghost use Rattle.inspect.specs.Making.{remembered_line};
+ghost use Rattle.inspect.specs.States.{IsAt, WritesPart, events_said as said_by, state_text, stated};
 
+use crate::line_numbers::line_number;
 use crate::part_of_run::PartOfRun;
 use fault_place::progress::{LinePlace, Onlooker};
 use plain_store::NestedTypes;
@@ -27,11 +29,13 @@ pub fn events_said(word: &str) -> Option<u64>
     }
 }
 
-/// The line that made the newest event, how many lines come behind it, and how many events there were before it.
+/// The line that made the newest event.
 #[derive(Clone, Copy)]
 struct MakingLine {
     line: Line,
-    behind: usize,
+    /// How many lines of the script come after it.
+    after: usize,
+    /// How many events there were before it.
     before: u64,
 }
 
@@ -47,7 +51,7 @@ pub fn run_state<R: Source, W: Sink, L: Onlooker>(
 ) -> Result<(), Fault>
     requires reads { R.failures input.old < 2 ^ 64 - 1 }
     requires writes { W.failures output.old < 2 ^ 64 - 1 }
-    ensures ran { (made : List ℕ) × Ran (state_text events made) result
+    ensures ran { Ran (state_text events) result
         (streams ⟦<R as Source>⟧ ⟦<W as Sink>⟧ input.old output.old)
         (streams ⟦<R as Source>⟧ ⟦<W as Sink>⟧ input.new output.new) }
     ensures input { ReadsFront (R.to_come input.old) (R.to_come input.new) }
@@ -66,8 +70,7 @@ fn state_text<L: Onlooker>(
     scenario: &Scenario,
     onlooker: &mut L,
 ) -> Result<Vec<u8>, AllocError>
-    ensures { IfOk result (λ text. (made : List ℕ)
-        × (text.items ≡ stated events made (script scenario.now))) }
+    ensures { IfOk result (λ text. text.items ≡ stated events file.now (script scenario.now)) }
 {
     let mut part = PartOfRun::new(alloc, &scenario.setup, events)?;
     lines_text(alloc, file, scenario, &mut part, onlooker)
@@ -84,21 +87,21 @@ fn lines_text<L: Onlooker>(
 ) -> Result<Vec<u8>, AllocError>
     requires entries { part.old.heard.snapshot.entries ≡ 0 }
     requires at { IsAt scenario.now.setup part.old run_at_start }
-    ensures { IfOk result (λ text. (made : List ℕ)
-        × (text.items ≡ stated part.old.most made (script scenario.now))) }
+    ensures { IfOk result (λ text.
+        text.items ≡ stated part.old.most file.now (script scenario.now)) }
 {
     let mut newest = None;
     let mut place = LinePlace::before(file, scenario.lines.len());
-    let mut behind = scenario.lines.len();
+    let mut after = scenario.lines.len();
     for line in &scenario.lines {
-        behind = behind.saturating_sub(1);
+        after -= 1;
         let before = part.events();
         onlooker.reached(place.begin_line(before));
         part.make_line(line)?;
         if before < part.events() {
             newest = Some(MakingLine {
                 line: *line,
-                behind,
+                after,
                 before,
             });
         }
@@ -114,8 +117,7 @@ fn part_text(
     newest: &Option<MakingLine>,
 ) -> Result<Vec<u8>, AllocError>
     requires { part.now.course.world.setup ≡ part.now.heard.snapshot.setup }
-    ensures { IfOk result (λ text. (n : ℕ) (said : Script) → IsPartOf n said part.now
-        → (made : List ℕ) × (text.items ≡ stated n made said)) }
+    ensures { IfOk result (λ text. WritesPart file.now part.now newest.now text.items) }
 {
     let mut text = Vec::new(alloc);
     part.heard.print_head(&mut text)?;
@@ -132,46 +134,16 @@ fn push_made(
     events: u64,
     text: &mut Vec<u8>,
 ) -> Result<(), AllocError>
-    ensures { OnOk result ((made : List ℕ) × (text.new.items ≡ text.old.items ++ made)) }
+    ensures { OnOk result (text.new.items
+        ≡ text.old.items ++ remembered_line file.now events newest.now) }
 {
     let _nested: NestedTypes = None;
     let Some(newest) = newest else {
         return Ok(());
     };
-    let number = line_number(file, newest.behind);
+    let number = line_number(file, newest.after);
     let made = events.saturating_sub(newest.before);
     let line = newest.line;
     let words = format!(in alloc; "line {number} made {made} {line}\n")?;
     text.extend_from_slice(words.as_bytes())
-}
-
-/// The number of the line in a scenario file that is run as one with so many behind it, counted from 1. It takes no memory, so
-/// that none can be wanting.
-fn line_number(file: &[u8], behind: usize) -> u64 {
-    let (said, _) = go_along(file, usize::MAX);
-    let (_, number) = go_along(file, said.saturating_sub(behind));
-    number
-}
-
-/// Goes along a file's lines to the last of so many that are not skipped, or to its end: how many there are of these, and the
-/// number of the line there.
-fn go_along(file: &[u8], most: usize) -> (usize, u64) {
-    let mut said: usize = 0;
-    let mut number: u64 = 1;
-    let mut is_open = true;
-    for byte in file {
-        if *byte == b'\n' {
-            number = number.saturating_add(1);
-            is_open = true;
-        } else if is_open && !matches!(byte, b' ' | b'\t' | b'\r') {
-            is_open = false;
-            if *byte != b'#' {
-                said = said.saturating_add(1);
-                if most <= said {
-                    return (said, number);
-                }
-            }
-        }
-    }
-    (said, number)
 }

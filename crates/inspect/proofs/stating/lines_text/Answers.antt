@@ -1,12 +1,14 @@
-use Rattle.std.proofs.Common.{◌≡◌, ◌+◌, ◌<◌, ℕ, List, [], ◌∷◌, drop, length, Result, Ok, Err, IfOk, inr, refl, arith, ap, sym, subst, ◌∙◌}
-use Rattle.std.proofs.lemmas.List.{drop_all}
+use Rattle.std.proofs.Common.{◌≡◌, ◌+◌, ◌-◌, ◌<◌, ℕ, List, [], ◌∷◌, drop, length, Result, Ok, Err, IfOk, Option, None, inr, refl, arith, ap, sym, subst, ◌∙◌}
+use Rattle.std.proofs.lemmas.List.{drop_all, length-drop}
 use Rattle.plain_store.specs.{Setup}
 use Rattle.scenario.specs.{Line, script}
 use Rattle.scenario.proofs.Places.{drop_in}
-use Rattle.course.specs.{past_after, run_after, run_at_start, runs}
-use Rattle.inspect.specs.{ComesAlong, first_of}
+use Rattle.course.specs.{past_after, past_in, run_after, run_at_start, runs}
+use Rattle.inspect.specs.{ComesAlong, MakingLine, PartOfRun, first_of}
 use Rattle.inspect.proofs.Along.{along_all}
+use Rattle.inspect.proofs.Makers.{Remembers, along_new, along_same, remembered, remembers_none, text_is}
 use Rattle.inspect.proofs.stating.lines_text.Goals as goal
+use Rattle.inspect.proofs.stating.lines_text.Goals.{then-before-events, else-before-events}
 
 -- what follows for what is there
 if_then : {A E : Type 0} (r : Result A E) {P Q : A → Type 0} → ((a : A) → P a → Q a) → IfOk r P → IfOk r Q
@@ -17,7 +19,13 @@ pub loop-line-init : goal.loop-line-init
 loop-line-init g c = record {
   most = refl;
   entries = omega (arith, c.requires.entries);
-  along = (run_at_start, refl, record { now = run_at_start; at = c.requires.at; more = []; is = refl; few = omega arith; ends = inr refl });
+  after = omega arith;
+  along = (
+    run_at_start,
+    refl,
+    record { now = run_at_start; at = c.requires.at; more = []; is = refl; few = omega arith; ends = inr refl },
+    subst (λ n. Remembers c.args.file.now c.args.scenario.now.setup c.args.scenario.now.lines.items c.args.scenario.now.lines.items run_at_start n None) (sym c.requires.entries) (remembers_none c.args.file.now c.args.scenario.now.setup c.args.scenario.now.lines.items),
+  );
 }
 
 pub make_line-requires : goal.make_line-requires
@@ -29,14 +37,36 @@ pub loop-line-preserved : goal.loop-line-preserved
 loop-line-preserved g c =
     let s : Setup = c.args.scenario.now.setup in
     let lines : List Line = c.args.scenario.now.lines.items in
+    let file : List ℕ = c.args.file.now in
     let k : ℕ = c.loop-line.line-index in
     let here : Line = c.line-item.result in
-    let next : drop k lines ≡ here ∷ drop (k + 1) lines = drop_in lines k here (omega arith) (rw c.deref-line-items.ensures.value at c.line-item.is) in
+    let rest : List Line = drop (k + 1) lines in
+    let old : PartOfRun = c.loop-line.part in
+    let new : PartOfRun = c.make_line.new.self in
+    let next : drop k lines ≡ here ∷ rest = drop_in lines k here (omega arith) (rw c.deref-line-items.ensures.value at c.line-item.is) in
     let was = c.loop-line.invariant.along in
+    let along : ComesAlong s (run_after s here was.0) new = c.in_ok-make_line.ensures.along s was.0 was.2 in
+    let knew : Remembers file s lines (here ∷ rest) was.0 old.heard.snapshot.entries c.loop-line.newest = subst (λ (ls : List Line). Remembers file s lines ls was.0 old.heard.snapshot.entries c.loop-line.newest) next was.3 in
+    let left : c.loop-line.after - 1 ≡ length rest = let long = length-drop (k + 1) lines in omega (arith, long, c.loop-line.invariant.after) in
     record {
       most = c.make_line.ensures.most ∙ c.loop-line.invariant.most;
       entries = omega (arith, c.in_ok-make_line.ensures.entries, c.loop-line.invariant.entries);
-      along = (run_after s here was.0, subst (λ (rest : List Line). runs s rest was.0 ≡ runs s lines run_at_start) next was.1, c.in_ok-make_line.ensures.along s was.0 was.2);
+      after = omega (arith, c.loop-line.invariant.after);
+      along = (
+        run_after s here was.0,
+        subst (λ (ls : List Line). runs s ls was.0 ≡ runs s lines run_at_start) next was.1,
+        along,
+        elim c.if-before-events.branch [
+          | then-before-events w ↦
+              let is : remembered here (c.loop-line.after - 1) c.events-before.result ≡ remembered here (length rest) old.heard.snapshot.entries =
+              ap (λ n. remembered here n c.events-before.result) left ∙ ap (remembered here (length rest)) c.events-before.ensures in
+              subst (λ (n : Option MakingLine). Remembers file s lines rest (run_after s here was.0) new.heard.snapshot.entries n) (sym w.newest-is)
+              (along_new file s lines here rest was.0 old new c.loop-line.newest was.2 along c.make_line.ensures.most (omega (arith, w.if-before-events.true, c.events-before.ensures, c.events.ensures)) knew (remembered here (c.loop-line.after - 1) c.events-before.result) is)
+          | else-before-events w ↦
+              subst (λ (n : Option MakingLine). Remembers file s lines rest (run_after s here was.0) new.heard.snapshot.entries n) (sym w.newest-is)
+              (along_same file s lines here rest was.0 old new c.loop-line.newest was.2 along c.make_line.ensures.most (omega (arith, w.if-before-events.false, c.events-before.ensures, c.events.ensures)) knew)
+        ],
+      );
     }
 
 pub part_text-requires : goal.part_text-requires
@@ -48,11 +78,11 @@ pub returns : goal.returns
 returns g c =
     let s : Setup = c.args.scenario.now.setup in
     let lines : List Line = c.args.scenario.now.lines.items in
+    let file : List ℕ = c.args.file.now in
     let was = c.loop-line.invariant.along in
     let u : ComesAlong s was.0 c.loop-line.part = was.2 in
     let ended : runs s [] was.0 ≡ runs s lines run_at_start = subst (λ (rest : List Line). runs s rest was.0 ≡ runs s lines run_at_start) (drop_all c.loop-line.line-index lines (omega arith)) was.1 in
-    if_then c.part_text.result (λ text writes. writes c.args.part.now.most (script c.args.scenario.now) (record {
-      run = u.now;
-      at = u.at;
-      past_is = along_all s lines was.0 c.loop-line.part ended u ∙ ap (λ n. first_of n (past_after s (runs s lines run_at_start).happened)) c.loop-line.invariant.most;
-    })) c.part_text.ensures
+    let past : past_in s u.now ≡ first_of c.args.part.now.most (past_after s (runs s lines run_at_start).happened) =
+    along_all s lines was.0 c.loop-line.part ended u ∙ ap (λ n. first_of n (past_after s (runs s lines run_at_start).happened)) c.loop-line.invariant.most in
+    if_then c.part_text.result (λ text writes.
+    text_is file (script c.args.scenario.now) was.0 (drop c.loop-line.line-index lines) c.loop-line.part c.loop-line.newest text.items c.args.part.now.most u was.3 past writes) c.part_text.ensures

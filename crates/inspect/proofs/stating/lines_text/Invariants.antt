@@ -1,12 +1,15 @@
-use Rattle.std.proofs.Common.{◌≡◌, ◌*◌, ◌^◌, ◌≤◌, drop}
+use Rattle.std.proofs.Common.{◌≡◌, ◌+◌, ◌*◌, ◌^◌, ◌≤◌, drop, length}
 use Rattle.course.specs.{Run, run_at_start, runs}
 use Rattle.inspect.specs.{ComesAlong}
+use Rattle.inspect.proofs.Makers.{Remembers}
 use Rattle.inspect.proofs.stating.lines_text.Given as goal
 
--- it has come along the lines so far
+-- it has come along the lines so far, and the line that made the newest event is remembered
 abbrev pub invariant-loop-line : goal.invariant-loop-line
 invariant-loop-line g l = record {
   most : l.part.most ≡ l.fn.part.most;
   entries : l.part.heard.snapshot.entries ≤ l.line-index * 2 ^ 48;
-  along : (whole : Run) × (runs l.scenario.setup (drop l.line-index l.scenario.lines.items) whole ≡ runs l.scenario.setup l.scenario.lines.items run_at_start) × ComesAlong l.scenario.setup whole l.part;
+  after : l.after + l.line-index ≡ length l.scenario.lines.items;
+  along : (whole : Run) × (runs l.scenario.setup (drop l.line-index l.scenario.lines.items) whole ≡ runs l.scenario.setup l.scenario.lines.items run_at_start) × ComesAlong l.scenario.setup whole l.part
+      × Remembers l.file l.scenario.setup l.scenario.lines.items (drop l.line-index l.scenario.lines.items) whole l.part.heard.snapshot.entries l.newest;
 }

@@ -1,17 +1,18 @@
-use Rattle.std.proofs.Common.{◌++◌, ap, ◌∙◌, append_assoc}
+use Rattle.std.proofs.Common.{◌≡◌, ℕ, List, [], ◌++◌, ap, ◌∙◌, append_assoc}
 use Rattle.course.specs.{past_in}
 use Rattle.snapshot.specs.{state_lines}
-use Rattle.inspect.specs.{head_lines, state_after}
+use Rattle.inspect.specs.{head_lines, remembered_line}
+use Rattle.inspect.proofs.Along.{events_are}
 use Rattle.inspect.proofs.stating.part_text.Goals as goal
 
+-- the head is written, then the line that made the newest event, then the other lines
+written : (start head_end line_end end : List ℕ) (head lines : List ℕ) (line : ℕ → List ℕ) (n m : ℕ) → n ≡ m → start ≡ [] → head_end ≡ start ++ head → line_end ≡ head_end ++ line n → end ≡ line_end ++ lines → end ≡ head ++ (line m ++ lines)
+written start head_end line_end end head lines line n m same none first second third =
+    third
+    ∙ ap (λ (l : List ℕ). l ++ lines) (second ∙ ap (λ k. head_end ++ line k) same ∙ ap (λ (l : List ℕ). l ++ line m) (first ∙ ap (λ (l : List ℕ). l ++ head) none))
+    ∙ append_assoc head (line m) lines
+
 pub returns : goal.returns
-returns c = λ n said u.
-    let s = said.setup in
-    let past = past_in s u.run in
-    let head = c.in_ok-print_head.ensures s past u.at.seen u.at.knows in
-    let made = c.in_ok-push_made.ensures in
-    let print = c.in_ok-print.ensures s u.run u.at in (
-      made.0,
-      print ∙ ap (λ l. l ++ state_lines s past) (made.1 ∙ ap (λ l. l ++ made.0) (head ∙ ap (λ l. l ++ head_lines past) c.new-text.ensures.items))
-          ∙ append_assoc (head_lines past) made.0 (state_lines s past) ∙ ap (state_after made.0 s) u.past_is,
-    )
+returns c = λ s run at.
+    written _ _ _ _ (head_lines (past_in s run)) (state_lines s (past_in s run)) (λ n. remembered_line c.args.file.now n c.args.newest.now) _ _
+    (c.events.ensures ∙ events_are s c.args.part.now run at) c.new-text.ensures.items (c.in_ok-print_head.ensures s (past_in s run) at.seen at.knows) c.in_ok-push_made.ensures (c.in_ok-print.ensures s run at)

@@ -1,8 +1,8 @@
-use Rattle.std.proofs.Common.{◌≡◌, List, ℕ, IfOk, subst}
+use Rattle.std.proofs.Common.{◌≡◌, IfOk, subst}
 use Rattle.scenario.specs.{script}
 use Rattle.inspect.specs.{stated}
 use Rattle.inspect.proofs.stating.state_text.Goals as goal
 
 pub returns : goal.returns
 returns g c =
-    subst (λ n. IfOk c.lines_text.result (λ text. (made : List ℕ) × (text.items ≡ stated n made (script c.args.scenario.now)))) c.in_ok-part.ensures.most c.lines_text.ensures
+    subst (λ n. IfOk c.lines_text.result (λ text. text.items ≡ stated n c.args.file.now (script c.args.scenario.now))) c.in_ok-part.ensures.most c.lines_text.ensures
