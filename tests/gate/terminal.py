@@ -37,6 +37,8 @@ RECORD = "record 1\nprocesses 2\ntickets 4\nstamps 4\nslots 1\n0 : call add a 1\
 # what a page shows: a command behind `$ `, and the lines below it that begin at the same place
 SHOWN = re.compile(r"^( +)\$ (.*)\n((?:\1(?! |\$ ).*\n)*)", re.M)
 CLEAR = "\r\x1b[K"
+# a record file that breaks the law `program` after its first ten entries
+LATE = "entry-left-out"
 
 # words that ask for nothing that there is: why, the tip if there is one, and what the usage line says behind the program's name
 ANY = "[OPTIONS] [COMMAND]"
@@ -321,6 +323,11 @@ def progress(counter, interrupter):
     terminal = Terminal()
     ran, *_ = interrupter.run(["sweep", "-"], "bakery 1\ncall 0 read a\nstep 0 31\n", tick=100, stderr=terminal.end)
     counter.compare("progress of sweep", (ran, terminal.text()), (Ran(0, swept, None), shown))
+    # it shows the line beside its output too, since that comes at the end
+    terminal = Terminal()
+    words = ["sweep", "-"]
+    ran, *_ = interrupter.run(words, "bakery 1\ncall 0 read a\nstep 0 31\n", tick=100, stdout=terminal.end, stderr=terminal.end)
+    counter.compare("progress of sweep at one terminal", (ran.status, terminal.text()), (0, shown + swept))
     # it reads blocks of 8,192 bytes, of which each has 64 of these lines; a pipe would give it fewer at a time
     comments = "".join(f"{line:127}\n" for line in ["record 1", *["# a line"] * 2047])
     shown = "".join(f"\r{64 * blocks} lines read so far, 640 a second\x1b[K" for blocks in times) + CLEAR
@@ -396,6 +403,45 @@ def gone(counter):
         os.close(end)
 
 
+def at_terminal(asked, **streams):
+    """What a run writes to standard error, where that is a terminal, and its status."""
+    terminal = Terminal()
+    ran = run(asked, stderr=terminal.end, **streams)
+    return ran.status, ran.output, terminal.text()
+
+
+def causes(counter):
+    """With `--explain` and at a terminal a second line names the stream that failed, and the reason."""
+    reads = [("nofile", "nofile: no such file"), (".", ".: it is a directory"), ("a\x1b[31mb", "a\\u{1b}[31mb: no such file")]
+    for file, cause in reads:
+        for asked, errors in [(["replay", file], "read fault\n"), (["replay", "--explain", file], f"read fault\n{cause}\n")]:
+            counter.compare(asked, run(asked), Ran(1, "", errors))
+        counter.compare(f"{file!r} at a terminal", at_terminal(["replay", file]), (1, "", f"read fault\n{cause}\n"))
+    with open("/dev/full", "w") as full:
+        ran = run(["plain", "--explain", "-"], SCENARIO, stdout=full)
+    counter.compare("a full device", ran, Ran(1, None, "write fault\nstandard output: no space left on the device\n"))
+    ours, end = os.pipe()
+    os.close(ours)
+    ran = run(["plain", "--explain", "-"], SCENARIO, stdout=end)
+    os.close(end)
+    counter.compare("a reader that went away", ran, Ran(1, None, "write fault\nstandard output: its reader has gone away\n"))
+
+
+def hints(counter):
+    """At a terminal `judge` adds a hint where an early entry is not one of this lock, and otherwise nothing."""
+    other, late = TOP / "lessons" / "19-overtakes.record", TOP / "examples" / "records" / LATE
+    hint = "hint: --any-lock judges the records of other locks\n"
+    for words, output, errors in [
+        (["judge", other], "bad 3 program\n", hint),
+        (["judge", "--any-lock", other], "bad 10 overtaken\n", ""),
+        (["judge", late / "record-file"], (late / "judge").read_text(), ""),
+        (["judge", TOP / "examples" / "failed-read.record"], "good 21\n", ""),
+    ]:
+        status = 3 if output.startswith("bad") else 0
+        counter.compare(words, at_terminal(words), (status, output, errors))
+        counter.compare(f"{words} in pipes", run(words), Ran(status, output, ""))
+
+
 def main():
     counter = Counter()
     with tempfile.TemporaryDirectory() as name:
@@ -408,6 +454,8 @@ def main():
         interrupted(counter, interrupter, folder)
         failed_writes(counter, interrupter)
         gone(counter)
+        causes(counter)
+        hints(counter)
     counter.end()
 
 

@@ -4,9 +4,9 @@
 ghost use Rattle.std.specs.Prelude.{◌≡◌, ◌-◌, ◌<◌, ◌^◌, IfOk};
 
 use command_line::{
-    Engine, Fault, FromRead, Intake, IntoWrite, Invocation, LineFault, Output, Request, Sink,
-    Source, Terminals, USAGE_STATUS, Uninterrupted, WatchedInput, Watcher, all_words, exit_status,
-    read_words,
+    Engine, Fault, FromRead, FrontSink, Intake, IntoWrite, Invocation, LineFault, NotedReader,
+    NotedWriter, Output, Request, Sink, Source, Terminals, USAGE_STATUS, Uninterrupted,
+    WatchedInput, Watcher, all_words, exit_status, read_words, reason_of, shown_word,
 };
 use drawer::progress::Onlooker;
 use drawer::{Reads, draw, draw_svg};
@@ -19,6 +19,7 @@ use record_drawer::{
     JudgedBy, Opened, draw_judged_record, draw_judged_record_svg, draw_record, draw_record_svg,
 };
 use std::alloc::Global;
+use std::cell::Cell;
 use std::env::Env;
 use std::fs::{File, Files};
 use std::io;
@@ -34,6 +35,9 @@ const NO_WORDS: &str =
 
 /// What is told where `--at` of `state` is missing, or no such number.
 const NO_AT: &str = "state needs --at N, where N is a number below 2^64 or `end`";
+
+/// What is added at a terminal where `judge` finds at once that a record is not one of this lock.
+const OTHER_LOCK: &str = "hint: --any-lock judges the records of other locks";
 
 fn main(rt: HostRuntime) -> ExitCode {
     let terminals = Terminals {
@@ -79,7 +83,7 @@ fn run<T: Files + Input + Print + Eprint + Clock + AllocGlobal + Threads + Wait 
     match File::open(rt, request.file) {
         Ok(file) => run_on(rt, request, at, terminals, file),
         Err(error) if error.kind() == ErrorKind::OutOfMemory => Err(Fault::Memory.into()),
-        Err(_) => Err(Fault::Read.into()),
+        Err(error) => Ok(told_with_cause(rt, request, terminals, Fault::Read, Some(error.kind()))),
     }
 }
 
@@ -91,14 +95,74 @@ fn run_on<T: Print + Eprint + Clock + AllocGlobal + Threads + Wait + Sync, R: Re
     terminals: Terminals,
     reader: R,
 ) -> Result<u8, RunFault> {
-    let Ok(reader) = BufReader::new(rt.alloc(), Uninterrupted::new(reader)) else {
+    let (read, written) = (Cell::new(None), Cell::new(None));
+    let reader = Uninterrupted::new(NotedReader::new(reader, &read));
+    let writer = NotedWriter::new(io::writer(rt), &written);
+    match run_through(rt, request, at, terminals, reader, writer) {
+        Err(RunFault::File(Fault::Read)) => Ok(told_with_cause(
+            rt,
+            request,
+            terminals,
+            Fault::Read,
+            read.get(),
+        )),
+        Err(RunFault::File(Fault::Write)) => Ok(told_with_cause(
+            rt,
+            request,
+            terminals,
+            Fault::Write,
+            written.get(),
+        )),
+        ended => ended,
+    }
+}
+
+/// Runs the engine from a reader to a writer, each through a buffer. A sweep writes at its end alone, in one block, so that the line
+/// of its progress is removed before.
+fn run_through<
+    T: Print + Eprint + Clock + AllocGlobal + Threads + Wait + Sync,
+    R: Read + Drop,
+    W: Write + Drop,
+>(
+    rt: &T,
+    request: &Request<'_>,
+    at: u64,
+    terminals: Terminals,
+    reader: R,
+    writer: W,
+) -> Result<u8, RunFault> {
+    let Ok(reader) = BufReader::new(rt.alloc(), reader) else {
         return Err(Fault::Memory.into());
     };
-    let Ok(mut writer) = Output::new(rt.alloc(), io::writer(rt), terminals.output) else {
+    let by_line = terminals.output && request.command.engine != Engine::Sweep;
+    let Ok(mut writer) = Output::new(rt.alloc(), writer, by_line) else {
         return Err(Fault::Memory.into());
     };
     let source = opened(rt.alloc(), request.command.engine, FromRead::new(reader))?;
     run_between(rt, request, at, terminals, source, &mut writer)
+}
+
+/// Reports a fault of a stream and, at a terminal or with `--explain`, which stream it is and why; returns the exit status.
+fn told_with_cause<T: Eprint + AllocGlobal>(
+    rt: &T,
+    request: &Request<'_>,
+    terminals: Terminals,
+    fault: Fault,
+    cause: Option<ErrorKind>,
+) -> u8 {
+    let stream = match fault {
+        Fault::Write => "standard output",
+        _ if request.file == "-" => "standard input",
+        _ => request.file,
+    };
+    let status = told(rt, Err(fault.into()));
+    if terminals.error || request.explain {
+        if let Ok(stream) = shown_word(rt.alloc(), stream) {
+            let reason = reason_of(cause);
+            let _ = eprintln!(rt; "{stream}: {reason}");
+        }
+    }
+    status
 }
 
 /// Runs the engine from a source to a writer, and tells at a terminal how far it is.
@@ -117,24 +181,26 @@ fn run_between<
     requires { ⟦<Opened<R> as Source>⟧.failures source < 2 ^ 64 - 1 }
 {
     let wanted = wanted_by(request, source.is_record, at);
-    let shows = terminals.error && !terminals.output && !request.quiet;
+    let has_place = !terminals.output || wanted.engine == Engine::Sweep;
+    let shows = terminals.error && has_place && !request.quiet;
     let from_input = request.command.intake == Intake::Streamed || wanted.is_record;
     let explains = terminals.error || request.explain;
     let watched = WatchedInput::new(source, rt, shows && from_input);
     let mut input = KeptInput::new(rt.alloc(), watched, explains);
     let mut watcher = Watcher::new(rt, rt.alloc(), shows && !from_input);
-    let ran = run_engine(
-        rt,
-        wanted,
-        &mut input,
-        &mut IntoWrite::new(&mut *writer),
-        &mut watcher,
-    );
+    let mut output = FrontSink::new(IntoWrite::new(&mut *writer));
+    let ran = run_engine(rt, wanted, &mut input, &mut output, &mut watcher);
+    let is_other_lock = wanted.engine == Engine::Judge
+        && !wanted.any_lock
+        && output.is_early_program();
     let (kept, mut watched) = input.into_parts();
     watched.end();
     watcher.end();
     // After a fault too: what the engine has written is a front of its text.
     let flushed = writer.flush();
+    if is_other_lock && terminals.error {
+        let _ = eprintln!(rt; "{OTHER_LOCK}");
+    }
     match ran {
         Err(RunFault::File(Fault::Line(fault))) if explains => {
             Ok(told_with_place(rt, wanted, &kept, fault))

@@ -29,9 +29,9 @@ Options:
               is so without the option if standard error is a terminal
   --judge     draw, draw-svg: show the verdict on a record, with its reasons
   --quiet     show no progress. Without it, a run of more than two seconds shows its
-              progress if standard error is a terminal and standard output is not
-              (except plain and bits, which end soon, and race, whose threads all
-              run at once)
+              progress if standard error is a terminal and standard output is not;
+              sweep does so if both are (plain and bits, which end soon, and race,
+              whose threads all run at once, show none)
   --reads     draw, draw-svg: show the reads that a write overlapped
   --why       judge: give the reasons of a bad verdict
   --          end the options: what follows is a file
@@ -169,11 +169,13 @@ bad-setup   A heading is out of range: `processes` 1 to 8, `tickets` and `stamps
 
 memory      The system had no memory for the line. The status is 4.
 
-Other faults:
+Other faults. With --explain, and if standard error is a terminal, a second line names
+the stream and the reason of a read fault or a write fault.
 
 read fault      The file does not exist or may not be read; or reading has failed.
-                  $ bakerystore plain .
+                  $ bakerystore plain --explain nofile
                   read fault
+                  nofile: no such file
 write fault     Writing has failed: the disk is full, or the reader has gone away, as
                 `| head -n 1` does once it has its line. The status is 1.
                   $ bakerystore plain examples/counters.bakery > /dev/full

@@ -1,8 +1,10 @@
 //! What stands between the program and who runs it: its words and pages, and how it writes to a terminal.
 #![tactic(auto)]
 
+mod causes;
 mod command_pages;
 mod commands;
+mod fronts;
 mod help;
 mod notices;
 mod pages;
@@ -12,9 +14,11 @@ mod retries;
 mod terminal;
 mod words;
 
+pub use causes::{NotedReader, NotedWriter, reason_of};
 pub use commands::{CommandEntry, Engine, Intake};
 pub use files::{Fault, FromRead, IntoWrite, LineFault, Sink, Source, exit_status};
-pub use notices::{Notice, USAGE_STATUS};
+pub use fronts::FrontSink;
+pub use notices::{Notice, USAGE_STATUS, shown_word};
 pub use pages::HelpPage;
 pub use progress::{WatchedInput, Watcher};
 pub use retries::Uninterrupted;

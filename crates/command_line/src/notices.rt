@@ -108,8 +108,9 @@ fn shown_words(alloc: Global, words: &[String]) -> Result<Vec<String>, AllocErro
     Ok(shown)
 }
 
-/// A word as an error shows it: the letters that end within its first bytes, and `..` for the others.
-fn shown_word(alloc: Global, word: &str) -> Result<String, AllocError> {
+/// Returns a word as an error shows it: the letters that end within its first 64 bytes, escaped for a terminal, and `..` for the
+/// others.
+pub fn shown_word(alloc: Global, word: &str) -> Result<String, AllocError> {
     let mut shown = String::new(alloc);
     let mut bytes: usize = 0;
     for letter in word.chars() {
