@@ -5,9 +5,15 @@
 #[cfg(test)]
 mod bits;
 #[cfg(test)]
+mod commits;
+#[cfg(test)]
 mod copies;
 #[cfg(test)]
+mod doors;
+#[cfg(test)]
 mod drives;
+#[cfg(test)]
+mod failures;
 #[cfg(test)]
 mod locks;
 #[cfg(test)]
@@ -18,3 +24,5 @@ mod numbers;
 mod sections;
 #[cfg(test)]
 mod units;
+#[cfg(test)]
+mod waits;

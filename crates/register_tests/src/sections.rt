@@ -1,5 +1,5 @@
 //! The section of a process alone, driven by hand: its cursor over a plain memory.
-ghost use Rattle.std.specs.Prelude.{◌≡◌};
+ghost use Rattle.std.specs.Prelude.{◌≡◌, [], ◌∷◌};
 ghost use Rattle.bakery.specs.Sections.{is_going, goes_on};
 
 use super::memory::Memory;
@@ -9,7 +9,7 @@ use record::{Access, Field, Move};
 use std::alloc::{AllocError, Global};
 
 /// Whether an access is left.
-fn goes_on(progress: &SectionProgress) -> bool
+pub fn goes_on(progress: &SectionProgress) -> bool
     ensures { result ≡ goes_on progress.now }
 {
     match progress {
@@ -35,7 +35,10 @@ fn taken(section: &mut Section, memory: &mut Memory, command: Command) -> Option
     None
 }
 
-fn a() -> Name {
+/// The name `a`.
+pub fn a() -> Name
+    ensures { result ≡ 97 ∷ [] }
+{
     Name::new(b"a").unwrap()
 }
 

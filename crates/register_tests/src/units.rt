@@ -1,7 +1,11 @@
 //! The memory unit on registers.
-use bakery::{DataRow, Locks, Unit, UnitProgress};
+ghost use Rattle.std.specs.Prelude.{◌≡◌, ◌<◌, true, length};
+ghost use Rattle.bakery.specs.process.{may_step};
+ghost use Rattle.register_tests.specs.Units.{is_down, locks_settled, row_settled, settlement, settlement_of, unit_after, unit_goes};
+
+use bakery::{Data, DataRow, Lock, Locks, Unit, UnitProgress};
 use plain_store::Setup;
-use record::{Access, Field, Move};
+use record::{Access, Field, Move, TornBit};
 use std::alloc::{AllocError, Global};
 
 /// The first step of the unit of a process that failed before its first access.
@@ -31,4 +35,101 @@ fn clears_the_registers(rt: HostRuntime) -> Result<(), AllocError> {
     );
     assert!(rt; matches!(told, UnitProgress::Clearing));
     Ok(())
+}
+
+/// What the steps of a memory unit left to do.
+#[derive(Clone, Copy)]
+pub struct UnitSteps {
+    /// How many of them left something to settle.
+    pub settling: u32,
+    /// How many of them left something to clear.
+    pub clearing: u32,
+    /// What the last one left, if there was one.
+    pub last: Option<UnitProgress>,
+}
+
+impl UnitSteps {
+    /// No steps.
+    fn none() -> UnitSteps {
+        UnitSteps {
+            settling: 0,
+            clearing: 0,
+            last: None,
+        }
+    }
+
+    /// Those and one more, which left this.
+    fn with(self, progress: UnitProgress) -> UnitSteps {
+        let (settling, clearing) = match progress {
+            UnitProgress::Settling => (self.settling.saturating_add(1), self.clearing),
+            UnitProgress::Clearing => (self.settling, self.clearing.saturating_add(1)),
+            UnitProgress::Down => (self.settling, self.clearing),
+        };
+        UnitSteps {
+            settling,
+            clearing,
+            last: Some(progress),
+        }
+    }
+}
+
+/// Makes at most `most` steps of a memory unit, and fewer where its process is down: the first at this flick, and all others at
+/// the other one.
+pub fn run_unit(
+    unit: &mut Unit,
+    lock: &mut Lock,
+    versions: &mut Data,
+    most: u32,
+    flick: bool,
+) -> UnitSteps
+    requires going { may_step unit.old.doing ≡ true }
+    requires goes { unit_goes most (settlement flick unit.old lock.old versions.old) ≡ true }
+    ensures lock { lock.new ≡ (unit_after most (settlement flick unit.old lock.old versions.old)).lock }
+    ensures versions { versions.new ≡ (unit_after most (settlement flick unit.old lock.old versions.old)).versions }
+{
+    let mut steps = UnitSteps::none();
+    let mut next = flick;
+    for _made in 0..most {
+        let (_, progress) = unit.step(lock, versions, next);
+        steps = steps.with(progress);
+        if is_down(progress) {
+            return steps;
+        }
+        next = !flick;
+    }
+    steps
+}
+
+/// Whether a process is down after a step of its unit that left this.
+fn is_down(progress: UnitProgress) -> bool
+    ensures { result ≡ is_down progress }
+{
+    matches!(progress, UnitProgress::Down)
+}
+
+/// Makes at most 100 steps of the memory unit of a process, and fewer where the process is down: the first at this flick, and all
+/// others at the other one.
+pub fn settle(
+    locks: &mut Locks,
+    row: &mut DataRow,
+    process: u8,
+    unit: &mut Unit,
+    flick: bool,
+) -> UnitSteps
+    requires locks { process < length locks.old }
+    requires row { process < length row.old.parts }
+    requires going { may_step unit.old.doing ≡ true }
+    requires goes { unit_goes 100 (settlement_of flick unit.old process locks.old row.old) ≡ true }
+    ensures locks { locks.new ≡ locks_settled flick unit.old process locks.old row.old }
+    ensures row { row.new ≡ row_settled flick unit.old process locks.old row.old }
+{
+    run_unit(unit, locks.own(process), row.own(process), 100, flick)
+}
+
+/// The register of a torn bit, and its number.
+pub fn place_of(torn: &Option<TornBit>) -> Option<(Field, u16)> {
+    match torn {
+        Some(torn) => Some((torn.field, torn.bit)),
+        None => None,
+    }
 }
