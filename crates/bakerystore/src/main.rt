@@ -36,7 +36,7 @@ const NO_WORDS: &str =
 /// What is told where `--at` of `state` is missing, or no such number.
 const NO_AT: &str = "state needs --at N, where N is a number below 2^64 or `end`";
 
-/// What is added at a terminal where `judge` finds at once that a record is not one of this lock.
+/// The hint at a terminal, if `judge` finds within ten entries that a record is not one of this lock.
 const OTHER_LOCK: &str = "hint: --any-lock judges the records of other locks";
 
 fn main(rt: HostRuntime) -> ExitCode {

@@ -1,8 +1,8 @@
-//! What holds of the line that made an event.
+//! The law of the line that made an event.
 ghost use Rattle.inspect.specs.Making.{EventsAreMade, LinesHaveTheirNumbers};
 
-/// The number of a script's line is that of the line of its file that says it, and a line of the script makes each event of
-/// its run: fewer events come before the line, and that many or more after it.
+/// Each line of a script has the number of the file's line with its words. Each event of the script's run is made by a line:
+/// before the line the run has fewer events, and after it that many or more.
 pub fn lines_make_events()
     ensures numbers { LinesHaveTheirNumbers }
     ensures events { EventsAreMade }

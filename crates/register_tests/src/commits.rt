@@ -12,14 +12,14 @@ use plain_store::{Command, NestedTypes, Reply, Setup, Store, Value};
 use record::Field;
 use std::alloc::{AllocError, Global};
 
-/// What the steps of a section led to.
+/// The outcome of the steps of a section.
 #[derive(Clone, Copy)]
 struct SectionSteps {
     /// How many of them led to reading.
     reading: u32,
     /// How many of them led to writing.
     writing: u32,
-    /// What the last one led to, if there was one.
+    /// The outcome of the last step, if there was one.
     last: Option<SectionProgress>,
 }
 
@@ -79,7 +79,7 @@ fn has_five(image: &Image) -> bool {
     image.len() == 1 && image.entry(0) == Some((a(), Value::Count(5)))
 }
 
-/// What a lone section comes to before the last access of its write of a counter.
+/// The steps of a single section that writes a counter, up to the access before the last.
 #[derive(Clone, Copy)]
 struct Approach {
     /// Its steps up to the last access but one of its read of the image, the one after that, and those up to the last access but
@@ -91,7 +91,7 @@ struct Approach {
     pending: [Option<(Reply, u32, bool)>; 4],
 }
 
-/// Writes a counter by a lone section, up to the last access but one: the commit bit is being written then.
+/// Writes a counter by a single section, up to the access before the last. The commit bit is being written then.
 fn approach_commit(section: &mut Section, row: &mut DataRow, most: u32) -> Approach
     requires most { most ≡ 373 }
     requires section { section.old ≡ begun.0 }
@@ -120,7 +120,7 @@ fn is_first_change(pending: Option<(Reply, u32, bool)>) -> bool {
     pending == Some((Reply::Done, 0, true))
 }
 
-/// Whether the section has made the accesses that a lone write has before its last one. It reads its commit bit and its stamp of two
+/// Returns whether the section has made the accesses that a single write has before its last one. It reads its commit bit and its stamp of two
 /// bits with six accesses, and its image of 184 bits with 368. With the last of these it has a change to write: the image with 368
 /// accesses, the stamp with four, and the commit bit with two.
 fn has_come_to_the_commit(made: &Approach) -> bool {
@@ -153,7 +153,7 @@ fn has_come_to_the_commit(made: &Approach) -> bool {
     reads && turns && writes && before && is_first_change(turned) && is_first_change(written)
 }
 
-/// What a lone section comes to that writes a counter.
+/// The outcome of a single section that writes a counter.
 #[derive(Drop)]
 struct Commit {
     approach: Approach,
@@ -165,7 +165,7 @@ struct Commit {
     newest: Image,
 }
 
-/// Writes a counter by a lone section.
+/// Writes a counter by a single section.
 fn finish_commit(section: &mut Section, row: &mut DataRow) -> Commit
     requires section { section.old ≡ begun.0 }
     requires row { row.old ≡ begun.1 }
@@ -191,7 +191,7 @@ fn begun(alloc: Global, setup: &Setup) -> Result<Section, AllocError>
     Ok(section)
 }
 
-/// The section of a lone write, whole.
+/// Runs the section of a single write to its end.
 fn commits(alloc: Global) -> Result<Commit, AllocError> {
     let setup = Setup::one(1, 2, 2, 1);
     let mut row = DataRow::new(alloc, &setup)?;
@@ -222,7 +222,7 @@ fn a_lone_section_commits(rt: HostRuntime) -> Result<(), AllocError> {
     Ok(())
 }
 
-/// What becomes of a section that fails.
+/// The outcome of a section that fails.
 #[derive(Drop)]
 struct CutCommit {
     approach: Approach,
@@ -234,7 +234,7 @@ struct CutCommit {
     newest: Image,
 }
 
-/// Fails a lone section within the write of its commit bit, which is settled at this value.
+/// Lets a single section fail within the write of its commit bit, and settles that bit at this value.
 fn cut(
     section: &mut Section,
     locks: &mut Locks,
@@ -260,7 +260,7 @@ fn cut(
     }
 }
 
-/// The section of a lone write, cut there.
+/// Runs the section of a single write up to its failure.
 fn cut_in_the_commit(alloc: Global, value: bool) -> Result<CutCommit, AllocError> {
     let setup = Setup::one(1, 2, 2, 1);
     let mut locks = Locks::new(alloc, &setup)?;

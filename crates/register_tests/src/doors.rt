@@ -14,14 +14,14 @@ use reader_copies::Progress;
 use record::{Access, Field, Move};
 use std::alloc::{AllocError, Global};
 
-/// What the steps of a door led to.
+/// The outcome of the steps of a door.
 #[derive(Clone, Copy)]
 pub struct DoorSteps {
     /// How many of them led to the doorway.
     pub doorway: u32,
     /// How many of them led to waiting.
     pub waiting: u32,
-    /// What the last one led to, if there was one.
+    /// The outcome of the last step, if there was one.
     pub last: Option<DoorProgress>,
 }
 
@@ -136,7 +136,7 @@ pub fn read_lock(locks: &mut Locks, owner: u8, reader: u8, flick: bool) -> [bool
     [choosing, low, high]
 }
 
-/// What a lone door comes to, and its lock.
+/// The outcome of a single door, and its lock.
 #[derive(Clone, Copy)]
 struct Visit {
     /// The steps with which it enters.
@@ -168,7 +168,7 @@ fn visit_alone(locks: &mut Locks, door: &mut Door, setup: &Setup) -> Visit
     }
 }
 
-/// The visit of a lone process.
+/// Lets a single process enter and leave.
 fn lone(alloc: Global) -> Result<Visit, AllocError> {
     let setup = Setup::one(1, 2, 2, 1);
     let mut locks = Locks::new(alloc, &setup)?;

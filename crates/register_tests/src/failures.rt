@@ -12,7 +12,7 @@ use plain_store::Setup;
 use record::Field;
 use std::alloc::{AllocError, Global};
 
-/// What becomes of a process that fails in its doorway, and of one that comes after it.
+/// The outcome for a process that fails in its doorway, and for one that comes after it.
 #[derive(Clone, Copy)]
 struct Failure {
     /// The bit that it leaves torn.
@@ -25,7 +25,7 @@ struct Failure {
     enters: DoorSteps,
 }
 
-/// Process 0 fails after so many steps of its doorway, and its torn bit is settled at this value. Then process 1 enters.
+/// Lets process 0 fail after `steps` steps of its doorway and settles its torn bit at `value`. Then process 1 enters.
 fn falls(
     locks: &mut Locks,
     row: &mut DataRow,
@@ -59,7 +59,7 @@ fn falls(
     }
 }
 
-/// That of new processes.
+/// Lets two new processes fail and enter so.
 fn fails_in_the_doorway(alloc: Global, steps: u32, value: bool) -> Result<Failure, AllocError>
     requires { steps < 20 }
 {
@@ -79,8 +79,8 @@ fn fails_in_the_doorway(alloc: Global, steps: u32, value: bool) -> Result<Failur
     ))
 }
 
-/// The bit that is torn after so many of the twenty steps of a doorway, whose first four write the choosing bit, whose next four
-/// read a ticket, whose next eight write the two bits of the ticket, and whose last four write the choosing bit again. No bit is
+/// Returns the bit that is torn after `steps` of the twenty steps of a doorway. The first four write the choosing bit, the next
+/// four read a ticket, the next eight write the two bits of the ticket, and the last four write the choosing bit again. No bit is
 /// torn between two of these writes.
 fn torn_after(steps: u32) -> Option<(Field, u16)> {
     match steps {

@@ -37,14 +37,14 @@ fn clears_the_registers(rt: HostRuntime) -> Result<(), AllocError> {
     Ok(())
 }
 
-/// What the steps of a memory unit left to do.
+/// The outcome of the steps of a memory unit.
 #[derive(Clone, Copy)]
 pub struct UnitSteps {
     /// How many of them left something to settle.
     pub settling: u32,
     /// How many of them left something to clear.
     pub clearing: u32,
-    /// What the last one left, if there was one.
+    /// The work that remained after the last step, if there was one.
     pub last: Option<UnitProgress>,
 }
 

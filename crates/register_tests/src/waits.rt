@@ -25,7 +25,7 @@ fn take_tickets(locks: &mut Locks, first: &mut Door, second: &mut Door) -> [Door
     [one, two]
 }
 
-/// What becomes of two processes at the lock, one of which gives up.
+/// The outcome for two processes at the lock, one of which gives up.
 #[derive(Clone, Copy)]
 struct Withdrawal {
     /// The steps with which process 0 and process 1 take their tickets.
@@ -67,7 +67,7 @@ fn first_withdraws(
     }
 }
 
-/// That of new processes.
+/// Lets two new processes do so.
 fn first_gives_up(alloc: Global) -> Result<Withdrawal, AllocError> {
     let setup = Setup::one(2, 2, 2, 1);
     let mut locks = Locks::new(alloc, &setup)?;
@@ -121,7 +121,7 @@ fn the_other_enters_after_a_withdrawal(rt: HostRuntime) -> Result<(), AllocError
     Ok(())
 }
 
-/// Process 1 gives up after so many steps of its waiting.
+/// Lets process 1 give up after `steps` steps of its waiting.
 fn second_withdraws(
     locks: &mut Locks,
     first: &mut Door,
@@ -150,7 +150,7 @@ fn second_withdraws(
     }
 }
 
-/// That of new processes.
+/// Lets two new processes do so.
 fn second_gives_up(alloc: Global, steps: u32) -> Result<Withdrawal, AllocError>
     requires { steps < 14 }
 {
