@@ -1,9 +1,9 @@
 //! The pages of the program's arguments and faults. Each line after `$ ` is a command, followed by what it prints. The usage
 //! line above the general page, and above the page of a command, comes from `clap`.
 
-/// The program's version, and the logic in which it was proved, as the toolchain names it. Builds of the toolchain
-/// whose logic is the same prove the same.
-pub const VERSION: &str = "0.1.0, proved in Rattle's logic dac8208d650f15bf";
+/// The program's version, and the logic that its sources are proved in, as the toolchain names it. Builds of the toolchain whose
+/// logic is the same prove the same. A program cannot know whether it was built with proof, so the line does not claim that.
+pub const VERSION: &str = "0.1.0, sources for Rattle's logic dac8208d650f15bf";
 
 /// The general page, from its usage line to the commands.
 pub const WORDS: &str = r"       bakerystore COMMAND FILE   (FILE - is standard input)
@@ -19,7 +19,7 @@ pub const MORE_WORDS: &str = r"
   help run                       the marks that a run prints
   help faults                    the kinds of fault, with their causes
   help, --help, -h               this page
-  --version, -V                  the version, and the logic of its proof
+  --version, -V                  the version, and the logic that its sources are for
 
 Options:
 
