@@ -17,7 +17,7 @@ from second.any_lock import any_lock
 
 
 def one_bit(me, processes):
-    """The one-bit lock (Burns and Lynch; Lamport 1986): whoever has the higher number gives way."""
+    """The one-bit lock (Burns and Lynch 1993; Lamport 1986b): whoever has the higher number gives way."""
     while True:
         yield "call read a"
         waits = is_through = False
