@@ -115,7 +115,7 @@ def occur_in_order(lines, printed):
 def links_of(before, after):
     """Returns the line of links of a page between these lessons; None is before the first one and after the last one."""
     links = [f"Previous: [{before.title}]({before.file.stem}.md)"] if before else []
-    links.append("[All lessons](README.md)")
+    links += ["[All lessons](README.md)", "[Glossary](../docs/GLOSSARY.md)"]
     links += [f"Next: [{after.title}]({after.file.stem}.md)"] if after else []
     return " · ".join(links)
 
