@@ -39,6 +39,13 @@ const NO_AT: &str = "state needs --at N, where N is a number below 2^64 or `end`
 /// The hint at a terminal, if `judge` finds within ten entries that a record is not one of this lock.
 const OTHER_LOCK: &str = "hint: --any-lock judges the records of other locks";
 
+/// Why the newest read of the file, and the newest write of the output, have failed.
+#[derive(Drop)]
+struct Causes {
+    read: Cell<Option<ErrorKind>>,
+    write: Cell<Option<ErrorKind>>,
+}
+
 fn main(rt: HostRuntime) -> ExitCode {
     let terminals = Terminals {
         input: rt.stdin().is_terminal(),
@@ -87,7 +94,7 @@ fn run<T: Files + Input + Print + Eprint + Clock + AllocGlobal + Threads + Wait 
     }
 }
 
-/// Runs the engine from a reader to standard output, each through a buffer.
+/// Runs the engine from a reader to standard output, and reports a fault of either.
 fn run_on<T: Print + Eprint + Clock + AllocGlobal + Threads + Wait + Sync, R: Read + Drop>(
     rt: &T,
     request: &Request<'_>,
@@ -95,23 +102,26 @@ fn run_on<T: Print + Eprint + Clock + AllocGlobal + Threads + Wait + Sync, R: Re
     terminals: Terminals,
     reader: R,
 ) -> Result<u8, RunFault> {
-    let (read, written) = (Cell::new(None), Cell::new(None));
-    let reader = Uninterrupted::new(NotedReader::new(reader, &read));
-    let writer = NotedWriter::new(io::writer(rt), &written);
-    match run_through(rt, request, at, terminals, reader, writer) {
+    let causes = Causes {
+        read: Cell::new(None),
+        write: Cell::new(None),
+    };
+    let writer = io::writer(rt);
+    let wanted = wanted_by(request, at);
+    match run_through(rt, &causes, wanted, terminals, reader, writer) {
         Err(RunFault::File(Fault::Read)) => Ok(told_with_cause(
             rt,
             request,
             terminals,
             Fault::Read,
-            read.get(),
+            causes.read.get(),
         )),
         Err(RunFault::File(Fault::Write)) => Ok(told_with_cause(
             rt,
             request,
             terminals,
             Fault::Write,
-            written.get(),
+            causes.write.get(),
         )),
         ended => ended,
     }
@@ -125,21 +135,23 @@ fn run_through<
     W: Write + Drop,
 >(
     rt: &T,
-    request: &Request<'_>,
-    at: u64,
+    causes: &Causes,
+    wanted: Wanted,
     terminals: Terminals,
     reader: R,
     writer: W,
 ) -> Result<u8, RunFault> {
+    let reader = Uninterrupted::new(NotedReader::new(reader, &causes.read));
     let Ok(reader) = BufReader::new(rt.alloc(), reader) else {
         return Err(Fault::Memory.into());
     };
-    let by_line = terminals.output && request.command.engine != Engine::Sweep;
+    let by_line = terminals.output && wanted.engine != Engine::Sweep;
+    let writer = NotedWriter::new(writer, &causes.write);
     let Ok(mut writer) = Output::new(rt.alloc(), writer, by_line) else {
         return Err(Fault::Memory.into());
     };
-    let source = opened(rt.alloc(), request.command.engine, FromRead::new(reader))?;
-    run_between(rt, request, at, terminals, source, &mut writer)
+    let source = opened(rt.alloc(), wanted.engine, FromRead::new(reader))?;
+    run_between(rt, wanted, terminals, source, &mut writer)
 }
 
 /// Reports a fault of a stream and, at a terminal or with `--explain`, which stream it is and why; returns the exit status.
@@ -172,19 +184,21 @@ fn run_between<
     W: Write,
 >(
     rt: &T,
-    request: &Request<'_>,
-    at: u64,
+    wanted: Wanted,
     terminals: Terminals,
     source: Opened<R>,
     writer: &mut W,
 ) -> Result<u8, RunFault>
     requires { ⟦<Opened<R> as Source>⟧.failures source < 2 ^ 64 - 1 }
 {
-    let wanted = wanted_by(request, source.is_record, at);
+    let wanted = Wanted {
+        is_record: wanted.is_record | source.is_record,
+        ..wanted
+    };
     let has_place = !terminals.output || wanted.engine == Engine::Sweep;
-    let shows = terminals.error && has_place && !request.quiet;
-    let from_input = request.command.intake == Intake::Streamed || wanted.is_record;
-    let explains = terminals.error || request.explain;
+    let shows = terminals.error && has_place && !wanted.quiet;
+    let from_input = wanted.is_streamed || wanted.is_record;
+    let explains = terminals.error || wanted.explain;
     let watched = WatchedInput::new(source, rt, shows && from_input);
     let mut input = KeptInput::new(rt.alloc(), watched, explains);
     let mut watcher = Watcher::new(rt, rt.alloc(), shows && !from_input);
@@ -245,6 +259,10 @@ struct Wanted {
     judge: bool,
     any_lock: bool,
     why: bool,
+    quiet: bool,
+    explain: bool,
+    /// Whether the engine runs the file while it reads it.
+    is_streamed: bool,
     /// Whether the file is a record, where the engine takes scenarios too.
     is_record: bool,
     /// After how many events the state is told.
@@ -270,8 +288,8 @@ fn events_asked(request: &Request<'_>) -> Option<u64> {
     }
 }
 
-/// What a request asks of its engine.
-fn wanted_by(request: &Request<'_>, is_record: bool, at: u64) -> Wanted {
+/// What a request asks of its engine, before its file is opened.
+fn wanted_by(request: &Request<'_>, at: u64) -> Wanted {
     let judge = request.judge | request.any_lock;
     Wanted {
         engine: request.command.engine,
@@ -283,7 +301,10 @@ fn wanted_by(request: &Request<'_>, is_record: bool, at: u64) -> Wanted {
         judge,
         any_lock: request.any_lock,
         why: request.why,
-        is_record: is_record | judge,
+        quiet: request.quiet,
+        explain: request.explain,
+        is_streamed: request.command.intake == Intake::Streamed,
+        is_record: judge,
         at,
     }
 }
