@@ -1,7 +1,7 @@
 """A second reading of record files: of each text its setup and its entries, or the one fault that is told of it.
 
-It is written from the tables of docs/RECORDS.md and the order of faults of docs/FAULTS.md alone, and shares nothing with the programs that it is
-held against.
+It is written from the tables of docs/RECORDS.md and the order of faults of docs/FAULTS.md alone, and shares nothing with the
+programs that it is held against.
 """
 
 from second.scenario_files import HEADINGS, MOST_BYTES, RANGES, Fault, is_number, is_skipped, lines_of, operand_fault, words_of
