@@ -1,7 +1,7 @@
 /// A law that each entry of the record of any lock keeps, by the entries before it. They are looked at in this order.
 #[derive(Clone, Copy, PartialEq, Eq)]
 pub enum AnyLockLaw {
-    /// A read that no write overlapped ends with the value last written or settled (Lamport 1986: the safe register).
+    /// A read that no write overlapped ends with the value last written or settled (Lamport 1986a: the safe register).
     Safe,
     /// There is no refusal of the access.
     Access,

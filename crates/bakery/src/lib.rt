@@ -4,7 +4,7 @@
 //! process, which settles the bit that the failure has torn, then clears the process's ticket, then its choosing bit.
 //!
 //! Each is a process at its place; its `step` makes the next access on the lock's registers or on those of the versions. The
-//! versions and the failure rule are this project's own profile; they stand on Lamport's safe registers (1986).
+//! versions and the failure rule are this project's own profile; they stand on Lamport's safe registers (1986a).
 #![tactic(auto)]
 
 mod data;

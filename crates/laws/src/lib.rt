@@ -1,5 +1,5 @@
 //! The laws of the lock, of every record of a list of events, whatever the flicks. The lock is Lamport's bakery (1974) on safe
-//! single-reader bits (1986), with processes that fail and memory units that clear up after them (this project's own profile).
+//! single-reader bits (1986a), with processes that fail and memory units that clear up after them (this project's own profile).
 //! Each law is a function with nothing to do, whose contract is the law.
 //!
 //! ```rust

@@ -38,7 +38,7 @@ pub fn ahead()
 {}
 
 /// The safe rule holds of every record: a read of a single-reader bit that no write overlaps ends with the
-/// value last written or settled before it began, and any other with the flick of its event. (Lamport 1986.)
+/// value last written or settled before it began, and any other with the flick of its event. (Lamport 1986a.)
 pub fn safe_rule()
     ensures unoverlapped { ReadsEndAsTheyMay }
     ensures flick { ReadsEndByTheirFlick }

@@ -5,7 +5,7 @@ ghost use Rattle.laws.specs.Held.{AccessesAreThere, AccessesComeInTurn, OpenRead
 /// or withdraws drops the read that it has open. The access is of a register that there is, and comes in
 /// its turn. What the registers hold answers a read as the safe rule does, and a read that is open is of the
 /// register that its process reads at its place. A write that is to end is of the value that its bit has: where it
-/// began, the bit took that value. (Lamport 1986, with this project's failure rule.)
+/// began, the bit took that value. (Lamport 1986a, with this project's failure rule.)
 pub fn registers_serve_every_access()
     ensures there { AccessesAreThere }
     ensures turn { AccessesComeInTurn }

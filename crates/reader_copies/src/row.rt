@@ -14,7 +14,7 @@ pub const MAX_WIDTH: u16 = 1728;
 pub const MAX_READERS: u8 = 16;
 
 /// A row of bits with one writer and several readers, each bit kept as one safe copy for each reader
-/// (Lamport 1986).
+/// (Lamport 1986a).
 ///
 /// Bits and readers are counted from 0. The writer writes each copy in turn, and a reader reads its own
 /// copy. A call on one bit leaves all other bits, and the accesses open on them, as they are.

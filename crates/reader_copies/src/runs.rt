@@ -21,7 +21,7 @@ pub enum Progress {
     Done,
 }
 
-/// A write of one bit with a copy for each reader (Lamport 1986): begin and end on each copy in turn,
+/// A write of one bit with a copy for each reader (Lamport 1986a): begin and end on each copy in turn,
 /// reader 0 first.
 ///
 /// It belongs to the bit's one writer. It needs to be told the number of readers, 1 to 16, only as it goes on.

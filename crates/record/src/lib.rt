@@ -1,5 +1,5 @@
 //! What a run is: events, the entries that they add, and the laws of every record of a list of events. The
-//! lock is Lamport's bakery (1974) on safe single-reader bits (1986); the store and the failure rule are
+//! lock is Lamport's bakery (1974) on safe single-reader bits (1986a); the store and the failure rule are
 //! this project's own profile.
 #![tactic(auto)]
 

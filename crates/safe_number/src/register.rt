@@ -14,7 +14,7 @@ use std::alloc::{AllocError, Global};
 use std::marker::Model;
 
 /// A number of 1 to 1728 bits with one writer and 1 to 16 readers, each bit a safe copy for each reader
-/// (Lamport 1986).
+/// (Lamport 1986a).
 ///
 /// Bits and readers are counted from 0. A read that no write overlaps gives the number, any other some
 /// number of that width.
