@@ -1,9 +1,11 @@
 //! The pages of the program's arguments and faults. Each line after `$ ` is a command, followed by what it prints. The usage
 //! line above the general page, and above the page of a command, comes from `clap`.
 
-/// The program's version, and the logic that its sources are proved in, as the toolchain names it. Builds of the toolchain whose
-/// logic is the same prove the same. A program cannot know whether it was built with proof, so the line does not claim that.
-pub const VERSION: &str = "0.1.0, sources for Rattle's logic dac8208d650f15bf";
+/// What `--version` prints after the program's name: the version, and the logic that the sources are for, as the toolchain names
+/// it. Builds of the toolchain with the same logic prove the same. A program cannot know whether it was built with proof, nor from
+/// which commit, and the line says so.
+pub const VERSION: &str =
+    "0.2.0, sources for Rattle's logic dac8208d650f15bf; the program cannot tell how this copy was built";
 
 /// The general page, from its usage line to the commands.
 pub const WORDS: &str = r"       bakerystore COMMAND FILE   (FILE - is standard input)
