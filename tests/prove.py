@@ -2,7 +2,7 @@
 """Proves the program `bakerystore` and all that it stands on, builds it, and runs it with the words given, as `replay -`.
 
 `rt run` in crates/bakerystore does the same, crate after crate; here crates that do not stand on one another are proved
-side by side. Each library has a room of its own, with copies of the sources that it needs and links to what was proved
+side by side. Each library has a room of its own, with copies of the sources that it needs and of what was proved
 below it, since one run of rt keeps others from the crates that it stands on. What it leaves there goes to crates/NAME/out,
 where rt looks for it; what stands there already, and is of these sources, is not proved again.
 """
@@ -27,6 +27,14 @@ def tell(text):
     print(text, file=sys.stderr, flush=True)
 
 
+def link_or_copy(source, to):
+    """Links a file, or copies it to another disk."""
+    try:
+        os.link(source, to)
+    except OSError:
+        shutil.copy2(source, to)
+
+
 def room_for(name, under, rooms):
     """A folder with the sources of a crate and of those under it, and with what was proved of these."""
     room, told = pathlib.Path(rooms) / name, crates()
@@ -36,7 +44,7 @@ def room_for(name, under, rooms):
             if (source / part).is_dir():
                 shutil.copytree(source / part, copy / part)
         if (source / "out" / "rlib").is_dir():
-            shutil.copytree(source / "out" / "rlib", copy / "out" / "rlib", copy_function=os.link)
+            shutil.copytree(source / "out" / "rlib", copy / "out" / "rlib", copy_function=link_or_copy)
     (room / "crates.txt").write_text("".join(f"{told[it].line}\n" for it in [name, *under]))
     return room / "crates" / name
 
@@ -95,8 +103,8 @@ def prove_all(below, rooms):
 
 
 def main():
-    # (on the same disk as the repository, so that what was proved is linked and not copied)
-    with tempfile.TemporaryDirectory(prefix="prove-", dir=TOP / ".git") as rooms:
+    # (outside the repository: rt looks for crates in all its folders, and a run that is killed leaves its rooms)
+    with tempfile.TemporaryDirectory(prefix="prove-") as rooms:
         if not prove_all(all_below({name: crate.stands_on for name, crate in crates().items()}), rooms):
             sys.exit(1)
     tell("proved: all libraries; now the program")
