@@ -9,13 +9,13 @@ that program too, with these words: what it prints is the same.
 
 import os
 import pathlib
-import re
 import subprocess
 import sys
 
 sys.path.insert(0, str(pathlib.Path(__file__).resolve().parents[1]))
 
 from lib.counting import Counter
+from lib.pages import by_name, commands_in
 from lib.places import PROGRAM, TOP
 
 PAGES = [
@@ -27,21 +27,12 @@ PAGES = [
 ] + sorted(TOP.glob("lessons/[0-9]*.md"))
 # the most words of the README
 MOST_WORDS = 1400
-BY_OTHERS = re.compile(r"(\brt (try|run)( --jobs \d+)? -- |^\./run )")
-
-
-def commands_of(page):
-    """Each command of a page, with what stands below it."""
-    for block in re.findall(r"^```console\n(.*?)^```$", page.read_text(), re.M | re.S):
-        for shown in re.split(r"^\$ ", block, flags=re.M)[1:]:
-            command, _, output = shown.partition("\n")
-            yield command, output
 
 
 def printed_by(command):
     paths = f"{PROGRAM.parent}{os.pathsep}{os.environ['PATH']}"
     ran = subprocess.run(
-        BY_OTHERS.sub("bakerystore ", command),
+        by_name(command),
         shell=True,
         cwd=TOP,
         stdout=subprocess.PIPE,
@@ -56,7 +47,7 @@ def main():
     counter, words = Counter(), len((TOP / "README.md").read_text().split())
     counter.count(words <= MOST_WORDS, f"README.md has {words} words, of at most {MOST_WORDS}")
     for page in PAGES:
-        commands = [*commands_of(page)]
+        commands = [*commands_in(page.read_text())]
         if not commands:
             counter.count(False, f"{page.relative_to(TOP)} shows no command")
         for command, output in commands:
