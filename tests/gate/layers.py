@@ -1,10 +1,11 @@
 #!/usr/bin/env python3
-"""Makes what docs/ARCHITECTURE.md and docs/HOW_IT_IS_PROVED.md show of the crates, from crates.txt and the sources.
+"""Makes what docs/ARCHITECTURE.md, docs/HOW_IT_IS_PROVED.md and crates/README.md show of the crates, from crates.txt and the sources.
 
 The first has a picture, in which each crate stands a row above the highest one that it stands on, and a table of all crates. The
 second counts the lines of each group up to that of the program, in hundreds, with comments. What is made stands between two
 comments of a page. With `--write` it is written; without it, it is compared. And crates.txt is held to its rules: each crate is
-listed, says what it does, and stands on few crates, all of the lines before its own.
+listed, says what it does, and stands on few crates, all of the lines before its own. So a crate uses no later layer. crates/README.md
+describes each layer, of which there are at most ten.
 """
 
 import pathlib
@@ -18,7 +19,9 @@ from lib.crates import PROGRAM, crates, groups
 from lib.places import TOP
 
 MADE = re.compile(r"(?P<begin><!-- made by tests/gate/layers.py: (?P<what>\w+) -->\n).*?(?P<end><!-- end -->)", re.S)
-PAGES = [TOP / "docs" / name for name in ("ARCHITECTURE.md", "HOW_IT_IS_PROVED.md")]
+PAGES = [TOP / name for name in ("crates/README.md", "docs/ARCHITECTURE.md", "docs/HOW_IT_IS_PROVED.md")]
+# the most layers
+MOST_LAYERS = 10
 FOLDERS = ["src", "specs", "proofs"]
 # the most crates of the repository that one of them names on its line
 MOST_BELOW = 6
@@ -60,6 +63,20 @@ def table():
     return "".join(f"{line}\n" for line in lines)
 
 
+def layer_of(group):
+    """The name of the layer that a group of crates.txt is."""
+    return group.heading.partition(": ")[0]
+
+
+def layers():
+    """The layers in their order: what each is for, and its crates."""
+    lines = ["| Layer | What it is for | Crates |", "|---|---|---|"]
+    for group in groups():
+        purpose = group.heading.partition(": ")[2]
+        lines.append(f"| {layer_of(group)} | {purpose} | {', '.join(crate.name for crate in group.crates)} |")
+    return "".join(f"{line}\n" for line in lines)
+
+
 def lines_in(group, folder):
     """The lines of the files in a folder of a group's crates, in hundreds."""
     paths = [path for crate in group.crates for path in (TOP / "crates" / crate.name / folder).rglob("*")]
@@ -78,7 +95,7 @@ def costs():
 
 def made(text):
     """A page with what is made of it anew, and the names of these parts."""
-    parts = {"picture": picture, "table": table, "costs": costs}
+    parts = {"picture": picture, "table": table, "layers": layers, "costs": costs}
     names = [found["what"] for found in MADE.finditer(text)]
     return MADE.sub(lambda found: found["begin"] + parts[found["what"]]() + found["end"], text), names
 
@@ -103,6 +120,9 @@ def main():
             text = wanted
         counter.count(parts, f"{page.name} shows nothing that is made here")
         counter.count(text == wanted, f"{page.name} is not what is counted: python3 tests/gate/layers.py --write")
+    counter.count(len(groups()) <= MOST_LAYERS, f"{len(groups())} layers, and {MOST_LAYERS} at most")
+    described = re.findall(r"^## (\w+)$", PAGES[0].read_text(), re.M)
+    counter.compare("the layers that crates/README.md describes", described, [layer_of(group) for group in groups()])
     known = set()
     for name, crate in crates().items():
         faults = list(faults_of(crate, known))
