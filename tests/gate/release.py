@@ -149,7 +149,8 @@ def try_versions(counter):
 
 def clone(folder):
     """Clones the repository into a folder, with the program and what rt and the tests left beside it."""
-    subprocess.run(["git", "clone", "--quiet", "--no-hardlinks", TOP, folder], check=True)
+    quiet = ["-c", "advice.detachedHead=false"]
+    subprocess.run(["git", *quiet, "clone", "--quiet", "--no-hardlinks", TOP, folder], check=True)
     out = folder / PROGRAM.parent.relative_to(TOP)
     out.mkdir()
     for file in (PROGRAM, NOTE, STAMP):
