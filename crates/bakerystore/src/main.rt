@@ -201,7 +201,7 @@ fn run_between<
     let explains = terminals.error || wanted.explain;
     let watched = WatchedInput::new(source, rt, shows && from_input);
     let mut input = KeptInput::new(rt.alloc(), watched, explains);
-    let mut watcher = Watcher::new(rt, rt.alloc(), shows && !from_input);
+    let mut watcher = Watcher::new(rt, shows && !from_input);
     let mut output = FrontSink::new(IntoWrite::new(&mut *writer));
     let ran = run_engine(rt, wanted, &mut input, &mut output, &mut watcher);
     let is_other_lock = wanted.engine == Engine::Judge

@@ -3,7 +3,6 @@ ghost use Rattle.std.specs.Prelude.{◌≡◌};
 
 use files::progress::{LinePlace, Onlooker, Reached};
 use files::{Failed, Source};
-use std::alloc::Global;
 use std::time::{Clock, Duration};
 
 /// How many milliseconds a run goes on before the line is shown.
@@ -19,19 +18,14 @@ const CLEAR: &str = "\r\x1b[K";
 #[derive(Drop)]
 pub struct Watcher<'a, T> {
     rt: &'a T,
-    alloc: Global,
     progress: Option<ShownProgress>,
 }
 
 impl<'a, T: Clock + Eprint> Watcher<'a, T> {
     /// Nothing is shown unless `shows`.
-    pub fn new(rt: &'a T, alloc: Global, shows: bool) -> Watcher<'a, T> {
+    pub fn new(rt: &'a T, shows: bool) -> Watcher<'a, T> {
         let progress = if shows { ShownProgress::new(rt) } else { None };
-        Watcher {
-            rt,
-            alloc,
-            progress,
-        }
+        Watcher { rt, progress }
     }
 
     /// Takes the line back, where it is shown.
@@ -52,15 +46,15 @@ impl<'a, T: Clock + Eprint> Onlooker for Watcher<'a, T> {
             return;
         };
         match reached {
-            Reached::Line(place) => show_line(self.rt, self.alloc, place, millis),
+            Reached::Line(place) => show_line(self.rt, place, millis),
             Reached::Swept { events, of } => show_swept(self.rt, events, of, millis),
         }
     }
 }
 
 /// Shows that a line of the file is run, after so many milliseconds.
-fn show_line<T: Eprint>(rt: &T, alloc: Global, place: LinePlace<'_>, millis: u128) {
-    let (events, number) = (place.events(), place.number(alloc));
+fn show_line<T: Eprint>(rt: &T, place: LinePlace<'_>, millis: u128) {
+    let (events, number) = (place.events(), place.number());
     let speed = in_a_second(events, millis);
     let again = if place.is_again() {
         ", for the second time"

@@ -41,7 +41,6 @@ const HEADINGS: u64 = 5;
 /// Draws the bands of the run of a file's scenario; answers its numbers, and the heights of the bands.
 pub(crate) fn draw_bands<W: Sink, L: Onlooker>(
     alloc: Global,
-    file: &[u8],
     scenario: &Scenario,
     form: Form,
     reads: Reads,
@@ -56,13 +55,12 @@ pub(crate) fn draw_bands<W: Sink, L: Onlooker>(
 {
     let mut drawing = Drawing::new(alloc, &scenario.setup, form, reads)?;
     let mut course = Course::new(alloc, &scenario.setup)?;
-    draw_lines(file, scenario, &mut course, &mut drawing, output, onlooker)
+    draw_lines(scenario, &mut course, &mut drawing, output, onlooker)
 }
 
 /// The same, lent a course and a drawing that have just begun: values that are dropped at each way out of a function are dear
 /// to prove.
 fn draw_lines<W: Sink, L: Onlooker>(
-    file: &[u8],
     scenario: &Scenario,
     course: &mut Course,
     drawing: &mut Drawing,
@@ -85,7 +83,7 @@ fn draw_lines<W: Sink, L: Onlooker>(
     ensures fault { IfErr result IsWriteFault }
     ensures failures { W.failures output.new ≡ W.failures output.old + failed_write result }
 {
-    let mut place = LinePlace::before(file, scenario.lines.len());
+    let mut place = LinePlace::before(&scenario.numbers);
     for line in &scenario.lines {
         onlooker.reached(place.begin_line(drawing.summary.events));
         drawing.source += 1;

@@ -67,7 +67,7 @@ fn draw_page<W: Sink, L: Onlooker>(
         head,
         end,
     };
-    draw_framed(alloc, &frame, file, scenario, output, onlooker)
+    draw_framed(alloc, &frame, scenario, output, onlooker)
 }
 
 /// What the bands of a picture stand in: its form, and what stands before and behind them.
@@ -84,7 +84,6 @@ struct Frame {
 fn draw_framed<W: Sink, L: Onlooker>(
     alloc: Global,
     frame: &Frame,
-    file: &[u8],
     scenario: &Scenario,
     output: &mut W,
     onlooker: &mut L,
@@ -96,15 +95,7 @@ fn draw_framed<W: Sink, L: Onlooker>(
     ensures failures { W.failures output.new ≡ W.failures output.old + failed_write result }
 {
     write_markup(&frame.head, output)?;
-    let (summary, _) = draw_bands(
-        alloc,
-        file,
-        scenario,
-        frame.form,
-        frame.reads,
-        output,
-        onlooker,
-    )?;
+    let (summary, _) = draw_bands(alloc, scenario, frame.form, frame.reads, output, onlooker)?;
     write_markup(&frame.end, output)?;
     Ok(summary)
 }
@@ -199,7 +190,7 @@ fn draw_picture<W: Sink, L: Onlooker>(
     ensures failures { W.failures output.new ≡ W.failures output.old + failed_write result }
 {
     let form = Form::Picture(top);
-    let (first, height) = draw_bands(alloc, file, scenario, form, reads, &mut Nowhere, onlooker)?;
+    let (first, height) = draw_bands(alloc, scenario, form, reads, &mut Nowhere, onlooker)?;
     let (head, end) = around_picture(alloc, &scenario.setup, height, reads)?;
     let frame = Frame {
         form,
@@ -208,5 +199,5 @@ fn draw_picture<W: Sink, L: Onlooker>(
         end,
     };
     let mut again = Again::new(onlooker, first.events);
-    draw_framed(alloc, &frame, file, scenario, output, &mut again)
+    draw_framed(alloc, &frame, scenario, output, &mut again)
 }

@@ -38,13 +38,12 @@ pub fn run_audit<R: Source, W: Sink, L: Onlooker>(
 {
     let file = read_input(alloc, input)?;
     let scenario = read_scenario(alloc, file.as_slice())?;
-    audit_scenario(alloc, file.as_slice(), &scenario, output, onlooker)
+    audit_scenario(alloc, &scenario, output, onlooker)
 }
 
 /// Makes the run of a file's scenario, writes the verdict on its record, and answers the exit status.
 fn audit_scenario<W: Sink, L: Onlooker>(
     alloc: Global,
-    file: &[u8],
     scenario: &Scenario,
     output: &mut W,
     onlooker: &mut L,
@@ -57,7 +56,7 @@ fn audit_scenario<W: Sink, L: Onlooker>(
     ensures fault { IfErr result IsWriteFault }
     ensures failures { W.failures output.new ≡ W.failures output.old + failed_write result }
 {
-    let audited = audit_run(alloc, file, scenario, onlooker)?;
+    let audited = audit_run(alloc, scenario, onlooker)?;
     write_line(output, verdict_line(alloc, &audited))?;
     Ok(status_of(&audited.verdict))
 }
@@ -65,7 +64,6 @@ fn audit_scenario<W: Sink, L: Onlooker>(
 /// Makes the run of a file's scenario, of which an auditor hears each entry. The one fault is want of memory.
 fn audit_run<L: Onlooker>(
     alloc: Global,
-    file: &[u8],
     scenario: &Scenario,
     onlooker: &mut L,
 ) -> Result<Audited, AllocError>
@@ -77,7 +75,7 @@ fn audit_run<L: Onlooker>(
     let audit = Audit::new(alloc, &scenario.setup)?;
     let listener = Summary::new();
     let mut judged = Overheard { listener, audit };
-    let Ok(()) = course.play_all(file, &scenario.lines, &mut judged, onlooker) else {
+    let Ok(()) = course.play_all(&scenario.lines, &scenario.numbers, &mut judged, onlooker) else {
         return Err(AllocError);
     };
     Ok(Audited {

@@ -22,7 +22,7 @@ pub fn events_of(alloc: Global, scenario: &Scenario) -> Result<Vec<Event>, Alloc
     let mut course = Course::new(alloc, &scenario.setup)?;
     let events = Vec::new(alloc);
     let mut lister = Lister { events };
-    let Ok(()) = course.play_all(&[], &scenario.lines, &mut lister, &mut Nobody) else {
+    let Ok(()) = course.play_all(&scenario.lines, &[], &mut lister, &mut Nobody) else {
         return Err(AllocError);
     };
     Ok(lister.events)

@@ -42,13 +42,12 @@ pub fn run_record<R: Source, W: Sink, L: Onlooker>(
 {
     let file = read_input(alloc, input)?;
     let scenario = read_scenario(alloc, file.as_slice())?;
-    record_scenario(alloc, file.as_slice(), &scenario, output, onlooker)
+    record_scenario(alloc, &scenario, output, onlooker)
 }
 
 /// Writes the record of the run of a file's scenario.
 fn record_scenario<W: Sink, L: Onlooker>(
     alloc: Global,
-    file: &[u8],
     scenario: &Scenario,
     output: &mut W,
     onlooker: &mut L,
@@ -71,7 +70,7 @@ fn record_scenario<W: Sink, L: Onlooker>(
         room: &mut room,
         output,
     };
-    course.play_all(file, &scenario.lines, &mut copier, onlooker)
+    course.play_all(&scenario.lines, &scenario.numbers, &mut copier, onlooker)
 }
 
 /// What is kept from one entry to the next: how many there were, and room for a line.

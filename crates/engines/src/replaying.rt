@@ -39,13 +39,12 @@ pub fn replay<R: Source, W: Sink, L: Onlooker>(
 {
     let file = read_input(alloc, input)?;
     let scenario = read_scenario(alloc, file.as_slice())?;
-    replay_scenario(alloc, file.as_slice(), &scenario, output, onlooker)
+    replay_scenario(alloc, &scenario, output, onlooker)
 }
 
 /// Writes the marks of the run of a file's scenario, and its three numbers.
 fn replay_scenario<W: Sink, L: Onlooker>(
     alloc: Global,
-    file: &[u8],
     scenario: &Scenario,
     output: &mut W,
     onlooker: &mut L,
@@ -65,7 +64,7 @@ fn replay_scenario<W: Sink, L: Onlooker>(
         summary,
         output,
     };
-    course.play_all(file, &scenario.lines, &mut printer, onlooker)?;
+    course.play_all(&scenario.lines, &scenario.numbers, &mut printer, onlooker)?;
     let mut summary = printer.summary;
     summary.taken = course.taken();
     write_end(alloc, &summary, output)?;

@@ -107,7 +107,7 @@ fn calls_of(alloc: Global, scenario: &Scenario) -> Result<Calls, AllocError>
     let mut course = Course::new(alloc, &scenario.setup)?;
     let calls = Vec::new(alloc);
     let mut heard = Calls { calls, events: 0 };
-    let Ok(()) = course.play_all(&[], &scenario.lines, &mut heard, &mut Nobody) else {
+    let Ok(()) = course.play_all(&scenario.lines, &[], &mut heard, &mut Nobody) else {
         return Err(AllocError);
     };
     if MOST_CALLS < heard.calls.len() {
@@ -131,7 +131,7 @@ fn sweep_lines<L: Onlooker>(
     ensures swept { IfOk result (IsRunSwept (script scenario.now)) }
     ensures is { IfOk result (λ found. found ≡ run_swept (script scenario.now)) }
 {
-    let Ok(()) = course.play_all(&[], &scenario.lines, along, &mut Nobody) else {
+    let Ok(()) = course.play_all(&scenario.lines, &[], along, &mut Nobody) else {
         return Err(AllocError);
     };
     Ok(along.sweeper.found())

@@ -5,6 +5,7 @@ pub mod Passing
 -- Lines of a text, and what is read of them
 pub mod Ends
 pub mod Said
+pub mod Numbers
 pub mod FoundWords
 -- Long texts, and how engines end
 pub mod CutTexts

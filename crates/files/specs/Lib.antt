@@ -16,7 +16,7 @@ pub use Cuts.{HaveSameFault, TellsAtLimit, input_limit}
 pub use Engines.{streams, text_by}
 pub use Files.{Grammar, at_line, begun, file_of, line_read, lines_read, one_more, statement_read, words_read}
 pub use KeyWords.{KeyWord, rows_of}
-pub use Limits.{IsWithinLimits, is_said, is_short, said_words}
+pub use Limits.{IsWithinLimits, is_said, is_short, said_numbers, said_words}
 pub use Lines.{IsTooLong, MovesAll, MovesEnded, TakesLine, ends_line, is_inner, without_return}
 pub use Reads.{Makes, Takes, UnlessMemory}
 pub use SourceLines.{ComesToEnd, EndHolds, FindsLine, Given, GoesOn, GoesToNext, Held, KeepsEnd, LineState, Stays, TakesNext, Told, coming, shown_line, unless_ended}

@@ -1,5 +1,5 @@
 -- The lines of a text that are not skipped, and texts within the limits.
-use Rattle.std.specs.Prelude.{◌≡◌, ◌≤◌, ℕ, Bool, true, false, not, nat_le, List, [], ◌∷◌, length, filter, map}
+use Rattle.std.specs.Prelude.{◌≡◌, ◌≤◌, ℕ, ◌+◌, Bool, true, false, not, nat_le, if◌then◌else◌, List, [], ◌∷◌, length, filter, map}
 use Rattle.std.specs.List.{list_all}
 use Rattle.files.specs.Words.{lines, words_of, begins_with}
 
@@ -11,6 +11,11 @@ is_said (first ∷ words) = not (begins_with 35 first)
 -- the words of the lines of a text that are not skipped
 abbrev pub said_words : List ℕ → List (List (List ℕ))
 said_words text = filter is_said (map words_of (lines text))
+
+-- The numbers of the lines that are not skipped, where the first of all these lines has number n.
+abbrev pub said_numbers : ℕ → List (List ℕ) → List ℕ
+said_numbers n [] = []
+said_numbers n (line ∷ rest) = if is_said (words_of line) then n ∷ said_numbers (n + 1) rest else said_numbers (n + 1) rest
 
 -- a line that is not too long
 abbrev pub is_short : List ℕ → Bool

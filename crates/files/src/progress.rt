@@ -3,12 +3,6 @@
 //! ```rust
 //! onlooker.reached(place.begin_line(summary.events));
 //! ```
-ghost use Rattle.std.specs.Prelude.{Err};
-
-use crate::faults::FaultKind;
-use crate::reading::{FromLines, read_any_line};
-use bstr::ByteSlice;
-use std::alloc::Global;
 
 /// How far an engine is.
 #[derive(Clone, Copy)]
@@ -58,13 +52,12 @@ impl<'l, L: Onlooker> Onlooker for Again<'l, L> {
     }
 }
 
-/// A line of a file that is run, or the place before the first one. The lines that are run are the last of those that
-/// are not skipped.
+/// A line of a file that is run, or the place before the first one.
 #[derive(Clone, Copy)]
 pub struct LinePlace<'a> {
-    file: &'a [u8],
-    /// How many lines come behind it.
-    behind: usize,
+    number: u16,
+    /// The numbers of the lines that come after it.
+    later: &'a [u16],
     /// How many events were accepted before it.
     events: u64,
     /// Whether the file was run before, and those events are among them.
@@ -72,11 +65,11 @@ pub struct LinePlace<'a> {
 }
 
 impl<'a> LinePlace<'a> {
-    /// Before the first of so many lines that are run.
-    pub fn before(file: &'a [u8], lines: usize) -> LinePlace<'a> {
+    /// Creates the place before the first of the lines that are run, which have these numbers.
+    pub fn before(numbers: &'a [u16]) -> LinePlace<'a> {
         LinePlace {
-            file,
-            behind: lines,
+            number: 0,
+            later: numbers,
             events: 0,
             is_again: false,
         }
@@ -93,7 +86,10 @@ impl<'a> LinePlace<'a> {
 
     /// The next line is to be run, after so many events.
     pub fn begin_line(&mut self, events: u64) -> Reached<'a> {
-        self.behind = self.behind.saturating_sub(1);
+        if let Some((number, later)) = self.later.split_first() {
+            self.number = *number;
+            self.later = later;
+        }
         self.events = events;
         Reached::Line(*self)
     }
@@ -108,62 +104,8 @@ impl<'a> LinePlace<'a> {
         self.is_again
     }
 
-    /// The number of the line in the file, counted from 1. It is looked for from the begin of the file, so it is not to
-    /// be asked at each line.
-    pub fn number(&self, alloc: Global) -> u64 {
-        let said = said_in(alloc, self.file);
-        number_of(alloc, self.file, said.saturating_sub(self.behind))
-    }
-}
-
-/// How many lines of a text are not skipped.
-fn said_in(alloc: Global, text: &[u8]) -> usize {
-    let mut said: usize = 0;
-    for line in text.lines() {
-        if !is_skipped(alloc, line) {
-            said = said.saturating_add(1);
-        }
-    }
-    said
-}
-
-/// The number of that line of a text with which so many are not skipped; that of the last line, if there are fewer.
-fn number_of(alloc: Global, text: &[u8], said: usize) -> u64 {
-    let mut left = said;
-    let mut number: u64 = 0;
-    for line in text.lines() {
-        number = number.saturating_add(1);
-        if !is_skipped(alloc, line) {
-            left = left.saturating_sub(1);
-        }
-        if left == 0 {
-            return number;
-        }
-    }
-    number
-}
-
-/// Whether reading a file skips a line. Only a line of more than 8 words takes memory for them; without it the line counts
-/// as one that is not skipped.
-fn is_skipped(alloc: Global, line: &[u8]) -> bool {
-    let mut read: Option<Nothing> = None;
-    read_any_line(alloc, line, &mut read).is_ok()
-}
-
-/// What a file says that says nothing: each line that is not skipped is a fault.
-#[derive(Drop)]
-struct Nothing;
-
-impl FromLines for Nothing {
-    ghost use Rattle.files.specs.declared.faults.FaultKind.TheVariants.{Unknown};
-
-    ghost grammar = { record { first = λ _ _. Err Unknown; later = λ _ _ _. Err Unknown } };
-
-    fn first(_alloc: Global, _word: &[u8], _words: &[&[u8]]) -> Result<Nothing, FaultKind> {
-        Err(FaultKind::Unknown)
-    }
-
-    fn later(&mut self, _word: &[u8], _words: &[&[u8]]) -> Result<(), FaultKind> {
-        Err(FaultKind::Unknown)
+    /// Returns the number of the line in the file, counted from 1; 0 before the first line.
+    pub fn number(&self) -> u16 {
+        self.number
     }
 }

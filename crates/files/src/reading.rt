@@ -1,14 +1,15 @@
 //! Reading a file of lines, by any grammar.
-ghost use Rattle.std.specs.Prelude.{◌≡◌, ◌≤◌, [], ◌∷◌, ◌++◌, length, OnErr, OnOk};
+ghost use Rattle.std.specs.Prelude.{◌≡◌, ◌≤◌, [], ◌∷◌, ◌++◌, if◌then◌else◌, length, OnErr, OnOk};
 ghost use Rattle.files.specs.Files.{Grammar, file_of, line_read, words_read, statement_read, one_more};
+ghost use Rattle.files.specs.Limits.{is_said as said, said_numbers};
 ghost use Rattle.files.specs.Reads.{Makes, MakesFile, Takes};
-ghost use Rattle.files.specs.Words.{texts, words_of};
+ghost use Rattle.files.specs.Words.{lines, texts, words_of};
 
 use crate::faults::{FaultKind, LineFault};
 use crate::words::add_words;
 use bstr::ByteSlice;
 use smallvec::SmallVec;
-use std::alloc::Global;
+use std::alloc::{AllocError, Global};
 
 /// The most lines of a file, skipped ones among them.
 const MOST_LINES: u64 = 4096;
@@ -32,16 +33,27 @@ pub trait FromLines: Sized + Drop {
         ensures { Takes result (grammar.later word.now (texts words.now) self.old) self.new };
 }
 
-/// What the bytes of a file say, or the first fault of the first line that has one.
-#[tactic(auto, using(crate::proofs::Ends::lines_agree))]
-pub fn read_file<T: FromLines>(alloc: Global, text: &[u8]) -> Result<T, LineFault>
-    ensures { MakesFile result (file_of T.grammar text.now) }
+/// Reads a whole file, and adds the number of each line that is not skipped. Lines are counted from 1, skipped ones too.
+///
+/// # Errors
+///
+/// Returns the first fault of the first line that has one. A fault of kind `Memory` may name any line. Afterwards `numbers` may
+/// hold the numbers of some lines.
+#[tactic(auto, using(crate::proofs::Ends::lines_agree, crate::proofs::Numbers::numbers_more))]
+pub fn read_file<T: FromLines>(
+    alloc: Global,
+    text: &[u8],
+    numbers: &mut Vec<u16>,
+) -> Result<T, LineFault>
+    ensures said { MakesFile result (file_of T.grammar text.now) }
+    ensures numbers { OnOk result
+        (numbers.new.items ≡ numbers.old.items ++ said_numbers 1 (lines text.now)) }
 {
     let mut read = None;
     let mut number = 0;
     for line in text.lines() {
         number += 1;
-        if let Err(kind) = read_line(alloc, number, line, &mut read) {
+        if let Err(kind) = read_line(alloc, number, line, &mut read, numbers) {
             return Err(LineFault { line: number, kind });
         }
     }
@@ -51,21 +63,49 @@ pub fn read_file<T: FromLines>(alloc: Global, text: &[u8]) -> Result<T, LineFaul
     })
 }
 
-/// Reads one line after what was read before.
+/// Reads one line after what was read before, and adds its number unless it is skipped.
 fn read_line<T: FromLines>(
     alloc: Global,
     number: u64,
     line: &[u8],
     read: &mut Option<T>,
+    numbers: &mut Vec<u16>,
 ) -> Result<(), FaultKind>
-    ensures { Takes result (line_read T.grammar number line.now read.old) read.new }
+    ensures read { Takes result (line_read T.grammar number line.now read.old) read.new }
+    ensures numbers { OnOk result
+        (numbers.new.items ≡ numbers.old.items ++ said_numbers number (line.now ∷ [])) }
 {
     // (one condition: the proof answers it as it stands here, and as the wrong body in must-fail/ has it)
     let is_beyond = (number > MOST_LINES) | (line.len() > MOST_BYTES);
     if is_beyond {
         return Err(FaultKind::TooLong);
     }
-    read_any_line(alloc, line, read)
+    let mut words = SmallVec::new(alloc);
+    add_words(line, &mut words)?;
+    add_number(words.as_slice(), number, numbers)?;
+    read_words(alloc, words.as_slice(), read)
+}
+
+/// Adds the number of a line of these words, unless it is skipped.
+fn add_number(words: &[&[u8]], number: u64, numbers: &mut Vec<u16>) -> Result<(), AllocError>
+    requires { number ≤ 4096 }
+    ensures { OnOk result (numbers.new.items
+        ≡ numbers.old.items ++ (if said (texts words.now) then number ∷ [] else [])) }
+{
+    if is_said(words) {
+        numbers.push(number as u16)?;
+    }
+    Ok(())
+}
+
+/// Whether reading does not skip a line of these words.
+fn is_said(words: &[&[u8]]) -> bool
+    ensures { result ≡ said (texts words.now) }
+{
+    let Some((first, _)) = words.split_first() else {
+        return false;
+    };
+    first.first() != Some(&b'#')
 }
 
 /// Reads one line after what was read before, however long it is and whatever its number is: for who has limits of

@@ -2,7 +2,6 @@ pub mod Along
 pub mod Fronts
 pub mod Going
 pub mod Makers
-pub mod Numbering
 pub mod Ranges
 pub mod Seeing
 pub mod Passing

@@ -5,7 +5,7 @@ use Rattle.std.specs.Str.{bytes_eq}
 use Rattle.plain_store.specs.{Setup}
 use Rattle.record.specs.{Entry, Past}
 use Rattle.scenario.specs.files.{FaultKind, LineFault, text_by}
-use Rattle.scenario.specs.{Line, Script, Target, number_at, scenario_of}
+use Rattle.scenario.specs.{Line, Script, Target, line_numbers, number_at, scenario_of}
 use Rattle.scenario.specs.declared.lines.Line.TheVariants as line
 use Rattle.course.specs.{Accepted, Follows, Happening, IsMarked, Needs, Run, Told, entry_made, happenings, past_after, past_in, run_after, run_at_start}
 use Rattle.snapshot.specs.{HasHeard, newest_line, state_lines}
@@ -30,21 +30,25 @@ head_lines past = (codes "events " ++ (decimal (length past) ++ codes "\n")) ++ 
 abbrev pub state_after : List ℕ → Setup → Past → List ℕ
 state_after made s past = head_lines past ++ (made ++ state_lines s past)
 
--- the line that made the newest event of a past of a file's script
+-- the line that made the newest event of a past of a script, whose lines have these numbers
 abbrev pub newest_made : List ℕ → Script → Past → List ℕ
-newest_made file said past = making_line file said.setup (length past) run_at_start said.lines
+newest_made numbers said past = making_line numbers said.setup (length past) run_at_start said.lines
 
--- the state after a past of a file's script
+-- the state after a past of such a script
 abbrev pub state_of : List ℕ → Script → Past → List ℕ
-state_of file said past = state_after (newest_made file said past) said.setup past
+state_of numbers said past = state_after (newest_made numbers said past) said.setup past
 
--- the state after the first n events of the run of a file's script
+-- the state after the first n events of its run
 abbrev pub stated : ℕ → List ℕ → Script → List ℕ
-stated n file said = state_of file said (first_of n (past_after said.setup (happenings said)))
+stated n numbers said = state_of numbers said (first_of n (past_after said.setup (happenings said)))
+
+-- the same, where the lines have their numbers in a file
+abbrev pub stated_in : ℕ → List ℕ → Script → List ℕ
+stated_in n file said = stated n (line_numbers file (length said.lines)) said
 
 -- the text of a file, or its fault
 abbrev pub state_text : ℕ → List ℕ → Result (List ℕ) LineFault
-state_text n file = text_by scenario_of (stated n file) file
+state_text n file = text_by scenario_of (stated_in n file) file
 
 -- After how many events a word asks for the state.
 
@@ -164,6 +168,5 @@ abbrev pub GoesAlong : Line → PartOfRun → PartOfRun → Type 0
 GoesAlong line old new = (s : Setup) (whole : Run) → ComesAlong s whole old → ComesAlong s (run_after s line whole) new
 
 -- The text is the whole state of a part of a run; `newest` is what is remembered of the line that made the newest event.
-abbrev pub WritesPart : List ℕ → PartOfRun → Option MakingLine → List ℕ → Type 0
-WritesPart file part newest text =
-    (s : Setup) (run : Run) → IsAt s part run → text ≡ state_after (remembered_line file (events_in s run) newest) s (past_in s run)
+abbrev pub WritesPart : PartOfRun → Option MakingLine → List ℕ → Type 0
+WritesPart part newest text = (s : Setup) (run : Run) → IsAt s part run → text ≡ state_after (remembered_line (events_in s run) newest) s (past_in s run)

@@ -35,13 +35,12 @@ pub fn run_calls<R: Source, W: Sink, L: Onlooker>(
 {
     let file = read_input(alloc, input)?;
     let scenario = read_scenario(alloc, file.as_slice())?;
-    table_scenario(alloc, file.as_slice(), &scenario, output, onlooker)
+    table_scenario(alloc, &scenario, output, onlooker)
 }
 
 /// Writes the table of the calls of the run of a file's scenario.
 fn table_scenario<W: Sink, L: Onlooker>(
     alloc: Global,
-    file: &[u8],
     scenario: &Scenario,
     output: &mut W,
     onlooker: &mut L,
@@ -60,7 +59,7 @@ fn table_scenario<W: Sink, L: Onlooker>(
         table: &mut table,
         output,
     };
-    course.play_all(file, &scenario.lines, &mut tabler, onlooker)?;
+    course.play_all(&scenario.lines, &scenario.numbers, &mut tabler, onlooker)?;
     write_open(alloc, &scenario.setup, &table, output)
 }
 

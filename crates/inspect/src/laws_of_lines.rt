@@ -1,5 +1,6 @@
 //! The law of the line that made an event.
-ghost use Rattle.inspect.specs.Making.{EventsAreMade, LinesHaveTheirNumbers};
+ghost use Rattle.scenario.specs.{LinesHaveTheirNumbers};
+ghost use Rattle.inspect.specs.Making.{EventsAreMade};
 
 /// Each line of a script has the number of the file's line with its words. Each event of the script's run is made by a line:
 /// before the line the run has fewer events, and after it that many or more.

@@ -6,7 +6,6 @@ mod calling;
 mod heard;
 mod hearing;
 mod laws_of_lines;
-mod line_numbers;
 mod part_of_run;
 mod stating;
 

@@ -7,7 +7,6 @@ ghost use Rattle.course.specs.{run_at_start};
 ghost use Rattle.inspect.specs.Making.{remembered_line};
 ghost use Rattle.inspect.specs.States.{IsAt, WritesPart, events_said as said_by, state_text, stated};
 
-use crate::line_numbers::line_number;
 use crate::part_of_run::PartOfRun;
 use fault_place::progress::{LinePlace, Onlooker};
 use plain_store::NestedTypes;
@@ -33,8 +32,8 @@ pub fn events_said(word: &str) -> Option<u64>
 #[derive(Clone, Copy)]
 struct MakingLine {
     line: Line,
-    /// How many lines of the script come after it.
-    after: usize,
+    /// The number of the line in its file.
+    number: u16,
     /// How many events there were before it.
     before: u64,
 }
@@ -58,7 +57,7 @@ pub fn run_state<R: Source, W: Sink, L: Onlooker>(
 {
     let file = read_input(alloc, input)?;
     let scenario = read_scenario(alloc, file.as_slice())?;
-    let text = state_text(alloc, events, file.as_slice(), &scenario, onlooker)?;
+    let text = state_text(alloc, events, &scenario, onlooker)?;
     write_all(output, text.as_slice())
 }
 
@@ -66,21 +65,20 @@ pub fn run_state<R: Source, W: Sink, L: Onlooker>(
 fn state_text<L: Onlooker>(
     alloc: Global,
     events: u64,
-    file: &[u8],
     scenario: &Scenario,
     onlooker: &mut L,
 ) -> Result<Vec<u8>, AllocError>
-    ensures { IfOk result (λ text. text.items ≡ stated events file.now (script scenario.now)) }
+    ensures { IfOk result (λ text.
+        text.items ≡ stated events scenario.now.numbers.items (script scenario.now)) }
 {
     let mut part = PartOfRun::new(alloc, &scenario.setup, events)?;
-    lines_text(alloc, file, scenario, &mut part, onlooker)
+    lines_text(alloc, scenario, &mut part, onlooker)
 }
 
 /// The same, lent a part of the run that has no event yet. It is a function of its own, since values that are dropped at each
 /// way out of a function are dear to prove.
 fn lines_text<L: Onlooker>(
     alloc: Global,
-    file: &[u8],
     scenario: &Scenario,
     part: &mut PartOfRun,
     onlooker: &mut L,
@@ -88,40 +86,40 @@ fn lines_text<L: Onlooker>(
     requires entries { part.old.heard.snapshot.entries ≡ 0 }
     requires at { IsAt scenario.now.setup part.old run_at_start }
     ensures { IfOk result (λ text.
-        text.items ≡ stated part.old.most file.now (script scenario.now)) }
+        text.items ≡ stated part.old.most scenario.now.numbers.items (script scenario.now)) }
 {
     let mut newest = None;
-    let mut place = LinePlace::before(file, scenario.lines.len());
-    let mut after = scenario.lines.len();
+    let mut place = LinePlace::before(&scenario.numbers);
+    let mut at = 0;
     for line in &scenario.lines {
-        after -= 1;
+        let number = scenario.numbers[at];
+        at += 1;
         let before = part.events();
         onlooker.reached(place.begin_line(before));
         part.make_line(line)?;
         if before < part.events() {
             newest = Some(MakingLine {
                 line: *line,
-                after,
+                number,
                 before,
             });
         }
     }
-    part_text(alloc, file, part, &newest)
+    part_text(alloc, part, &newest)
 }
 
 /// The state after the events of a part of a run, the newest of which this line made.
 fn part_text(
     alloc: Global,
-    file: &[u8],
     part: &PartOfRun,
     newest: &Option<MakingLine>,
 ) -> Result<Vec<u8>, AllocError>
     requires { part.now.course.world.setup ≡ part.now.heard.snapshot.setup }
-    ensures { IfOk result (λ text. WritesPart file.now part.now newest.now text.items) }
+    ensures { IfOk result (λ text. WritesPart part.now newest.now text.items) }
 {
     let mut text = Vec::new(alloc);
     part.heard.print_head(&mut text)?;
-    push_made(alloc, file, newest, part.events(), &mut text)?;
+    push_made(alloc, newest, part.events(), &mut text)?;
     part.print(alloc, &mut text)?;
     Ok(text)
 }
@@ -129,19 +127,18 @@ fn part_text(
 /// Writes the line that made the newest of so many events, if there is one.
 fn push_made(
     alloc: Global,
-    file: &[u8],
     newest: &Option<MakingLine>,
     events: u64,
     text: &mut Vec<u8>,
 ) -> Result<(), AllocError>
     ensures { OnOk result (text.new.items
-        ≡ text.old.items ++ remembered_line file.now events newest.now) }
+        ≡ text.old.items ++ remembered_line events newest.now) }
 {
     let _nested: NestedTypes = None;
     let Some(newest) = newest else {
         return Ok(());
     };
-    let number = line_number(file, newest.after);
+    let number = newest.number;
     let made = events.saturating_sub(newest.before);
     let line = newest.line;
     let words = format!(in alloc; "line {number} made {made} {line}\n")?;

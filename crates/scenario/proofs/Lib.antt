@@ -7,6 +7,9 @@ pub mod BitsSaid
 pub mod TextSaid
 pub mod Good
 pub mod HeadingLists
+-- The numbers of lines
+pub mod LineNumbers
+pub mod PrintedNumbers
 -- What is printed, and read again
 pub mod Numerals
 pub mod Printed

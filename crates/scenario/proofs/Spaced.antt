@@ -7,8 +7,8 @@ use Rattle.std.proofs.lemmas.List.Folds.{list_all-append}
 use Rattle.std.proofs.lemmas.List.Splits.{slice_split_none, slice_split_at}
 use Rattle.std.specs.Char.{is_ascii_graphic}
 use Rattle.std.specs.List.{All, list_all, slice_split}
-use Rattle.scenario.specs.{spaced, printed_line}
-use Rattle.files.specs.{IsWithinLimits, begins_with, is_blank, is_said, is_short, lines, onto, said_words, words_of}
+use Rattle.scenario.specs.{numbers_from, printed_line, spaced}
+use Rattle.files.specs.{IsWithinLimits, begins_with, is_blank, is_said, is_short, lines, onto, said_numbers, said_words, words_of}
 
 -- a byte or more, all of them printable and none a blank
 abbrev pub is_word : List ℕ → Bool
@@ -163,3 +163,16 @@ printed_limits all h few =
 
 pub printed_said : (all : List (List (List ℕ))) → list_all is_printable all ≡ true → said_words (flat_map printed_line all) ≡ all
 printed_said all h = ap (λ ls. filter is_said (map words_of ls)) (lines_of_printed all h) ∙ said_lines all h
+
+-- They have one number after the other.
+one_by_one : (n : ℕ) (all : List (List (List ℕ))) → list_all is_printable all ≡ true → said_numbers n (map spaced all) ≡ numbers_from n (length all)
+one_by_one n [] h = refl
+one_by_one n (ws ∷ more) h =
+    let parts = and_parts (is_printable ws) (list_all is_printable more) h in
+    let is = line_printable ws parts.0 in
+    ap (λ w. if is_said w then n ∷ said_numbers (n + 1) (map spaced more) else said_numbers (n + 1) (map spaced more)) (words_of_spaced ws is.words)
+    ∙ ap (λ t. if t then n ∷ said_numbers (n + 1) (map spaced more) else said_numbers (n + 1) (map spaced more)) is.said
+    ∙ ap (λ ns. n ∷ ns) (one_by_one (n + 1) more parts.1)
+
+pub printed_one_by_one : (all : List (List (List ℕ))) → list_all is_printable all ≡ true → said_numbers 1 (lines (flat_map printed_line all)) ≡ numbers_from 1 (length all)
+printed_one_by_one all h = ap (said_numbers 1) (lines_of_printed all h) ∙ one_by_one 1 all h

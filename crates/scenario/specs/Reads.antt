@@ -2,12 +2,21 @@
 use Rattle.std.specs.Prelude.{◌≡◌, ◌≤◌, ℕ, List, length, Option, Some, Result, Ok, Err}
 use Rattle.std.specs.Io.KnownBytes.{IsAtEnd}
 use Rattle.files.specs.{LineFault, ReadsInput, TellsAtLimit, UnlessMemory, input_limit}
+use Rattle.scenario.specs.Printing.{scenario_text}
 use Rattle.scenario.specs.Reading.{Script, scenario_of}
 use Rattle.scenario.specs.declared.scenarios.Scenario.{Scenario}
 
--- a scenario, without where its lines lie
+-- a scenario, without where its lines lie, and without their numbers
 abbrev pub script : Scenario → Script
 script s = record { setup = s.setup; lines = s.lines.items }
+
+-- Two scenarios are equal: they have one setup and the same lines, whatever the numbers of these.
+abbrev pub IsSameScenario : Scenario → Scenario → Type 0
+IsSameScenario s t = script s ≡ script t
+
+-- the text of a scenario, and of each that is equal to it
+abbrev pub IsTextOfEqual : Scenario → List ℕ → Type 0
+IsTextOfEqual s text = (equal : Scenario) → IsSameScenario s equal → text ≡ scenario_text (script equal)
 
 -- what was read is what the grammar says, and so is the fault, unless memory ran out
 abbrev pub Gives : Result Scenario LineFault → Result Script LineFault → Type 0

@@ -29,7 +29,8 @@ pub enum BitLine {
 pub fn read_bits(alloc: Global, text: &[u8]) -> Result<Vec<BitLine>, LineFault>
     ensures { GivesBits result (bits_of text.now) }
 {
-    Ok(read_file::<BitsReader>(alloc, text)?.lines)
+    let mut numbers = Vec::new(alloc);
+    Ok(read_file::<BitsReader>(alloc, text, &mut numbers)?.lines)
 }
 
 /// The first word of a line.

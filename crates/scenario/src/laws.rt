@@ -1,4 +1,5 @@
 //! What holds of scenario files of any length.
+ghost use Rattle.scenario.specs.LineNumbers.{LinesHaveTheirNumbers, PrintedLinesAreNumbered};
 ghost use Rattle.scenario.specs.Reads.{CutTextsHaveTheFault, GoodTextsAreReadToTheEnd, ReadTextsSayTheSame};
 
 /// A text of 532,481 bytes or more has a fault, and its first 532,481 bytes have the same one. So what is
@@ -8,4 +9,11 @@ pub fn cut_texts_have_the_fault_of_the_whole()
     ensures same_fault { CutTextsHaveTheFault }
     ensures same_meaning { ReadTextsSayTheSame }
     ensures read_to_end { GoodTextsAreReadToTheEnd }
+{}
+
+/// Each line of a script has the number of the file's line with its words. Where a scenario is printed, its lines are numbered one
+/// after the other, after the version, the four headings and the opening pairs.
+pub fn lines_have_their_numbers()
+    ensures read { LinesHaveTheirNumbers }
+    ensures printed { PrintedLinesAreNumbered }
 {}

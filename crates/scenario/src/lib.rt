@@ -11,6 +11,7 @@ mod headings;
 pub mod keywords;
 mod laws;
 mod lines;
+mod making;
 mod numbers;
 pub mod operands;
 pub mod printing;
@@ -26,11 +27,12 @@ pub use files::{
     Source, exit_status, fault_status, progress, read_input, write_all,
 };
 pub use flicks::Flick;
-pub use laws::cut_texts_have_the_fault_of_the_whole;
+pub use laws::{cut_texts_have_the_fault_of_the_whole, lines_have_their_numbers};
 pub use lines::{Line, Target};
 pub use printing::print_scenario;
 pub use reading::{Reader, read_scenario};
 pub use scenarios::Scenario;
 pub use spelling::{
     files_are_spelled_in_one_way, lines_are_spelled_in_one_way, printed_scenarios_are_read_again,
+    scenarios_of_one_text_are_equal,
 };

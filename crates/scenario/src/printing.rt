@@ -3,7 +3,7 @@ ghost use Rattle.std.specs.Prelude.{◌≡◌, flat_map, true, IfOk, OnOk, Ok};
 ghost use Rattle.files.specs.{AddsText, GivesText};
 ghost use Rattle.scenario.specs.Printing.{target_word, line_words, lines_text, kind_words, open_words, opening_text, spaced, printed_line, scenario_text};
 ghost use Rattle.scenario.specs.Reading.{scenario_of};
-ghost use Rattle.scenario.specs.Reads.{script};
+ghost use Rattle.scenario.specs.Reads.{IsTextOfEqual, script};
 ghost use Rattle.scenario.specs.Scripts.{is_line};
 ghost use Rattle.std.specs.List.{list_all};
 
@@ -16,10 +16,12 @@ use std::alloc::{AllocError, Global};
 use std::fmt;
 
 /// Writes a scenario as a file: the version, the four headings, the opening pairs in the order added, and the
-/// lines, with single spaces and a 0x0A behind each line.
+/// lines, with single spaces and a 0x0A behind each line. The numbers of the lines are not written, so equal scenarios have one
+/// text.
 pub fn print_scenario(alloc: Global, scenario: &Scenario) -> Result<Vec<u8>, AllocError>
     ensures text { IfOk result (λ bytes. bytes.items ≡ scenario_text (script scenario.now)) }
     ensures read_again { IfOk result (λ bytes. scenario_of bytes.items ≡ Ok (script scenario.now)) }
+    ensures one_text { IfOk result (λ bytes. IsTextOfEqual scenario.now bytes.items) }
 {
     scenario.setup.opening.pairs_are_sound();
     let mut text = setup_lines(alloc, "bakery", &scenario.setup)?;

@@ -1,8 +1,9 @@
 //! Reading a scenario file, line by line.
-ghost use Rattle.std.specs.Prelude.{◌≡◌, [], true, length, Ok};
+ghost use Rattle.std.specs.Prelude.{◌≡◌, ◌≤◌, [], true, length, IfOk, Ok};
 ghost use Rattle.std.specs.Int.{is_in_range};
 ghost use Rattle.plain_store.specs.{checked};
 ghost use Rattle.files.specs.{Makes, Takes, texts};
+ghost use Rattle.scenario.specs.LineNumbers.{last_of, line_numbers};
 ghost use Rattle.scenario.specs.Reads.{Gives, script};
 ghost use Rattle.scenario.specs.Reading.{first_read, at_version, heading_read, heading_set, pair_read, open_read, kept_read, other_read, opened_read, script_of, scenario_of};
 ghost use Rattle.scenario.specs.Setting.{most_of};
@@ -16,15 +17,25 @@ use crate::scenarios::Scenario;
 use crate::statements;
 use files::{FaultKind, FromLines, LineFault, keep_line, read_file};
 use plain_store::{Name, NestedTypes, Setup, Value};
-use std::alloc::Global;
+use std::alloc::{AllocError, Global};
 use std::marker::Model;
 
 /// What the bytes of a scenario file say, or the first fault of the first line that has one. A fault of
-/// kind `Memory` may name any line.
+/// kind `Memory` may name any line. Each line of the scenario has the number of its line in the file.
 pub fn read_scenario(alloc: Global, text: &[u8]) -> Result<Scenario, LineFault>
-    ensures { Gives result (scenario_of text.now) }
+    ensures said { Gives result (scenario_of text.now) }
+    ensures numbers { IfOk result (λ s.
+        s.numbers.items ≡ line_numbers text.now (length s.lines.items)) }
 {
-    Ok(read_file::<Reader>(alloc, text)?.into_scenario())
+    let mut said = Vec::new(alloc);
+    let reader: Reader = read_file(alloc, text, &mut said)?;
+    match reader.into_scenario(&mut said) {
+        Ok(scenario) => Ok(scenario),
+        Err(_) => Err(LineFault {
+            line: 1,
+            kind: FaultKind::Memory,
+        }),
+    }
 }
 
 /// What has been read so far.
@@ -67,14 +78,21 @@ impl FromLines for Reader {
 }
 
 impl Reader {
-    /// What was read, once all lines were.
-    pub fn into_scenario(self) -> Scenario
-        ensures { script result ≡ script_of self }
+    /// Makes the scenario once all lines were read. `said` has the number of each line that was not skipped, and the scenario's
+    /// lines are the last of these.
+    fn into_scenario(self, said: &mut Vec<u16>) -> Result<Scenario, AllocError>
+        requires { length self.lines ≤ length said.old.items }
+        ensures script { IfOk result (λ s. script s ≡ script_of self) }
+        ensures numbers { IfOk result (λ s.
+            s.numbers.items ≡ last_of (length s.lines.items) said.old.items) }
     {
-        Scenario {
+        let before = said.len() - self.lines.len();
+        let numbers = said.split_off(before)?;
+        Ok(Scenario {
             setup: self.setup,
             lines: self.lines,
-        }
+            numbers,
+        })
     }
 
     /// The first line: `bakery 1` or `bakery 2`.

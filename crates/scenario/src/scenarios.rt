@@ -11,11 +11,17 @@ use plain_store::Setup;
 /// What a scenario file says: how the world is set up, and the lines behind the headings and opening pairs.
 /// The setup is good, there are at most 4,000 lines, and the setup's version has each of them: no `Step` or
 /// `Wander` is above 100,000, and only version 2 has `Ask`.
+///
+/// Each line has the number of its line in the file that was read. Two scenarios are equal if their setups and lines are, and then
+/// [`print_scenario`](crate::print_scenario) writes the same text for them: neither depends on the numbers.
 #[derive(Drop)]
 pub struct Scenario {
     pub setup: Setup,
     pub lines: Vec<Line>,
+    /// The number of each line in the file, which is counted from 1.
+    pub numbers: Vec<u16>,
     pub ghost good: { checked setup ≡ Ok tt } by { Prim.hlevel props },
     pub ghost few: { length lines.items ≤ 4000 },
+    pub ghost numbered: { length numbers.items ≡ length lines.items },
     pub ghost allowed: { list_all (is_line_of setup.version) lines.items ≡ true },
 }

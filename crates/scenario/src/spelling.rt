@@ -10,6 +10,11 @@ pub fn printed_scenarios_are_read_again()
     ensures { (s : Script) → IsScenario s → scenario_of (scenario_text s) ≡ Ok s }
 {}
 
+/// Scenarios with one text are equal, whatever the numbers of their lines.
+pub fn scenarios_of_one_text_are_equal()
+    ensures { (s t : Script) → IsScenario s → IsScenario t → scenario_text s ≡ scenario_text t → s ≡ t }
+{}
+
 /// Each meaning has one spelling: the words of a line say what they are printed for, and nothing else.
 pub fn lines_are_spelled_in_one_way()
     ensures { LinesAreSpelledInOneWay }

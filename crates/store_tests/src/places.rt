@@ -1,27 +1,23 @@
 //! The numbers of the lines that are run.
 use scenario::progress::{LinePlace, Reached};
 use scenario::read_scenario;
-use std::alloc::Global;
 use std::process::Abort;
 use std::test::Fail;
-
-/// How many lines of a file are run.
-fn lines_in(alloc: Global, file: &str) -> Result<usize, Fail> {
-    Ok(read_scenario(alloc, file.as_bytes())?.lines.len())
-}
 
 // Lines that are skipped stand before, between and behind the others, of which the last three are run.
 #[test]
 fn tells_the_number_of_each_line_that_is_run(rt: HostRuntime) -> Result<(), Fail> {
     let file = "# a comment\nbakery 2\n\nprocesses 3\nopen a c:1\n \t# behind blanks\n\
         call 0 read a\r\n \t\n\tstep 0 1\n#show\n\r\nshow\n\n#";
-    assert!(rt; lines_in(rt.alloc(), file)? == 3);
-    let mut place = LinePlace::before(file.as_bytes(), 3);
+    let scenario = read_scenario(rt.alloc(), file.as_bytes())?;
+    assert!(rt; scenario.lines.len() == 3);
+    let mut place = LinePlace::before(&scenario.numbers);
+    assert!(rt; place.number() == 0);
     for (events, number) in [(0, 7), (1, 9), (2, 12)] {
         let Reached::Line(line) = place.begin_line(events) else {
             panic!(rt; "a line begins");
         };
-        assert!(rt; line.number(rt.alloc()) == number && line.events() == events);
+        assert!(rt; line.number() == number && line.events() == events);
     }
     Ok(())
 }

@@ -1,5 +1,5 @@
 //! Scenarios as text.
-use scenario::{print_scenario, read_scenario};
+use scenario::{Scenario, print_scenario, read_scenario};
 use std::alloc::Global;
 use std::test::Fail;
 
@@ -46,5 +46,16 @@ fn prints_scenarios(rt: HostRuntime) -> Result<(), Fail> {
     for (text, printed) in &PRINTED {
         assert!(rt; prints(rt.alloc(), text, printed)?, "{printed}");
     }
+    Ok(())
+}
+
+// A scenario that was made by hand has the numbers that its lines have where it is printed: they are read again.
+#[test]
+fn numbers_lines_as_they_are_printed(rt: HostRuntime) -> Result<(), Fail> {
+    let read = read_scenario(rt.alloc(), EACH.as_bytes())?;
+    let made = Scenario::new(rt.alloc(), read.setup, read.lines)?;
+    assert!(rt; made.numbers.as_slice() == read.numbers.as_slice());
+    assert!(rt; made.numbers.first() == Some(&8));
+    assert!(rt; print_scenario(rt.alloc(), &made)?.as_slice() == EACH.as_bytes());
     Ok(())
 }

@@ -12,12 +12,12 @@ use scenario::progress::{LinePlace, Onlooker};
 use scenario::{Fault, Line};
 
 impl Course {
-    /// Plays these lines of a file, one after the other. Before each an onlooker hears of its place, and of how many events
-    /// the listener has heard.
+    /// Plays these lines, one after the other. Before each line it reports to the onlooker the line's number in the file and how
+    /// many events the listener has counted. The onlooker gets number 0 where `numbers` is empty.
     pub fn play_all<L: Listener, O: Onlooker>(
         &mut self,
-        file: &[u8],
         lines: &[Line],
+        numbers: &[u16],
         listener: &mut L,
         onlooker: &mut O,
     ) -> Result<(), Fault>
@@ -27,7 +27,7 @@ impl Course {
         ensures cut { IfErr result
             (StopsLines L.Stops self.old lines.now listener.old listener.new) }
     {
-        let mut place = LinePlace::before(file, lines.len());
+        let mut place = LinePlace::before(numbers);
         for line in lines {
             onlooker.reached(place.begin_line(listener.events()));
             self.play(line, listener)?;

@@ -1,5 +1,5 @@
+use Rattle.scenario.proofs.LineNumbers.{lines_numbered}
 use Rattle.inspect.proofs.Makers.{events_made}
-use Rattle.inspect.proofs.Numbering.{lines_numbered}
 use Rattle.inspect.proofs.laws_of_lines.lines_make_events.Goals as goal
 
 pub returns-clause-numbers : goal.returns-clause-numbers

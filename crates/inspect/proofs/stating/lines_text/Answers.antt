@@ -1,10 +1,11 @@
-use Rattle.std.proofs.Common.{◌≡◌, ◌+◌, ◌-◌, ◌<◌, ℕ, List, [], ◌∷◌, drop, length, Result, Ok, Err, IfOk, Option, None, inr, refl, arith, ap, sym, subst, ◌∙◌}
+use Rattle.std.proofs.Common.{◌≡◌, suc, ◌+◌, ◌-◌, ◌<◌, ℕ, List, [], ◌∷◌, drop, length, slice_index, Result, Ok, Err, IfOk, Option, None, inr, refl, arith, ap, sym, subst, ◌∙◌}
+use Rattle.std.proofs.lemmas.Grind.{get_or_default_zero}
 use Rattle.std.proofs.lemmas.List.{drop_all, length-drop}
 use Rattle.plain_store.specs.{Setup}
 use Rattle.scenario.specs.{Line, script}
 use Rattle.scenario.proofs.Places.{drop_in}
 use Rattle.course.specs.{past_after, past_in, run_after, run_at_start, runs}
-use Rattle.inspect.specs.{ComesAlong, MakingLine, PartOfRun, first_of}
+use Rattle.inspect.specs.{ComesAlong, MakingLine, PartOfRun, first_of, number_in}
 use Rattle.inspect.proofs.Along.{along_all}
 use Rattle.inspect.proofs.Makers.{Remembers, along_new, along_same, remembered, remembers_none, text_is}
 use Rattle.inspect.proofs.stating.lines_text.Goals as goal
@@ -18,13 +19,13 @@ if_then (Err e) then p = tt
 pub loop-line-init : goal.loop-line-init
 loop-line-init g c = record {
   most = refl;
+  at = refl;
   entries = omega (arith, c.requires.entries);
-  after = omega arith;
   along = (
     run_at_start,
     refl,
     record { now = run_at_start; at = c.requires.at; more = []; is = refl; few = omega arith; ends = inr refl },
-    subst (λ n. Remembers c.args.file.now c.args.scenario.now.setup c.args.scenario.now.lines.items c.args.scenario.now.lines.items run_at_start n None) (sym c.requires.entries) (remembers_none c.args.file.now c.args.scenario.now.setup c.args.scenario.now.lines.items),
+    subst (λ n. Remembers c.args.scenario.now.numbers.items c.args.scenario.now.setup c.args.scenario.now.lines.items c.args.scenario.now.lines.items run_at_start n None) (sym c.requires.entries) (remembers_none c.args.scenario.now.numbers.items c.args.scenario.now.setup c.args.scenario.now.lines.items),
   );
 }
 
@@ -37,34 +38,39 @@ pub loop-line-preserved : goal.loop-line-preserved
 loop-line-preserved g c =
     let s : Setup = c.args.scenario.now.setup in
     let lines : List Line = c.args.scenario.now.lines.items in
-    let file : List ℕ = c.args.file.now in
+    let numbers : List ℕ = c.args.scenario.now.numbers.items in
     let k : ℕ = c.loop-line.line-index in
     let here : Line = c.line-item.result in
+    let within : k < length lines = omega arith in
     let rest : List Line = drop (k + 1) lines in
     let old : PartOfRun = c.loop-line.part in
     let new : PartOfRun = c.make_line.new.self in
-    let next : drop k lines ≡ here ∷ rest = drop_in lines k here (omega arith) (rw c.deref-line-items.ensures.value at c.line-item.is) in
+    let next : drop k lines ≡ here ∷ rest = drop_in lines k here within (rw c.deref-line-items.ensures.value at c.line-item.is) in
     let was = c.loop-line.invariant.along in
     let along : ComesAlong s (run_after s here was.0) new = c.in_ok-make_line.ensures.along s was.0 was.2 in
-    let knew : Remembers file s lines (here ∷ rest) was.0 old.heard.snapshot.entries c.loop-line.newest = subst (λ (ls : List Line). Remembers file s lines ls was.0 old.heard.snapshot.entries c.loop-line.newest) next was.3 in
-    let left : c.loop-line.after - 1 ≡ length rest = let long = length-drop (k + 1) lines in omega (arith, long, c.loop-line.invariant.after) in
+    let knew : Remembers numbers s lines (here ∷ rest) was.0 old.heard.snapshot.entries c.loop-line.newest = subst (λ (ls : List Line). Remembers numbers s lines ls was.0 old.heard.snapshot.entries c.loop-line.newest) next was.3 in
+    let at : ℕ = c.loop-line.at in
+    let left : at ≡ length numbers - suc (length rest) = let long = length-drop (k + 1) lines in omega (arith, long, within, c.args.scenario.now.numbered, c.loop-line.invariant.at) in
+    let few : at < length numbers = omega (arith, within, c.args.scenario.now.numbered, c.loop-line.invariant.at) in
+    let held : c.index-number.result.now ≡ slice_index numbers at = c.index-number.ensures ∙ get_or_default_zero numbers at c.index-number.result.now few in
+    let number : c.index-number.result.now ≡ number_in numbers (length rest) = held ∙ ap (slice_index numbers) left in
     record {
       most = c.make_line.ensures.most ∙ c.loop-line.invariant.most;
+      at = omega (arith, c.loop-line.invariant.at);
       entries = omega (arith, c.in_ok-make_line.ensures.entries, c.loop-line.invariant.entries);
-      after = omega (arith, c.loop-line.invariant.after);
       along = (
         run_after s here was.0,
         subst (λ (ls : List Line). runs s ls was.0 ≡ runs s lines run_at_start) next was.1,
         along,
         elim c.if-before-events.branch [
           | then-before-events w ↦
-              let is : remembered here (c.loop-line.after - 1) c.events-before.result ≡ remembered here (length rest) old.heard.snapshot.entries =
-              ap (λ n. remembered here n c.events-before.result) left ∙ ap (remembered here (length rest)) c.events-before.ensures in
-              subst (λ (n : Option MakingLine). Remembers file s lines rest (run_after s here was.0) new.heard.snapshot.entries n) (sym w.newest-is)
-              (along_new file s lines here rest was.0 old new c.loop-line.newest was.2 along c.make_line.ensures.most (omega (arith, w.if-before-events.true, c.events-before.ensures, c.events.ensures)) knew (remembered here (c.loop-line.after - 1) c.events-before.result) is)
+              let is : remembered here c.index-number.result.now c.events-before.result ≡ remembered here (number_in numbers (length rest)) old.heard.snapshot.entries =
+              ap (λ n. remembered here n c.events-before.result) number ∙ ap (remembered here (number_in numbers (length rest))) c.events-before.ensures in
+              subst (λ (n : Option MakingLine). Remembers numbers s lines rest (run_after s here was.0) new.heard.snapshot.entries n) (sym w.newest-is)
+              (along_new numbers s lines here rest was.0 old new c.loop-line.newest was.2 along c.make_line.ensures.most (omega (arith, w.if-before-events.true, c.events-before.ensures, c.events.ensures)) knew (remembered here c.index-number.result.now c.events-before.result) is)
           | else-before-events w ↦
-              subst (λ (n : Option MakingLine). Remembers file s lines rest (run_after s here was.0) new.heard.snapshot.entries n) (sym w.newest-is)
-              (along_same file s lines here rest was.0 old new c.loop-line.newest was.2 along c.make_line.ensures.most (omega (arith, w.if-before-events.false, c.events-before.ensures, c.events.ensures)) knew)
+              subst (λ (n : Option MakingLine). Remembers numbers s lines rest (run_after s here was.0) new.heard.snapshot.entries n) (sym w.newest-is)
+              (along_same numbers s lines here rest was.0 old new c.loop-line.newest was.2 along c.make_line.ensures.most (omega (arith, w.if-before-events.false, c.events-before.ensures, c.events.ensures)) knew)
         ],
       );
     }
@@ -78,11 +84,11 @@ pub returns : goal.returns
 returns g c =
     let s : Setup = c.args.scenario.now.setup in
     let lines : List Line = c.args.scenario.now.lines.items in
-    let file : List ℕ = c.args.file.now in
+    let numbers : List ℕ = c.args.scenario.now.numbers.items in
     let was = c.loop-line.invariant.along in
     let u : ComesAlong s was.0 c.loop-line.part = was.2 in
     let ended : runs s [] was.0 ≡ runs s lines run_at_start = subst (λ (rest : List Line). runs s rest was.0 ≡ runs s lines run_at_start) (drop_all c.loop-line.line-index lines (omega arith)) was.1 in
     let past : past_in s u.now ≡ first_of c.args.part.now.most (past_after s (runs s lines run_at_start).happened) =
     along_all s lines was.0 c.loop-line.part ended u ∙ ap (λ n. first_of n (past_after s (runs s lines run_at_start).happened)) c.loop-line.invariant.most in
     if_then c.part_text.result (λ text writes.
-    text_is file (script c.args.scenario.now) was.0 (drop c.loop-line.line-index lines) c.loop-line.part c.loop-line.newest text.items c.args.part.now.most u was.3 past writes) c.part_text.ensures
+    text_is numbers (script c.args.scenario.now) was.0 (drop c.loop-line.line-index lines) c.loop-line.part c.loop-line.newest text.items c.args.part.now.most u was.3 past writes) c.part_text.ensures

@@ -8,8 +8,8 @@ use Rattle.inspect.proofs.stating.lines_text.Given as goal
 abbrev pub invariant-loop-line : goal.invariant-loop-line
 invariant-loop-line g l = record {
   most : l.part.most ≡ l.fn.part.most;
+  at : l.at ≡ l.line-index;
   entries : l.part.heard.snapshot.entries ≤ l.line-index * 2 ^ 48;
-  after : l.after + l.line-index ≡ length l.scenario.lines.items;
   along : (whole : Run) × (runs l.scenario.setup (drop l.line-index l.scenario.lines.items) whole ≡ runs l.scenario.setup l.scenario.lines.items run_at_start) × ComesAlong l.scenario.setup whole l.part
-      × Remembers l.file l.scenario.setup l.scenario.lines.items (drop l.line-index l.scenario.lines.items) whole l.part.heard.snapshot.entries l.newest;
+      × Remembers l.scenario.numbers.items l.scenario.setup l.scenario.lines.items (drop l.line-index l.scenario.lines.items) whole l.part.heard.snapshot.entries l.newest;
 }

@@ -14,5 +14,5 @@ written start head_end line_end end head lines line n m same none first second t
 
 pub returns : goal.returns
 returns c = λ s run at.
-    written _ _ _ _ (head_lines (past_in s run)) (state_lines s (past_in s run)) (λ n. remembered_line c.args.file.now n c.args.newest.now) _ _
+    written _ _ _ _ (head_lines (past_in s run)) (state_lines s (past_in s run)) (λ n. remembered_line n c.args.newest.now) _ _
     (c.events.ensures ∙ events_are s c.args.part.now run at) c.new-text.ensures.items (c.in_ok-print_head.ensures s (past_in s run) at.seen at.knows) c.in_ok-push_made.ensures (c.in_ok-print.ensures s run at)

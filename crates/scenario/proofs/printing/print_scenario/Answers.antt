@@ -19,3 +19,8 @@ returns-clause-read_again c =
       lines = rw c.as_slice.ensures.value at c.in_ok-print_lines.ensures.sound;
       allowed = c.args.scenario.now.allowed;
     })
+
+pub returns-clause-one_text : goal.returns-clause-one_text
+returns-clause-one_text c =
+    let text : c.into_bytes.result.items ≡ scenario_text (script c.args.scenario.now) = grind (arith, common_steps) in
+    λ equal same. text ∙ ap scenario_text same
