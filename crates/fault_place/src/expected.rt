@@ -1,41 +1,35 @@
 //! What was expected in the place of a word.
-use crate::forms::Item;
+use crate::forms::{Item, LineForm};
+use crate::kinds::FileKind;
 use crate::near::add_near;
-use crate::operands::Operand;
-use crate::tables::{FileKind, KeyWordTable};
+use scenario::forms::{Letter, Operand};
 use std::alloc::{AllocError, Global};
 
-/// Adds that one of the key words of a table was expected, and which of them a word may have been meant for.
-pub(crate) fn add_choice(
+/// Adds that one of these key words was expected, or another one of this text.
+pub(crate) fn add_keys(
+    keys: &[&'static str],
+    other: &'static str,
+    text: &mut String,
+) -> Result<(), AllocError> {
+    text.push_str("one of ")?;
+    add_between(keys, ", ", text)?;
+    text.push_str(other)
+}
+
+/// Adds which key words of a form's choice a word may have been meant for.
+pub(crate) fn add_meant(
     alloc: Global,
-    table: KeyWordTable,
+    kind: FileKind,
+    form: &LineForm,
     word: &[u8],
     text: &mut String,
 ) -> Result<(), AllocError> {
-    let keys = table.words();
-    text.push_str("one of ")?;
-    add_between(keys.as_slice(), ", ", text)?;
-    if let KeyWordTable::Heads(_) = table {
-        text.push_str(", or a process")?;
-    }
-    match told_of_version_2(table, word) {
-        Some(told) => text.push_str(told),
-        None => add_near(alloc, word, keys.as_slice(), text),
-    }
-}
-
-/// What is told of a word that is a key word in version 2 alone.
-fn told_of_version_2(table: KeyWordTable, word: &[u8]) -> Option<&'static str> {
-    let (key, told) = match table {
-        KeyWordTable::Openers(1) => ("open", "; open stands behind bakery 2 alone"),
-        KeyWordTable::Heads(1) => ("open", "; open stands behind record 2 alone"),
-        KeyWordTable::Verbs(1) => ("ask", "; ask stands behind bakery 2 alone"),
-        _ => return None,
-    };
-    if word == key.as_bytes() {
-        Some(told)
-    } else {
-        None
+    match form.of_version_2 {
+        Some(key) => {
+            let first = kind.word();
+            write!(text, "; {key} stands behind {first} 2 alone")
+        }
+        None => add_near(alloc, word, form.keys.as_slice(), text),
     }
 }
 
@@ -60,23 +54,35 @@ pub(crate) fn add_two(first: &str, second: &str, text: &mut String) -> Result<()
 }
 
 /// Adds that this form was expected.
-pub(crate) fn add_form(form: &[Item], text: &mut String) -> Result<(), AllocError> {
+pub(crate) fn add_form(form: &LineForm, text: &mut String) -> Result<(), AllocError> {
     text.push_str("the form")?;
-    for item in form {
+    for item in &form.items {
         text.push_str(" ")?;
-        add_item(*item, text)?;
+        match *item {
+            Item::Key(word) => text.push_str(word)?,
+            Item::Choice => add_between(form.keys.as_slice(), "|", text)?,
+            Item::Operand(operand) => text.push_str(letters(operand))?,
+            Item::Bit => text.push_str("bit")?,
+        }
     }
     Ok(())
 }
 
-/// Adds an item as a form has it.
-fn add_item(item: Item, text: &mut String) -> Result<(), AllocError> {
-    text.push_str(match item {
-        Item::Key(word) => word,
-        Item::Choice(table) => return add_between(table.words().as_slice(), "|", text),
-        Item::Operand(operand) => operand.letters(),
-        Item::Bit => "bit",
-    })
+/// An operand as a form has it.
+fn letters(operand: Operand) -> &'static str {
+    match operand {
+        Operand::Number { letter, .. } => match letter {
+            Letter::P => "p",
+            Letter::N => "n",
+            Letter::K => "k",
+            Letter::Process => "process",
+        },
+        Operand::Heading(_) => "n",
+        Operand::Integer => "INT",
+        Operand::Bit => "0|1",
+        Operand::Name => "NAME",
+        Operand::Value => "VALUE",
+    }
 }
 
 /// Adds that such an operand was expected, in a file of this kind and version.
@@ -88,8 +94,8 @@ pub(crate) fn add_operand(
 ) -> Result<(), AllocError> {
     text.push_str(match operand {
         Operand::Number { most, .. } => return add_number(0, most, text),
-        Operand::Heading { most } => {
-            add_number(1, u64::from(most), text)?;
+        Operand::Heading(heading) => {
+            add_number(1, u64::from(heading.most(version)), text)?;
             let first = kind.word();
             return write!(text, ", behind {first} {version}");
         }

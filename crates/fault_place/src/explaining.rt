@@ -1,8 +1,8 @@
 //! What is told of the place of a fault.
 use crate::kept::KeptFile;
+use crate::kinds::FileKind;
 use crate::lines::SplitLine;
 use crate::places::Faulty;
-use crate::tables::FileKind;
 use bstr::ByteSlice;
 use files::{FaultKind, FromLines, LineFault, read_any_line};
 use plain_store::{NestedTypes, Setup};
@@ -36,8 +36,9 @@ fn add_explanation(
     text: &mut String,
 ) -> Result<(), AllocError> {
     let Some(bytes) = kept.line(fault.line) else {
-        let lines = kind.first_lines();
-        return write!(text, "expected {lines} as the first line\n");
+        text.push_str("expected ")?;
+        kind.add_first_lines(text)?;
+        return text.push_str(" as the first line\n");
     };
     let faulty = Faulty {
         alloc,

@@ -6,13 +6,12 @@ mod expected;
 mod explaining;
 mod forms;
 mod kept;
+mod kinds;
 mod lines;
 mod near;
-mod operands;
 mod places;
-mod tables;
 
 pub use explaining::explanation;
 pub use files::progress;
 pub use kept::{KeptFile, KeptInput};
-pub use tables::FileKind;
+pub use kinds::FileKind;

@@ -60,14 +60,6 @@ impl<'a> SplitLine<'a> {
         self.bytes.len()
     }
 
-    /// Whether it begins with the word `open`.
-    pub fn opens(&self) -> bool {
-        match self.words.first() {
-            Some(first) => *first == b"open".as_slice(),
-            None => false,
-        }
-    }
-
     /// Where a word stands; else the first column.
     pub fn word(&self, number: usize) -> Span {
         match self.spans.get(number) {

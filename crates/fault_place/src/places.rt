@@ -1,26 +1,21 @@
 //! Where in a line a fault is, by its kind.
-use crate::expected::{add_choice, add_form, add_operand, add_two};
+use crate::expected::{add_form, add_keys, add_meant, add_operand, add_two};
 use crate::forms::{
-    Item, access_form, bits_form, head_form, key_word, line_form, mark_form, refused_operand,
+    Item, LineForm, access_form, bits_form, head_form, line_form, mark_form, refused_operand,
     word_at,
 };
+use crate::kinds::{FileKind, name_of_file};
 use crate::lines::{Span, SplitLine, dotted_part};
 use crate::near::add_near;
-use crate::operands::{Operand, PROCESS};
-use crate::tables::{FileKind, KeyWordTable};
-use files::{FaultKind, meaning_of};
+use files::FaultKind;
 use plain_store::{OpenFault, Setup, Value};
-use record_file::LineKind;
-use scenario::keywords::{OPENERS, Opener};
+use record_file::forms::{COPY_NUMBERS, PROCESS_OF_ENTRY};
+use record_file::keywords::FIELDS;
+use record_file::{LineKind, is_sign};
+use scenario::forms::{HEADS, Operand};
+use scenario::keywords::Opener;
 use scenario::operands::name;
 use std::alloc::{AllocError, Global};
-
-/// The first words of files, and what is told of a file that begins with one.
-const FIRST_WORDS: [(&str, &str); 3] = [
-    ("bakery", "; this is a scenario"),
-    ("bits", "; this is a bits file"),
-    ("record", "; this is a record"),
-];
 
 /// Where in a line a fault is, if it is there.
 type Found = Result<Option<Span>, AllocError>;
@@ -43,7 +38,7 @@ struct Part<'l, 'w> {
     /// How many words stand before them.
     at: usize,
     words: &'l [&'w [u8]],
-    form: &'l [Item],
+    form: &'l LineForm,
 }
 
 impl<'l, 'w> Part<'l, 'w> {
@@ -54,7 +49,7 @@ impl<'l, 'w> Part<'l, 'w> {
 
     /// The word of its bit, where an entry has one.
     fn bit(&self) -> Option<&'w [u8]> {
-        match self.form.get(1) {
+        match self.form.items.get(1) {
             Some(Item::Bit) => self.words.get(1).copied(),
             _ => None,
         }
@@ -86,7 +81,7 @@ impl Faulty {
             FaultKind::TooLong => self.too_long(line, number, what),
             FaultKind::NotFirst if self.setup.is_none() => self.not_first(line, what),
             FaultKind::NotFirst => self.too_late(line, what),
-            FaultKind::BadSetup if line.opens() => self.not_opened(line, what),
+            FaultKind::BadSetup if opens(line) => self.not_opened(line, what),
             _ => self.in_line(line, what),
         }
     }
@@ -107,7 +102,8 @@ impl Faulty {
 
     /// Of the first line: the word that differs, or those too many.
     fn not_first(&self, line: &SplitLine<'_>, what: &mut String) -> Found {
-        add_two(self.kind.first_lines(), " as the first line", what)?;
+        self.kind.add_first_lines(what)?;
+        what.push_str(" as the first line")?;
         let Some(first) = line.words.first() else {
             return Ok(None);
         };
@@ -128,8 +124,8 @@ impl Faulty {
 
     /// Adds what a file is that begins with another word.
     fn add_other_kind(&self, first: &[u8], what: &mut String) -> Result<(), AllocError> {
-        if let Some(kind) = meaning_of(&FIRST_WORDS, first) {
-            return what.push_str(kind);
+        if let Some(name) = name_of_file(first) {
+            return add_two("; this is ", name, what);
         }
         if begins_with_mark(first) {
             return what.push_str("; this begins with a byte order mark");
@@ -142,18 +138,16 @@ impl Faulty {
         let Some(first) = line.words.first() else {
             return Ok(None);
         };
-        let (name, only) = self.late_words(first);
-        what.push_str(name)?;
-        found(line.word(0), only, what)
-    }
-
-    /// What stands too late where a line begins with this word, and where it may stand.
-    fn late_words(&self, first: &[u8]) -> (&'static str, &'static str) {
-        match (Opener::of(first), key_word(&OPENERS, first)) {
-            (Some(Opener::Heading(_)), Some(heading)) => (heading, " once, and before other lines"),
-            (Some(Opener::Open), _) => ("open", " before other lines"),
-            _ => (self.kind.first_lines(), " in the first line alone"),
+        let only = match Opener::of(first) {
+            Some(Opener::Heading(_)) => " once, and before other lines",
+            Some(Opener::Open) => " before other lines",
+            _ => " in the first line alone",
+        };
+        match head_word(first) {
+            Some(head) => what.push_str(head)?,
+            None => self.kind.add_first_lines(what)?,
         }
+        found(line.word(0), only, what)
     }
 
     /// Of an opening pair that the store has no place for, or another one of its name.
@@ -173,11 +167,11 @@ impl Faulty {
     fn in_line(&self, line: &SplitLine<'_>, what: &mut String) -> Found {
         let words = line.words.as_slice();
         let form = match self.kind {
-            FileKind::Scenario => line_form(self.version(), words),
-            FileKind::Bits => bits_form(words),
+            FileKind::Scenario => line_form(self.alloc, self.version(), words)?,
+            FileKind::Bits => bits_form(self.alloc, words)?,
             FileKind::Record => match LineKind::of(word_at(words, 0)) {
                 Some(LineKind::Entry) => return self.in_entry(line, what),
-                _ => head_form(self.version(), words),
+                _ => head_form(self.alloc, self.version(), words)?,
             },
         };
         self.in_part(
@@ -185,7 +179,7 @@ impl Faulty {
                 line,
                 at: 0,
                 words,
-                form: form.items(),
+                form: &form,
             },
             what,
         )
@@ -196,7 +190,7 @@ impl Faulty {
         let words = line.words.as_slice();
         let (mut at, mut marks) = (0_usize, 0_usize);
         for place in 0..=words.len() {
-            if place < words.len() && word_at(words, place) != b":".as_slice() {
+            if place < words.len() && !is_sign(word_at(words, place)) {
                 continue;
             }
             if let Some(span) = self.in_entry_part(line, at, place, marks, what)? {
@@ -219,16 +213,15 @@ impl Faulty {
     ) -> Found {
         let words = line.words.get(at..end).unwrap_or(&[]);
         let form = if marks == 0 {
-            access_form(words)
+            access_form(self.alloc, words)?
         } else {
-            mark_form(words)
+            mark_form(self.alloc, words)?
         };
-        let form = form.items();
         let part = Part {
             line,
             at,
             words,
-            form,
+            form: &form,
         };
         match self.in_part(&part, what)? {
             None if marks > 3 && self.fault == FaultKind::Words => {
@@ -252,12 +245,17 @@ impl Faulty {
         if let Some(span) = self.no_bit(part, what)? {
             return Ok(Some(span));
         }
-        let place = part.form.len().saturating_sub(1);
-        let (Some(Item::Choice(table)), Some(word)) = (part.form.last(), part.words.get(place))
+        let place = part.form.items.len().saturating_sub(1);
+        let (Some(Item::Choice), Some(word)) = (part.form.items.last(), part.words.get(place))
         else {
             return Ok(None);
         };
-        let added = add_choice(self.alloc, *table, word, what);
+        let other = match self.kind {
+            FileKind::Record if part.at == 0 && place == 0 => ", or a process",
+            _ => "",
+        };
+        add_keys(part.form.keys.as_slice(), other, what)?;
+        let added = add_meant(self.alloc, self.kind, part.form, word, what);
         found_by(part.word(place), added)
     }
 
@@ -276,13 +274,15 @@ impl Faulty {
         if record_file::keywords::field(field).is_some() {
             return Ok(None);
         }
-        let added = add_choice(self.alloc, KeyWordTable::Fields, field, what);
+        let names = field_names(self.alloc)?;
+        add_keys(names.as_slice(), "", what)?;
+        let added = add_near(self.alloc, field, names.as_slice(), what);
         found_by(part.line.part(1, 1), added)
     }
 
     /// The words that are too many, or the column where one is missing.
     fn wrong_number(&self, part: &Part<'_, '_>, what: &mut String) -> Found {
-        let (has, wants) = (part.words.len(), part.form.len());
+        let (has, wants) = (part.words.len(), part.form.items.len());
         if has == wants {
             return Ok(None);
         }
@@ -303,7 +303,9 @@ impl Faulty {
         if let Some(span) = self.refused_number(part, what)? {
             return Ok(Some(span));
         }
-        let Some((place, operand)) = refused_operand(part.form, part.words, self.fault) else {
+        let form = part.form.items.as_slice();
+        let refused = refused_operand(self.version(), form, part.words, self.fault);
+        let Some((place, operand)) = refused else {
             return Ok(None);
         };
         let added = add_operand(operand, self.kind, self.version(), what);
@@ -315,39 +317,52 @@ impl Faulty {
         let (Some(process), Some(bit)) = (part.words.first(), part.bit()) else {
             return Ok(None);
         };
-        if PROCESS.fault(process) == Some(self.fault) {
+        if self.is_fault_of(PROCESS_OF_ENTRY, process) {
             return Ok(None);
         }
-        let Some((place, operand)) = self.refused_part(bit) else {
-            return Ok(None);
-        };
-        let added = add_operand(operand, self.kind, self.version(), what);
-        found_by(part.line.part(1, place), added)
-    }
-
-    /// The first part of a bit that is refused, by its place, and the operand that it is to be.
-    fn refused_part(&self, bit: &[u8]) -> Option<(usize, Operand)> {
-        for place in 0..=bit.len() {
-            if let Some(operand) = self.refused_at(bit, place) {
-                return Some((place, operand));
+        for (place, operand) in &COPY_NUMBERS {
+            let Some(number) = dotted_part(bit, *place) else {
+                return Ok(None);
+            };
+            if self.is_fault_of(*operand, number.of(bit)) {
+                let added = add_operand(*operand, self.kind, self.version(), what);
+                return found_by(part.line.part(1, *place), added);
             }
         }
-        None
+        Ok(None)
     }
 
-    /// The operand that the part of a bit at this place is to be, if it refuses it.
-    fn refused_at(&self, bit: &[u8], place: usize) -> Option<Operand> {
-        let operand = Operand::Number {
-            letter: "n",
-            most: if place == 2 { 65_535 } else { 255 },
-        };
-        let number = dotted_part(bit, place)?.of(bit);
-        if place != 1 && operand.fault(number) == Some(self.fault) {
-            Some(operand)
-        } else {
-            None
+    /// Whether a word in the place of an operand has the fault.
+    fn is_fault_of(&self, operand: Operand, word: &[u8]) -> bool {
+        operand.fault(self.version(), word) == Some(self.fault)
+    }
+}
+
+/// Whether a line is one of opening pairs.
+fn opens(line: &SplitLine<'_>) -> bool {
+    match Opener::of(word_at(line.words.as_slice(), 0)) {
+        Some(Opener::Open) => true,
+        _ => false,
+    }
+}
+
+/// The first word of a heading or an opening pair, if this is one.
+fn head_word(first: &[u8]) -> Option<&'static str> {
+    for head in &HEADS {
+        if first == head.0.as_bytes() {
+            return Some(head.0);
         }
     }
+    None
+}
+
+/// The names of the registers.
+fn field_names(alloc: Global) -> Result<Vec<&'static str>, AllocError> {
+    let mut names = Vec::new(alloc);
+    for field in &FIELDS {
+        names.push(field.0)?;
+    }
+    Ok(names)
 }
 
 /// Whether a file begins with a byte order mark.

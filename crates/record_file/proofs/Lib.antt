@@ -22,3 +22,6 @@ pub mod SoundParts
 pub mod SoundMarks
 pub mod FewMarks
 pub mod ShortWords
+-- What is read has a form of a table
+pub mod MarkForms
+pub mod AccessForms

@@ -1,5 +1,6 @@
 pub use Rattle.scenario.specs as scenario
 pub mod Faults
+pub mod Forms
 pub mod Given
 pub mod Keywords
 pub mod Printing

@@ -137,7 +137,7 @@ fn place_of_sign(words: &[&[u8]]) -> Option<usize>
 }
 
 /// Whether a word is the sign before a mark.
-fn is_sign(word: &[u8]) -> bool
+pub fn is_sign(word: &[u8]) -> bool
     ensures { result ≡ sign word.now }
 {
     word == b":".as_slice()

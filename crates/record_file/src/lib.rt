@@ -4,6 +4,7 @@
 mod accesses;
 mod entries;
 mod faults;
+pub mod forms;
 pub mod keywords;
 mod laws;
 mod line_kinds;
@@ -14,7 +15,7 @@ mod sound;
 mod step_reading;
 mod steps;
 
-pub use entries::read_entry;
+pub use entries::{is_sign, read_entry};
 pub use laws::{entries_are_spelled_in_one_way, printed_entries_are_read_again};
 pub use line_kinds::LineKind;
 pub use printing::{print_entry, print_setup};

@@ -2,6 +2,7 @@
 ghost use Rattle.std.specs.Prelude.{◌≡◌};
 ghost use Rattle.record_file.specs.RecordFiles.{begins_with_digit as digit_first, kind_in as those_of_records, kind_of};
 
+use crate::forms::RECORD;
 use scenario::keywords::{Heading, Opener};
 
 /// What the first word of a line says that it is.
@@ -21,7 +22,7 @@ impl LineKind {
         if begins_with_digit(word) {
             return Some(LineKind::Entry);
         }
-        if word == b"record".as_slice() {
+        if word == RECORD.as_bytes() {
             return Some(LineKind::Record);
         }
         kind_in(Opener::of(word))

@@ -5,6 +5,7 @@ ghost use Rattle.files.specs.{Makes, Takes, texts};
 ghost use Rattle.record_file.specs.RecordFiles.{entry_read, first_read, head_read, line_said, pair_read};
 
 use crate::entries::read_entry;
+use crate::forms::RECORD;
 use crate::line_kinds::LineKind;
 use files::{FaultKind, FromLines};
 use plain_store::{NestedTypes, Setup};
@@ -79,7 +80,7 @@ impl RecordReader {
     fn new(alloc: Global, word: &[u8], words: &[&[u8]]) -> Result<RecordReader, FaultKind>
         ensures { Makes result (first_read word.now (texts words.now)) }
     {
-        if word != b"record".as_slice() || words.len() != 1 {
+        if word != RECORD.as_bytes() || words.len() != 1 {
             return Err(FaultKind::NotFirst);
         }
         let head = Reader::at_version(alloc, words[0])?;

@@ -20,5 +20,9 @@ pub mod Spaced
 pub mod Spelled
 pub mod LineSpelled
 pub mod OneSpelling
+-- What is read has a form of a table
+pub mod Fitting
+pub mod LineForms
+pub mod FileForms
 -- Long texts
 pub mod CutTexts

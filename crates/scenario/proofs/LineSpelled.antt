@@ -33,7 +33,7 @@ two_of (a ∷ []) n = absurd (omega (arith, n))
 two_of (a ∷ b ∷ []) n = refl
 two_of (a ∷ b ∷ c ∷ ws) n = absurd (omega (arith, n))
 
-three_of : (ws : List (List ℕ)) → length ws ≡ 3 → ws ≡ word 0 ws ∷ word 1 ws ∷ word 2 ws ∷ []
+pub three_of : (ws : List (List ℕ)) → length ws ≡ 3 → ws ≡ word 0 ws ∷ word 1 ws ∷ word 2 ws ∷ []
 three_of [] n = absurd (omega (arith, n))
 three_of (a ∷ []) n = absurd (omega (arith, n))
 three_of (a ∷ b ∷ []) n = absurd (omega (arith, n))

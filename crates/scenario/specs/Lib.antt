@@ -1,6 +1,7 @@
 pub use Rattle.files.specs as files
 pub use Rattle.flicks.specs as flicks
 pub mod BitFiles
+pub mod Forms
 pub mod Keywords
 pub mod LineNumbers
 pub mod Numbers
@@ -13,6 +14,7 @@ pub mod Setting
 pub mod Spelling
 pub mod Statements
 pub use BitFiles.{bit_at, bit_line_of, bit_word_of, bit_words, bits, bits_grammar, bits_of, first_bits_read, later_bits_read, lone_word_of, one_bit_of}
+pub use Forms.{Patterns, Phrases, a_count, a_process, a_seed, are_operands, begun, bit_lines, commands, fault_at, fault_of, fits_form, flick_ways, has_form, has_row, heading_fault, heads, is_ending, is_operand, is_phrase, is_word_of, patterns_in, phrases_in, stages, statements}
 pub use Keywords.{opener_of, openers, target_of, targets, verb_of, verbs}
 pub use LineNumbers.{LinesHaveTheirNumbers, PrintedLinesAreNumbered, last_of, line_numbers, numbers_from, printed_numbers, words_at}
 pub use Numbers.{are_digits, in_i64, integer_of, is_numeral, is_signed_numeral, number_up_to}
@@ -29,6 +31,8 @@ pub use Statements.{is_line_of, is_verb_of, line_of, operand_count, verb_at, ver
 pub use declared.bit_files.BitLine.{BitLine}
 pub use declared.bit_files.BitWord.{BitWord}
 pub use declared.headings.Given.{Given}
+pub use declared.forms.Letter.{Letter}
+pub use declared.forms.Operand.{Operand}
 pub use declared.keywords.Heading.{Heading}
 pub use declared.lines.Line.{Line}
 pub use declared.keywords.LineWord.{LineWord}

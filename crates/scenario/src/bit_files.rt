@@ -3,6 +3,7 @@ ghost use Rattle.std.specs.Prelude.{◌≡◌};
 ghost use Rattle.scenario.specs.BitFiles.{bit_word_of, bit_at, one_bit_of, lone_word_of, bit_line_of, first_bits_read, bits_of, GivesBits};
 ghost use Rattle.files.specs.{Makes, texts};
 
+use crate::forms::BITS;
 use files::{FaultKind, FromLines, LineFault, keep_line, meaning_of, read_file};
 use std::alloc::Global;
 use std::marker::Model;
@@ -102,7 +103,7 @@ impl BitsReader {
     fn new(alloc: Global, word: &[u8], words: &[&[u8]]) -> Result<BitsReader, FaultKind>
         ensures { Makes result (first_bits_read word.now (texts words.now)) }
     {
-        if word == b"bits".as_slice() && words.len() == 1 && words[0] == b"1".as_slice() {
+        if word == BITS.as_bytes() && words.len() == 1 && words[0] == b"1".as_slice() {
             Ok(BitsReader {
                 lines: Vec::new(alloc),
             })

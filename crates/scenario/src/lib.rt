@@ -7,6 +7,7 @@
 #![tactic(auto)]
 
 pub mod bit_files;
+pub mod forms;
 mod headings;
 pub mod keywords;
 mod laws;

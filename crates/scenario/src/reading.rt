@@ -9,6 +9,7 @@ ghost use Rattle.scenario.specs.Reading.{first_read, at_version, heading_read, h
 ghost use Rattle.scenario.specs.Setting.{most_of};
 ghost use Rattle.scenario.specs.Statements.{is_line_of};
 
+use crate::forms::SCENARIO;
 use crate::headings::{Given, default_setup};
 use crate::keywords::{Heading, LineWord, Opener};
 use crate::lines::Line;
@@ -100,7 +101,7 @@ impl Reader {
     fn new(alloc: Global, word: &[u8], words: &[&[u8]]) -> Result<Reader, FaultKind>
         ensures { Makes result (first_read word.now (texts words.now)) }
     {
-        if word != b"bakery".as_slice() || words.len() != 1 {
+        if word != SCENARIO.as_bytes() || words.len() != 1 {
             return Err(FaultKind::NotFirst);
         }
         Reader::at_version(alloc, words[0])

@@ -1,0 +1,72 @@
+//! The kinds of files, and their first lines.
+use record_file::forms::RECORD;
+use scenario::forms::{BITS, SCENARIO};
+use std::alloc::AllocError;
+
+/// A kind of file.
+#[derive(Clone, Copy)]
+pub enum FileKind {
+    /// The calls and steps of processes.
+    Scenario,
+    /// The calls on one safe bit.
+    Bits,
+    /// The entries of a run.
+    Record,
+}
+
+impl FileKind {
+    /// Returns the first word of its first line.
+    pub(crate) fn word(self) -> &'static str {
+        match self {
+            FileKind::Scenario => SCENARIO,
+            FileKind::Bits => BITS,
+            FileKind::Record => RECORD,
+        }
+    }
+
+    /// Returns the name of such a file.
+    fn name(self) -> &'static str {
+        match self {
+            FileKind::Scenario => "a scenario",
+            FileKind::Bits => "a bits file",
+            FileKind::Record => "a record",
+        }
+    }
+
+    /// Returns its newest version.
+    fn newest(self) -> u8 {
+        match self {
+            FileKind::Bits => 1,
+            FileKind::Scenario | FileKind::Record => 2,
+        }
+    }
+
+    /// Adds its first lines.
+    pub(crate) fn add_first_lines(self, text: &mut String) -> Result<(), AllocError> {
+        let word = self.word();
+        write!(text, "{word} 1")?;
+        if self.newest() == 2 {
+            write!(text, " or {word} 2")?;
+        }
+        Ok(())
+    }
+
+    /// Returns whether its first line may have this version.
+    pub(crate) fn has_version(self, version: &[u8]) -> bool {
+        match version {
+            [b'1'] => true,
+            [b'2'] => self.newest() == 2,
+            _ => false,
+        }
+    }
+}
+
+/// Returns the name of a file that begins with this word.
+pub(crate) fn name_of_file(first: &[u8]) -> Option<&'static str> {
+    for kind in [FileKind::Scenario, FileKind::Bits, FileKind::Record] {
+        if first == kind.word().as_bytes() {
+            return Some(kind.name());
+        }
+    }
+    None
+}
