@@ -5,6 +5,9 @@
 //!
 //! Each is a process at its place; its `step` makes the next access on the lock's registers or on those of the versions. The
 //! versions and the failure rule are this project's own profile; they stand on Lamport's safe registers (1986a).
+//!
+//! This crate has the calls of what the request calls `critical` and `failure`: [`Section`] is the first, and [`Unit`]
+//! is the second.
 #![tactic(auto)]
 
 mod data;

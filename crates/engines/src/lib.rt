@@ -2,6 +2,8 @@
 //! of a file on one store or on one safe bit; `replay`, `record`, `audit` and `sweep` make the run of a scenario on a world. The
 //! calls by which a program has the accepted events of a run, and the record of a list of events, stand beside them.
 //!
+//! With `course`, `read_law`, `auditor` and `sweeper`, this crate is what the request calls `replayer`.
+//!
 //! ```rust
 //! replay(alloc, input, output, &mut Nobody)
 //! ```

@@ -1,6 +1,8 @@
 //! Races: the ports of one board on threads of their own, each making the calls of its plan. A gate may hold a port as
 //! it begins a call, and as it comes inside. What a race leaves is the closing of its board, or the fault that ended it.
 //!
+//! With `board` and `call_check`, this crate is what the request calls `runner`.
+//!
 //! ```rust
 //! let closing = race(rt, alloc, &scenario.setup, plans.as_slice(), &AlwaysOn)?;
 //! ```
