@@ -13,11 +13,11 @@ use drawer::{Reads, draw, draw_svg};
 use engines::{
     judge_any_lock, replay, run_audit, run_bits, run_judge, run_plain, run_record, run_sweep,
 };
-use inspect::{FileKind, KeptFile, KeptInput, events_said, explanation, run_calls, run_state};
 use race::{RunFault, run_fault_status, run_race};
 use record_drawer::{
     JudgedBy, Opened, draw_judged_record, draw_judged_record_svg, draw_record, draw_record_svg,
 };
+use run_state::{FileKind, KeptFile, KeptInput, events_said, explanation, run_calls, run_state};
 use std::alloc::Global;
 use std::cell::Cell;
 use std::env::Env;

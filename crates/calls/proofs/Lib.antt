@@ -1,3 +1,6 @@
+pub use Rattle.course.proofs as course_proofs
+pub use Rattle.scenario.proofs as scenario_proofs
+pub use Rattle.world.proofs as world_proofs
 pub mod Loops
 pub mod Noted
 pub mod Folds
@@ -6,3 +9,9 @@ pub mod Steps
 pub mod Passing
 pub mod Heard
 pub mod KeptThere
+pub mod Unfailed
+pub mod Ranges
+pub mod Fronts
+pub mod Tabling
+pub mod UnmarkedSteps
+pub mod TabledSteps

@@ -1,14 +1,18 @@
+pub use Rattle.course.specs as course
+pub use Rattle.scenario.specs as scenario
 pub use Rattle.world.specs as world
 pub mod Columns
 pub mod Hearing
 pub mod Lines
 pub mod Passing
 pub mod Stepping
+pub mod Tables
 pub use Columns.{accesses, accesses_itself, answer_after, called, called_at, count_in_call, ends_number, ends_waiting, first_if, first_in_call, goes_on_after, has_access, holds_up, is_answered, is_calling, is_left, is_read, is_read_end, is_taken, is_unmarked, is_withdrawal, is_write, makes_itself, marked, more_if, number_after, over_call, place_after, tells_waiting, ticket_after, ticket_in_call, waited_for}
 pub use Hearing.{ComesInTurn, GoesBy, GoesOn, HasHeard, IsKnown, TableState, TellsRead, ended_call, open_call}
 pub use Lines.{answer_field, call_head, call_line, doubled, ended_lines, field, header, line_of, number_field, open_lines, table_text}
 pub use Passing.{HasNotFailed, HaveRoom, Passes, begun_among, follows, of_read, passed, quiet_entry, reads_begun, with_passed, writes_begun}
 pub use Stepping.{AreFew, accessed_by, at_rest, begun, heard, marked_all, marked_on, no_accesses, no_marks, standing, waits_by, with_access, with_mark}
+pub use Tables.{CutsTold, HasTabled, Tells, known_step, lines_after, tabled}
 pub use declared.called.Accesses.{Accesses}
 pub use declared.standing.CallStanding.{CallStanding}
 pub use declared.called.Called.{Called}

@@ -1,0 +1,36 @@
+-- A Step without a mark: its process is there, and within a number access it ends none.
+use Rattle.std.proofs.Common.{◌≡◌, ◌+◌, ◌<◌, Bool, true, false, List, [], ℕ, Some, Ok, refl, eqb-true}
+use Rattle.plain_store.specs.{Setup, checked}
+use Rattle.record.specs.safe_bit.{Move}
+use Rattle.record.specs.safe_bit.declared.Move.TheVariants.{BeginWrite, EndWrite, BeginRead, EndRead, Settle}
+use Rattle.record.specs.{Access, Event, entry_of, past_of, width}
+use Rattle.record.specs.declared.events.Event.TheVariants.{Step}
+use Rattle.record.proofs.Width.{is_good}
+use Rattle.course.proofs.InTurn.{process_there}
+use Rattle.course.specs.{Happening, Stepped, StepsOn, tried}
+use Rattle.calls.specs.{ends_number}
+use Rattle.world.proofs.WorldWithin.{inside-number}
+use Rattle.world.specs.process.{left_at, process_after}
+
+-- an access that ends the read of a number
+ends_read : (n k : ℕ) (how : Move) → ends_number n k how ≡ true → (v : Bool) × (how ≡ EndRead v) × (k + 1 ≡ n)
+ends_read n k (EndRead v) is = (v, refl, eqb-true (k + 1) n is)
+ends_read n k (BeginWrite v) is = absurd (cc)
+ends_read n k EndWrite is = absurd (cc)
+ends_read n k BeginRead is = absurd (cc)
+ends_read n k (Settle v) is = absurd (cc)
+
+pub not_so : (b : Bool) → (b ≡ true → ⊥) → b ≡ false
+not_so true never = absurd (never refl)
+not_so false never = refl
+
+-- it is not made within a number access
+pub inside_never : (s : Setup) → checked s ≡ Ok tt → (events : List Event) (p : ℕ) (flick : Bool) (a : Access) → entry_of s (past_of s events) (Step p flick) ≡ Some (record { process = p; access = Some a; marks = [] }) →
+    0 < left_at (process_after s (past_of s events) p) → ends_number (width s a.field) a.bit a.how ≡ true → ⊥
+inside_never s good events p flick a adds some ends =
+    let r = ends_read (width s a.field) a.bit a.how ends in
+    inside-number s (is_good s good) events p flick r.0 (record { process = p; access = Some a; marks = [] }) a adds refl some r.1 r.2
+
+-- its process is there
+pub steps_below : (s : Setup) (before : List Happening) (made : Stepped) → StepsOn s before made → made.process < s.processes
+steps_below s before made on = process_there s (tried before) (Step made.process made.flick) (record { process = made.process; access = Some made.access; marks = [] }) refl on.adds

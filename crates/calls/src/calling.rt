@@ -1,0 +1,116 @@
+//! The engine `calls`: a line for each call of a scenario's run, written as it ends; at the end the calls that go on.
+ghost use Rattle.std.specs.Prelude.{◌≡◌, ◌+◌, ◌-◌, ◌^◌, ◌<◌, length, IfErr, IfOk, OnOk};
+ghost use Rattle.std.specs.Io.KnownBytes.{Appends};
+ghost use Rattle.record.specs.{Past};
+ghost use Rattle.scenario.specs.files.Engines.{Ran, streams};
+ghost use Rattle.scenario.specs.files.{ReadsFront, WritesFront};
+ghost use Rattle.scenario.specs.{script};
+ghost use Rattle.course.specs.{IsWriteFault, ended, failed_write};
+ghost use Rattle.calls.specs.Hearing.{HasHeard, open_call};
+ghost use Rattle.calls.specs.Lines.{header, line_of, open_lines};
+ghost use Rattle.calls.specs.Tables.{calls_text, tabled};
+
+use crate::hearing::{Tabler, write_if};
+use crate::printed::HEADER;
+use crate::table::CallTable;
+use course::Course;
+use plain_store::Setup;
+use scenario::progress::Onlooker;
+use scenario::{Fault, Scenario, Sink, Source, read_input, read_scenario, write_all};
+use std::alloc::Global;
+
+/// Reads a whole scenario file, and then writes the table of the calls of its run, as they end: a line of comma-separated
+/// values for each. However it ends, at most `INPUT_LIMIT` bytes are taken from the front of the input.
+/// An onlooker hears how far it is: `Nobody`, where nobody is to know.
+pub fn run_calls<R: Source, W: Sink, L: Onlooker>(
+    alloc: Global,
+    input: &mut R,
+    output: &mut W,
+    onlooker: &mut L,
+) -> Result<(), Fault>
+    requires reads { R.failures input.old < 2 ^ 64 - 1 }
+    requires writes { W.failures output.old < 2 ^ 64 - 1 }
+    ensures ran { Ran calls_text (ended result)
+        (streams ⟦<R as Source>⟧ ⟦<W as Sink>⟧ input.old output.old)
+        (streams ⟦<R as Source>⟧ ⟦<W as Sink>⟧ input.new output.new) }
+    ensures input { ReadsFront (R.to_come input.old) (R.to_come input.new) }
+{
+    let file = read_input(alloc, input)?;
+    let scenario = read_scenario(alloc, file.as_slice())?;
+    table_scenario(alloc, &scenario, output, onlooker)
+}
+
+/// Writes the table of the calls of the run of a file's scenario.
+fn table_scenario<W: Sink, L: Onlooker>(
+    alloc: Global,
+    scenario: &Scenario,
+    output: &mut W,
+    onlooker: &mut L,
+) -> Result<(), Fault>
+    requires { W.failures output.old < 2 ^ 64 - 1 }
+    ensures ok { OnOk result (Appends (W.taken output.old) (W.taken output.new) (tabled (script scenario.now))) }
+    ensures front { WritesFront (W.taken output.old) (W.taken output.new) (tabled (script scenario.now)) }
+    ensures fault { IfErr result IsWriteFault }
+    ensures failures { W.failures output.new ≡ W.failures output.old + failed_write result }
+{
+    let mut course = Course::new(alloc, &scenario.setup)?;
+    let mut table = CallTable::new(alloc, &scenario.setup)?;
+    write_header(output)?;
+    let mut tabler = Tabler {
+        alloc,
+        table: &mut table,
+        output,
+    };
+    course.play_all(&scenario.lines, &scenario.numbers, &mut tabler, onlooker)?;
+    write_open(alloc, &scenario.setup, &table, output)
+}
+
+/// Writes the first line.
+fn write_header<W: Sink>(output: &mut W) -> Result<(), Fault>
+    requires { W.failures output.old < 2 ^ 64 - 1 }
+    ensures ok { OnOk result (Appends (W.taken output.old) (W.taken output.new) header) }
+    ensures front { WritesFront (W.taken output.old) (W.taken output.new) header }
+    ensures fault { IfErr result IsWriteFault }
+    ensures failures { W.failures output.new ≡ W.failures output.old + failed_write result }
+{
+    write_all(output, HEADER.as_bytes())
+}
+
+/// Writes the lines of the calls that go on, by process.
+fn write_open<W: Sink>(
+    alloc: Global,
+    setup: &Setup,
+    table: &CallTable,
+    output: &mut W,
+) -> Result<(), Fault>
+    requires writes { W.failures output.old < 2 ^ 64 - 1 }
+    requires setup { table.now.setup ≡ setup.now }
+    ensures ok { OnOk result ((past : Past) → HasHeard table.now past → Appends (W.taken output.old) (W.taken output.new) (open_lines setup.now past)) }
+    ensures front { (past : Past) → HasHeard table.now past → WritesFront (W.taken output.old) (W.taken output.new) (open_lines setup.now past) }
+    ensures fault { IfErr result IsWriteFault }
+    ensures failures { W.failures output.new ≡ W.failures output.old + failed_write result }
+{
+    for process in 0..setup.processes {
+        write_open_call(alloc, table, process, output)?;
+    }
+    Ok(())
+}
+
+/// Writes the line of the call of a process, if it goes on.
+fn write_open_call<W: Sink>(
+    alloc: Global,
+    table: &CallTable,
+    process: u8,
+    output: &mut W,
+) -> Result<(), Fault>
+    requires writes { W.failures output.old < 2 ^ 64 - 1 }
+    requires process { process < table.now.setup.processes }
+    ensures ok { OnOk result ((past : Past) → HasHeard table.now past → Appends (W.taken output.old) (W.taken output.new) (line_of (length past - 1) (open_call table.now.setup process past))) }
+    ensures front { (past : Past) → HasHeard table.now past → WritesFront (W.taken output.old) (W.taken output.new) (line_of (length past - 1) (open_call table.now.setup process past)) }
+    ensures fault { IfErr result IsWriteFault }
+    ensures failures { W.failures output.new ≡ W.failures output.old + failed_write result }
+{
+    let called = table.open_call(process);
+    let last = table.newest();
+    write_if(alloc, &called, last, output)
+}

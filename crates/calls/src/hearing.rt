@@ -1,0 +1,192 @@
+//! A listener that tables the calls of a run: the line of each call that ends is written before the next event.
+ghost use Rattle.std.specs.Prelude.{◌≡◌, ◌+◌, ◌-◌, ◌^◌, ◌<◌, ◌∷◌, [], IfErr, OnErr, OnOk, Some, length, refl, false, ⊤};
+ghost use Rattle.std.proofs.Common.{◌∙◌};
+ghost use Rattle.std.specs.Io.KnownBytes.{Appends};
+ghost use Rattle.record.specs.{Entry as Noted, Past};
+ghost use Rattle.scenario.specs.files.{WritesFront};
+ghost use Rattle.course.specs.{IsWriteFault, Took, TookPart, failed_write, part_before, part_on, part_unheard, took_none, took_on};
+ghost use Rattle.calls.specs.Hearing.{ComesInTurn, HasHeard, ended_call};
+ghost use Rattle.calls.specs.Lines.{call_line, line_of};
+ghost use Rattle.calls.specs.Tables.{CutsTold, HasTabled, Tells, fewer, known_step, lines_after, lines_longer};
+
+use crate::called::{Called, EntryKnown};
+use crate::printed::print_call;
+use crate::table::CallTable;
+use course::{Listener, Stepped, Taken, Told};
+use record::{Access, Mark, Move};
+use scenario::{Fault, Sink, write_all};
+use std::alloc::Global;
+
+/// Tables the calls of a run as it hears them.
+#[derive(Drop)]
+pub(crate) struct Tabler<'a, W: Sink> {
+    pub alloc: Global,
+    pub table: &'a mut CallTable,
+    pub output: &'a mut W,
+}
+
+impl<'a, W: Sink> Listener for Tabler<'a, W> {
+    ghost hears_steps = { λ _. false };
+
+    #[inline(always)]
+    fn hears_steps(&self) -> bool {
+        false
+    }
+
+    fn events(&self) -> u64 {
+        self.table.entries()
+    }
+
+    ghost HasRoom = { λ tabler more. (tabler.table.now.entries + more < 2 ^ 64) × (W.failures tabler.output.now < 2 ^ 64 - 1) };
+
+    ghost Hears = { λ a s x y b. (b.output.ghost_name ≡ a.output.ghost_name) × (b.table.ghost_name ≡ a.table.ghost_name) × (HasTabled s x a.table.now → HasTabled s y b.table.now) × Took (HasTabled s x a.table.now) (lines_after s x) (lines_after s y) (W.taken a.output.now) (W.taken b.output.now) (W.failures a.output.now) (W.failures b.output.now) };
+
+    ghost Knows = { λ _ _ _. ⊤ };
+
+    ghost Stops = { λ a s x y fault b. (b.output.ghost_name ≡ a.output.ghost_name) × TookPart (HasTabled s x a.table.now) (lines_after s x) (lines_after s y) (W.taken a.output.now) (W.taken b.output.now) (W.failures a.output.now) (W.failures b.output.now) fault };
+
+    fn hear(&mut self, told: &Told, _taken: &[Taken]) -> Result<(), Fault> {
+        hear_told(self.alloc, told, self.table, self.output)
+    }
+
+    #[inline(always)]
+    fn step(&mut self, made: Stepped) -> Result<(), Fault> {
+        hear_step(&made, self.table);
+        Ok(())
+    }
+
+    #[inline(always)]
+    fn pass(&mut self, process: u8, steps: u32, newest: Move, overlapped: u32) {
+        self.table.pass(process, steps, newest, overlapped);
+    }
+
+    ghost room_less = { λ a n k few room. (fewer a.table.now.entries n k few room.0, room.1) };
+
+    ghost hears_nothing = { λ a s x. (refl, refl, (λ tabled. tabled), took_none (HasTabled s x a.table.now) (lines_after s x) (W.taken a.output.now) (W.failures a.output.now)) };
+
+    ghost hears_on = { λ a b c s x y z p q. (q.0 ∙ p.0, q.1 ∙ p.1, (λ tabled. q.2 (p.2 tabled)), took_on {P = HasTabled s x a.table.now} {Q = HasTabled s y b.table.now} p.2 p.3 q.3) };
+
+    ghost stops_unheard = { λ a s x. (refl, part_unheard (HasTabled s x a.table.now) (lines_after s x) (W.taken a.output.now) (W.failures a.output.now)) };
+
+    ghost stops_before = { λ a b s x y more fault p. (p.0, part_before (lines_longer s y more) p.1) };
+
+    ghost stops_on = { λ a b c s x y z fault p q. (q.0 ∙ p.0, part_on {P = HasTabled s x a.table.now} {Q = HasTabled s y b.table.now} p.2 p.3 q.1) };
+}
+
+/// Hears a Step without a mark.
+#[inline(never)]
+fn hear_step(made: &Stepped, table: &mut CallTable)
+    requires { table.old.entries < 2 ^ 64 - 1 }
+    ensures heard { (past : Past) (e : Noted) → e.process ≡ made.now.process → e.access ≡ Some made.now.access → e.marks ≡ [] → HasHeard table.old past → ComesInTurn table.old.setup past e (known_step made.now) → HasHeard table.new (e ∷ past) }
+    ensures setup { table.new.setup ≡ table.old.setup }
+    ensures entries { table.new.entries ≡ table.old.entries + 1 }
+{
+    let known = EntryKnown {
+        overlapped: made.overlapped,
+        read: made.number,
+    };
+    let _none = table.hear(made.process, &known, &Some(made.access), &[]);
+}
+
+/// Hears what a turn tells.
+fn hear_told<W: Sink>(
+    alloc: Global,
+    told: &Told,
+    table: &mut CallTable,
+    output: &mut W,
+) -> Result<(), Fault>
+    requires writes { W.failures output.old < 2 ^ 64 - 1 }
+    requires entries { table.old.entries < 2 ^ 64 - 1 }
+    ensures ok { OnOk result (Tells told.now table.old table.new (W.taken output.old) (W.taken output.new)) }
+    ensures cut { OnErr result (CutsTold told.now table.old (W.taken output.old) (W.taken output.new)) }
+    ensures setup { table.new.setup ≡ table.old.setup }
+    ensures entries { table.new.entries < table.old.entries + 2 }
+    ensures fault { IfErr result IsWriteFault }
+    ensures failures { W.failures output.new ≡ W.failures output.old + failed_write result }
+{
+    match told {
+        Told::Accepted(made) => {
+            let process = made.event.process();
+            let known = EntryKnown {
+                overlapped: made.overlapped,
+                read: None,
+            };
+            let marks = made.marks(alloc);
+            hear(
+                alloc,
+                process,
+                &known,
+                &made.access,
+                marks.as_slice(),
+                table,
+                output,
+            )
+        }
+        Told::Refused { .. } => Ok(()),
+        Told::Tired(_) => Ok(()),
+        Told::Shown(_) => Ok(()),
+    }
+}
+
+/// Hears an event: who made it, what is known of it, its access and its marks.
+fn hear<W: Sink>(
+    alloc: Global,
+    process: u8,
+    known: &EntryKnown,
+    access: &Option<Access>,
+    marks: &[Mark],
+    table: &mut CallTable,
+    output: &mut W,
+) -> Result<(), Fault>
+    requires writes { W.failures output.old < 2 ^ 64 - 1 }
+    requires entries { table.old.entries < 2 ^ 64 - 1 }
+    ensures heard { (past : Past) (e : Noted) → e.process ≡ process → e.access ≡ access.now → e.marks ≡ marks.now → HasHeard table.old past → ComesInTurn table.old.setup past e known.now → HasHeard table.new (e ∷ past) }
+    ensures ok { OnOk result ((past : Past) (e : Noted) → e.process ≡ process → e.access ≡ access.now → e.marks ≡ marks.now → HasHeard table.old past → ComesInTurn table.old.setup past e known.now → Appends (W.taken output.old) (W.taken output.new) (line_of (length past) (ended_call table.old.setup past e))) }
+    ensures front { (past : Past) (e : Noted) → e.process ≡ process → e.access ≡ access.now → e.marks ≡ marks.now → HasHeard table.old past → ComesInTurn table.old.setup past e known.now → WritesFront (W.taken output.old) (W.taken output.new) (line_of (length past) (ended_call table.old.setup past e)) }
+    ensures setup { table.new.setup ≡ table.old.setup }
+    ensures entries { table.new.entries ≡ table.old.entries + 1 }
+    ensures fault { IfErr result IsWriteFault }
+    ensures failures { W.failures output.new ≡ W.failures output.old + failed_write result }
+{
+    let newest = table.entries();
+    let ended = table.hear(process, known, access, marks);
+    write_if(alloc, &ended, newest, output)
+}
+
+/// Writes the line of a call, if there is one, where the newest event has this number.
+pub(crate) fn write_if<W: Sink>(
+    alloc: Global,
+    called: &Option<Called>,
+    newest: u64,
+    output: &mut W,
+) -> Result<(), Fault>
+    requires { W.failures output.old < 2 ^ 64 - 1 }
+    ensures ok { OnOk result (Appends (W.taken output.old) (W.taken output.new) (line_of newest called.now)) }
+    ensures front { WritesFront (W.taken output.old) (W.taken output.new) (line_of newest called.now) }
+    ensures fault { IfErr result IsWriteFault }
+    ensures failures { W.failures output.new ≡ W.failures output.old + failed_write result }
+{
+    match called {
+        None => Ok(()),
+        Some(called) => write_call(alloc, called, newest, output),
+    }
+}
+
+/// Writes the line of a call, unless there was no memory for it.
+#[tactic(auto, using(crate::proofs::Fronts::front_none))]
+fn write_call<W: Sink>(
+    alloc: Global,
+    called: &Called,
+    newest: u64,
+    output: &mut W,
+) -> Result<(), Fault>
+    requires { W.failures output.old < 2 ^ 64 - 1 }
+    ensures ok { OnOk result (Appends (W.taken output.old) (W.taken output.new) (call_line newest called.now)) }
+    ensures front { WritesFront (W.taken output.old) (W.taken output.new) (call_line newest called.now) }
+    ensures fault { IfErr result IsWriteFault }
+    ensures failures { W.failures output.new ≡ W.failures output.old + failed_write result }
+{
+    let mut line = Vec::new(alloc);
+    print_call(alloc, called, newest, &mut line)?;
+    write_all(output, line.as_slice())
+}

@@ -1,0 +1,12 @@
+pub mod Ranges
+pub mod Images
+pub mod Keeps
+pub mod FirstAccesses
+pub mod OfCalls
+pub mod Stand
+pub mod Along
+pub mod Going
+pub mod Makers
+pub mod Seeing
+pub mod Standing
+pub mod WholeInputs

@@ -1,0 +1,36 @@
+use Rattle.std.proofs.Common.{◌≡◌, Bool, true, false, cond, ◌++◌, None, Some, ap, sym, ◌∙◌}
+use Rattle.record.specs.{calls_in, own, stage}
+use Rattle.run_state.specs.{ProcessKept, is_resting, lines_at, rest_line, running_lines}
+use Rattle.run_state.proofs.Stand.{ok_then, stage_is}
+use Rattle.run_state.proofs.snapshot.Snapshot.push_process.Goals as goal
+
+pub returns-in_default-clause-lines : goal.returns-in_default-clause-lines
+returns-in_default-clause-lines c = λ past u.
+    let t = c.args.self.now in
+    let two : None ≡ Some (stage c.args.process past) = sym c.in_default.is ∙ c.stage.ensures c.args.history.now u.events u.shows ∙ stage_is t c.args.core.now c.args.history.now past c.args.process c.requires.process u in
+    absurd (cc)
+
+pub returns-then-is_resting-clause-lines : goal.returns-then-is_resting-clause-lines
+returns-then-is_resting-clause-lines c = ok_then c.push_rest.result
+    (λ wrote past u.
+    let t = c.args.self.now in
+    let p = c.args.process in
+    let two : Some c.in-Some.stage ≡ Some (stage p past) = sym c.in-Some.is ∙ c.stage.ensures c.args.history.now u.events u.shows ∙ stage_is t c.args.core.now c.args.history.now past p c.requires.process u in
+    let same : c.in-Some.stage ≡ stage p past = cc in
+    let rests : is_resting c.in-Some.stage ≡ true = sym c.is_resting.ensures ∙ c.if-is_resting.true in
+    let calls : c.kept-kept.result.standing.last.call ≡ calls_in (own p past) = ap (λ (k : ProcessKept). k.standing.last.call) (c.kept-kept.ensures past u.heard) in
+    let words = rest_line p c.in-Some.stage (calls_in (own p past)) in
+    wrote ∙ ap (λ l. c.args.text.now.items ++ l) (ap (rest_line p c.in-Some.stage) calls ∙ sym (ap (λ (b : Bool). cond b words (running_lines t.setup past p c.in-Some.stage)) rests) ∙ ap (lines_at t.setup past p) same))
+    c.push_rest.ensures
+
+pub returns-clause-lines : goal.returns-clause-lines
+returns-clause-lines c = ok_then c.push_running.result
+    (λ lines past u.
+    let t = c.args.self.now in
+    let p = c.args.process in
+    let two : Some c.in-Some.stage ≡ Some (stage p past) = sym c.in-Some.is ∙ c.stage.ensures c.args.history.now u.events u.shows ∙ stage_is t c.args.core.now c.args.history.now past p c.requires.process u in
+    let same : c.in-Some.stage ≡ stage p past = cc in
+    let runs : is_resting c.in-Some.stage ≡ false = sym c.is_resting.ensures ∙ c.if-is_resting.false in
+    let words = rest_line p c.in-Some.stage (calls_in (own p past)) in
+    lines past u (c.kept-kept.ensures past u.heard) ∙ ap (λ l. c.args.text.now.items ++ l) (sym (ap (λ (b : Bool). cond b words (running_lines t.setup past p c.in-Some.stage)) runs) ∙ ap (lines_at t.setup past p) same))
+    c.push_running.ensures.lines

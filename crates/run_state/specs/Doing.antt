@@ -1,0 +1,212 @@
+-- How far a process is: its ticket, for whom it waits, what it or its unit reads, writes or settles, and what is open.
+use Rattle.std.specs.Prelude.{ℕ, zero, suc, ◌+◌, ◌-◌, ◌*◌, ◌/◌, ◌%◌, ◌==◌, nat_lt, Bool, true, false, not, ◌&&◌, ◌||◌, List, [], ◌++◌, codes, cond, Option, None, Some}
+use Rattle.std.specs.Fmt.{decimal}
+use Rattle.plain_store.specs.{Setup}
+use Rattle.record.specs.safe_bit.{Move}
+use Rattle.record.specs.safe_bit.declared.Move.TheVariants.{BeginWrite, EndWrite, EndRead}
+use Rattle.record.specs.{Access, Entry, Field, Past, Stage, entry_of, field_word, width, with_event}
+use Rattle.record.specs.declared.access.Field.TheVariants.{Ticket}
+use Rattle.record.specs.declared.events.Event.TheVariants.{Step}
+use Rattle.record.specs.declared.stages.Stage.TheVariants.{Doorway, Waiting, Inside, Settling}
+use Rattle.record_file.specs.scenario.{bit_word}
+use Rattle.calls.specs.{Called, holds_up, is_read_end, open_call}
+use Rattle.run_state.specs.declared.kept.FinishedRead.{FinishedRead}
+use Rattle.calls.specs.world.laws.{Doing, doing}
+use Rattle.calls.specs.world.process.{TicketKnown, number_read, settling_of, ticket_known}
+use Rattle.calls.specs.world.process.declared.looks.Settling.{Settling as Torn}
+use Rattle.calls.specs.world.process.declared.looks.TicketKnown.TheVariants.{Above, Is}
+use Rattle.calls.specs.world.process.registers.reader_copies.{BitSeen}
+use Rattle.run_state.specs.declared.kept.ProcessKept.{ProcessKept}
+use Rattle.run_state.specs.Copies.{bit_at, copy_text, is_image}
+use Rattle.run_state.specs.Keeping.{kept}
+use Rattle.run_state.specs.Lines.{line_if, process_line}
+
+-- Its ticket.
+
+abbrev pub ticket_words : ℕ → List ℕ
+ticket_words n = codes "ticket " ++ decimal n
+
+-- a ticket above this one
+abbrev pub above_words : ℕ → List ℕ
+above_words n = codes "ticket above " ++ decimal n
+
+-- in its doorway, by what is known of it
+abbrev pub doorway_ticket : Option TicketKnown → Option (List ℕ)
+doorway_ticket None = None
+doorway_ticket (Some (Above n)) = Some (above_words n)
+doorway_ticket (Some (Is n)) = Some (ticket_words n)
+
+-- the ticket with which it waits
+abbrev pub waiting_ticket : Option ℕ → Option (List ℕ)
+waiting_ticket None = None
+waiting_ticket (Some n) = Some (ticket_words n)
+
+abbrev pub ticket_at : Stage → Option TicketKnown → Called → Option (List ℕ)
+ticket_at Doorway known c = doorway_ticket known
+ticket_at Waiting known c = waiting_ticket c.marks.ticket
+ticket_at Inside known c = waiting_ticket c.marks.ticket
+ticket_at _ known c = None
+
+-- what of q it waits for, by the number read
+abbrev pub awaited : Field → ℕ → List ℕ
+awaited Ticket n = codes " ticket " ++ decimal n
+awaited _ n = codes " choosing"
+
+-- the number that it has read last holds it up
+abbrev pub waits_by : ℕ → Option ℕ → Option FinishedRead → Option (List ℕ)
+waits_by p (Some ticket) (Some read) = cond (holds_up p ticket read.owner read.field read.number) (Some (codes "waits for " ++ (decimal read.owner ++ awaited read.field read.number))) None
+waits_by p _ _ = None
+
+abbrev pub waits_at : ℕ → Stage → Option FinishedRead → Called → Option (List ℕ)
+waits_at p Waiting read c = waits_by p c.marks.ticket read
+waits_at p _ read c = None
+
+-- both lines, by what is known of the ticket, and by the number that was read last
+abbrev pub call_told : ℕ → Stage → Option TicketKnown → Option FinishedRead → Called → List ℕ
+call_told p stage known read c = line_if p (ticket_at stage known c) ++ line_if p (waits_at p stage read c)
+
+abbrev pub ticket_lines : ℕ → Stage → Option TicketKnown → Option FinishedRead → Option Called → List ℕ
+ticket_lines p stage known read None = []
+ticket_lines p stage known read (Some c) = call_told p stage known read c
+
+-- What it reads, writes or settles.
+
+-- the name of a register, of whose accesses so many are made, of so many
+abbrev pub progress_words : Access → ℕ → ℕ → List ℕ
+progress_words a made all = decimal a.owner ++ (codes "." ++ (field_word a.field ++ (codes " " ++ (decimal made ++ (codes " of " ++ decimal all)))))
+
+-- one more, where a test holds
+abbrev pub one_if : Bool → ℕ
+one_if b = cond b 1 0
+
+-- a write ends
+abbrev pub is_write_end : Move → Bool
+is_write_end EndWrite = true
+is_write_end _ = false
+
+-- of the write of a number so many accesses come before this one, and there are so many: of each bit two on each copy
+abbrev pub writes_before : Setup → Access → ℕ
+writes_before s a = 2 * (a.bit * s.processes + a.reader) + one_if (is_write_end a.how)
+
+abbrev pub writes_in_all : Setup → Access → ℕ
+writes_in_all s a = 2 * (s.processes * width s a.field)
+
+-- of its read: of each bit two
+abbrev pub reads_before : Access → ℕ
+reads_before a = 2 * a.bit + one_if (is_read_end a.how)
+
+abbrev pub reads_in_all : Setup → Access → ℕ
+reads_in_all s a = 2 * width s a.field
+
+-- the past once p has made so many Steps alone
+abbrev pub ahead : Setup → Past → ℕ → ℕ → Past
+ahead s past p zero = past
+ahead s past p (suc n) = with_event s (Step p false) (ahead s past p n)
+
+-- what the register's first copy holds once its write is done
+abbrev pub value_written : Setup → Past → ℕ → Access → List ℕ
+value_written s past p a = copy_text s (ahead s past p (writes_in_all s a - writes_before s a)) a.owner a.field 0
+
+abbrev pub writes_words : Setup → Past → ℕ → Access → List ℕ
+writes_words s past p a = (codes "writes " ++ (progress_words a (writes_before s a) (writes_in_all s a) ++ codes " value ")) ++ value_written s past p a
+
+-- the bits of a number that are read so far; an image's are not told
+abbrev pub so_far : Access → ℕ → List ℕ
+so_far a n = cond (is_image a.field || (a.bit == 0)) [] (codes " so far " ++ decimal n)
+
+abbrev pub reads_words : Setup → Access → ℕ → List ℕ
+reads_words s a n = codes "reads " ++ (progress_words a (reads_before a) (reads_in_all s a) ++ so_far a n)
+
+-- the value that a unit has chosen, if it has
+abbrev pub chosen_words : Option Bool → List ℕ
+chosen_words None = []
+chosen_words (Some v) = codes " value " ++ bit_word v
+
+-- the last access of the write that a failure of p has cut
+abbrev pub cut_access : ℕ → Torn → Access
+cut_access p t = record { owner = p; field = t.field; bit = t.bit; reader = t.cut / 2; how = BeginWrite t.written }
+
+-- the write of a copy was begun, and has not ended
+abbrev pub is_cut_open : Torn → Bool
+is_cut_open t = t.cut % 2 == 1
+
+-- of a settling so many accesses are made: two on each copy, but one on that whose write was open; and there are so many
+abbrev pub settled_before : Torn → ℕ
+settled_before t = 2 * t.copy + one_if t.begun - one_if (is_cut_open t && nat_lt (t.cut / 2) t.copy)
+
+abbrev pub settled_in_all : Setup → Torn → ℕ
+settled_in_all s t = 2 * s.processes - one_if (is_cut_open t)
+
+abbrev pub settles_words : Setup → ℕ → Torn → List ℕ
+settles_words s p t = codes "settles " ++ (progress_words (cut_access p t) (settled_before t) (settled_in_all s t) ++ chosen_words t.value)
+
+abbrev pub torn_words : ℕ → Torn → List ℕ
+torn_words p t = codes "torn " ++ (decimal p ++ (codes "." ++ (field_word t.field ++ (codes "." ++ (decimal t.bit ++ (codes " write " ++ bit_word t.written))))))
+
+abbrev pub is_writing : Move → Bool
+is_writing (BeginWrite v) = true
+is_writing EndWrite = true
+is_writing _ = false
+
+-- what it is within, or begins with this access
+abbrev pub access_words : Setup → Past → ℕ → Access → ℕ → List ℕ
+access_words s past p a n = cond (is_writing a.how) (writes_words s past p a) (reads_words s a n)
+
+abbrev pub busy_lines : Setup → Past → ℕ → Access → ℕ → Option Torn → List ℕ
+busy_lines s past p a n None = process_line p (access_words s past p a n)
+busy_lines s past p a n (Some t) = process_line p (settles_words s p t) ++ process_line p (torn_words p t)
+
+-- What is open.
+
+abbrev pub written_word : Bool → List ℕ
+written_word v = codes " write " ++ bit_word v
+
+abbrev pub read_word : Bool → List ℕ
+read_word overlapped = cond overlapped (codes " read overlapped") (codes " read")
+
+-- the access to this bit is open
+abbrev pub opened_words : Access → List ℕ → List ℕ
+opened_words a how = codes "open " ++ (decimal a.owner ++ (codes "." ++ (field_word a.field ++ (codes "." ++ (decimal a.bit ++ (codes "." ++ (decimal a.reader ++ how)))))))
+
+-- before the first access of a settling: the write that the failure has cut
+abbrev pub is_cut_first : Torn → Bool
+is_cut_first t = (t.copy == 0) && not t.begun && is_cut_open t
+
+abbrev pub cut_open : ℕ → Option Torn → Option (List ℕ)
+cut_open p None = None
+cut_open p (Some t) = cond (is_cut_first t) (Some (opened_words (cut_access p t) (written_word t.written))) None
+
+-- where the next access ends one, that one
+abbrev pub open_by : ℕ → Access → Move → BitSeen → Option Torn → Option (List ℕ)
+open_by p a EndWrite b torn = Some (opened_words a (written_word b.value))
+open_by p a (EndRead v) b torn = Some (opened_words a (read_word b.touched))
+open_by p a _ b torn = cut_open p torn
+
+abbrev pub open_words : Setup → Past → ℕ → Access → Option Torn → Option (List ℕ)
+open_words s past p a torn = open_by p a a.how (bit_at s past a) torn
+
+-- All of it.
+
+-- when it failed, while its unit settles
+abbrev pub failed_words : Stage → ℕ → Option (List ℕ)
+failed_words Settling at = Some (codes "failed at " ++ decimal at)
+failed_words _ at = None
+
+-- where it does this, and this access comes next
+abbrev pub doing_with : Setup → Past → ℕ → Stage → Option Called → ProcessKept → Doing → Access → List ℕ
+doing_with s past p stage call k d a =
+    line_if p (failed_words stage k.failed)
+    ++ (ticket_lines p stage (ticket_known s d) k.read call ++ (busy_lines s past p a (number_read d) (settling_of d) ++ line_if p (open_words s past p a (settling_of d))))
+
+-- the access of an entry, if there is one
+abbrev pub access_in : Option Entry → Option Access
+access_in None = None
+access_in (Some e) = e.access
+
+abbrev pub doing_by : Setup → Past → ℕ → Stage → Option Access → List ℕ
+doing_by s past p stage None = []
+doing_by s past p stage (Some a) = doing_with s past p stage (open_call s p past) (kept s p past) (doing s p past) a
+
+-- of p at a stage, by the access of its next Step
+abbrev pub doing_lines : Setup → Past → ℕ → Stage → List ℕ
+doing_lines s past p stage = doing_by s past p stage (access_in (entry_of s past (Step p false)))

@@ -1,0 +1,54 @@
+-- The line of a scenario file that made an event, and how `state` writes it.
+use Rattle.std.specs.Prelude.{◌≡◌, ◌<◌, ◌≤◌, ℕ, suc, ◌+◌, ◌-◌, nat_le, nat_lt, Bool, true, false, ◌&&◌, List, [], ◌∷◌, ◌++◌, codes, length, slice_index, Option, None, Some}
+use Rattle.std.specs.Fmt.{decimal}
+use Rattle.plain_store.specs.{Setup}
+use Rattle.calls.specs.scenario.{Line, Script, line_words, spaced}
+use Rattle.calls.specs.course.{Run, happenings, past_after, past_in, run_after, run_at_start, runs}
+use Rattle.run_state.specs.declared.stating.MakingLine.{MakingLine}
+
+-- Of the numbers of some lines, that of the line with so many lines after it.
+abbrev pub number_in : List ℕ → ℕ → ℕ
+number_in numbers after = slice_index numbers (length numbers - suc after)
+
+-- how many events a run has
+abbrev pub events_in : Setup → Run → ℕ
+events_in s run = length (past_in s run)
+
+-- whether a line makes event number e: before the line a run has fewer events, and after it that many or more
+abbrev pub makes_event : Setup → ℕ → Line → Run → Bool
+makes_event s e line run = nat_lt (events_in s run) e && nat_le e (events_in s (run_after s line run))
+
+-- the line of the state: a line's number, how many events it has made, and its words
+abbrev pub made_line : ℕ → ℕ → Line → List ℕ
+made_line number made line = codes "line " ++ (decimal number ++ (codes " made " ++ (decimal made ++ (codes " " ++ (spaced (line_words line) ++ codes "\n")))))
+
+-- Lines with these numbers are run one after another. One of them makes event number e, if there is such an event: its line of
+-- the state.
+abbrev pub making_line : List ℕ → Setup → ℕ → Run → List Line → List ℕ
+making_line numbers s e run [] = []
+making_line numbers s e run (line ∷ after) = elim (makes_event s e line run) [
+  | true ↦ made_line (number_in numbers (length after)) (e - events_in s run) line
+  | false ↦ making_line numbers s e (run_after s line run) after
+]
+
+-- the line of the state for a line that is remembered, at so many events
+abbrev pub remembered_line : ℕ → Option MakingLine → List ℕ
+remembered_line events None = []
+remembered_line events (Some newest) = made_line newest.number (events - newest.before) newest.line
+
+-- What holds of it.
+
+-- Of lines that are run one after another, this one makes event number e, and it is the one that is written.
+pub record IsMade (numbers : List ℕ) (s : Setup) (e : ℕ) (run : Run) (lines : List Line) : Type 0 where
+  pub before : List Line
+  pub line : Line
+  pub after : List Line
+  pub is : lines ≡ before ++ line ∷ after
+  pub fewer : events_in s (runs s before run) < e
+  pub enough : e ≤ events_in s (run_after s line (runs s before run))
+  pub written : making_line numbers s e run lines ≡ made_line (number_in numbers (length after)) (e - events_in s (runs s before run)) line
+
+-- A line makes each event of a script's run.
+abbrev pub EventsAreMade : Type 0
+EventsAreMade = (numbers : List ℕ) (said : Script) (e : ℕ) →
+    0 < e → e ≤ length (past_after said.setup (happenings said)) → IsMade numbers said.setup e run_at_start said.lines

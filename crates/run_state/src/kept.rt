@@ -1,0 +1,107 @@
+//! What is kept of a process, entry by entry.
+ghost use Rattle.std.specs.Prelude.{◌≡◌, ◌-◌, ◌<◌, ◌^◌, Ok, cond, None, Some};
+ghost use Rattle.std.specs.List.{list_any};
+ghost use Rattle.plain_store.specs.{checked};
+ghost use Rattle.record.specs.{is_failed};
+ghost use Rattle.run_state.specs.Keeping.{kept_marked, kept_stepped, nothing_kept, opened};
+
+use calls::{CallStanding, Called, called_in, ends_number, first_if, number_after};
+use plain_store::{NestedTypes, Setup};
+use record::{Access, Field, Mark};
+
+/// A number that was read of a register.
+#[derive(Clone, Copy)]
+pub(crate) struct FinishedRead {
+    pub owner: u8,
+    pub field: Field,
+    pub number: u64,
+}
+
+/// The state of a process. Its last call stores no access except the first that the process makes itself.
+#[derive(Clone, Copy)]
+pub(crate) struct ProcessKept {
+    pub standing: CallStanding,
+    /// The number of the entry with which it failed last.
+    pub failed: u64,
+    /// The number that it has read last, unless an entry has had a mark since.
+    pub read: Option<FinishedRead>,
+}
+
+impl ProcessKept {
+    /// Of a process without an entry.
+    pub fn nothing(process: u8) -> ProcessKept
+        ensures { result ≡ nothing_kept process }
+    {
+        ProcessKept {
+            standing: CallStanding::at_rest(process),
+            failed: 0,
+            read: None,
+        }
+    }
+
+    /// Its call, if it goes on.
+    pub fn open_call(&self) -> Option<Called>
+        ensures { result ≡ cond self.now.standing.calling (Some self.now.standing.last) None }
+    {
+        if self.standing.calling {
+            Some(self.standing.last)
+        } else {
+            None
+        }
+    }
+
+    /// One more entry, with this number and these marks, and with an access or not.
+    pub fn mark(&mut self, number: u64, steps: bool, marks: &[Mark])
+        ensures { self.old.standing.last.call < 2 ^ 64 - 1
+            → self.new ≡ kept_marked number steps marks.now self.old }
+    {
+        let _nested: NestedTypes = None;
+        if has_failed(marks) {
+            self.failed = number;
+        }
+        self.read = None;
+        if let Some(command) = called_in(marks) {
+            self.standing.begin(number, &command);
+            return;
+        }
+        if steps {
+            self.open(number);
+        }
+        self.standing.mark_all(number, marks);
+    }
+
+    /// One more entry, with this number and this access, and without a mark. So much of the number that it reads was read
+    /// before it.
+    #[inline]
+    pub fn step(&mut self, setup: &Setup, number: u64, access: &Access, read: u32)
+        requires { checked setup.now ≡ Ok tt }
+        ensures { self.new ≡ kept_stepped setup.now number access.now read self.old }
+    {
+        self.open(number);
+        if ends_number(setup, access) {
+            self.read = Some(FinishedRead {
+                owner: access.owner,
+                field: access.field,
+                number: number_after(access, u64::from(read)),
+            });
+        }
+    }
+
+    /// Adds the access of the entry with this number, which counts unless the process has failed in its call.
+    #[inline]
+    fn open(&mut self, number: u64)
+        ensures { self.new ≡ record self.old { standing = opened number self.old.standing } }
+    {
+        let last = &mut self.standing.last;
+        let itself = last.marks.failed.is_none();
+        last.accesses.doorway = first_if(last.accesses.doorway, itself, number);
+    }
+}
+
+/// Whether with these marks a process fails.
+fn has_failed(marks: &[Mark]) -> bool
+    ensures { result ≡ list_any is_failed marks.now }
+{
+    let _nested: NestedTypes = None;
+    marks.iter().any(|mark| matches!(mark, Mark::Failed))
+}
