@@ -6,7 +6,7 @@ use Rattle.record.specs.{Access, Call, Closing, Ended, Entry, Event, Frees, Next
 use Rattle.record.specs.declared.access.Field.TheVariants.{Choosing, Ticket}
 use Rattle.plain_store.specs.{Command, Setup}
 use Rattle.record.specs.Closings as closing
-use Rattle.record.specs.Parts.{Part, Lowers, Waits, AsksCommit, AsksStamp, AsksImage, WritesImage, WritesStamp, WritesCommit, is_over, read_at, written_at}
+use Rattle.record.specs.Parts.{Part, Waits, AsksCommit, AsksStamp, AsksImage, WritesImage, WritesStamp, WritesCommit, is_over, read_at, written_at}
 use Rattle.record.proofs.Singles.{is_write, is_write-true}
 use Rattle.record.proofs.Width.{IsGood}
 use Rattle.record.specs.safe_number.{new_write}

@@ -7,7 +7,7 @@ use Rattle.record.specs.{Entry, Event, Part, Past, Place, Stage, Wait, Waits, ad
 use Rattle.record.specs.declared.events.Event.TheVariants as event
 use Rattle.record.specs.declared.marks.Mark.TheVariants.{Called, Failed, Withdrew, Restarted}
 use Rattle.record.specs.declared.stages.Stage.TheVariants as stages
-use Rattle.record.specs.Closings.{Closing, Withdraws, Lowers, closing_stage}
+use Rattle.record.specs.Closings.{Closing, Withdraws, closing_stage}
 use Rattle.record.specs.Parts as part
 use Rattle.record.proofs.ClosingStanding.{withdrawn_stands}
 use Rattle.record.proofs.OpenSteps.{place_at, leaving_at}

@@ -53,6 +53,11 @@ pub mod HeldThere
 pub mod HeldTurns
 pub mod Ends
 pub mod SafeRecords
+-- A write leaves its bits
+pub mod ClosingWrites
+pub mod WriteSteps
+mod WriteWidths
+pub mod WriteEnds
 -- The theorems
 pub mod Theorems
 pub mod AheadLists

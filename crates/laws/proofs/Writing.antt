@@ -50,13 +50,13 @@ rewired s past e x h = record { here = wires-here s past e x h; there = apart }
 -- The next access of a write: begin or end on a copy.
 
 -- where the write is, once it has begun on a copy, or ended on one that is not the last of its bit
-stays : (n : ℕ) (bits : List Bool) (w : NumberWrite) → ((bit_written bits w).made + 1 == 2 * n) ≡ false →
+pub stays : (n : ℕ) (bits : List Bool) (w : NumberWrite) → ((bit_written bits w).made + 1 == 2 * n) ≡ false →
     write_moved n bits w ≡ record { width = w.width; bit = w.bit; run = Some (record { value = (bit_written bits w).value; made = (bit_written bits w).made + 1; ended = false }) }
 stays n bits w e = ap {A = Bool} (λ b. cond b (let next : NumberWrite = record { width = w.width; bit = w.bit + 1; run = None } in next)
     (record { width = w.width; bit = w.bit; run = Some (record { value = (bit_written bits w).value; made = (bit_written bits w).made + 1; ended = b }) })) e
 
 -- where it is once it has ended on the last copy
-turns : (n : ℕ) (bits : List Bool) (w : NumberWrite) → ((bit_written bits w).made + 1 == 2 * n) ≡ true → write_moved n bits w ≡ record { width = w.width; bit = w.bit + 1; run = None }
+pub turns : (n : ℕ) (bits : List Bool) (w : NumberWrite) → ((bit_written bits w).made + 1 == 2 * n) ≡ true → write_moved n bits w ≡ record { width = w.width; bit = w.bit + 1; run = None }
 turns n bits w e = ap {A = Bool} (λ b. cond b (let next : NumberWrite = record { width = w.width; bit = w.bit + 1; run = None } in next)
     (record { width = w.width; bit = w.bit; run = Some (record { value = (bit_written bits w).value; made = (bit_written bits w).made + 1; ended = b }) })) e
 

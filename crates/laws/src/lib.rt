@@ -17,5 +17,5 @@ pub use lock::{
     ahead, alone_inside, full_answers, mutual_exclusion, no_overtaking, own_entries, safe_rule,
     units_are_short,
 };
-pub use registers::registers_serve_every_access;
+pub use registers::{registers_serve_every_access, writes_leave_their_bits};
 pub use ticket_line::who_enters_is_first_in_line;
