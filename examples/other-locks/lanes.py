@@ -1,5 +1,6 @@
 #!/usr/bin/env python3
-"""Draws a record as text: a lane for each process, a line for each entry, time downwards. lanes.py RECORD, or - for standard input.
+"""Draws a record or a trace as text: a lane for each process, a line for each entry, time downwards. lanes.py FILE, or - for standard
+input.
 
 An access is joined from its begin to its end, so that it is seen which overlap.
 """

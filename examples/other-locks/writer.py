@@ -10,10 +10,17 @@ one-bit lock; a lock of your own is run by a file from `from writer import main,
 import argparse
 import pathlib
 import random
+import shutil
+import subprocess
 import sys
 
-sys.path.append(str(pathlib.Path(__file__).resolve().parents[2] / "tests"))
-from second.any_lock import any_lock
+from driver import Mistake, Unmade, resume, started
+
+TOP = pathlib.Path(__file__).resolve().parent.parent.parent
+# the programs that judge, where the second judge of the repository is missing
+PROGRAMS = [TOP / "bin" / "bakerystore", TOP / "crates" / "bakerystore" / "out" / "bakerystore", "bakerystore"]
+# the registers of a record, and the most bits that each may have
+FIELDS = {"choosing": 1, "commit": 1, "ticket": 32, "stamp0": 32, "stamp1": 32, "image0": 1472, "image1": 1472}
 
 
 def one_bit(me, processes):
@@ -45,6 +52,24 @@ def one_bit(me, processes):
 
 def write(me, field, value, processes, width=1):
     """Writes an own register: of each bit the copy of each other process."""
+    check(field, width)
+    return Unmade(f"write({me}, \"{field}\", {value}, ..)", writing(me, field, value, processes, width))
+
+
+def read(owner, field, me, width=1):
+    """Reads the own copies of another's register."""
+    check(field, width)
+    return Unmade(f"read({owner}, \"{field}\", ..)", reading(owner, field, me, width))
+
+
+def check(field, width):
+    if field not in FIELDS:
+        raise Mistake(f"a record has no field `{field}`; the fields are {', '.join(FIELDS)}")
+    if width > FIELDS[field]:
+        raise Mistake(f"the field `{field}` has at most {FIELDS[field]} bits")
+
+
+def writing(me, field, value, processes, width):
     for bit in range(width):
         for reader in range(processes):
             if reader != me:
@@ -52,8 +77,7 @@ def write(me, field, value, processes, width=1):
                 yield f"{me}.{field}.{bit}.{reader}", "end"
 
 
-def read(owner, field, me, width=1):
-    """Reads the own copies of another's register."""
+def reading(owner, field, me, width):
     value = 0
     for bit in range(width):
         yield f"{owner}.{field}.{bit}.{me}", "read"
@@ -65,15 +89,24 @@ class Process:
     """A process of a lock: `next` is the access or the mark that it makes next."""
 
     def __init__(self, lock, me, processes):
-        self.lock = lock(me, processes)
-        self.next = next(self.lock)
+        self.lock = started(lock, me, processes)
+        self.next = self.pull()
 
     def begins(self, *words):
         return isinstance(self.next, str) and self.next.startswith(words)
 
     def take(self, value=None):
-        taken, self.next = self.next, self.lock.send(value)
+        taken, self.next = self.next, self.pull(value)
         return taken
+
+    def pull(self, value=None):
+        """What the lock yields next."""
+        found = resume(self.lock, value)
+        if isinstance(found, Unmade):
+            found.refuse()
+        if isinstance(found, str) or isinstance(found, tuple) and len(found) == 2:
+            return found
+        raise Mistake(f"the lock yields {found!r}; it yields marks, which are texts, and accesses by `yield from`")
 
     def step(self, value):
         """Makes its next entry, in which a read ends, or a cut write is settled, with this value: its bit, move and marks."""
@@ -101,7 +134,7 @@ def run(lock, choices, processes, calls):
         if move == "read":
             overlapped[bit] = bit in writes
         elif move == "end":
-            writes.remove(bit)
+            writes.discard(bit)
         elif move.startswith("write"):
             values[bit], overlapped[bit] = int(move[-1]), True
             writes.add(bit)
@@ -122,7 +155,30 @@ def shortened(choices, is_wanted):
     return choices
 
 
+def verdict(text):
+    """The verdict of `judge --any-lock` on a record, or its fault. The second judge of the repository finds it; without the
+    repository the program does."""
+    try:
+        sys.path.append(str(TOP / "tests"))
+        from second.any_lock import any_lock
+    except ModuleNotFoundError:
+        program = next(filter(None, (shutil.which(program) for program in PROGRAMS)), None)
+        if program is None:
+            sys.exit("writer.py: put the program bakerystore on the path; it judges the records")
+        run = subprocess.run([program, "judge", "--any-lock", "-"], input=text, capture_output=True)
+        return run.stdout.decode(), run.stderr.decode()
+    _, told, fault = any_lock(text)
+    return told.decode(), fault.decode()
+
+
 def main(lock, tickets=1):
+    try:
+        draw(lock, tickets)
+    except Mistake as mistake:
+        sys.exit(f"writer.py: {mistake}")
+
+
+def draw(lock, tickets):
     parser = argparse.ArgumentParser(description=__doc__, formatter_class=argparse.RawDescriptionHelpFormatter)
     for name, default in [("processes", 2), ("calls", 2), ("entries", 200), ("seed", 1), ("seeds", 1000)]:
         parser.add_argument(f"--{name}", type=int, default=default)
@@ -132,10 +188,10 @@ def main(lock, tickets=1):
     record = lambda choices: "".join(f"{line}\n" for line in head + run(lock, choices, said.processes, said.calls))
 
     def law(choices):
-        _, told, fault = any_lock(record(choices).encode())
+        told, fault = verdict(record(choices).encode())
         if fault:
-            sys.exit(f"{record(choices)}{fault.decode()}")
-        return told.split()[-1].decode() if told.startswith(b"bad") else "good"
+            sys.exit(f"{record(choices)}{fault}")
+        return told.split()[-1] if told.startswith("bad") else "good"
 
     for seed in range(said.seed, said.seed + said.seeds):
         draws = random.Random(seed)

@@ -78,8 +78,8 @@ def try_refusals(counter):
 
 def main():
     counter = Counter()
-    # (the folder `spin` has models, and no record)
-    for folder in sorted(path for path in OTHER_LOCKS.iterdir() if path.is_dir() and path.name != "spin"):
+    # (the folder `spin` has models, and no record; Python may leave the other one)
+    for folder in sorted(path for path in OTHER_LOCKS.iterdir() if path.is_dir() and path.name not in ("spin", "__pycache__")):
         try_folder(counter, folder)
     try_refusals(counter)
     counter.end()
