@@ -1,19 +1,23 @@
+pub use Rattle.registers.proofs as registers_proofs
 pub mod AfterParts
 pub mod ClosingsOn
 pub mod CutsAt
 pub mod Greatest
 pub mod HeldBits
+pub mod LastAccess
 pub mod Left
 pub mod MarksTo
 pub mod Memories
 pub mod MemoriesMoved
 pub mod MemoriesOpening
+pub mod NewestSteps
 pub mod NewestWith
 pub mod NextAt
 pub mod OfRegister
 pub mod OthersFrom
 pub mod Outcomes
 pub mod PartOver
+pub mod ProgressMade
 pub mod Rests
 pub mod RunsOn
 pub mod SeenMore

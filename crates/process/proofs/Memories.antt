@@ -1,5 +1,6 @@
 -- The memory of a function of an access: its shape, and its cells.
-use Rattle.std.proofs.Common.{◌≡◌, ℕ, zero, suc, ◌+◌, ◌*◌, ◌/◌, ◌%◌, ◌<◌, false, List, [], length, refl, ap, ◌∙◌, arith}
+use Rattle.std.proofs.Common.{◌≡◌, ℕ, zero, suc, ◌+◌, ◌*◌, ◌/◌, ◌%◌, ◌<◌, false, List, [], length, map, refl, ap, ◌∙◌, arith}
+use Rattle.std.specs.List.{range_with_len}
 use Rattle.std.proofs.Math.Nat.{div-lt_iff_lt-mul}
 use Rattle.std.proofs.lemmas.Nat.{div-add-mod', div-mul-add, mod-mul-add}
 use Rattle.std.proofs.lemmas.List.FromFn.{length-map-range_with_len, get_or-map-range_with_len}
@@ -87,6 +88,13 @@ with-same f g s same =
 -- a lane of it
 pub with-lane : (cells : Access → Cell) (s : Setup) (lane : ℕ) → lane < 7 * s.processes * s.processes → lane_of (memory_with cells s) lane ≡ lane_with cells s lane
 with-lane cells s lane below = let none : List Cell = [] in get_or-map-range_with_len (lane_with cells s) 0 (7 * s.processes * s.processes) lane lane none below (omega arith)
+
+-- a reader's copies of a register
+pub with-copies : (cells : Access → Cell) (s : Setup) (r : RegisterName) (reader : ℕ) → r.owner < s.processes → reader < s.processes →
+    lane_of (memory_with cells s) (lane_number s.processes r reader) ≡ map (λ k. cells (copy r.owner r.field reader k)) (range_with_len 0 (width s r.field))
+with-copies cells s r reader owner inside =
+    with-lane cells s (lane_number s.processes r reader) (lane-in s.processes r reader owner inside)
+    ∙ (λ i. map (λ k. cells (lane-named s r reader k inside i)) (range_with_len 0 (width s (lane-field s.processes r reader inside i))))
 
 -- a cell of it
 pub with-copy : (cells : Access → Cell) (s : Setup) (a : Access) → IsThere s a → cell_at (memory_with cells s) (lane_of_access s.processes a) a.bit ≡ cells (copy a.owner a.field a.reader a.bit)

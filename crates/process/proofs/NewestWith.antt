@@ -1,9 +1,7 @@
 -- The newest store off the memory after a past is the one whose image the record's newest bytes are.
-use Rattle.std.proofs.Common.{◌≡◌, ◌<◌, ◌/◌, ◌%◌, ℕ, Bool, false, List, get_or, length, map, ap, ◌∙◌, arith}
+use Rattle.std.proofs.Common.{◌≡◌, ◌<◌, ◌/◌, ◌%◌, ℕ, Bool, false, List, get_or, map, refl, ap, ◌∙◌, arith}
 use Rattle.std.specs.List.{range_with_len}
 use Rattle.std.specs.Prelude.{Ok}
-use Rattle.std.proofs.lemmas.List.{length-map}
-use Rattle.std.proofs.lemmas.List.FromFn.{length-map-range_with_len}
 use Rattle.std.proofs.lemmas.Simd.{map-map}
 use Rattle.registers.specs.safe_bit.Cell.{Cell}
 use Rattle.plain_store.specs.{Setup, callers_of, checked}
@@ -18,9 +16,9 @@ use Rattle.laws.specs.{cell_held}
 use Rattle.laws.proofs.HeldCells.{held-is}
 use Rattle.registers.specs.{RegisterName, field_numbered, lane_number}
 use Rattle.registers.proofs.Openings.{lane-field, lane-in}
-use Rattle.process.specs.{access_there, memory_with, newest_store, register_held, version_in, versions_in}
-use Rattle.process.proofs.Greatest.{greatest-there}
+use Rattle.process.specs.{access_there, memory_with, newest_store, newest_version, register_held, version_in, versions_in}
 use Rattle.process.proofs.Memories.{lane-named, with-lane}
+use Rattle.process.proofs.NewestSteps.{newest-below}
 
 value : Cell → Bool
 value c = c.value
@@ -55,19 +53,11 @@ versions-are s past some =
     let none : Version = (false, 0) in
     range_same (record_newest.version_held s past) (version_in s (memory_with (cell_held s past) s)) s.processes none (λ p below. version-is s past p some below)
 
--- the newest of them is one of the processes
-pub newest-inside : (s : Setup) (memory : List (List Cell)) → 0 < s.processes → newest_process (versions_in s memory) < s.processes
-newest-inside s memory some =
-    let vs : List Version = versions_in s memory in
-    let stamp : Version → ℕ = λ v. v.1 in
-    let many : length (map stamp vs) ≡ s.processes = length-map vs stamp ∙ length-map-range_with_len (version_in s memory) 0 s.processes in
-    omega (arith, greatest-there (map stamp vs) (omega (arith, many, some)), many)
-
 pub newest-with : (s : Setup) → checked s ≡ Ok tt → (past : Past) → newest_store s (memory_with (cell_held s past) s) ≡ store_in s.slots (callers_of s) (newest_bytes s past)
 newest-with s good past =
     let memory : List (List Cell) = memory_with (cell_held s past) s in
     let some : 0 < s.processes = omega (arith, (is_good s good).processes_is) in
     let newest : ℕ = newest_process (versions_in s memory) in
     ap (λ bits. store_in s.slots (callers_of s) (bytes_of_bits (image_bytes s) bits)) (
-    values-held s past newest (image_field (version_of (versions_in s memory) newest)) some (newest-inside s memory some)
+    values-held s past newest (image_field (version_of (versions_in s memory) newest)) some (newest-below (version_in s memory) s.processes (newest_version (versions_in s memory)) refl some)
     ∙ ap (λ vs. bits_held s past (newest_process vs) (image_field (version_of vs (newest_process vs))) 0) (versions-are s past some))

@@ -1,10 +1,11 @@
 -- What is known of a process by what it does.
-use Rattle.std.specs.Prelude.{ℕ, Bool, ◌&&◌, not, cond, List, [], Option, None, Some}
+use Rattle.std.specs.Prelude.{ℕ, Bool, ◌&&◌, not, cond, List, [], Option, None, Some, option_map}
 use Rattle.plain_store.specs.{Setup}
 use Rattle.record.specs.safe_number.{number_of_bits}
 use Rattle.record.specs.{Closing, Place, Reading, Run, Settles, Writing, greatest, max_of}
 use Rattle.record.specs.Parts.{Part, Asks, TakesTicket, Lowers, Refuses, is_read}
-use Rattle.laws.specs.{Doing, Runs, Closes}
+use Rattle.laws.specs.{Doing, RegisterWrite, Runs, Closes, register_write}
+use Rattle.registers.specs.{register_bytes}
 use Rattle.process.specs.declared.looks.TicketKnown.{TicketKnown}
 use Rattle.process.specs.declared.looks.TicketKnown.TheVariants.{Above, Is}
 use Rattle.process.specs.declared.looks.Settling.{Settling}
@@ -47,3 +48,7 @@ settling_in _ = None
 abbrev pub settling_of : Doing → Option Settling
 settling_of (Closes command number at) = settling_in at
 settling_of _ = None
+
+-- The bytes of what a process writes to a register, or its memory unit. It is none where neither writes one.
+abbrev pub bytes_written : Setup → ℕ → Doing → Option (List ℕ)
+bytes_written s p d = option_map (λ (w : RegisterWrite). register_bytes w.bits) (register_write s p d)

@@ -1,12 +1,24 @@
 -- The committed store with the greatest stamp, off the memory, as reader 0's copies have it.
-use Rattle.std.specs.Prelude.{ℕ, Bool, false, List, map, slice_index_or}
+use Rattle.std.specs.Prelude.{◌≡◌, ℕ, Bool, false, List, [], ◌∷◌, ◌++◌, length, map, slice_index_or}
 use Rattle.registers.specs.safe_bit.Cell.{Cell}
 use Rattle.plain_store.specs.{Contents, Setup, callers_of}
-use Rattle.record.specs.{Field, Version, bytes_of_bits, image_bytes, image_field, newest_process, processes, stamp_field, version_of}
+use Rattle.record.specs.{Field, Version, bytes_of_bits, image_bytes, image_field, newest_process, newest_stamp, processes, stamp_field, version_of}
 use Rattle.record.specs.declared.access.Field.TheVariants.{Commit}
 use Rattle.record.specs.safe_number.{number_of_bits}
 use Rattle.store_image.specs.{store_in}
 use Rattle.registers.specs.{values_held}
+use Rattle.process.specs.declared.newest_version.NewestVersion.{NewestVersion}
+
+-- The newest of the versions of processes 0, 1 and so on: the greatest stamp, the lowest process with it, and the commit bit of this process.
+abbrev pub newest_version : List Version → NewestVersion
+newest_version versions =
+    let newest = newest_process versions in
+    record { stamp = newest_stamp versions; process = newest; commit = version_of versions newest }
+
+-- `then` is the newest version once the version of the next process is among those of which `newest` is the newest.
+abbrev pub IsNewestWith : NewestVersion → ℕ → Version → NewestVersion → Type 0
+IsNewestWith newest process version then =
+    (versions : List Version) → length versions ≡ process → newest ≡ newest_version versions → then ≡ newest_version (versions ++ version ∷ [])
 
 -- what a register of a process holds
 abbrev pub register_held : Setup → List (List Cell) → ℕ → Field → List Bool

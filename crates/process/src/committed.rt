@@ -4,11 +4,10 @@ ghost use Rattle.plain_store.specs.{checked};
 ghost use Rattle.registers.specs.{AreOf};
 ghost use Rattle.process.specs.Newest.{newest_store, version_in};
 
-use crate::asked::{newest_image, stamp_field};
+use crate::asked::stamp_field;
 use crate::image::image_read;
-use crate::part::ProcessCall;
-use crate::seen::Seen;
-use plain_store::{Command, Setup};
+use crate::newest_version::NewestVersion;
+use plain_store::Setup;
 use record::Field;
 use registers::{BitMemory, RegisterName};
 use store_image::Image;
@@ -20,31 +19,12 @@ pub fn newest(memory: &BitMemory, setup: &Setup) -> Image
     requires memory { AreOf setup.now memory.now }
     ensures { result ≡ newest_store setup.now memory.now }
 {
-    let mut seen = Seen {
-        numbers: [0; 16],
-        commits: [false; 16],
-        store: Image::empty(1, 0),
-    };
+    let mut newest = NewestVersion::none();
     for process in 0..setup.processes {
-        let (commit, stamp) = version_held(memory, setup, process);
-        seen.commits[usize::from(process)] = commit;
-        seen.numbers[usize::from(process)] = stamp;
+        newest = newest.with(process, version_held(memory, setup, process));
     }
-    let (owner, field) = newest_image(&reader(setup), &seen);
-    let bytes = memory.bytes_held(setup, RegisterName { owner, field });
+    let bytes = memory.bytes_held(setup, newest.image());
     image_read(setup, &bytes)
-}
-
-/// A call of process 0, which would read the newest image.
-fn reader(setup: &Setup) -> ProcessCall
-    ensures { result ≡ record { setup = setup.now; process = 0; command = Command.Ask; number = 0 } }
-{
-    ProcessCall {
-        setup: *setup,
-        process: 0,
-        command: Command::Ask,
-        number: 0,
-    }
 }
 
 /// The version that a process has committed: its commit bit, and the stamp that this chooses.

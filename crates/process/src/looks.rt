@@ -11,6 +11,15 @@ pub enum TicketKnown {
     Is(u32),
 }
 
+/// How far a register access is.
+#[derive(Clone, Copy)]
+pub struct AccessProgress {
+    /// How many of its accesses are made.
+    pub made: u32,
+    /// How many it has.
+    pub all: u32,
+}
+
 /// A bit that a memory unit settles.
 #[derive(Clone, Copy)]
 pub struct Settling {

@@ -14,7 +14,7 @@ pub use Row.{CanMake, HasCell, IsClosed, IsRow, answer_at, cell_at, cell_in, new
 pub use Runs.{HasItsValue, Reading, Settling, Writing, bit_writes, is_open_at, next_read, next_settle, next_write, progress_of, rest_of_settling, rest_of_write, settle_after, settled_at, settles_from, torn_of, write_after, writes_from}
 pub use Seeing.{bit_seen}
 pub use Words.{bit_of_words, bits_of_words}
-pub use Wordwise.{after_read, after_write, over}
+pub use Wordwise.{AreClosedAmong, IsWrittenAmong, after_read, after_write, over}
 pub use Written.{IsAt, IsOpen, IsPartlySettled, IsPartlyWritten, IsRead, IsWrite, IsWritten, KeepsWrite, KeepsWrites, cut_values, with_value}
 pub use declared.bit_seen.BitSeen.{BitSeen}
 pub use declared.runs.Made.{Made}

@@ -1,7 +1,7 @@
 ghost use Rattle.std.specs.Prelude.{◌≡◌, ℕ, ◌<◌, ◌≤◌, ◌+◌, ◌*◌, ◌/◌, ◌%◌, true, false, length, map, replicate, slice_set, if◌then◌else◌, IfNone, IfOk, IfSome, OnSome};
 ghost use Rattle.safe_bit.specs.{new_cell, cell_after, read_answer, without_read};
 ghost use Rattle.reader_copies.specs.Flags.{flag_in, open_flags};
-ghost use Rattle.reader_copies.specs.Wordwise.{after_read, after_write, over};
+ghost use Rattle.reader_copies.specs.Wordwise.{AreClosedAmong, IsWrittenAmong, after_read, after_write, over};
 ghost use Rattle.reader_copies.specs.Row.{cell_in};
 ghost use Rattle.reader_copies.specs.Seeing.{bit_seen};
 ghost use Rattle.reader_copies.specs.Words.{bits_of_words};
@@ -201,6 +201,17 @@ impl Copies {
         ensures { (i : ℕ) → i / 64 ≡ k / 64 → i < length self.now → flag_in result (i % 64) ≡ (cell_in self.now i).value }
     {
         self.flags[k / 64].value
+    }
+
+    /// Returns whether a write of one of `n` bits of one word is open.
+    pub fn is_written(&self, k: usize, n: usize) -> bool
+        requires nonzero { 1 ≤ n }
+        requires word { k % 64 + n ≤ 64 }
+        requires there { k + n ≤ length self.now }
+        ensures written { result ≡ true → IsWrittenAmong self.now k n }
+        ensures closed { result ≡ false → AreClosedAmong self.now k n }
+    {
+        self.flags[k / 64].writing & mask(k % 64, n) != 0
     }
 
     /// What the copy of bit `k` is.

@@ -20,7 +20,7 @@ read-next c part cur at =
     let shown : next_access cur false ≡ access_at c part (Reading cur.bits cur.begun) = λ i. record { owner = (at.at i).owner; field = (at.at i).field; bit = bit i; reader = reader i; how = move_by (at.run i) cur false } in
     sym shown
 
-read-moved : (s : Setup) (p : ℕ) (register : ℕ × Field) (cur : CursorState) (v : Bool) → ReadsAt s p register cur → moved cur v ≡ read_after cur (value_of (read_move cur.begun v))
+pub read-moved : (s : Setup) (p : ℕ) (register : ℕ × Field) (cur : CursorState) (v : Bool) → ReadsAt s p register cur → moved cur v ≡ read_after cur (value_of (read_move cur.begun v))
 read-moved s p register cur v at = λ i. after_by (at.run i) cur (move_by (at.run i) cur v)
 
 read-run : (bits : List Bool) (begun v : Bool) →

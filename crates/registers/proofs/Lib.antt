@@ -1,9 +1,12 @@
 pub mod AtOnce
 pub mod ClosingMoves
+pub mod CopyBytes
 pub mod CursorRuns
 pub mod Held
 pub mod Iterates
 pub mod Kept
+pub mod LastAccess
+pub mod MadeBytes
 pub mod Numbers
 pub mod Openings
 pub mod Over

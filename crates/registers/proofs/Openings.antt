@@ -36,21 +36,24 @@ lane-field n r j inside =
 pub lane-in : (n : ℕ) (r : RegisterName) (j : ℕ) → r.owner < n → j < n → lane_number n r j < 7 * n * n
 lane-in n r j owner inside = omega (arith, number-small r.field, mul-le-mul_right {m = register_number r + 1} {n = 7 * n} n (omega (arith, number-small r.field)))
 
--- reader 0's copies of a register are there, in its width
+-- a reader's copies of a register are there, in its width
+pub reader-lane : (s : Setup) (memory : List (List Cell)) (r : RegisterName) (reader : ℕ) → AreOf s memory → r.owner < s.processes → reader < s.processes →
+    (lane_number s.processes r reader < length memory) × (length (lane_of memory (lane_number s.processes r reader)) ≡ width s r.field)
+reader-lane s memory r reader of owner inside =
+    let there : lane_number s.processes r reader < length memory = omega (arith, of.lanes, lane-in s.processes r reader owner inside) in
+    (there, of.widths (lane_number s.processes r reader) there ∙ ap (width s) (lane-field s.processes r reader inside))
+
+-- so are reader 0's
 pub register-lane : (s : Setup) (memory : List (List Cell)) (r : RegisterName) → AreOf s memory → r.owner < s.processes → (lane_number s.processes r 0 < length memory) × (length (lane_of memory (lane_number s.processes r 0)) ≡ width s r.field)
-register-lane s memory r of owner =
-    let there : lane_number s.processes r 0 < length memory = omega (arith, of.lanes, lane-in s.processes r 0 owner (omega arith)) in
-    (there, of.widths (lane_number s.processes r 0) there ∙ ap (width s) (lane-field s.processes r 0 (omega arith)))
+register-lane s memory r of owner = reader-lane s memory r 0 of owner (omega arith)
 
 -- and so is the bit that an access names
 pub access-lane : (s : Setup) (memory : List (List Cell)) (a : Access) → AreOf s memory → a.owner < s.processes → a.reader < s.processes → a.bit < width s a.field →
     (lane_of_access s.processes a < length memory) × (a.bit < length (lane_of memory (lane_of_access s.processes a)))
 access-lane s memory a of owner reader bit =
     let r : RegisterName = record { owner = a.owner; field = a.field } in
-    let n : ℕ = s.processes in
-    let there : lane_number n r a.reader < length memory = omega (arith, of.lanes, lane-in n r a.reader owner reader) in
-    let wide : length (lane_of memory (lane_number n r a.reader)) ≡ width s a.field = of.widths (lane_number n r a.reader) there ∙ ap (width s) (lane-field n r a.reader reader) in
-    (there, omega (arith, wide, bit))
+    let there = reader-lane s memory r a.reader of owner reader in
+    (there.0, omega (arith, there.1, bit))
 
 -- all copies of a register are there
 pub register-there : (s : Setup) (memory : List (List Cell)) (r : RegisterName) → AreOf s memory → r.owner < s.processes → HasLanes memory (lane_number s.processes r 0) s.processes (width s r.field)

@@ -1,10 +1,11 @@
 -- What holds of every cursor that is at a part of a call.
-use Rattle.std.specs.Prelude.{◌≡◌, ◌<◌, Bool, false, true, Ok}
+use Rattle.std.specs.Prelude.{◌≡◌, ◌<◌, Bool, false, true, Ok, Some}
 use Rattle.plain_store.specs.{checked}
 use Rattle.record.specs.{Call, Part, access_at, enter, marks_of, place_after}
 use Rattle.registers.specs.Accesses.{next_access}
 use Rattle.registers.specs.AtParts.{IsAtPart, IsDone, entered, marks_moved, moved, place_at, place_moved, run_at}
 use Rattle.registers.specs.Cursors.{CursorState, is_over}
+use Rattle.registers.specs.Progress.{last_access}
 
 -- its next access is that of the place
 abbrev pub CursorTellsNext : Type 0
@@ -24,6 +25,10 @@ CursorStays = (c : Call) (part : Part) (cur : CursorState) (v : Bool) → IsAtPa
 
 abbrev pub CursorEnds : Type 0
 CursorEnds = (c : Call) (part : Part) (cur : CursorState) (v : Bool) → IsAtPart c part cur → is_over (moved cur v) ≡ true → IsDone c part (moved cur v)
+
+-- That access is the last one then.
+abbrev pub CursorTellsLast : Type 0
+CursorTellsLast = (c : Call) (part : Part) (cur : CursorState) (v : Bool) → IsAtPart c part cur → last_access (moved cur v) ≡ Some (next_access cur v)
 
 -- the cursor with which a part begins is at it, and shows its place
 abbrev pub CursorBegins : Type 0

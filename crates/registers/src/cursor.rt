@@ -6,12 +6,14 @@ ghost use Rattle.record.specs.{IsTornOf, value_of, width};
 ghost use Rattle.safe_number.specs.{bit_in, bits_in, bits_of_number, number_of_bits};
 ghost use Rattle.registers.specs.Accesses.{cursor_after, next_access, value_written};
 ghost use Rattle.registers.specs.Begins.{idle_cursor, is_fresh, is_torn, reading, settling, settling_from, torn_bit, writing};
+ghost use Rattle.registers.specs.CopyBytes.{register_bytes};
 ghost use Rattle.registers.specs.Cursors.{is_over, lane_number, rest_of};
 
+mod progress;
 mod steps;
 
 use crate::fields::RegisterName;
-use crate::word_bytes::{bytes_of, words_of};
+use crate::word_bytes::{bytes_of, register_bytes, words_of};
 use plain_store::Setup;
 use reader_copies::Torn;
 use record::{Access, Field, Move, TornBit, number_of_field, width_of};
@@ -237,6 +239,13 @@ impl Cursor {
         ensures { (k : ℕ) → k < length self.now.bits → bit_in result k ≡ slice_index_or self.now.bits k false }
     {
         bytes_of(&self.words)
+    }
+
+    /// Returns the bits that were read so far, or that are written, as the bytes of a register.
+    pub fn register_bytes(&self) -> [u8; 216]
+        ensures { result ≡ register_bytes self.now.bits }
+    {
+        register_bytes(&self.words, usize::from(self.known_bits()))
     }
 
     /// Whether nothing is left.

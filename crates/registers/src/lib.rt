@@ -12,7 +12,7 @@ mod word_bytes;
 
 pub use access_made::{AccessMade, AccessesMade};
 pub use cursor::{Cursor, NumberRun, given};
-pub use fields::RegisterName;
+pub use fields::{BitCopy, RegisterName};
 pub use laws::cursors_follow_places;
 pub use memory::BitMemory;
 pub use reader_copies::BitSeen;

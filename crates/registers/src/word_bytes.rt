@@ -1,9 +1,11 @@
 //! Words as bytes, the least significant first.
-ghost use Rattle.std.specs.Prelude.{◌≡◌, ◌<◌, ℕ, length};
-ghost use Rattle.safe_number.specs.{bit_in};
-ghost use Rattle.reader_copies.specs.{bit_of_words};
+ghost use Rattle.std.specs.Prelude.{◌≡◌, ◌<◌, ◌≤◌, ℕ, length};
+ghost use Rattle.safe_number.specs.{AreBytes, bit_in};
+ghost use Rattle.reader_copies.specs.{bit_of_words, bits_of_words};
+ghost use Rattle.registers.specs.CopyBytes.{register_bytes};
 ghost use Rattle.registers.specs.Words.{byte_of_word};
 
+use reader_copies::{choose, mask};
 use safe_number::number_of;
 
 /// The words of bytes.
@@ -21,6 +23,7 @@ pub fn words_of(bytes: &[u8; 216]) -> [u64; 27]
 /// The bytes of words.
 pub(crate) fn bytes_of(words: &[u64; 27]) -> [u8; 216]
     ensures room { length result ≡ 216 }
+    ensures bytes { AreBytes result }
     ensures bits { (k : ℕ) → k < 1728 → bit_in result k ≡ bit_of_words words.now k }
 {
     let mut bytes = [0; 216];
@@ -28,6 +31,19 @@ pub(crate) fn bytes_of(words: &[u64; 27]) -> [u8; 216]
         bytes[place] = byte_in(words[place / 8], place % 8);
     }
     bytes
+}
+
+/// Returns the first `bits` bits of words as the bytes of a register, with zeros after them.
+pub(crate) fn register_bytes(words: &[u64; 27], bits: usize) -> [u8; 216]
+    requires { bits ≤ 1728 }
+    ensures { result ≡ register_bytes (bits_of_words words.now bits) }
+{
+    let mut kept = [0; 27];
+    for place in 0..bits.div_ceil(64) {
+        let mask = mask(0, (bits - 64 * place).min(64));
+        kept[place] = choose(mask, words[place], 0);
+    }
+    bytes_of(&kept)
 }
 
 /// One byte of a word.

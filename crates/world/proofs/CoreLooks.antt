@@ -1,14 +1,14 @@
 -- What a core is looked at for: a process, and a bit.
-use Rattle.std.proofs.Common.{◌≡◌, ℕ, None, ap, refl, ◌∙◌}
+use Rattle.std.proofs.Common.{◌≡◌, ◌<◌, ℕ, None, ap, refl, ◌∙◌}
 use Rattle.std.specs.Prelude.{slice_get, Some}
 use Rattle.record.specs.{Access, past_of}
 use Rattle.record.proofs.Width.{is_good}
 use Rattle.laws.specs.{IsThere, Rests, cell_held, doing}
 use Rattle.laws.proofs.FrameSteps.{doing-above}
-use Rattle.process.specs.registers.{cell_at, lane_of_access}
+use Rattle.process.specs.registers.{RegisterName, cell_at, lane_number, lane_of, lane_of_access}
 use Rattle.process.specs.{process_after}
-use Rattle.process.proofs.Memories.{with-cell}
-use Rattle.world.specs.{CoreState, InEachCorePast, Seat, WorldState, with_history}
+use Rattle.process.proofs.Memories.{with-cell, with-copies}
+use Rattle.world.specs.{CoreState, InEachCorePast, Seat, WorldState, cells_held, with_history}
 use Rattle.world.proofs.WorldOpen.{seat-shown, seatless}
 
 -- a process is that of the past
@@ -24,3 +24,10 @@ pub cell-shown : (c : CoreState) (a : Access) → IsThere c.setup a → InEachCo
 cell-shown c a there taken events shows =
     ap (λ (w : WorldState). cell_at w.registers (lane_of_access c.setup.processes a) a.bit) shows.shown
     ∙ with-cell (cell_held c.setup (past_of c.setup events)) c.setup a (λ a how. refl) there
+
+-- and so are those of a reader's copies of a register that there is
+pub cells-shown : (c : CoreState) (register : RegisterName) (reader : ℕ) → register.owner < c.setup.processes → reader < c.setup.processes →
+    InEachCorePast c (λ s past. lane_of c.registers (lane_number s.processes register reader) ≡ cells_held s past register reader)
+cells-shown c register reader owner inside taken events shows =
+    ap (λ (w : WorldState). lane_of w.registers (lane_number c.setup.processes register reader)) shows.shown
+    ∙ with-copies (cell_held c.setup (past_of c.setup events)) c.setup register reader owner inside

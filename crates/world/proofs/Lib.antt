@@ -1,5 +1,6 @@
 pub use Rattle.history_laws.proofs as history_laws_proofs
 pub use Rattle.laws.proofs as laws_proofs
+pub use Rattle.process.proofs as process_proofs
 -- The registers of all processes
 pub mod WorldRegisters
 -- Who waits before whom
@@ -19,9 +20,11 @@ pub mod CoreGoes
 pub mod WorldPending
 pub mod CoreKeeps
 pub mod CoreLooks
+pub mod CoreLast
 pub mod CoreOverlaps
 pub mod WorldHeadline
 pub mod CoreRefused
+pub mod CoreNext
 pub mod CoreWalks
 pub mod WorldWithin
 pub mod WorldTurns

@@ -1,17 +1,18 @@
 //! What is known of a process. It is looked at, and stays as it is.
-ghost use Rattle.std.specs.Prelude.{◌≡◌, ◌<◌, ◌≤◌, Bool, Option, length, true};
+ghost use Rattle.std.specs.Prelude.{◌≡◌, ◌<◌, ◌≤◌, Bool, None, Option, Some, cond, length, true};
 ghost use Rattle.plain_store.specs.declared.Reply.{Reply as Replied};
 ghost use Rattle.record.specs.{read_at, width};
-ghost use Rattle.registers.specs.{IsAtPart, place_at};
-ghost use Rattle.process.specs.Looks.{number_at, number_read, reads_number, settling_in, settling_of, ticket_known};
+ghost use Rattle.registers.specs.{IsAtPart, is_writing, place_at, register_bytes};
+ghost use Rattle.process.specs.Looks.{bytes_written, number_at, number_read, reads_number, settling_in, settling_of, ticket_known};
+ghost use Rattle.process.specs.RegisterProgress.{last_access, progress};
 ghost use Rattle.process.specs.Working.{settling_at};
 
 use super::Process;
 use crate::asked::Asked;
 use crate::call_part::CallPart;
-use crate::looks::{Settling, TicketKnown};
+use crate::looks::{AccessProgress, Settling, TicketKnown};
 use crate::work::ProcessWork;
-use record::{Move, bit_of};
+use record::{Access, Move, bit_of};
 use registers::{Cursor, NumberRun};
 
 impl Process {
@@ -31,6 +32,42 @@ impl Process {
     {
         match self.work {
             ProcessWork::Runs => self.called.ticket_known(),
+            _ => None,
+        }
+    }
+
+    /// Returns the bytes of what it, or its memory unit, is writing to a register, with zeros after its bits; `None` while
+    /// it writes none, or settles a bit.
+    pub fn writing(&self) -> Option<[u8; 216]>
+        ensures { result ≡ bytes_written self.now.setup self.now.process self.now.doing }
+    {
+        match self.work {
+            ProcessWork::Rests | ProcessWork::Lies | ProcessWork::Settles { .. } => None,
+            _ => bytes_written(&self.cursor),
+        }
+    }
+
+    /// Returns how many accesses of its register access, or of its memory unit's, are made, and how many it has; `None` if
+    /// it makes none.
+    pub fn progress(&self) -> Option<AccessProgress>
+        ensures { result ≡ progress self.now.setup self.now.process self.now.doing }
+    {
+        if !self.goes() {
+            return None;
+        }
+        Some(AccessProgress {
+            made: self.cursor.accesses_made(),
+            all: self.cursor.accesses_in_all(),
+        })
+    }
+
+    /// Returns the access that its call made last within the present register access; `None` if it has made none of it,
+    /// and if no call runs.
+    pub fn last_access(&self) -> Option<Access>
+        ensures { result ≡ last_access self.now.setup self.now.process self.now.doing }
+    {
+        match self.work {
+            ProcessWork::Runs => self.cursor.last_access(),
             _ => None,
         }
     }
@@ -66,6 +103,16 @@ fn reads_number(called: &CallPart) -> bool
     match called.asks() {
         Asked::Reads { .. } => !called.reads_image(),
         _ => false,
+    }
+}
+
+/// Returns the bytes of what a cursor writes, if it writes.
+fn bytes_written(cursor: &Cursor) -> Option<[u8; 216]>
+    ensures { result ≡ cond (is_writing cursor.now.run) (Some (register_bytes cursor.now.bits)) None }
+{
+    match cursor.run() {
+        NumberRun::Writes => Some(cursor.register_bytes()),
+        _ => None,
     }
 }
 

@@ -12,7 +12,8 @@ use super::advance::go_on;
 use crate::told::StepTold;
 use crate::work::ProcessWork;
 use flicks::Flicks;
-use registers::{AccessMade, AccessesMade, BitMemory};
+use record::Access;
+use registers::{AccessMade, AccessesMade, BitMemory, given};
 
 impl Process {
     /// How many of its next accesses are within a number access of its call: they have no mark, and none is the first of the
@@ -46,6 +47,28 @@ impl Process {
         let made = memory.step(&mut self.cursor, &mut Flicks::only(flick));
         *told = go_on(&mut self.called, &mut self.work, &mut self.cursor, fresh);
         made
+    }
+
+    /// Returns the access that its next step would make on the memory by this flick, and what that would lead to. Nothing
+    /// changes, and it does not allocate.
+    pub fn next_step(&self, memory: &BitMemory, flick: bool) -> (Access, StepTold)
+        requires goes { may_step self.now.doing ≡ true }
+        requires memory { AreOf self.now.setup memory.now }
+        ensures access { result.0 ≡ answered_at self.now memory.now flick }
+        ensures marks { marks_told result.1 ≡ marks_on self.now flick (value_of result.0.how) }
+    {
+        let access = memory.answered(&self.called.setup(), &self.next(flick), flick);
+        let told = self.copied().advance(flick, given(access.how));
+        (access, told)
+    }
+
+    /// Returns a copy of it.
+    fn copied(&self) -> Process
+        ensures { result ≡ self.now }
+    {
+        let mut process = Process::new(self.process(), &self.called.setup());
+        process.copy_from(self);
+        process
     }
 
     /// Makes so many steps within a number access, where they lead to nothing, each by the flick that is next. It answers the

@@ -1,34 +1,84 @@
 //! What a copy of a bit is. It is looked at, and no access is made.
-ghost use Rattle.std.specs.Prelude.{◌≡◌, ◌<◌, Ok};
+ghost use Rattle.std.specs.Prelude.{◌≡◌, ◌<◌, ◌≤◌, IfNone, IfSome, Ok, OnSome, false, length, true};
 ghost use Rattle.plain_store.specs.{checked};
 ghost use Rattle.record.specs.{width};
-ghost use Rattle.registers.specs.Accesses.{lane_of_access};
-ghost use Rattle.registers.specs.Memory.{cell_at};
+ghost use Rattle.registers.specs.Accesses.{answered};
+ghost use Rattle.registers.specs.BitCopies.{cell_of_copy};
+ghost use Rattle.registers.specs.CopyBytes.{copies_in, copy_bytes, has_open_write, values_in};
 ghost use Rattle.registers.specs.Openings.{AreOf};
-ghost use Rattle.reader_copies.specs.{bit_seen};
+ghost use Rattle.reader_copies.specs.{bit_seen, bits_of_words};
 
 use super::BitMemory;
 use crate::cursor::lane_number;
-use crate::fields::RegisterName;
+use crate::fields::{BitCopy, RegisterName};
+use crate::word_bytes::register_bytes;
 use plain_store::Setup;
-use reader_copies::BitSeen;
-use record::Access;
+use reader_copies::{BitSeen, Copies};
+use record::{Access, Move, width_of};
 
 impl BitMemory {
-    /// What the copy is that an access names.
-    pub fn bit_seen(&self, setup: &Setup, access: &Access) -> BitSeen
+    /// Returns the state of a copy of a bit.
+    pub fn bit_seen(&self, setup: &Setup, copy: BitCopy) -> BitSeen
+        requires good { checked setup.now ≡ Ok tt }
+        requires memory { AreOf setup.now self.now }
+        requires owner { copy.register.owner < setup.now.processes }
+        requires reader { copy.reader < setup.now.processes }
+        requires bit { copy.bit < width setup.now copy.register.field }
+        ensures { result ≡ bit_seen (cell_of_copy setup.now.processes self.now copy) }
+    {
+        let lane = lane_number(setup.processes, copy.register, copy.reader);
+        self.lanes[lane].seen(usize::from(copy.bit))
+    }
+
+    /// Returns an access as the memory answers it: the end of a read has the value of its copy, or `flick` if a write
+    /// overlapped the read.
+    pub fn answered(&self, setup: &Setup, access: &Access, flick: bool) -> Access
         requires good { checked setup.now ≡ Ok tt }
         requires memory { AreOf setup.now self.now }
         requires owner { access.now.owner < setup.now.processes }
         requires reader { access.now.reader < setup.now.processes }
         requires bit { access.now.bit < width setup.now access.now.field }
-        ensures { result ≡ bit_seen (cell_at self.now (lane_of_access setup.now.processes access.now) access.now.bit) }
+        ensures { result ≡ answered setup.now.processes self.now flick access.now }
     {
-        let register = RegisterName {
-            owner: access.owner,
-            field: access.field,
+        let seen = self.bit_seen(setup, BitCopy::of(access));
+        let value = if seen.touched { flick } else { seen.value };
+        let how = match access.how {
+            Move::EndRead(_) => Move::EndRead(value),
+            how => how,
         };
-        let lane = lane_number(setup.processes, register, access.reader);
-        self.lanes[lane].seen(usize::from(access.bit))
+        Access { how, ..*access }
     }
+
+    /// Returns the copy that a reader has of a register as bytes, with zeros after its bits; `None` while a write of one
+    /// of its bits is open.
+    pub fn copy_bytes(&self, setup: &Setup, register: RegisterName, reader: u8) -> Option<[u8; 216]>
+        requires good { checked setup.now ≡ Ok tt }
+        requires memory { AreOf setup.now self.now }
+        requires owner { register.owner < setup.now.processes }
+        requires reader { reader < setup.now.processes }
+        ensures { result ≡ copy_bytes (copies_in setup.now.processes self.now register reader) }
+    {
+        let width = usize::from(width_of(register.field, setup));
+        let lane = &self.lanes[lane_number(setup.processes, register, reader)];
+        let words = closed_words(lane, width)?;
+        Some(register_bytes(&words, width))
+    }
+}
+
+/// Returns the values of the copies of a lane as words; `None` while a write of one of them is open.
+fn closed_words(lane: &Copies, width: usize) -> Option<[u64; 27]>
+    requires wide { length lane.now ≡ width }
+    requires most { width ≤ 1728 }
+    ensures written { IfNone result (has_open_write lane.now ≡ true) }
+    ensures closed { OnSome result (has_open_write lane.now ≡ false) }
+    ensures bits { IfSome result (λ words. bits_of_words words width ≡ values_in lane.now) }
+{
+    let mut words = [0; 27];
+    for place in 0..width.div_ceil(64) {
+        if lane.is_written(64 * place, (width - 64 * place).min(64)) {
+            return None;
+        }
+        words[place] = lane.word(64 * place);
+    }
+    Some(words)
 }

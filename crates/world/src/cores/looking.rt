@@ -1,14 +1,17 @@
 //! What a core keeps of a process and of a bit. It is looked at, and stays as it is.
 ghost use Rattle.std.specs.Prelude.{◌≡◌, ◌<◌};
 ghost use Rattle.record.specs.{width};
-ghost use Rattle.laws.specs.{cell_held, doing};
+ghost use Rattle.laws.specs.{doing};
 ghost use Rattle.process.specs.{number_read, process_after};
 ghost use Rattle.process.specs.registers.reader_copies.{bit_seen};
 ghost use Rattle.world.specs.Cores.{InEachCorePast};
+ghost use Rattle.world.specs.Looking.{IsNewestAccess, IsStepEntry, bytes_held, copy_held};
 
 use super::Core;
-use process::{BitSeen, Process};
-use record::Access;
+use crate::marks::step_marks;
+use process::{BitCopy, BitSeen, Process, RegisterName};
+use record::{Access, Act, Entry};
+use std::alloc::Global;
 
 impl Core {
     /// A process at its place.
@@ -31,13 +34,49 @@ impl Core {
         }
     }
 
-    /// What the copy of a bit is that an access names.
-    pub fn bit_seen(&self, access: &Access) -> BitSeen
-        requires owner { access.now.owner < self.now.setup.processes }
-        requires reader { access.now.reader < self.now.setup.processes }
-        requires bit { access.now.bit < width self.now.setup access.now.field }
-        ensures { InEachCorePast self.now (λ s past. result ≡ bit_seen (cell_held s past access.now)) }
+    /// Returns the state of a copy of a bit.
+    pub fn bit_seen(&self, copy: BitCopy) -> BitSeen
+        requires owner { copy.register.owner < self.now.setup.processes }
+        requires reader { copy.reader < self.now.setup.processes }
+        requires bit { copy.bit < width self.now.setup copy.register.field }
+        ensures { InEachCorePast self.now (λ s past. result ≡ bit_seen (copy_held s past copy)) }
     {
-        self.registers.bit_seen(&self.setup, access)
+        self.registers.bit_seen(&self.setup, copy)
+    }
+
+    /// Returns the copy that a reader has of a register as bytes, with zeros after its bits; `None` while a write of one
+    /// of its bits is open.
+    pub fn copy_bytes(&self, register: RegisterName, reader: u8) -> Option<[u8; 216]>
+        requires owner { register.owner < self.now.setup.processes }
+        requires reader { reader < self.now.setup.processes }
+        ensures { InEachCorePast self.now (λ s past. result ≡ bytes_held s past register reader) }
+    {
+        self.registers.copy_bytes(&self.setup, register, reader)
+    }
+
+    /// Returns the newest access, where a process made it without a mark, within a register access of its call.
+    pub fn last_access(&self, process: u8) -> Option<Access>
+        ensures { InEachCorePast self.now (IsNewestAccess process result) }
+    {
+        self.seat(process)?.process.last_access()
+    }
+
+    /// Returns the entry that a step of a process would add by this flick, where `taken` commands were taken; `None` if
+    /// the step is refused. Nothing changes, and it does not allocate.
+    pub fn next_entry(&self, alloc: Global, process: u8, flick: bool, taken: u64) -> Option<Entry>
+        ensures entry { IsStepEntry self.now process flick taken result }
+    {
+        let seat = self.seat(process)?;
+        if !seat.process.goes() {
+            return None;
+        }
+        let (access, told) = seat.process.next_step(&self.registers, flick);
+        Some(Entry {
+            process,
+            act: Act {
+                access: Some(access),
+                marks: step_marks(alloc, &told, taken),
+            },
+        })
     }
 }
