@@ -1,13 +1,10 @@
 -- The committed versions, off the registers.
-use Rattle.std.proofs.Common.{◌≡◌, ℕ, zero, suc, ◌+◌, ◌<◌, true, List, [], ◌∷◌, ◌++◌, length, map, get_or, refl, ◌∙◌, arith}
-use Rattle.std.specs.List.{range_with_len}
-use Rattle.std.proofs.lemmas.List.FromFn.{length-map-range_with_len, map-range_with_len_more}
-use Rattle.record.specs.{Field, newest_process, width}
+use Rattle.std.proofs.Common.{◌≡◌, ℕ, zero, suc, ◌<◌, true, List, [], ◌∷◌, length, get_or, refl, ◌∙◌, arith}
+use Rattle.record.specs.{Field, width}
 use Rattle.plain_store.specs.{Setup}
-use Rattle.bakery.specs.{IsReadable, IsQuiet, values_of, version_in}
+use Rattle.bakery.specs.{IsReadable, IsQuiet, values_of}
 use Rattle.bakery.specs.Registers.{Data, DataRow, FitsSetup, register_at, data_of, no_data, is_data}
 use Rattle.bakery.proofs.Holdings.{length-values}
-use Rattle.bakery.proofs.NewestSteps.{process-in}
 
 -- what stands at an index does not hang on the default
 pub default-same : {X : Type 0} (xs : List X) (k : ℕ) (d e : X) → k < length xs → get_or xs k d ≡ get_or xs k e
@@ -26,17 +23,6 @@ pub values-wide : (s : Setup) (row : DataRow) (p : ℕ) (field : Field) → Fits
 values-wide s row p field fits inside is =
     let shape = fits.widths p field inside is in
     length-values (register_at row p field) ∙ shape.widths 0 shape.readers
-
--- the versions of the first processes
-pub versions-more : (row : DataRow) (p : ℕ) → map (version_in row) (range_with_len 0 (p + 1)) ≡ map (version_in row) (range_with_len 0 p) ++ version_in row p ∷ []
-versions-more row p = map-range_with_len_more (version_in row) 0 p p (omega arith)
-
-pub many-versions : (row : DataRow) (p : ℕ) → length (map (version_in row) (range_with_len 0 p)) ≡ p
-many-versions row p = length-map-range_with_len (version_in row) 0 p
-
--- the newest of them is one of the processes
-pub newest-inside : (row : DataRow) (n : ℕ) → 0 < n → newest_process (map (version_in row) (range_with_len 0 n)) < n
-newest-inside row n some = omega (arith, process-in (map (version_in row) (range_with_len 0 n)) (omega (arith, many-versions row n)), many-versions row n)
 
 -- the part that an index finds
 pub part-is : (row : DataRow) (setup : Setup) (parts : List Data) (now : Data) (k p : ℕ) → (let r : DataRow = record { setup = setup; parts = parts } in r) ≡ row → now ≡ get_or parts k now → k ≡ p → p < length row.parts → now ≡ data_of row p

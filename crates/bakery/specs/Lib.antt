@@ -8,6 +8,6 @@ pub mod Newest
 pub mod Registers
 pub mod Sections
 pub mod Units
-pub use Newest.{IsQuiet, IsReadable, newest_of, values_of, version_held, version_in}
+pub use Newest.{IsQuiet, IsReadable, values_of, version_held, version_in}
 pub use declared.door_progress.DoorProgress.{DoorProgress}
 pub use declared.section_progress.SectionProgress.{SectionProgress}

@@ -1,12 +1,11 @@
 -- The committed store with the greatest stamp, off the registers.
-use Rattle.std.specs.Prelude.{◌≡◌, ℕ, ◌*◌, ◌<◌, ◌≤◌, Bool, false, List, [], ◌∷◌, ◌++◌, length, map, slice_index_or}
+use Rattle.std.specs.Prelude.{◌≡◌, ℕ, ◌*◌, ◌<◌, ◌≤◌, Bool, false, List, [], length, map, slice_index_or}
 use Rattle.reader_copies.specs.safe_bit.Cell.{Cell}
 use Rattle.reader_copies.specs.{cell_at, HasCell}
-use Rattle.record.specs.{Field, Version, bytes_of_bits, image_bytes, image_field, newest_process, newest_stamp, processes, stamp_field, version_of}
+use Rattle.record.specs.{Field, Version, bytes_of_bits, image_bytes, image_field, newest_process, processes, stamp_field, version_of}
 use Rattle.safe_number.specs.{IsBytesOf, number_of_bits}
 use Rattle.store_image.specs.{store_in}
 use Rattle.plain_store.specs.{Contents, Setup, callers_of}
-use Rattle.bakery.specs.declared.newest.Newest.{Newest}
 use Rattle.bakery.specs.Registers.{Data, DataRow, data_of, register_of, register_at}
 
 -- the store of the bits of an image; the empty one, if they are none
@@ -16,14 +15,6 @@ store_of_bits s bits = store_in s.slots (callers_of s) (bytes_of_bits (image_byt
 -- the store of all bits of an image whose bytes these are
 abbrev pub IsStoreOf : Setup → List ℕ → Contents → Type 0
 IsStoreOf s bytes store = (bits : List Bool) → length bits ≡ 8 * image_bytes s → IsBytesOf bits bytes → store ≡ store_of_bits s bits
-
--- the newest of some versions: the greatest stamp, the lowest process that has it, and that process's commit bit
-abbrev pub newest_of : List Version → Newest
-newest_of versions = record { stamp = newest_stamp versions; process = newest_process versions; commit = version_of versions (newest_process versions) }
-
--- the newest once the version of the next process is among them
-abbrev pub IsNewestWith : Newest → ℕ → Version → Newest → Type 0
-IsNewestWith newest process version then = (versions : List Version) → length versions ≡ process → newest ≡ newest_of versions → then ≡ newest_of (versions ++ version ∷ [])
 
 -- the bits of a register, by the copies of reader 0
 abbrev pub values_of : List (List Cell) → List Bool

@@ -5,8 +5,8 @@ ghost use Rattle.bakery.specs.Registers.{data_of, register_at, row_from, opening
 
 use crate::data::Data;
 use crate::held;
-use crate::newest::Newest;
 use plain_store::Setup;
+use process::NewestVersion;
 use reader_copies::{Made, Move};
 use record::{Access, Field, image_bytes};
 use std::alloc::{AllocError, Global};
@@ -69,10 +69,10 @@ impl DataRow {
         requires quiet { IsQuiet self.now }
         ensures { result ≡ newest_store self.now }
     {
-        let mut newest = Newest::none();
+        let mut newest = NewestVersion::none();
         for process in 0..self.setup.processes {
-            let (commit, stamp) = self.parts[usize::from(process)].version(self.setup.stamp_bits);
-            newest = newest.with(process, commit, stamp);
+            let version = self.parts[usize::from(process)].version(self.setup.stamp_bits);
+            newest = newest.with(process, version);
         }
         let count = image_bytes(&self.setup);
         let bytes = self.parts[usize::from(newest.process)].image(newest.commit, count);

@@ -17,7 +17,6 @@ mod door_progress;
 mod held;
 mod leaving;
 mod lock;
-mod newest;
 mod section;
 mod section_progress;
 mod unit;

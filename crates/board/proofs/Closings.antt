@@ -30,12 +30,13 @@ use Rattle.history_laws.proofs.DataHeadline as headline
 use Rattle.history_laws.proofs.Headlines.{throughout}
 use Rattle.history_laws.proofs.Sound.{IsStoreOf}
 use Rattle.history_laws.proofs.Sounding.{after_is_same}
+use Rattle.process.specs.{newest_version}
+use Rattle.process.proofs.NewestSteps.{newest-below}
 use Rattle.board.proofs.Doings.{stage_known}
 use Rattle.board.specs.{Agree, IsIn, IsQuiet, IsStill, KnowsSeats, Leaves, OwnView, Shows, StandsIn, ViewState, bits_shown, bytes_shown, own_view, shown, spent_view, stage_in, version_shown, versions_shown, with_joined, word_of}
 use Rattle.board.specs.Calls.{Calls, changes_of, changing}
 use Rattle.board.proofs.CallsStand.{calls_in_the_changes}
 use Rattle.board.proofs.Seats.{is_first, joins, some_processes}
-use Rattle.board.proofs.ShownBits.{newest-below}
 
 -- Processes that are still.
 
@@ -109,7 +110,7 @@ bytes-are s events words views f none =
     newest = newest_process (versions_shown s words)
 
     below : newest < s.processes
-    below = newest-below s words (some_processes s f.good)
+    below = newest-below (version_shown s words) s.processes (newest_version (versions_shown s words)) refl (some_processes s f.good)
 
     image : (p : ℕ) (b : Bool) → p < s.processes → bits_shown s words p (image_field b) ≡ bits_held s past p (image_field b) 0
     image p true h = bits-are s events words views f none p (image_field true) h refl

@@ -11,8 +11,9 @@ use Rattle.record.specs.declared.access.Field.TheVariants.{Choosing}
 use Rattle.plain_store.specs.{Setup, are_pairs, checked}
 use Rattle.record.proofs.Width.{is_good}
 use Rattle.laws.specs.{IsThere, Rests, doing}
-use Rattle.board.specs.{Agree, IsIn, IsQuiet, Knows, KnowsSeats, OwnView, Shows, ViewState, calls_of, changes_of, closed_word, entries_of, first_view, new_own, new_view, no_calls, opening_word, own_view, spent_view, with_joined, with_made, word_of, words_in}
-use Rattle.board.proofs.WordNumbers.{bit_of_word, word_below}
+use Rattle.process.specs.registers.{BitCopy}
+use Rattle.board.specs.{Agree, IsIn, IsQuiet, Knows, KnowsSeats, OwnView, Shows, ViewState, access_to, calls_of, changes_of, closed_word, entries_of, first_view, new_own, new_view, no_calls, opening_word, own_view, spent_view, with_joined, with_made, word_of, words_in}
+use Rattle.board.proofs.WordNumbers.{copy_of_word, word_below}
 use Rattle.board.proofs.Along.{set_at, was_view}
 
 abbrev Holds : Setup → State (Unit {0}) ViewState → Type 0
@@ -57,7 +58,7 @@ only (suc i) v e = absurd (some-ne-none v (sym e))
 
 -- the opening words show the opening bits
 opens : (s : Setup) (a : Access) → IsThere s a → opening_word s (word_of s a) ≡ closed_word (opening_bit s a)
-opens s a there = ap (λ b. closed_word (opening_bit s b)) (bit_of_word s a there)
+opens s a there = ap (λ (c : BitCopy). closed_word (opening_bit s (access_to c))) (copy_of_word s a there)
 
 -- and agree with one seat
 pub starts : (s : Setup) (words : List ℕ) → checked s ≡ Ok tt → are_pairs s.opening ≡ true → 0 < s.processes → length words ≡ words_in s → ((word : ℕ) → word < words_in s → slice_index words word ≡ opening_word s word) → Agree s words (first_view ∷ [])

@@ -1,22 +1,18 @@
 -- What words show of registers, as bits, numbers and bytes.
-use Rattle.std.proofs.Common.{◌≡◌, ℕ, zero, suc, ◌+◌, ◌*◌, ◌^◌, ◌<◌, ◌≤◌, ◌==◌, max, Bool, true, false, cond, List, [], ◌∷◌, ◌++◌, length, map, fold, take, drop, get_or, if◌then◌else◌, refl, sym, ap, ◌∙◌, add-one, pow_mono, eq-eqb, arith}
-use Rattle.std.proofs.lemmas.Bool.{ne_eqb}
-use Rattle.std.proofs.lemmas.List.{map-append, get_or-map, length-map, length-take, drop-drop}
-use Rattle.std.proofs.lemmas.List.Sums.{fold-append}
+use Rattle.std.proofs.Common.{◌≡◌, ℕ, zero, suc, ◌+◌, ◌*◌, ◌^◌, ◌<◌, ◌≤◌, ◌==◌, Bool, true, false, List, [], ◌∷◌, ◌++◌, length, take, drop, get_or, if◌then◌else◌, refl, sym, ap, ◌∙◌, add-one, pow_mono, arith}
+use Rattle.std.proofs.lemmas.List.{length-take, drop-drop}
 use Rattle.std.specs.Prelude.{slice_index}
-use Rattle.std.specs.List.{range_with_len}
 use Rattle.std.proofs.Math.Seq.{drop-cons, take-length}
-use Rattle.std.proofs.lemmas.List.FromFn.{get_or-map-range_with_len, length-map-range_with_len, map-range_with_len_more}
+use Rattle.std.proofs.lemmas.List.FromFn.{get_or-map-range_with_len, length-map-range_with_len}
 use mir.Val.{bool_byte}
 use mathlib.Core.Option.{some, some-injective, some-ne-none}
 use lib.ListN.{get_elem?}
-use Rattle.record.specs.{Field, Version, bytes_of_bits, copy, index_of, newest_process, newest_stamp, stamp_field, width}
+use Rattle.record.specs.{Field, Version, bytes_of_bits, copy, stamp_field, width}
 use Rattle.record.specs.declared.access.Field.TheVariants.{Commit}
 use Rattle.record.specs.safe_number.{number_of_bits}
 use Rattle.plain_store.specs.{Setup}
 use Rattle.record.proofs.safe_number.Bits.{number-fits}
-use Rattle.process.proofs.Greatest.{greatest-there}
-use Rattle.board.specs.{bits_shown, version_shown, versions_shown, word_of}
+use Rattle.board.specs.{bits_shown, version_shown, word_of}
 
 -- the word that is found at a place
 pub word_at : (words : List ℕ) (k found : ℕ) → get_elem? words k ≡ some found → slice_index words k ≡ found
@@ -51,40 +47,6 @@ number-more values k n inside =
 -- all the bits of a register
 pub all-bits : (s : Setup) (words : List ℕ) (p : ℕ) (field : Field) → take (width s field) (drop 0 (bits_shown s words p field)) ≡ bits_shown s words p field
 all-bits s words p field = ap (λ m. take m (bits_shown s words p field)) (sym (length-bits s words p field)) ∙ take-length (bits_shown s words p field)
-
--- the versions of the first processes
-pub versions-more : (s : Setup) (words : List ℕ) (p : ℕ) → map (version_shown s words) (range_with_len 0 (p + 1)) ≡ map (version_shown s words) (range_with_len 0 p) ++ version_shown s words p ∷ []
-versions-more s words p = map-range_with_len_more (version_shown s words) 0 p p (omega arith)
-
-pub many-versions : (s : Setup) (words : List ℕ) (p : ℕ) → length (map (version_shown s words) (range_with_len 0 p)) ≡ p
-many-versions s words p = length-map-range_with_len (version_shown s words) 0 p
-
--- what is said of one of all
-pub version-at : {X : Type 0} (f : Version → X) (none : X) (s : Setup) (words : List ℕ) (p : ℕ) → p < s.processes → get_or (map f (versions_shown s words)) p none ≡ f (version_shown s words p)
-version-at f none s words p below =
-    get_or-map f (versions_shown s words) p (false, 0) none (omega (arith, below, many-versions s words s.processes))
-    ∙ ap f (get_or-map-range_with_len (version_shown s words) 0 s.processes p p (false, 0) below (omega arith))
-
--- the greatest stamp, with one more version
-pub stamp-more : (vs : List Version) (v : Version) → newest_stamp (vs ++ v ∷ []) ≡ max (newest_stamp vs) v.1
-stamp-more vs v = ap (fold max 0) (map-append (λ (v : Version). v.1) vs (v ∷ [])) ∙ fold-append max 0 (map (λ (v : Version). v.1) vs) (v.1 ∷ [])
-
-pub many-stamps : (s : Setup) (words : List ℕ) → length (map (λ (v : Version). v.1) (versions_shown s words)) ≡ s.processes
-many-stamps s words = length-map (versions_shown s words) (λ (v : Version). v.1) ∙ many-versions s words s.processes
-
--- the process that has it is below the processes
-pub newest-below : (s : Setup) (words : List ℕ) → 0 < s.processes → newest_process (versions_shown s words) < s.processes
-newest-below s words positive =
-    let many = many-stamps s words in
-    omega (arith, many, greatest-there (map (λ (v : Version). v.1) (versions_shown s words)) (omega (arith, many, positive)))
-
--- where an item is, from place p on
-pub place-here : (n p : ℕ) (xs : List ℕ) → p < length xs → get_or xs p 0 ≡ n → index_of n (drop p xs) ≡ 0
-place-here n p xs inside same = ap (index_of n) (drop-cons xs p 0 inside) ∙ ap (λ b. cond b 0 (1 + index_of n (drop (suc p) xs))) (eq-eqb (get_or xs p 0) n same)
-
-pub place-later : (n p : ℕ) (xs : List ℕ) → p < length xs → (get_or xs p 0 ≡ n → ⊥) → index_of n (drop p xs) ≡ 1 + index_of n (drop (p + 1) xs)
-place-later n p xs inside other =
-    ap (index_of n) (drop-cons xs p 0 inside) ∙ ap (λ b. cond b 0 (1 + index_of n (drop (suc p) xs))) (ne_eqb (get_or xs p 0) n other) ∙ ap (λ k. 1 + index_of n (drop k xs)) (sym (add-one p))
 
 -- so many bits make a number below that power of 2
 pub number-below : (bits : List Bool) (n : ℕ) → number_of_bits (take n bits) < 2 ^ n

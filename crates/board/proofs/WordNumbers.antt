@@ -7,13 +7,13 @@ use Rattle.std.proofs.lemmas.Bool.{lt-ltb, le-ltb}
 use Rattle.std.proofs.lemmas.Bool.Decides.{nat_tests}
 use Rattle.std.proofs.lemmas.Nat.{div-mul-add}
 use Rattle.std.specs.Prelude.{nat_lt, slice_index, slice_index_or}
-use Rattle.record.specs.safe_bit.declared.Move.TheVariants.{BeginRead}
 use Rattle.record.specs.{Access, Field, field_number, fields, opening_bits, same_bit, width}
 use Rattle.record.specs.declared.access.Field.TheVariants.{Image0}
 use Rattle.plain_store.specs.{Setup}
 use Rattle.laws.specs.{IsThere}
 use Rattle.laws.proofs.FrameCells.{OnCopy, on-copy}
-use Rattle.board.specs.{bits_of, bit_in_row, bit_of, closed_word, first_bit, opening_word, row_bits, word_of, words_in}
+use Rattle.process.specs.registers.{BitCopy, copy_named}
+use Rattle.board.specs.{access_to, bits_of, bit_in_row, closed_word, copy_of, first_bit, opening_word, row_bits, word_of, words_in}
 
 -- A number of two digits.
 
@@ -49,15 +49,15 @@ in_row s field k h = grind arith
 
 -- SharedWords.
 
--- the word of a bit tells it
-pub bit_of_word : (s : Setup) (a : Access) → IsThere s a → bit_of s (word_of s a) ≡ record a { how = BeginRead }
-bit_of_word s a there =
+-- the word of an access tells its copy
+pub copy_of_word : (s : Setup) (a : Access) → IsThere s a → copy_of s (word_of s a) ≡ copy_named a
+copy_of_word s a there =
     let row = in_row s a.field a.bit there.bit in
     let copy : word_of s a / row_bits s ≡ a.owner * s.processes + a.reader = quotient (row_bits s) (a.owner * s.processes + a.reader) (first_bit s a.field + a.bit) row in
     let at : bit_in_row s fields (word_of s a % row_bits s) ≡ (a.field, a.bit) = ap (bit_in_row s fields) (remainder (row_bits s) (a.owner * s.processes + a.reader) (first_bit s a.field + a.bit) row) ∙ placed s a.field a.bit there.bit in
     let owner : word_of s a / row_bits s / s.processes ≡ a.owner = ap (λ k. k / s.processes) copy ∙ quotient s.processes a.owner a.reader there.reader in
     let reader : word_of s a / row_bits s % s.processes ≡ a.reader = ap (λ k. k % s.processes) copy ∙ remainder s.processes a.owner a.reader there.reader in
-    λ i. record { owner = owner i; field = (at i).0; bit = (at i).1; reader = reader i; how = BeginRead }
+    λ i. record { register = record { owner = owner i; field = (at i).0 }; bit = (at i).1; reader = reader i }
 
 all_true : (k r o f : Bool) → k ≡ true → r ≡ true → o ≡ true → f ≡ true → (k && r && o && f) ≡ true
 all_true k r o f a b c d = λ i. a i && b i && c i && d i
@@ -65,10 +65,10 @@ all_true k r o f a b c d = λ i. a i && b i && c i && d i
 -- bits of one word are one bit
 pub one_word : (s : Setup) (a b : Access) → IsThere s a → IsThere s b → word_of s a ≡ word_of s b → same_bit a b ≡ true
 one_word s a b a_there b_there same =
-    let one : record a { how = BeginRead } ≡ record b { how = BeginRead } = sym (bit_of_word s a a_there) ∙ (ap (bit_of s) same ∙ bit_of_word s b b_there) in
+    let one : copy_named a ≡ copy_named b = sym (copy_of_word s a a_there) ∙ (ap (copy_of s) same ∙ copy_of_word s b b_there) in
     all_true (a.bit == b.bit) (a.reader == b.reader) (a.owner == b.owner) (field_number a.field == field_number b.field)
-    (eq-eqb a.bit b.bit (ap (λ (x : Access). x.bit) one)) (eq-eqb a.reader b.reader (ap (λ (x : Access). x.reader) one)) (eq-eqb a.owner b.owner (ap (λ (x : Access). x.owner) one))
-    (eq-eqb (field_number a.field) (field_number b.field) (ap (λ (x : Access). field_number x.field) one))
+    (eq-eqb a.bit b.bit (ap (λ (x : BitCopy). x.bit) one)) (eq-eqb a.reader b.reader (ap (λ (x : BitCopy). x.reader) one)) (eq-eqb a.owner b.owner (ap (λ (x : BitCopy). x.register.owner) one))
+    (eq-eqb (field_number a.field) (field_number b.field) (ap (λ (x : BitCopy). field_number x.register.field) one))
 
 -- and one bit has one word
 pub one_bit : (s : Setup) (a b : Access) → same_bit a b ≡ true → word_of s a ≡ word_of s b
@@ -99,7 +99,7 @@ in_register s (field ∷ others) place h = by (nat_lt place (width s field)) ref
     by true is later = grind (arith, nat_tests)
     by false is later = later (grind (arith, nat_tests))
 
-pub bit_there : (s : Setup) (word : ℕ) → 0 < s.processes → word < words_in s → IsThere s (bit_of s word)
+pub bit_there : (s : Setup) (word : ℕ) → 0 < s.processes → word < words_in s → IsThere s (access_to (copy_of s word))
 bit_there s word some_ below_ =
     let row : 0 < row_bits s = omega arith in
     let copy : word / row_bits s < s.processes * s.processes = (div-lt_iff_lt-mul row).1 below_ in
@@ -140,6 +140,6 @@ opens_late s word some_ below_ from =
     let row : 0 < row_bits s = omega arith in
     let copy : s.processes ≤ word / row_bits s = (le-div_iff_mul-le row).1 from in
     let one : 1 * s.processes ≤ word / row_bits s = omega arith in
-    let owner : 1 ≤ (bit_of s word).owner = (le-div_iff_mul-le some_).1 one in
-    let a = bit_of s word in
-    ap closed_word (opens_elsewhere s a.owner a.field a.bit (λ none. absurd (omega arith)))
+    let owner : 1 ≤ (copy_of s word).register.owner = (le-div_iff_mul-le some_).1 one in
+    let c = copy_of s word in
+    ap closed_word (opens_elsewhere s c.register.owner c.register.field c.bit (λ none. absurd (omega arith)))

@@ -2,8 +2,7 @@
 use Rattle.std.specs.Prelude.{◌≡◌, ℕ, ◌+◌, ◌<◌, false, true, List, ◌++◌, take, slice_get, Ok, Some}
 use mathlib.Core.Option.{some}
 use lib.ListN.{get_elem?}
-use Rattle.record.specs.safe_bit.declared.Move.TheVariants.{BeginRead}
-use Rattle.record.specs.{Access, EachPastGiven, Event, KeepsHeadlineThroughout, Past, Placed, Taken, count_changes, history, past_of, process_of, refused, stage, store_after}
+use Rattle.record.specs.{EachPastGiven, Event, KeepsHeadlineThroughout, Past, Placed, Taken, count_changes, history, past_of, process_of, refused, stage, store_after}
 use Rattle.plain_store.specs.{Answer, Setup, Value, changes, checked, opening_store}
 use Rattle.plain_store.specs.declared.Answer.TheVariants as answer
 use Rattle.plain_store.specs.declared.Command.TheVariants.{Read, Write}
@@ -11,20 +10,21 @@ use Rattle.plain_store.specs.declared.Reply.TheVariants as reply
 use Rattle.laws.specs.{IsThere}
 use Rattle.board.specs.Agreement.{Agree, Shows, are_neighbours}
 use Rattle.process.specs.flicks.{FlickState}
+use Rattle.process.specs.registers.{BitCopy}
 use Rattle.board.specs.Driving.{Drives}
 use Rattle.board.specs.declared.driving.Driven.{Driven}
 use Rattle.board.specs.Calls.{IsPrefix, and_then, calls_of, changes_of}
 use Rattle.board.specs.Lists.{StandsIn, store_at}
 use Rattle.board.specs.Views.{MayAllHappen, ViewState, refusal_in, stage_in, with_events}
-use Rattle.board.specs.Words.{bit_of, word_of, words_in}
+use Rattle.board.specs.Words.{access_to, copy_of, word_of_copy, words_in}
 
 -- Each single-reader bit has a word, and that word tells the bit: no two bits have one word.
 abbrev pub WordsTellTheirBits : Type 0
-WordsTellTheirBits = (s : Setup) (a : Access) → IsThere s a → (word_of s a < words_in s) × (bit_of s (word_of s a) ≡ record a { how = BeginRead })
+WordsTellTheirBits = (s : Setup) (c : BitCopy) → IsThere s (access_to c) → (word_of_copy s c < words_in s) × (copy_of s (word_of_copy s c) ≡ c)
 
 -- Each word tells a bit that there is.
 abbrev pub WordsAreOfBits : Type 0
-WordsAreOfBits = (s : Setup) → checked s ≡ Ok tt → (word : ℕ) → word < words_in s → IsThere s (bit_of s word)
+WordsAreOfBits = (s : Setup) → checked s ≡ Ok tt → (word : ℕ) → word < words_in s → IsThere s (access_to (copy_of s word))
 
 -- this holds of each view that is not spent, with what has happened to its process since, and of each list of events that words and views show, followed by that
 abbrev pub EachView : (Setup → List Event → ViewState → List Event → Type 0) → Type 0

@@ -26,6 +26,6 @@ pub use Pending.{events_of, nothing}
 pub use Ports.{IsBegun, IsNext, IsTied, IsUnended, PortState, SamePort, answer_to, port_after, with_pending}
 pub use Views.{MayAllHappen, MayHappen, OwnView, ViewState, at_events, counted_at, entries_of, entry_marked, entry_stepped, first_view, new_own, new_view, own_view, process_at, refusal_in, spent_view, stage_in, with_event, with_events, with_joined, with_made, with_step}
 pub use WordSteps.{GoesOn, IsBetween, IsWhere, LeadsTo, Loads, Makes, Stores, WordStep, goes, goes_at, value_after}
-pub use Words.{bit_in_row, bit_of, bits_of, closed_word, first_bit, loaded, opening_word, row_bits, shown, stored, word_of, words_in}
+pub use Words.{access_to, bit_in_row, bits_of, closed_word, copy_of, first_bit, loaded, opening_word, row_bits, shown, stored, word_of, word_of_copy, words_in}
 pub use declared.closing.Closing.{Closing}
 pub use declared.driving.Driven.{Driven}

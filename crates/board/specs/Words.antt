@@ -3,9 +3,10 @@ use Rattle.std.specs.Prelude.{◌≡◌, ◌<◌, slice_index, ℕ, ◌+◌, ◌
 use Rattle.record.specs.safe_bit.Cell.{Cell}
 use Rattle.record.specs.safe_bit.{Move}
 use Rattle.record.specs.safe_bit.declared.Move.TheVariants.{BeginWrite, EndWrite, BeginRead, EndRead, Settle}
-use Rattle.record.specs.{Access, Field, field_number, fields, opening_bit, width}
+use Rattle.record.specs.{Access, Field, copy, field_number, fields, opening_bit, width}
 use Rattle.record.specs.declared.access.Field.TheVariants.{Image1}
 use Rattle.plain_store.specs.{Setup}
+use Rattle.process.specs.registers.{BitCopy, copy_named}
 use Rattle.board.specs.declared.layout.WordLayout.{WordLayout}
 
 -- how many bits these registers have
@@ -21,9 +22,13 @@ row_bits s = bits_of s fields
 abbrev pub first_bit : Setup → Field → ℕ
 first_bit s field = bits_of s (take (field_number field) fields)
 
--- the word of the bit of an access: by owner, then by reader, then by its place in the row
+-- The word of a copy of a bit: by owner, then by reader, then by its position in the row.
+abbrev pub word_of_copy : Setup → BitCopy → ℕ
+word_of_copy s c = (c.register.owner * s.processes + c.reader) * row_bits s + (first_bit s c.register.field + c.bit)
+
+-- The word of the copy to which an access is made.
 abbrev pub word_of : Setup → Access → ℕ
-word_of s a = (a.owner * s.processes + a.reader) * row_bits s + (first_bit s a.field + a.bit)
+word_of s a = word_of_copy s (copy_named a)
 
 -- what the word goes by, worked out once
 abbrev pub layout_of : Setup → WordLayout
@@ -38,11 +43,15 @@ abbrev pub bit_in_row : Setup → List Field → ℕ → Field × ℕ
 bit_in_row s [] place = (Image1, place)
 bit_in_row s (field ∷ others) place = elim (nat_lt place (width s field)) [ true ↦ (field, place) | false ↦ bit_in_row s others (place - width s field) ]
 
--- the inverse: the bit whose word it is, as the access with which a read of it begins
-abbrev pub bit_of : Setup → ℕ → Access
-bit_of s word =
+-- The inverse: the copy of a bit whose word it is.
+abbrev pub copy_of : Setup → ℕ → BitCopy
+copy_of s word =
     let at = bit_in_row s fields (word % row_bits s) in
-    record { owner = word / row_bits s / s.processes; field = at.0; bit = at.1; reader = word / row_bits s % s.processes; how = BeginRead }
+    record { register = record { owner = word / row_bits s / s.processes; field = at.0 }; bit = at.1; reader = word / row_bits s % s.processes }
+
+-- A copy of a bit, as an access names it.
+abbrev pub access_to : BitCopy → Access
+access_to c = copy c.register.owner c.register.field c.reader c.bit
 
 -- the word of a bit with this value, of which no write is open
 abbrev pub closed_word : Bool → ℕ
@@ -51,7 +60,7 @@ closed_word false = 0
 
 -- what a word opens at: the opening value of its bit
 abbrev pub opening_word : Setup → ℕ → ℕ
-opening_word s word = closed_word (opening_bit s (bit_of s word))
+opening_word s word = closed_word (opening_bit s (access_to (copy_of s word)))
 
 -- these are the words at which a board opens
 abbrev pub AreOpening : Setup → List ℕ → Type 0

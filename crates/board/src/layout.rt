@@ -1,11 +1,12 @@
 //! Where the words of a board's bits lie, worked out once, since each word step asks it.
 ghost use Rattle.std.specs.Prelude.{◌≡◌, ◌<◌, Ok};
 ghost use Rattle.plain_store.specs.{checked};
-ghost use Rattle.board.specs.Words.{first_bit, layout_of, word_of};
+ghost use Rattle.board.specs.Words.{first_bit, layout_of, word_of_copy};
 
 use crate::words::{first_bit, row_bits};
 use plain_store::Setup;
-use record::{Access, Field, number_of_field};
+use process::BitCopy;
+use record::{Field, number_of_field};
 
 /// What the word of a bit goes by.
 #[derive(Clone, Copy)]
@@ -55,15 +56,19 @@ impl WordLayout {
         self.firsts[number_of_field(field)]
     }
 
-    /// The word of the bit of an access. `setup` is for the proof alone.
+    /// Returns the word of a copy of a bit. `setup` is for the proof alone.
     #[inline(always)]
-    pub(crate) fn word_of(&self, setup: &Setup, access: &Access) -> usize
+    pub(crate) fn word_of(&self, setup: &Setup, copy: BitCopy) -> usize
         requires { self.now ≡ layout_of setup.now }
-        ensures word { result ≡ word_of setup.now access.now }
+        ensures word { result ≡ word_of_copy setup.now copy }
     {
-        let processes = usize::from(self.processes);
-        let copy = usize::from(access.owner) * processes + usize::from(access.reader);
-        let first = usize::from(self.first(setup, access.field));
-        copy * usize::from(self.row) + first + usize::from(access.bit)
+        let BitCopy {
+            register,
+            bit,
+            reader,
+        } = copy;
+        let row = usize::from(register.owner) * usize::from(self.processes) + usize::from(reader);
+        let first = usize::from(self.first(setup, register.field));
+        row * usize::from(self.row) + first + usize::from(bit)
     }
 }

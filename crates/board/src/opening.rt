@@ -4,7 +4,7 @@ ghost use Rattle.plain_store.specs.{checked, opening_store};
 ghost use Rattle.store_image.specs.{image_of};
 ghost use Rattle.board.specs.Words.{AreOpening, opening_word, row_bits, words_in};
 
-use crate::words::{self, row_bits, words_in};
+use crate::words::{copy_of, row_bits, words_in};
 use plain_store::{Setup, opened};
 use record::{Field, bit_of};
 use std::alloc::{AllocError, Global};
@@ -22,12 +22,12 @@ fn opening_word(setup: &Setup, image: &[u8], own: usize, word: usize) -> u64
     if own <= word {
         return 0;
     }
-    let access = words::bit_of(setup, word);
-    if access.owner != 0 {
+    let copy = copy_of(setup, word);
+    if copy.register.owner != 0 {
         return 0;
     }
-    match access.field {
-        Field::Image0 => u64::from(bit_of(image, access.bit)),
+    match copy.register.field {
+        Field::Image0 => u64::from(bit_of(image, copy.bit)),
         _ => 0,
     }
 }

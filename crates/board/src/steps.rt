@@ -14,7 +14,7 @@ use crate::pending::Pending;
 use crate::rule::{Agreement, Load, Turn, View, WordStore};
 use atomic_table::{Seat, Shared};
 use plain_store::Setup;
-use process::{Process, StepTold};
+use process::{BitCopy, Process, StepTold};
 use record::Move;
 use std::marker::Brand;
 
@@ -174,7 +174,7 @@ pub(crate) fn word_step(
     ensures stands { StandsInSeen words.now.key seat.new.me.0 }
 {
     let access = process.next(flick);
-    let word = layout.word_of(setup, &access);
+    let word = layout.word_of(setup, BitCopy::of(&access));
     match access.how {
         Move::BeginRead => read(words, seat, process, word, pending, flick),
         Move::EndRead(_) => unreachable!(),

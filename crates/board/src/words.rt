@@ -3,10 +3,11 @@
 ghost use Rattle.std.specs.Prelude.{◌≡◌, ◌+◌, ◌<◌, ◌≤◌, Ok};
 ghost use Rattle.plain_store.specs.{checked};
 ghost use Rattle.record.specs.{width};
-ghost use Rattle.board.specs.Words.{bit_of, first_bit, row_bits, words_in};
+ghost use Rattle.board.specs.Words.{copy_of, first_bit, row_bits, words_in};
 
 use plain_store::Setup;
-use record::{Access, Field, Move, width_of};
+use process::{BitCopy, RegisterName};
+use record::{Field, width_of};
 
 /// Where in a row the bits of a register begin.
 #[inline]
@@ -72,22 +73,23 @@ fn field_at(setup: &Setup, place: usize) -> Field
     }
 }
 
-/// The bit whose word it is, as the access with which a read of it begins.
-pub(crate) fn bit_of(setup: &Setup, word: usize) -> Access
+/// Returns the copy of a bit whose word it is.
+pub(crate) fn copy_of(setup: &Setup, word: usize) -> BitCopy
     requires good { checked setup.now ≡ Ok tt }
     requires word { word < words_in setup.now }
-    ensures bit { result ≡ bit_of setup.now word }
+    ensures copy { result ≡ copy_of setup.now word }
 {
     let row = row_bits(setup);
     let processes = usize::from(setup.processes);
     let copy = word / row;
     let place = word % row;
     let field = field_at(setup, place);
-    Access {
-        owner: (copy / processes) as u8,
-        field,
+    BitCopy {
+        register: RegisterName {
+            owner: (copy / processes) as u8,
+            field,
+        },
         bit: (place - first_bit(setup, field)) as u16,
         reader: (copy % processes) as u8,
-        how: Move::BeginRead,
     }
 }

@@ -6,12 +6,12 @@ use Rattle.board.proofs.ShownBits.{bytes-more, number-below}
 use Rattle.board.proofs.shown_image.bytes_of.Goals as goal
 
 pub overflow_cast-bytes : goal.overflow_cast-bytes
-overflow_cast-bytes c = omega (arith, c.number_shown.ensures, number-below (drop (8 * c.loop-k.k) (bits_shown c.args.setup.now c.args.words.now.words.items c.args.owner c.args.field)) 8)
+overflow_cast-bytes c = omega (arith, c.number_shown.ensures, number-below (drop (8 * c.loop-k.k) (bits_shown c.args.setup.now c.args.words.now.words.items c.args.register.owner c.args.register.field)) 8)
 
 pub loop-k-preserved : goal.loop-k-preserved
 loop-k-preserved c =
     let l = c.loop-k in
-    let values = bits_shown c.args.setup.now c.args.words.now.words.items c.args.owner c.args.field in
+    let values = bits_shown c.args.setup.now c.args.words.now.words.items c.args.register.owner c.args.register.field in
     let byte : ℕ = c.number_shown.result in (
       ap (λ i. take (l.k + 1) (set l.bytes i byte)) c.from.ensures
           ∙ take_more_set l.bytes l.k byte (omega (arith, l.invariant.1, c.loop-k-test.true, c.requires.few))

@@ -1,10 +1,22 @@
-use Rattle.std.proofs.Common.{true, false, sym, ◌∙◌}
+use Rattle.std.proofs.Common.{◌≡◌, ℕ, Bool, sym, ap, ◌∙◌}
+use Rattle.process.proofs.Outcomes.{width-stamp}
+use Rattle.record.specs.{Field, stamp_field}
+use Rattle.board.specs.Closings.{number_shown}
 use Rattle.board.proofs.ShownBits.{version_is}
 use Rattle.board.proofs.shown_image.version_shown.Goals as goal
+use Rattle.board.proofs.shown_image.version_shown.Goals.{else-commit, then-commit}
 
-pub returns-then-bit_shown : goal.returns-then-bit_shown
-returns-then-bit_shown c = version_is c.args.setup.now c.args.words.now.words.items c.args.owner c.number_shown.result c.from-bits.result true (sym c.if-bit_shown.true ∙ c.bit_shown.ensures) c.number_shown.ensures c.from-bits.ensures
-
-pub returns-else-bit_shown : goal.returns-else-bit_shown
-returns-else-bit_shown c =
-    version_is c.args.setup.now c.args.words.now.words.items c.args.owner c.number_shown-else-bit_shown.result c.from-bits.result false (sym c.if-bit_shown.false ∙ c.bit_shown.ensures) c.number_shown-else-bit_shown.ensures c.from-bits.ensures
+pub returns : goal.returns
+returns c =
+    let s = c.args.setup.now in
+    let words = c.args.words.now.words.items in
+    let commit : Bool = c.bit_shown-commit.result in
+    let bits : ℕ = c.from-bits.result in
+    let stamp : c.if-commit.stamp ≡ stamp_field commit =
+    elim c.if-commit.branch [
+      | then-commit w ↦ w.stamp-is ∙ sym (ap stamp_field w.if-commit.true)
+      | else-commit w ↦ w.stamp-is ∙ sym (ap stamp_field w.if-commit.false)
+    ] in
+    version_is s words c.args.owner c.number_shown.result bits commit c.bit_shown-commit.ensures
+    (c.number_shown.ensures ∙ ap (λ (f : Field). number_shown s words c.args.owner f 0 bits) stamp)
+    (c.from-bits.ensures ∙ sym (width-stamp s commit))

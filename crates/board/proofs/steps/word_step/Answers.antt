@@ -1,5 +1,5 @@
 use Rattle.std.proofs.Common.{ap, sym, subst, ◌∙◌, arith}
-use Rattle.board.specs.{IsNext, IsTied, nothing, word_of, words_in}
+use Rattle.board.specs.{IsNext, IsTied, nothing, word_of, word_of_copy, words_in}
 use Rattle.board.proofs.Ties.{is_next, is_written, no_end, there_at}
 use Rattle.board.proofs.WordNumbers.{word_below}
 use Rattle.board.proofs.steps.word_step.Goals as goal
@@ -8,11 +8,11 @@ pub read-requires : goal.read-requires
 read-requires c = let s = c.args.words.now.key in let n = c.next-access.result in
     let low = word_below s n (there_at s c.args.pending c.args.process.now c.args.value.now c.args.seat.now.me.0 n c.requires.tied c.next-access.ensures.there) in
     record {
-      place = (c.requires.table, omega (arith, low, c.word_of-word.ensures.word, c.requires.size, ap (λ s. word_of s n) c.requires.key, ap words_in c.requires.key));
+      place = (c.requires.table, omega (arith, low, (c.word_of-word.ensures.word ∙ ap (word_of_copy c.args.setup.now) c.of.ensures), c.requires.size, ap (λ s. word_of s n) c.requires.key, ap words_in c.requires.key));
       tied = (c.args.value.now, c.requires.tied);
       next = (
         n,
-        is_next s c.args.pending c.args.process.now c.args.value.now c.args.seat.now.me.0 c.args.flick c.word_of-word.result n c.requires.tied c.requires.goes c.next-access.ensures.access (c.word_of-word.ensures.word ∙ ap (λ s. word_of s n) (sym c.requires.key)),
+        is_next s c.args.pending c.args.process.now c.args.value.now c.args.seat.now.me.0 c.args.flick c.word_of-word.result n c.requires.tied c.requires.goes c.next-access.ensures.access ((c.word_of-word.ensures.word ∙ ap (word_of_copy c.args.setup.now) c.of.ensures) ∙ ap (λ s. word_of s n) (sym c.requires.key)),
         c.in-BeginRead.is,
       );
       goes = c.requires.goes;
@@ -21,7 +21,7 @@ read-requires c = let s = c.args.words.now.key in let n = c.next-access.result i
 pub unreachable-requires : goal.unreachable-requires
 unreachable-requires c = let s = c.args.words.now.key in let n = c.next-access.result in
     no_end s c.args.pending c.args.process.now c.args.value.now c.args.flick c.in-EndRead.field-0 c.word_of-word.result n c.args.seat.now.me.0 c.requires.tied
-    (is_next s c.args.pending c.args.process.now c.args.value.now c.args.seat.now.me.0 c.args.flick c.word_of-word.result n c.requires.tied c.requires.goes c.next-access.ensures.access (c.word_of-word.ensures.word ∙ ap (λ s. word_of s n) (sym c.requires.key)))
+    (is_next s c.args.pending c.args.process.now c.args.value.now c.args.seat.now.me.0 c.args.flick c.word_of-word.result n c.requires.tied c.requires.goes c.next-access.ensures.access ((c.word_of-word.ensures.word ∙ ap (word_of_copy c.args.setup.now) c.of.ensures) ∙ ap (λ s. word_of s n) (sym c.requires.key)))
     c.in-EndRead.is
 
 pub returns-in-BeginRead-clause-tied : goal.returns-in-BeginRead-clause-tied
@@ -31,13 +31,13 @@ pub write-requires : goal.write-requires
 write-requires c = let s = c.args.words.now.key in let n = c.next-access.result in
     let low = word_below s n (there_at s c.args.pending c.args.process.now c.args.value.now c.args.seat.now.me.0 n c.requires.tied c.next-access.ensures.there) in
     record {
-      place = (c.requires.table, omega (arith, low, c.word_of-word.ensures.word, c.requires.size, ap (λ s. word_of s n) c.requires.key, ap words_in c.requires.key));
+      place = (c.requires.table, omega (arith, low, (c.word_of-word.ensures.word ∙ ap (word_of_copy c.args.setup.now) c.of.ensures), c.requires.size, ap (λ s. word_of s n) c.requires.key, ap words_in c.requires.key));
       next = (
         c.args.value.now,
         (
           n,
           c.requires.tied,
-          is_next s c.args.pending c.args.process.now c.args.value.now c.args.seat.now.me.0 c.args.flick c.word_of-word.result n c.requires.tied c.requires.goes c.next-access.ensures.access (c.word_of-word.ensures.word ∙ ap (λ s. word_of s n) (sym c.requires.key)),
+          is_next s c.args.pending c.args.process.now c.args.value.now c.args.seat.now.me.0 c.args.flick c.word_of-word.result n c.requires.tied c.requires.goes c.next-access.ensures.access ((c.word_of-word.ensures.word ∙ ap (word_of_copy c.args.setup.now) c.of.ensures) ∙ ap (λ s. word_of s n) (sym c.requires.key)),
           is_written n.how c.in_default.not-BeginRead c.in_default.not-EndRead,
           c.stored-new.ensures.word,
         ),
@@ -48,7 +48,7 @@ write-requires c = let s = c.args.words.now.key in let n = c.next-access.result 
 pub returns-in_default : goal.returns-in_default
 returns-in_default c = let s = c.args.words.now.key in let n = c.next-access.result in
     let next : IsNext s c.args.process.now c.args.flick c.word_of-word.result n =
-    is_next s c.args.pending c.args.process.now c.args.value.now c.args.seat.now.me.0 c.args.flick c.word_of-word.result n c.requires.tied c.requires.goes c.next-access.ensures.access (c.word_of-word.ensures.word ∙ ap (λ s. word_of s n) (sym c.requires.key)) in
+    is_next s c.args.pending c.args.process.now c.args.value.now c.args.seat.now.me.0 c.args.flick c.word_of-word.result n c.requires.tied c.requires.goes c.next-access.ensures.access ((c.word_of-word.ensures.word ∙ ap (word_of_copy c.args.setup.now) c.of.ensures) ∙ ap (λ s. word_of s n) (sym c.requires.key)) in
     record {
       same = c.write.ensures.same;
       tied = subst (λ value. IsTied s nothing c.write.new.process value c.write.new.seat.me.0) (sym c.stored-new.ensures.value)

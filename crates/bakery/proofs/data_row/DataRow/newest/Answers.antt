@@ -1,18 +1,20 @@
-use Rattle.std.proofs.Common.{◌≡◌, ℕ, ◌*◌, ◌<◌, refl, List, [], ◌∷◌, ◌++◌, length, map, take, sym, ap, ◌∙◌, subst, arith}
+use Rattle.std.proofs.Common.{◌≡◌, ℕ, ◌*◌, ◌<◌, refl, List, length, map, take, sym, ap, ◌∙◌, subst, arith}
 use Rattle.std.specs.List.{range_with_len}
 use Rattle.store_image.specs.{store_in}
 use Rattle.plain_store.specs.{Contents, callers_of}
 use Rattle.record.specs.{Version, bytes_of_bits, image_bytes, image_field}
 use Rattle.record.specs.declared.access.Field.TheVariants.{Commit, Stamp0, Stamp1, Image0, Image1}
-use Rattle.bakery.specs.{IsReadable, values_of, version_in, version_held, newest_of}
+use Rattle.bakery.specs.{IsReadable, values_of, version_in, version_held}
 use Rattle.bakery.specs.Registers.{Data, DataRow, data_of, register_of}
-use Rattle.bakery.specs.declared.newest.Newest.{Newest}
-use Rattle.bakery.proofs.Committed.{part-is, readable, values-wide, versions-more, many-versions, newest-inside}
+use Rattle.process.specs.{IsNewestWith, newest_version}
+use Rattle.process.specs.declared.newest_version.NewestVersion.{NewestVersion}
+use Rattle.process.proofs.NewestSteps.{newest-below, newest-more}
+use Rattle.bakery.proofs.Committed.{part-is, readable, values-wide}
 use Rattle.bakery.proofs.Widths.{ranges}
 use Rattle.bakery.proofs.data_row.DataRow.newest.Goals as goal
 
-pub version-commit-requires : goal.version-commit-requires
-version-commit-requires c =
+pub version-version-requires : goal.version-version-requires
+version-version-requires c =
     let row : DataRow = c.args.self.now in
     let p : ℕ = c.loop-process.process in
     let inside : p < row.setup.processes = omega (arith, c.loop-process-test.true, ap (λ (r : DataRow). r.setup.processes) c.self.view_is) in
@@ -33,17 +35,15 @@ loop-process-preserved c =
     let p : ℕ = c.loop-process.process in
     let inside : p < row.setup.processes = omega (arith, c.loop-process-test.true, ap (λ (r : DataRow). r.setup.processes) c.self.view_is) in
     let part = part-is row c.self.inside.setup c.self.inside.parts.items c.index.result.now c.from.result p c.self.view_is c.index.ensures c.from.ensures (omega (arith, inside, c.requires.fits.parts)) in
-    let versions : List Version = map (version_in row) (range_with_len 0 p) in
-    c.with-newest.ensures.newest versions (many-versions row p) c.loop-process.invariant
-    ∙ ap (λ (v : Version). newest_of (versions ++ v ∷ [])) (c.version-commit.ensures ∙ ap version_held part)
-    ∙ ap newest_of (sym (versions-more row p))
+    newest-more (version_in row) p c.loop-process.newest c.with-newest.result c.loop-process.invariant
+    (subst (λ (v : Version). IsNewestWith c.loop-process.newest p v c.with-newest.result) (c.version-version.ensures ∙ ap version_held part) c.with-newest.ensures.newest)
 
 pub index-requires-2 : goal.index-requires-2
 index-requires-2 c =
     let row : DataRow = c.args.self.now in
     let all : c.loop-process.process ≡ row.setup.processes = omega (arith, c.loop-process-test.false, c.loop-process.auto.process-end, ap (λ (r : DataRow). r.setup.processes) c.self.view_is) in
     let some = (ranges c.self.inside.setup c.self.invariant).some_processes in
-    omega (arith, newest-inside row c.loop-process.process (omega (arith, c.loop-process-test.false, some)), ap (λ (n : Newest). n.process) c.loop-process.invariant, c.from-2.ensures, all, c.requires.fits.parts, ap (λ (r : DataRow). length r.parts) c.self.view_is, c.self.inside.parts.ok.0)
+    omega (arith, newest-below (version_in row) c.loop-process.process c.loop-process.newest c.loop-process.invariant (omega (arith, c.loop-process-test.false, some)), c.from-2.ensures, all, c.requires.fits.parts, ap (λ (r : DataRow). length r.parts) c.self.view_is, c.self.inside.parts.ok.0)
 
 pub image-bytes-requires : goal.image-bytes-requires
 image-bytes-requires c =
@@ -51,7 +51,7 @@ image-bytes-requires c =
     let q : ℕ = c.loop-process.newest.process in
     let all : c.loop-process.process ≡ row.setup.processes = omega (arith, c.loop-process-test.false, c.loop-process.auto.process-end, ap (λ (r : DataRow). r.setup.processes) c.self.view_is) in
     let some = (ranges c.self.inside.setup c.self.invariant).some_processes in
-    let inside : q < row.setup.processes = omega (arith, newest-inside row c.loop-process.process (omega (arith, c.loop-process-test.false, some)), ap (λ (n : Newest). n.process) c.loop-process.invariant, all) in
+    let inside : q < row.setup.processes = omega (arith, newest-below (version_in row) c.loop-process.process c.loop-process.newest c.loop-process.invariant (omega (arith, c.loop-process-test.false, some)), all) in
     let part = part-is row c.self.inside.setup c.self.inside.parts.items c.index-2.result.now c.from-2.result q c.self.view_is c.index-2.ensures c.from-2.ensures (omega (arith, inside, c.requires.fits.parts)) in
     let count : c.image_bytes-count.result ≡ image_bytes row.setup = c.image_bytes-count.ensures.bytes ∙ ap (λ (r : DataRow). image_bytes r.setup) c.self.view_is in
     record {
@@ -66,12 +66,12 @@ returns c =
     let q : ℕ = c.loop-process.newest.process in
     let all : c.loop-process.process ≡ row.setup.processes = omega (arith, c.loop-process-test.false, c.loop-process.auto.process-end, ap (λ (r : DataRow). r.setup.processes) c.self.view_is) in
     let some = (ranges c.self.inside.setup c.self.invariant).some_processes in
-    let inside : q < row.setup.processes = omega (arith, newest-inside row c.loop-process.process (omega (arith, c.loop-process-test.false, some)), ap (λ (n : Newest). n.process) c.loop-process.invariant, all) in
+    let inside : q < row.setup.processes = omega (arith, newest-below (version_in row) c.loop-process.process c.loop-process.newest c.loop-process.invariant (omega (arith, c.loop-process-test.false, some)), all) in
     let part = part-is row c.self.inside.setup c.self.inside.parts.items c.index-2.result.now c.from-2.result q c.self.view_is c.index-2.ensures c.from-2.ensures (omega (arith, inside, c.requires.fits.parts)) in
     let count : c.image_bytes-count.result ≡ image_bytes row.setup = c.image_bytes-count.ensures.bytes ∙ ap (λ (r : DataRow). image_bytes r.setup) c.self.view_is in
-    let newest = c.loop-process.invariant ∙ ap (λ n. newest_of (map (version_in row) (range_with_len 0 n))) all in
+    let newest = c.loop-process.invariant ∙ ap (λ n. newest_version (map (version_in row) (range_with_len 0 n))) all in
     let store : List ℕ → Contents = store_in row.setup.slots (callers_of row.setup) in
     c.read_or_empty.ensures.store
     ∙ (λ i. store_in (c.self.view_is i).setup.slots (callers_of (c.self.view_is i).setup) (take (c.from-3.ensures i) c.image-bytes.result))
     ∙ ap store (c.image-bytes.ensures.bytes ∙ (λ i. bytes_of_bits (count i) (values_of (register_of (part i) (image_field c.loop-process.newest.commit)))))
-    ∙ ap (λ (n : Newest). store (bytes_of_bits (image_bytes row.setup) (values_of (register_of (data_of row n.process) (image_field n.commit))))) newest
+    ∙ ap (λ (n : NewestVersion). store (bytes_of_bits (image_bytes row.setup) (values_of (register_of (data_of row n.process) (image_field n.commit))))) newest
