@@ -26,4 +26,4 @@ pub use matching::{event_in, tells_event};
 pub use read_law::{Watch, parts};
 pub use record::{Entry, Record};
 pub use verdicts::{Audited, Law, Verdict};
-pub use world::{Core, Flicks, StepTold, World, step_marks};
+pub use world::{Core, Flicks, World};

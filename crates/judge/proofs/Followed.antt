@@ -1,12 +1,12 @@
 -- What goes along with a good record.
-use Rattle.std.proofs.Common.{◌≡◌, ◌≤◌, ◌<◌, ◌^◌, ℕ, suc, List, [], ◌∷◌, ◌++◌, length, Option, Some, None, refl, ap, sym, subst, arith}
+use Rattle.std.proofs.Common.{◌≡◌, ◌≤◌, ◌<◌, ◌^◌, ℕ, suc, List, [], ◌∷◌, ◌++◌, length, Option, Some, None, refl, ap, subst, arith}
 use Rattle.std.proofs.lemmas.List.{length_push}
 use Rattle.plain_store.specs.{Reply, Setup}
-use Rattle.record.specs.{Entry, Event, Past, Refusal, Taken, added, entry_of, history, last_call, own, past_of, refused, reply_taken}
+use Rattle.record.specs.{Entry, Event, Past, Taken, history, last_call, own, past_of, reply_taken}
 use Rattle.auditor.specs.world.{CoreState, with_history}
 use Rattle.auditor.specs.world.Shows.{Shows}
 use Rattle.auditor.specs.{AuditorState, BreaksNext, HasHeard, IsCount, IsHeard, KeepsAll, Law}
-use Rattle.judge.specs.{FollowerState, HasFollowed}
+use Rattle.judge.specs.{HasFollowed}
 
 -- the history is no longer than the past
 pub history_within : (s : Setup) (past : Past) → length (history s past) ≤ length past
@@ -30,21 +30,17 @@ is_counted s past None few over = let most = history_within s past in absurd (om
 is_counted s past (Some k) few is = ap (λ k. Some k) is
 
 -- so it is by who has followed them
-pub taken_is : (f : FollowerState) (s : Setup) (past : Past) → HasFollowed f s past → length past < 2 ^ 64 → f.auditor.taken ≡ Some (length (history s past))
-taken_is f s past h few = is_counted s past f.auditor.taken few (subst (λ (s : Setup). IsCount f.auditor.taken (length (history s past))) h.setup h.heard.counted)
+pub taken_is : (f : AuditorState) (s : Setup) (past : Past) → HasFollowed f s past → length past < 2 ^ 64 → f.taken ≡ Some (length (history s past))
+taken_is f s past h few = is_counted s past f.taken few (subst (λ (s : Setup). IsCount f.taken (length (history s past))) h.setup h.heard.counted)
 
 -- what its core tells of each record that it shows is so of the entries followed
-pub followed : (f : FollowerState) (s : Setup) (past : Past) (P : List Taken → Setup → Past → Type 0) (core : CoreState) → core ≡ f.auditor.core → HasFollowed f s past →
+pub followed : (f : AuditorState) (s : Setup) (past : Past) (P : List Taken → Setup → Past → Type 0) (core : CoreState) → core ≡ f.core → HasFollowed f s past →
     ((taken : List Taken) (events : List Event) → Shows (with_history core taken) events → P taken core.setup (past_of core.setup events)) → P (history s past) s past
 followed f s past P core same h each =
-    let given : Setup = f.auditor.core.setup in
+    let given : Setup = f.core.setup in
     let each_here = subst (λ (core : CoreState). (taken : List Taken) (events : List Event) → Shows (with_history core taken) events → P taken core.setup (past_of core.setup events)) same each in
     subst (λ (s : Setup). P (history s past) s past) h.setup
     (subst (λ (l : Past). P (history given past) given l) h.heard.past_is (each_here (history given past) h.heard.events h.heard.shows))
-
--- an event that is refused adds no entry
-pub none_of_refused : (s : Setup) (past : Past) (event : Event) (r : Refusal) → refused s past event ≡ Some r → None ≡ entry_of s past event
-none_of_refused s past event r is = sym (ap (λ o. elim o as (λ _. Option Entry) [ Some r ↦ None | None ↦ added s past event ]) is)
 
 -- an auditor who hears an entry that keeps all laws
 pub hears_kept : (s : Setup) (past : Past) (e : Entry) (a : AuditorState) (law : Option Law) → KeepsAll s past e → IsHeard s past e a law → (law ≡ None) × HasHeard a (e ∷ past)

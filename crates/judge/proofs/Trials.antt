@@ -1,15 +1,15 @@
 -- What a line of a record file leaves of what was heard before it.
-use Rattle.std.proofs.Common.{◌≡◌, ℕ, ◌≤◌, Bool, true, false, List, [], ◌∷◌, ◌++◌, length, IsErrAnd, IsSome, Option, Some, None, Result, Ok, Err, refl, ap, sym, subst, ◌∙◌, append-nil, arith}
-use Rattle.std.specs.Option.{is_some, option_to_list}
+use Rattle.std.proofs.Common.{◌≡◌, ℕ, ◌≤◌, Bool, true, false, List, [], ◌∷◌, ◌++◌, length, IsSome, Option, Some, None, Ok, refl, ap, sym, subst, ◌∙◌, append-nil, arith}
+use Rattle.std.specs.Option.{option_to_list}
 use Rattle.plain_store.specs.{Setup}
 use Rattle.files.specs.{FaultKind, UnlessMemory, words_of, words_read}
 use Rattle.files.specs.declared.faults.FaultKind.TheVariants.{Memory}
 use Rattle.record.specs.{Access, Entry}
-use Rattle.record_file.specs.{Progress, cleared, entry_in, entry_words, is_entry, line_read, record_grammar, step_entry}
+use Rattle.record_file.specs.{Progress, cleared, entry_in, entry_words, is_entry, record_grammar, step_entry}
 use Rattle.record_file.specs.scenario.{Progress as Head, spaced}
 use Rattle.record_file.proofs.EntryLines.{entry_of_line}
 use Rattle.judge.specs.{number_in, say_entry}
-use Rattle.judge.specs.Trials.{GoesOn, Hears, HearsAt, LineEnds, Stands}
+use Rattle.judge.specs.Trials.{GoesOn, Hears, HearsAt, Stands}
 use Rattle.judge.proofs.Lines.{Left, clear_twice, empty, first_left, later_left, number_of_none, number_of_some, short_read}
 
 -- what follows from a fact that is known unless memory ran out

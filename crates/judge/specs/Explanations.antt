@@ -6,10 +6,10 @@ use Rattle.plain_store.specs.{Setup}
 use Rattle.record.specs.{Entry, Event, Past, Refusal, Stage, entry_of, has, refusal_text, refused}
 use Rattle.record.specs.declared.events.Event.TheVariants.{Step}
 use Rattle.auditor.specs.world.{stage_in}
-use Rattle.auditor.specs.{IsVerdict, Verdict, event_in, tells_event}
+use Rattle.auditor.specs.{AuditorState, IsVerdict, Verdict, event_in, tells_event}
 use Rattle.auditor.specs.declared.verdicts.Verdict.TheVariants.{Good, Bad}
 use Rattle.judge.specs.ReasonLines.{AreLinesAt, bad_lines, named_entry, stage_line, word_line}
-use Rattle.judge.specs.Following.{FollowerState, HasFollowed}
+use Rattle.judge.specs.Following.{HasFollowed}
 use Rattle.judge.specs.Judging.{HasJudged, JudgeState}
 
 -- The lines.
@@ -62,22 +62,22 @@ AreLinesOf s entries numbers (Bad k l) lines = AreLinesAt AreReasons s entries n
 -- As entries are heard.
 
 -- the verdict on these entries, which stand in the lines with these numbers; the lines of its reasons; and as long as it is good the follower goes on
-pub record HasReasons (verdict : Verdict) (f : FollowerState) (lines : List ℕ) (s : Setup) (entries : List Entry) (numbers : List ℕ) : Type 0 where
+pub record HasReasons (verdict : Verdict) (f : AuditorState) (lines : List ℕ) (s : Setup) (entries : List Entry) (numbers : List ℕ) : Type 0 where
   pub is : IsVerdict s entries verdict
   pub counted : length numbers ≡ length entries
   pub are : AreLinesOf s entries numbers verdict lines
   pub follows : verdict ≡ Good → HasFollowed f s (reverse entries)
 
 -- with one more entry the verdict is `now`, and these are its reasons
-abbrev pub ReasonsGoOn : (was now : Verdict) → (f then : FollowerState) → ℕ → Entry → (old new : List ℕ) → Type 0
+abbrev pub ReasonsGoOn : (was now : Verdict) → (f then : AuditorState) → ℕ → Entry → (old new : List ℕ) → Type 0
 ReasonsGoOn was now f then n e old new = (s : Setup) (entries : List Entry) (numbers : List ℕ) → length entries < 2 ^ 64 →
     IsVerdict s (entries ++ e ∷ []) now → HasReasons was f old s entries numbers → HasReasons now then new s (entries ++ e ∷ []) (numbers ++ n ∷ [])
 
 -- these lines on the past that the follower has followed were written behind a text
-abbrev pub Writes : FollowerState → (Setup → Past → List ℕ) → (old new : List ℕ) → Type 0
+abbrev pub Writes : AuditorState → (Setup → Past → List ℕ) → (old new : List ℕ) → Type 0
 Writes f lines old new = (s : Setup) (past : Past) → HasFollowed f s past → length past < 2 ^ 64 → new ≡ old ++ lines s past
 
 -- a judge has heard these entries, and has the reasons of his verdict
-pub record HasExplained (j : JudgeState) (f : FollowerState) (lines : List ℕ) (s : Setup) (entries : List Entry) (numbers : List ℕ) : Type 0 where
+pub record HasExplained (j : JudgeState) (f : AuditorState) (lines : List ℕ) (s : Setup) (entries : List Entry) (numbers : List ℕ) : Type 0 where
   pub judged : HasJudged j s entries
   pub reasons : HasReasons j.verdict f lines s entries numbers

@@ -26,7 +26,7 @@ pub use AnyJudgements.{AnyTellsVerdict, any_status_of_verdict, any_verdict_line}
 pub use AnyReasons.{any_reason_lines, wait_line, waits_from}
 pub use Ends.{IsInputFault, IsOfRecord}
 pub use Explanations.{AreLinesOf, AreReasons, HasExplained, HasReasons, ReasonsGoOn, Writes, reason_lines}
-pub use Following.{FollowerState, HasFollowed}
+pub use Following.{HasFollowed}
 pub use Good.{DoorwaysAreOne, GoodIsGood, GoodKeepsOfAny}
 pub use Judgements.{TellsReasons, TellsVerdict, status_of_verdict, verdict_line}
 pub use Judging.{BothHeard, HasJudged, JudgeState, found}

@@ -107,10 +107,10 @@ fn explain(
     alloc: Global,
     number: u64,
     entry: &Entry,
-    follower: &mut Follower,
+    follower: &Follower,
     lines: &mut Vec<u8>,
 ) -> Result<(), AllocError>
-    ensures { OnOk result (Writes follower.old (λ s past. reason_lines s past number entry.now)
+    ensures { OnOk result (Writes follower.now (λ s past. reason_lines s past number entry.now)
         lines.old.items lines.new.items) }
 {
     push_bad(alloc, number, entry, lines)?;
@@ -123,11 +123,10 @@ fn explain(
 fn push_may(
     alloc: Global,
     process: u8,
-    follower: &mut Follower,
+    follower: &Follower,
     lines: &mut Vec<u8>,
 ) -> Result<(), AllocError>
-    ensures same { follower.new ≡ follower.old }
-    ensures lines { OnOk result (Writes follower.old (λ s past. may_lines s past process)
+    ensures lines { OnOk result (Writes follower.now (λ s past. may_lines s past process)
         lines.old.items lines.new.items) }
 {
     let with_0 = stepped_line(alloc, process, false, follower)?;
@@ -140,10 +139,9 @@ fn stepped_line(
     alloc: Global,
     process: u8,
     flick: bool,
-    follower: &mut Follower,
+    follower: &Follower,
 ) -> Result<Vec<u8>, AllocError>
-    ensures same { follower.new ≡ follower.old }
-    ensures line { IfOk result (λ line. Writes follower.old (λ s past. line_of_may (entry_of s past (Step process flick))) [] line.items) }
+    ensures line { IfOk result (λ line. Writes follower.now (λ s past. line_of_may (entry_of s past (Step process flick))) [] line.items) }
 {
     may_line(alloc, &follower.stepped(alloc, process, flick))
 }

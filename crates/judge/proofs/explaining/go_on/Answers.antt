@@ -12,6 +12,6 @@ returns-then-is_good c = still_good c.args.was c.args.now c.args.follower.now c.
 pub returns : goal.returns
 returns c =
     ok_then c.explain.result
-    (gets_bad c.args.was c.args.now c.args.follower.now c.explain.new.follower c.args.number c.args.entry.now c.args.lines.now.items c.explain.new.lines.items (c.is_good.ensures.0 c.if-not-is_good.false)
+    (gets_bad c.args.was c.args.now c.args.follower.now c.args.number c.args.entry.now c.args.lines.now.items c.explain.new.lines.items (c.is_good.ensures.0 c.if-not-is_good.false)
     (λ good. true≢false (sym (c.is_good-2.ensures.1 good) ∙ c.if-is_good.false)))
     c.explain.ensures
