@@ -1,5 +1,5 @@
 -- One process makes the Steps of a line: `step`, and `go` while the process is not where it is to go.
-use Rattle.std.proofs.Common.{◌≡◌, ℕ, zero, suc, ◌+◌, ◌-◌, ◌<◌, ◌≤◌, ◌==◌, arith, Bool, true, false, cond, List, [], ◌∷◌, IfOk, IfSome, Option, None, Some, Result, Ok, Err, is_none, refl, ap, sym, subst, ◌∙◌, add-one, inl, inr}
+use Rattle.std.proofs.Common.{◌≡◌, ℕ, zero, suc, ◌+◌, ◌-◌, ◌<◌, ◌≤◌, arith, Bool, true, false, cond, List, [], ◌∷◌, IfOk, IfSome, Option, None, Some, Result, Ok, Err, is_none, refl, ap, sym, subst, ◌∙◌, add-one, inl, inr}
 use Rattle.plain_store.specs.{Setup}
 use Rattle.record.specs.{Access, Mark}
 use Rattle.record.specs.declared.events.Event.TheVariants.{Step}
@@ -9,22 +9,14 @@ use Rattle.scenario.specs.files.{Fault}
 use Rattle.world.specs.flicks.{FlickState, after_flick, flick_of}
 use Rattle.world.specs.Shows.{Shows, WorldState}
 use Rattle.world.specs.Walks.{StepsQuietly, Walks}
-use Rattle.course.specs.{AddsMarks, ComesOn, ComesTo, CourseState, Follows, Happening, HearsFrom, HearsLast, HearsStep, HearsUpTo, IsAlone, IsNewest, IsQuiet, KnowsEnough, KnowsOr, MakesStep, MaySteps, PassBy, PassWithin, PassesAlone, QuietTurns, Run, RunsTo, StepsWithin, StopsBy, TellsOf, TellsStep, Told, Tries, Turn, course, entry_made, is_there, left_told, made_turn, may_step, next_step, overlapped_in, past_after, past_in, step_turn, stepped, tried, turn_of}
+use Rattle.course.specs.{AddsMarks, ComesAlong, ComesOn, ComesTo, CourseState, Follows, Happening, HearsStep, IsAlone, IsNewest, IsQuiet, MakesStep, PassBy, PassWithin, PassesAlone, QuietTurns, Run, RunsTo, StepsWithin, StopsBy, TellsOf, TellsStep, Told, Tries, Turn, course, entry_made, is_there, left_told, made_turn, may_step, next_step, overlapped_in, past_after, past_in, step_turn, stepped, tried, turn_of}
 use Rattle.course.specs.declared.told.Told.TheVariants as told
 use Rattle.course.proofs.CourseTurns.{turn_next}
 use Rattle.course.proofs.Goes.{go_steps}
 use Rattle.course.proofs.Refusals.{entry_by, not_refused}
-use Rattle.course.proofs.Runnings.{IsStep, comes_as, comes_end, comes_stop, comes_then, comes_to, drawn_run, one_on, one_told, quiet_adds, turns_then}
+use Rattle.course.proofs.Runnings.{IsStep, comes_down, comes_stop, comes_then, comes_to, drawn_run, one_on, one_told, quiet_adds, turns_then}
 use Rattle.course.proofs.Within.{newest_made, overlapped_more, passes_then, steps_within}
 use Rattle.course.proofs.Movers.{stage_quiet}
-use Rattle.course.proofs.Knowing.{quiet_steps, step_needs, turns_above}
-
--- the newest event is known, or it makes a Step more, which is not refused
-abbrev pub MakesMore : ℕ → ℕ → ℕ → Setup → List Happening → Type 0
-MakesMore p floor left s happened = (floor < left) × MaySteps p s happened
-
-abbrev pub KnowsAlone : {L : Type 0} → (L → Setup → List Happening → Type 0) → ℕ → ℕ → ℕ → L → Setup → List Happening → Type 0
-KnowsAlone Knows p floor left = KnowsOr Knows (MakesMore p floor left)
 
 -- its next turn is a Step
 alone_turn : (s : Setup) (l : Line) (left p floor : ℕ) (run : Run) → floor < left → IsAlone p floor s l run → turn_of s l left run ≡ step_turn s p (left - 1) run
@@ -74,7 +66,7 @@ module _ (w w' : WorldState) (l : Line) (left p floor : ℕ) (run : Run) (flicks
 
   -- one that tells
   alone_told : {L : Type 0} (Hears : L → Setup → List Happening → List Happening → L → Type 0) (a : L) (answer : Told) (left' : ℕ) → (TellsOf w.setup (past_in w.setup run) (Tries (next_step p run)) answer → Hears a w.setup run.happened run.happened a) → TellsStep w p flick answer w' → left' ≡ left_told answer (left - 1) →
-      ComesTo Hears w.setup l left run a a (Some answer) (course w' flicks' left')
+      ComesTo Hears w.setup l left run a a left (Some answer) (course w' flicks' left')
   alone_told Hears a answer left' nothing t fewer =
       let tells : TellsOf w.setup (past_in w.setup run) (Tries (next_step p run)) answer = subst (λ b. TellsOf w.setup (past_in w.setup run) (Tries (Step p b)) answer) by (t.tells (tried run.happened) follows.shows) in
       one_told Hears w w' l left p flick run run.flicks flicks' left' a answer nothing
@@ -91,7 +83,7 @@ record Walked (s : Setup) (l : Line) (left p floor n : ℕ) (newest : Access) (o
   newest_is : 0 < n → IsNewest s p newest now.happened
   overlapped_are : overlapped ≡ overlapped_in n (past_after s now.happened)
 
-walked : (n : ℕ) (newest : Access) (overlapped : ℕ) (w w' : WorldState) (flicks flicks' : FlickState) (l : Line) (left p floor : ℕ) (run : Run) → n + floor < left → Walks w flicks p n newest overlapped w' flicks' → Follows (course w flicks left) run → IsAlone p floor w.setup l run → Walked w.setup l left p floor n newest overlapped run w' flicks'
+walked : (n : ℕ) (newest : Access) (overlapped : ℕ) (w w' : WorldState) (flicks flicks' : FlickState) (l : Line) (left p floor : ℕ) (run : Run) → n + floor ≤ left → Walks w flicks p n newest overlapped w' flicks' → Follows (course w flicks left) run → IsAlone p floor w.setup l run → Walked w.setup l left p floor n newest overlapped run w' flicks'
 walked zero newest overlapped w w' flicks flicks' l left p floor run few (same, same_flicks, nobody) follows next =
     let all : left - 0 ≡ left = omega arith in
     record {
@@ -130,72 +122,54 @@ walked (suc n) newest overlapped w w' flicks flicks' l left p floor run few (w1,
     }
 
 -- they are passed by
-pub alone_pass : {L : Type 0} (Hears : L → Setup → List Happening → List Happening → L → Type 0) (n : ℕ) (w w' : WorldState) (flicks flicks' : FlickState) (newest : Access) (overlapped : ℕ) (l : Line) (left p floor : ℕ) (run : Run) (was is : L) → n + floor < left → 0 < n → Walks w flicks p n newest overlapped w' flicks' →
+pub alone_pass : {L : Type 0} (Hears : L → Setup → List Happening → List Happening → L → Type 0) (n : ℕ) (w w' : WorldState) (flicks flicks' : FlickState) (newest : Access) (overlapped : ℕ) (l : Line) (left p floor : ℕ) (run : Run) (was is : L) → n + floor ≤ left → 0 < n → Walks w flicks p n newest overlapped w' flicks' →
     ((s : Setup) (before after : List Happening) → PassBy s p n newest overlapped before after → Hears was s before after is) → Follows (course w flicks left) run → IsAlone p floor w.setup l run → ComesOn Hears w.setup l left run was is (course w' flicks' (left - n)) (IsAlone p floor)
 alone_pass Hears n w w' flicks flicks' newest overlapped l left p floor run was is few some walks pass follows next =
     let b = walked n newest overlapped w w' flicks flicks' l left p floor run few walks follows next in
     record { quiet = n; now = b.now; turns = b.turns; hears = pass w.setup run.happened b.now.happened (record { within = b.within; newest_is = b.newest_is some; overlapped_are = b.overlapped_are }); follows = b.follows; setup = b.setup; next = b.next }
 
--- no turn is left
-pub alone_ended : {L : Type 0} (Hears : L → Setup → List Happening → List Happening → L → Type 0) (Knows : L → Setup → List Happening → Type 0) (s : Setup) (l : Line) (had p floor : ℕ) (run : Run) (was is : L) (course : CourseState) → ComesOn (HearsFrom Hears Knows (KnowsAlone Knows p floor course.left)) s l had run was is course (IsAlone p floor) → course.left ≤ floor →
-    ComesOn (HearsFrom Hears Knows Knows) s l had run was is course (IsAlone p floor)
-alone_ended Hears Knows s l had p floor run was is course u none = comes_as Hears Knows (KnowsAlone Knows p floor course.left) Knows s l had run was is course (IsAlone p floor) ended u
-  where
-    ended : (x : List Happening) → KnowsAlone Knows p floor course.left is s x → Knows is s x
-    ended x (inl known) = known
-    ended x (inr makes) = absurd (let more = makes.0 in omega (arith, none, more))
-
 -- A turn: some Steps pass by, and then one is made.
-module _ {L : Type 0} (Hears : L → Setup → List Happening → List Happening → L → Type 0) (Knows : L → Setup → List Happening → Type 0) (hears_on : (a b c : L) (s : Setup) (x y z : List Happening) → Hears a s x y b → Hears b s y z c → Hears a s x z c) (s : Setup) (l : Line) (had p floor : ℕ) (run : Run) (was mid now is : L) (first : CourseState) (w w' : WorldState) (flicks flicks' : FlickState) (left : ℕ)
-    (u : ComesOn (HearsFrom Hears Knows (KnowsAlone Knows p floor first.left)) s l had run was mid first (IsAlone p floor)) (passes : PassesAlone Hears Knows first p floor (course w flicks left) mid now) (more : floor < left) (after : flicks' ≡ after_flick flicks) where
-  abbrev Alert : L → Setup → List Happening → Type 0
-  Alert = KnowsOr Knows (MaySteps p)
-
+module _ {L : Type 0} (Hears : L → Setup → List Happening → List Happening → L → Type 0) (hears_on : (a b c : L) (s : Setup) (x y z : List Happening) → Hears a s x y b → Hears b s y z c → Hears a s x z c) (s : Setup) (l : Line) (had p floor : ℕ) (run : Run) (was mid now is : L) (first : CourseState) (w w' : WorldState) (flicks flicks' : FlickState) (left : ℕ)
+    (u : ComesOn Hears s l had run was mid first (IsAlone p floor)) (passes : PassesAlone Hears first p floor (course w flicks left) mid now) where
   abbrev here : CourseState
   here = course w flicks left
 
-  passed : ComesOn (HearsFrom Hears Knows Alert) s l had run was now here (IsAlone p floor)
-  passed = comes_then Hears hears_on Knows Alert s l had run was mid now first (IsAlone p floor) (comes_as Hears Knows (KnowsAlone Knows p floor first.left) Alert s l had run was mid first (IsAlone p floor) may u) Alert here (IsAlone p floor) (passes l)
-    where
-      may : (x : List Happening) → KnowsAlone Knows p floor first.left mid s x → Alert mid s x
-      may x (inl known) = inl known
-      may x (inr makes) = inr makes.1
+  -- those that pass by
+  pub alone_passed : ComesOn Hears s l had run was now here (IsAlone p floor)
+  alone_passed = comes_then Hears hears_on s l had run was mid now first (IsAlone p floor) u here (IsAlone p floor) (passes l)
 
-  -- one without a mark: it is known if it is the last, and else is not the last
-  pub alone_then : HearsStep (HearsLast Hears Knows (left - 1 == floor)) w p (flick_of flicks) w' now is → ComesOn (HearsFrom Hears Knows (KnowsAlone Knows p floor (left - 1))) s l had run was is (course w' flicks' (left - 1)) (IsAlone p floor)
-  alone_then h =
-      comes_then Hears hears_on Knows Alert s l had run was now is here (IsAlone p floor) passed (KnowsAlone Knows p floor (left - 1)) (course w' flicks' (left - 1)) (IsAlone p floor)
-      (λ run follows next. alone_on w w' l left p floor run flicks flicks' more after follows next (HearsFrom Hears Alert (KnowsAlone Knows p floor (left - 1))) now is
-      (record { step = h.step; hears = λ before shows. ((h.hears before shows).0, λ known. by (left - 1 == floor) refl before shows (h.hears before shows).1) }))
-    where
-      by : (b : Bool) → (left - 1 == floor) ≡ b → (before : List Happening) → Shows w (tried before) → ((left - 1 == floor) ≡ true → Knows is w.setup (Tries (Step p (flick_of flicks)) ∷ before)) → KnowsAlone Knows p floor (left - 1) is w.setup (Tries (Step p (flick_of flicks)) ∷ before)
-      by true last before shows known = inl (known last)
-      by false last before shows known = inr (turns_above floor left more last, quiet_steps w.setup p (flick_of flicks) before (Some h.step.access, h.step.adds (tried before) shows))
+  module _ (more : floor < left) (after : flicks' ≡ after_flick flicks) where
+    -- one without a mark
+    pub alone_then : HearsStep Hears w p (flick_of flicks) w' now is → ComesOn Hears s l had run was is (course w' flicks' (left - 1)) (IsAlone p floor)
+    alone_then h =
+        comes_then Hears hears_on s l had run was now is here (IsAlone p floor) alone_passed (course w' flicks' (left - 1)) (IsAlone p floor)
+        (λ run follows next. alone_on w w' l left p floor run flicks flicks' more after follows next Hears now is h)
 
-  -- one that tells
-  pub alone_to : ((a : L) (s : Setup) (x : List Happening) → Hears a s x x a) → (told : Option Told) (left' : ℕ) → (told ≡ None → ⊥) → MakesStep (HearsLast Hears Knows (left - 1 == floor)) w p (flick_of flicks) told w' now is → IfSome told (λ answer. left' ≡ left_told answer (left - 1)) → RunsTo (HearsUpTo Hears Knows told) s l had run was is p floor told (course w' flicks' left')
-  alone_to hears_nothing None left' some both fewer = absurd (some refl)
-  alone_to hears_nothing (Some answer) left' some both fewer =
-      subst (λ (b : L). ComesTo (HearsUpTo Hears Knows (Some answer)) s l had run was b (Some answer) (course w' flicks' left')) (sym both.1)
-      (comes_to Hears hears_on Knows Alert s l had run was now now here (IsAlone p floor) passed (KnowsEnough Knows (Some answer)) (course w' flicks' left') (Some answer)
-      (λ run follows next. alone_told w w' l left p floor run flicks flicks' more after follows next (HearsFrom Hears Alert (KnowsEnough Knows (Some answer))) now answer left'
-      (λ tells. (hears_nothing now w.setup run.happened, λ may. step_needs w.setup p (flick_of run.flicks) run.happened answer (Knows now w.setup run.happened) tells may)) both.0 fewer))
+    -- one that tells
+    pub alone_to : ((a : L) (s : Setup) (x : List Happening) → Hears a s x x a) → (told : Option Told) (left' : ℕ) → (told ≡ None → ⊥) → MakesStep Hears w p (flick_of flicks) told w' now is → IfSome told (λ answer. left' ≡ left_told answer (left - 1)) → RunsTo Hears s l had run was is p floor left told (course w' flicks' left')
+    alone_to hears_nothing None left' some both fewer = absurd (some refl)
+    alone_to hears_nothing (Some answer) left' some both fewer = (
+      more,
+      subst (λ (b : L). ComesTo Hears s l had run was b left (Some answer) (course w' flicks' left')) (sym both.1)
+          (comes_to Hears hears_on s l had run was now now here (IsAlone p floor) alone_passed (course w' flicks' left') left (Some answer)
+          (λ run follows next. alone_told w w' l left p floor run flicks flicks' more after follows next Hears now answer left' (λ tells. hears_nothing now w.setup run.happened) both.0 fewer)),
+    )
 
-  -- a fault at one without a mark
-  pub alone_stops : (Stops : L → Setup → List Happening → List Happening → Fault → L → Type 0) → ((a b c : L) (s : Setup) (x y z : List Happening) (fault : Fault) → Hears a s x y b → Stops b s y z fault c → Stops a s x z fault c) → (fault : Fault) → HearsStep (StopsBy Stops fault) w p (flick_of flicks) w' now is →
-      ComesOn (StopsBy Stops fault) s l had run was is (course w' flicks' (left - 1)) (IsAlone p floor)
-  alone_stops Stops stops_on fault h =
-      comes_stop Hears hears_on Knows Alert s l had run was now is here (IsAlone p floor) passed Stops stops_on fault (course w' flicks' (left - 1)) (IsAlone p floor)
-      (λ run follows next. alone_on w w' l left p floor run flicks flicks' more after follows next (StopsBy Stops fault) now is h)
+    -- a fault at one without a mark
+    pub alone_stops : (Stops : L → Setup → List Happening → List Happening → Fault → L → Type 0) → ((a b c : L) (s : Setup) (x y z : List Happening) (fault : Fault) → Hears a s x y b → Stops b s y z fault c → Stops a s x z fault c) → (fault : Fault) → HearsStep (StopsBy Stops fault) w p (flick_of flicks) w' now is →
+        ComesOn (StopsBy Stops fault) s l had run was is (course w' flicks' (left - 1)) (IsAlone p floor)
+    alone_stops Stops stops_on fault h =
+        comes_stop Hears hears_on s l had run was now is here (IsAlone p floor) alone_passed Stops stops_on fault (course w' flicks' (left - 1)) (IsAlone p floor)
+        (λ run follows next. alone_on w w' l left p floor run flicks flicks' more after follows next (StopsBy Stops fault) now is h)
 
 -- and leave the setup
 pub walks_setup : (n : ℕ) (newest : Access) (overlapped : ℕ) (w w' : WorldState) (flicks flicks' : FlickState) (p : ℕ) → Walks w flicks p n newest overlapped w' flicks' → w'.setup ≡ w.setup
 walks_setup zero newest overlapped w w' flicks flicks' p (same, same_flicks, none) = ap (λ (w : WorldState). w.setup) same
 walks_setup (suc n) newest overlapped w w' flicks flicks' p (w1, flicks1, access, count, walks, last, made, after, counts) = made.steps.setup ∙ walks_setup n access count w w1 flicks flicks1 p walks
 
--- a line of Steps that has made them all has ended
-pub alone_whole : {L : Type 0} (Hears : Option Told → L → Setup → List Happening → List Happening → L → Type 0) (old new : CourseState) (l : Line) (p steps : ℕ) (was is : L) (result : Result (Option Told) Fault) → l ≡ line.Step p steps → IfOk result (λ told. told ≡ None → new.left ≡ 0) →
-    IfOk result (λ told. (l : Line) (run : Run) → Follows old run → IsAlone p 0 old.world.setup l run → RunsTo (Hears told) old.world.setup l old.left run was is p 0 told new) → IfOk result (λ told. (run : Run) → Follows old run → ComesTo (Hears told) old.world.setup l old.left run was is told new)
-alone_whole Hears old new l p steps was is (Err fault) same ended runs = tt
-alone_whole Hears old new l p steps was is (Ok None) same ended runs = λ run follows. comes_end (Hears None) old.world.setup l old.left run was is new (IsAlone p 0) (ended refl) (runs l run follows (inl (steps, same)))
-alone_whole Hears old new l p steps was is (Ok (Some answer)) same ended runs = λ run follows. runs l run follows (inl (steps, same))
+-- a line of Steps that has made those down to a floor
+pub alone_whole : {L : Type 0} (Hears : L → Setup → List Happening → List Happening → L → Type 0) (old new : CourseState) (l : Line) (p steps floor before : ℕ) (was is : L) (result : Result (Option Told) Fault) → l ≡ line.Step p steps → IfOk result (λ told. told ≡ None → new.left ≡ floor) → IfOk result (λ told. told ≡ None → before ≡ floor) →
+    IfOk result (λ told. (l : Line) (run : Run) → Follows old run → IsAlone p floor old.world.setup l run → RunsTo Hears old.world.setup l old.left run was is p floor before told new) → IfOk result (λ told. (run : Run) → Follows old run → ComesAlong Hears old.world.setup l old.left run was is floor before told new)
+alone_whole Hears old new l p steps floor before was is (Err fault) same ended at runs = tt
+alone_whole Hears old new l p steps floor before was is (Ok None) same ended at runs = λ run follows. inl (comes_down Hears old.world.setup l old.left run was is floor before new (IsAlone p floor) (ended refl) (at refl) (runs l run follows (inl (steps, same))))
+alone_whole Hears old new l p steps floor before was is (Ok (Some answer)) same ended at runs = λ run follows. runs l run follows (inl (steps, same))

@@ -32,17 +32,16 @@ is_away w p target at elsewhere some flicks left run follows =
 
 -- a process that has made all the Steps
 pub go_tires : {L : Type 0} (Hears : L → Setup → List Happening → List Happening → L → Type 0) (s : Setup) (p : ℕ) (target : Target) (had : ℕ) (start : Run) (was is : L) (mid : CourseState) → mid.left ≡ 1 → ComesOn Hears s (line.Go p target) had start was is mid (IsAlone p 1) →
-    ComesTo Hears s (line.Go p target) had start was is (Some (told.Tired p)) (course mid.world mid.flicks 0)
+    ComesTo Hears s (line.Go p target) had start was is 1 (Some (told.Tired p)) (course mid.world mid.flicks 0)
 go_tires Hears s p target had start was is mid last u = by (away u.next)
   where
     away : IsAlone p 1 s (line.Go p target) u.now → IsAway s p target u.now
     away (inl (steps, same)) = absurd (cc)
     away (inr (other, same, is, few)) = let at : other ≡ target = cc in subst (λ target. IsAway s p target u.now) at is
 
-    by : IsAway s p target u.now → ComesTo Hears s (line.Go p target) had start was is (Some (told.Tired p)) (course mid.world mid.flicks 0)
+    by : IsAway s p target u.now → ComesTo Hears s (line.Go p target) had start was is 1 (Some (told.Tired p)) (course mid.world mid.flicks 0)
     by far = record {
       quiet = u.quiet;
-      left = 1;
       now = u.now;
       turns = subst (λ n. QuietTurns s (line.Go p target) u.quiet had start n u.now) last u.turns;
       hears = u.hears;

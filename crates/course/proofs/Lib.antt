@@ -12,9 +12,10 @@ pub mod Goes
 pub mod Alone
 pub mod Movers
 pub mod Wanders
-pub mod Knowing
 pub mod Counted
 pub mod Lone
+pub mod EventsMade
+pub mod Fronts
 pub mod Refusals
 pub mod InTurn
 -- What happens in a run, and its text

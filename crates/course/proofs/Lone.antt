@@ -1,5 +1,5 @@
 -- `wander` where one process alone has a Step to make and the flicks are constant: as a line of its Steps, but that each pick takes a word.
-use Rattle.std.proofs.Common.{◌≡◌, ℕ, zero, suc, arith, ◌+◌, ◌-◌, ◌<◌, Bool, true, false, List, [], ◌∷◌, length, slice_index, Option, None, Some, is_none, refl, ap, sym, subst, ◌∙◌, add-zero}
+use Rattle.std.proofs.Common.{◌≡◌, ℕ, zero, suc, arith, ◌+◌, ◌-◌, ◌<◌, Bool, true, false, List, [], ◌∷◌, length, slice_index, Option, None, Some, is_none, inl, refl, ap, sym, subst, ◌∙◌, add-zero}
 use Rattle.std.proofs.lemmas.Nat.{mod_below}
 use Rattle.plain_store.specs.{Setup}
 use Rattle.record.specs.declared.events.Event.TheVariants.{Step}
@@ -8,10 +8,9 @@ use Rattle.scenario.specs.declared.lines.Line.TheVariants as line
 use Rattle.world.specs.flicks.{FlickState, Mode, after_flick, after_pick, flick_of, is_constant, pick_of, picks_after}
 use Rattle.world.specs.flicks.Flicks.{after_flick_by, flick_by, is_constant_by}
 use Rattle.world.specs.flicks.declared.Mode.TheVariants.{Constant, Generator}
-use Rattle.course.specs.{ComesOn, ComesTo, CourseState, Follows, Happening, IsAlone, IsQuiet, MaySteps, QuietTurns, Run, RunsTo, Tells, Told, Tries, Turn, course, made_turn, may_step, movers, next_step, past_in, step_turn, stepped, tried, turn_of, wander_turn}
-use Rattle.course.proofs.Knowing.{pick_steps}
-use Rattle.course.proofs.Runnings.{comes_end, drawn_run}
-use Rattle.course.proofs.Movers.{movers_quiet}
+use Rattle.course.specs.{ComesAlong, ComesOn, ComesTo, CourseState, Follows, Happening, IsAlone, IsQuiet, QuietTurns, Run, RunsTo, Tells, Told, Tries, Turn, course, made_turn, may_step, movers, next_step, past_in, step_turn, stepped, tried, turn_of, wander_turn}
+use Rattle.course.proofs.Runnings.{comes_down, drawn_run}
+use Rattle.course.proofs.Movers.{MaySteps, movers_quiet, pick_steps}
 use Rattle.course.proofs.Wanders.{ArePicked}
 
 -- Constant flicks.
@@ -120,11 +119,11 @@ module _ {L : Type 0} (Hears : L → Setup → List Happening → List Happening
       }
 
   -- and the turn that tells
-  lone_told : (answer : Told) → ComesTo Hears s (line.Step p steps) had run was is (Some answer) mid → ComesTo Hears s (line.Wander n) had run was is (Some answer) (lone_course had mid)
-  lone_told answer u = by u.left u.turns u.tells u.follows u.left_is
+  lone_told : (before : ℕ) (answer : Told) → ComesTo Hears s (line.Step p steps) had run was is before (Some answer) mid → ComesTo Hears s (line.Wander n) had run was is before (Some answer) (lone_course had mid)
+  lone_told before answer u = by before u.turns u.tells u.follows u.left_is
     where
-      by : (left : ℕ) → QuietTurns s (line.Step p steps) u.quiet had run left u.now → Tells s (past_in s u.now) (turn_of s (line.Step p steps) left u.now).this (Some answer) → Follows mid (turn_of s (line.Step p steps) left u.now).run → mid.left ≡ (turn_of s (line.Step p steps) left u.now).left →
-          ComesTo Hears s (line.Wander n) had run was is (Some answer) (lone_course had mid)
+      by : (before : ℕ) → QuietTurns s (line.Step p steps) u.quiet had run before u.now → Tells s (past_in s u.now) (turn_of s (line.Step p steps) before u.now).this (Some answer) → Follows mid (turn_of s (line.Step p steps) before u.now).run → mid.left ≡ (turn_of s (line.Step p steps) before u.now).left →
+          ComesTo Hears s (line.Wander n) had run was is before (Some answer) (lone_course had mid)
       by zero turns tells follows left_is = absurd tells
       by (suc left) turns tells follows left_is =
           let v = lone_quiet s steps n p here.0 u.quiet had run run.flicks (suc left) u.now here.1 here.1 are turns in
@@ -136,7 +135,6 @@ module _ {L : Type 0} (Hears : L → Setup → List Happening → List Happening
           let made : had - mid.left ≡ suc u.quiet = omega (arith, count, fewer) in
           record {
             quiet = u.quiet;
-            left = suc left;
             now = drawn_run u.now source;
             turns = v.turns;
             hears = u.hears;
@@ -146,10 +144,10 @@ module _ {L : Type 0} (Hears : L → Setup → List Happening → List Happening
             setup = u.setup;
           }
 
-  -- up to there, or to the end of the line
-  pub lone_whole : (answer : Option Told) → (answer ≡ None → mid.left ≡ 0) → RunsTo Hears s (line.Step p steps) had run was is p 0 answer mid → ComesTo Hears s (line.Wander n) had run was is answer (lone_course had mid)
-  lone_whole None ended u = comes_end Hears s (line.Wander n) had run was is (lone_course had mid) (ArePicked (p ∷ [])) (ended refl) (lone_on (IsAlone p 0) u)
-  lone_whole (Some answer) ended u = lone_told answer u
+  -- up to there, or down to a floor
+  pub lone_whole : (floor before : ℕ) (answer : Option Told) → (answer ≡ None → mid.left ≡ floor) → (answer ≡ None → before ≡ floor) → RunsTo Hears s (line.Step p steps) had run was is p floor before answer mid → ComesAlong Hears s (line.Wander n) had run was is floor before answer (lone_course had mid)
+  lone_whole floor before None ended at u = inl (comes_down Hears s (line.Wander n) had run was is floor before (lone_course had mid) (ArePicked (p ∷ [])) (ended refl) (at refl) (lone_on (IsAlone p floor) u))
+  lone_whole floor before (Some answer) ended at u = (u.0, lone_told before answer u.1)
 
 -- the only one of a list
 pub only_one : (ps : List ℕ) → length ps ≡ 1 → ps ≡ slice_index ps 0 ∷ []

@@ -1,9 +1,18 @@
--- The processes with a Step to make, one by one, and that a Step without a mark leaves them.
-use Rattle.std.proofs.Common.{◌≡◌, ℕ, zero, suc, ◌+◌, Bool, true, false, cond, ◌==◌, List, [], ◌∷◌, ◌++◌, Option, None, Some, filter, fold, length, ◌<◌, refl, ap, sym, ◌∙◌, arith, add-zero, add-one, eqb-true}
+-- The processes with a Step to make, one by one, and that a Step without a mark leaves them. None of their Steps is refused.
+use Rattle.std.proofs.Common.{◌≡◌, ℕ, zero, suc, ◌+◌, nat_lt, Bool, true, false, cond, ◌==◌, List, [], ◌∷◌, ◌++◌, Option, None, Some, filter, fold, length, slice_index, ◌<◌, refl, ap, subst, sym, ◌∙◌, arith, add-zero, add-one, eqb-true}
+use Rattle.std.specs.Prelude.{slice_index_or}
 use Rattle.std.specs.List.{range_with_len}
+use Rattle.std.proofs.lemmas.Bool.Decides.{nat_tests}
+use Rattle.std.proofs.lemmas.List.Elements.{All-filter, filter_passes}
+use Rattle.std.proofs.lemmas.List.FromFn.{get_or-range_with_len, length-range_with_len}
+use Rattle.std.proofs.lemmas.Nat.{mod_below}
 use Rattle.plain_store.specs.{Setup}
-use Rattle.record.specs.{Entry, Event, Past, past_of, processes, stage, stage_after}
-use Rattle.course.specs.{AddsMarks, has_step, movers}
+use Rattle.record.specs.{Entry, Event, Past, Refusal, Stage, past_of, processes, refused, refused_at, stage, stage_after}
+use Rattle.record.specs.declared.events.Event.TheVariants.{Step}
+use Rattle.record.specs.declared.refusals.Refusal.TheVariants.{NoProcess}
+use Rattle.record.specs.declared.stages.Stage.TheVariants as stages
+use Rattle.world.specs.flicks.{pick_of}
+use Rattle.course.specs.{AddsMarks, Happening, Run, has_step, movers, past_after, past_in, pick_among}
 use Rattle.course.proofs.Refusals.{entry_by}
 
 -- one number more, which passes or not
@@ -49,3 +58,45 @@ stage_quiet s p events event adds =
 -- and the same processes have a Step to make
 pub movers_quiet : (s : Setup) (events : List Event) (event : Event) → AddsMarks s (past_of s events) event [] → movers s (past_of s (event ∷ events)) ≡ movers s (past_of s events)
 movers_quiet s events event adds = λ i. filter (λ p. has_step (stage_quiet s p events event adds i)) (processes s)
+
+-- Who may step.
+
+-- no Step of this process is refused
+abbrev pub MaySteps : ℕ → Setup → List Happening → Type 0
+MaySteps p s happened = (flick : Bool) → refused s (past_after s happened) (Step p flick) ≡ None
+
+-- a Step is made unless its stage refuses it, by whatever flick
+abbrev unless : Option Refusal → Option Refusal
+unless o = elim o as (λ _. Option Refusal) [ Some r ↦ Some r | None ↦ None ]
+
+-- a process with a Step to make
+pub mover_steps : (s : Setup) (happened : List Happening) (p : ℕ) → p < s.processes → has_step (stage p (past_after s happened)) ≡ true → MaySteps p s happened
+mover_steps s happened p within has flick =
+    let there : nat_lt p s.processes ≡ true = grind (arith, nat_tests) in
+    ap (λ b. cond b (unless (refused_at (Step p flick) (stage p (past_after s happened)))) (Some NoProcess)) there ∙ by (stage p (past_after s happened)) has
+  where
+    by : (st : Stage) → has_step st ≡ true → unless (refused_at (Step p flick) st) ≡ None
+    by stages.Idle has = absurd (cc)
+    by stages.Down has = absurd (cc)
+    by stages.Doorway has = refl
+    by stages.Waiting has = refl
+    by stages.Inside has = refl
+    by stages.Leaving has = refl
+    by stages.Settling has = refl
+
+-- a picked one
+pub pick_steps : (s : Setup) (run : Run) (ps : List ℕ) → movers s (past_in s run) ≡ ps → 0 < length ps → MaySteps (pick_among ps run) s run.happened
+pick_steps s run ps are some =
+    let k : ℕ = pick_of (length ps) run.flicks in
+    let less : k < length ps = mod_below _ (length ps) some in
+    let test : ℕ → Bool = λ p. has_step (stage p (past_in s run)) in
+    let below : k < length (filter test (processes s)) = subst (λ l. k < length l) (sym are) less in
+    mover_steps s run.happened (pick_among ps run)
+    (subst (λ l. slice_index l k < s.processes) are (All-filter test (λ p. p < s.processes) (processes s) (all_below s.processes) k 0 below))
+    (subst (λ l. has_step (stage (slice_index l k) (past_in s run)) ≡ true) are (filter_passes test (processes s) k 0 below))
+  where
+    all_below : (n i d : ℕ) → i < length (range_with_len 0 n) → slice_index_or (range_with_len 0 n) i d < n
+    all_below n i d within =
+        let long = length-range_with_len 0 n in
+        let is = get_or-range_with_len 0 n i d (omega (arith, within, long)) in
+        omega (arith, is, within, long)

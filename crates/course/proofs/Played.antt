@@ -1,17 +1,20 @@
 -- A line that is being played: what was heard of it, and what is left.
-use Rattle.std.proofs.Common.{◌≡◌, ℕ, ◌<◌, ◌≤◌, List, [], ◌∷◌, ◌++◌, map, Option, None, Some, Result, Ok, Err, IfErr, IfOk, IsErrAnd, refl, ap, sym, subst, ◌∙◌, arith}
+use Rattle.std.proofs.Common.{◌≡◌, inl, inr, ℕ, ◌+◌, ◌-◌, ◌<◌, ◌≤◌, List, [], ◌∷◌, ◌++◌, length, map, Option, None, Some, Result, Ok, Err, IfErr, IfOk, IsErrAnd, refl, ap, sym, subst, ◌∙◌, arith}
 use Rattle.plain_store.specs.{Setup, checked}
 use Rattle.record.specs.{AreGiven, Event, Taken, history}
 use Rattle.scenario.specs.{Line}
 use Rattle.scenario.specs.files.{Fault}
-use Rattle.course.specs.{ComesTo, CourseState, Follows, Happening, Happens, HearsUpTo, Keeps, LearnsTold, Plays, PlaysLine, Run, StopsLine, Tells, Told, Tries, Turn, past_after, past_in, rest_of, room_wanted, run_after, runs, tried, turn_of, turns_in}
-use Rattle.course.proofs.Grows.{Grows, lines_grow, rest_grows}
+use Rattle.course.specs.{ComesAlong, ComesTo, CourseState, Follows, Happening, Happens, Plays, Run, Summary, Tells, TellsOf, Told, Tries, Turn, counted, events_in, events_told, part_of_line, past_after, past_in, refusals, rest_of, room_wanted, run_after, tried, turn_of, turns_in, turns_made}
+use Rattle.course.specs.declared.told.Told.TheVariants as told
+use Rattle.course.proofs.EventsMade.{ended_still, none_made, part_made, quiet_made, quiet_turns_made, turn_turns_made}
+use Rattle.course.proofs.Grows.{Grows, rest_grows}
 use Rattle.course.proofs.Runnings.{rest_quiet}
-use Rattle.course.proofs.TurnLaw.{rest_none, rest_whole, turn_on}
+use Rattle.course.proofs.Tellings.{counts_more}
+use Rattle.course.proofs.TurnLaw.{rest_whole, turn_on}
 use Rattle.course.proofs.Underways.{Turned, One, Nothing, silent_one, told_none, told_one, turned}
 
 -- what a course shows is of a good setup, and given
-good_of : (s : Setup) (course : CourseState) (run : Run) → course.world.setup ≡ s → Follows course run → (checked s ≡ Ok tt) × AreGiven s (tried run.happened)
+pub good_of : (s : Setup) (course : CourseState) (run : Run) → course.world.setup ≡ s → Follows course run → (checked s ≡ Ok tt) × AreGiven s (tried run.happened)
 good_of s course run setup follows = subst (λ s. (checked s ≡ Ok tt) × AreGiven s (tried run.happened)) setup (follows.shows.good, follows.shows.given)
 
 -- the turn that tells: this happens
@@ -47,101 +50,167 @@ tells_one s line left now answer course taken tells follows setup are = by (turn
           };
         }
 
--- a line from a run on: the run now, what was heard, and what is left
-pub record Played {L : Type 0} (Hears : L → Setup → List Happening → List Happening → L → Type 0) (s : Setup) (line : Line) (start : Run) (was : L) (course : CourseState) (is : L) : Type 0 where
+-- the first turns of a line were made and heard, and made so many events
+abbrev pub PlaysTurns : {L : Type 0} → (L → Setup → List Happening → List Happening → L → Type 0) → Setup → Line → ℕ → Run → CourseState → L → L → ℕ → Type 0
+PlaysTurns Hears s line most start course was is made = Plays Hears s start (part_of_line s most line start) course was is × (events_in s (part_of_line s most line start) ≡ events_in s start + made)
+
+part_played : {L : Type 0} (Hears : L → Setup → List Happening → List Happening → L → Type 0) (s : Setup) (line : Line) (most : ℕ) (start : Run) (course : CourseState) (was is : L) (made : ℕ) (now : Run) → now ≡ part_of_line s most line start → Follows course now → course.world.setup ≡ s → Hears was s start.happened now.happened is → events_in s now ≡ events_in s start + made → PlaysTurns Hears s line most start course was is made
+part_played Hears s line most start course was is made now all follows setup hears events =
+    (record { follows = subst (λ (r : Run). Follows course r) all follows; setup = setup; hears = subst (λ (r : Run). Hears was s start.happened r.happened is) all hears }, sym (ap (events_in s) all) ∙ events)
+
+-- a line from a run on: the run now, what was heard, what is left of the line and of its part above a floor, and how many events were made
+pub record Played {L : Type 0} (Hears : L → Setup → List Happening → List Happening → L → Type 0) (s : Setup) (line : Line) (floor : ℕ) (start : Run) (was : L) (course : CourseState) (made : ℕ) (is : L) : Type 0 where
   pub now : Run
   pub follows : Follows course now
   pub setup : course.world.setup ≡ s
   pub hears : Hears was s start.happened now.happened is
   pub rest : rest_of s line course.left now ≡ run_after s line start
+  pub turns : turns_made s line (course.left - floor) course.left now ≡ turns_made s line (turns_in line - floor) (turns_in line) start
+  pub events : events_in s now ≡ events_in s start + made
 
-module _ {L : Type 0} (Hears : L → Setup → List Happening → List Happening → L → Type 0) (Knows : L → Setup → List Happening → Type 0) where
-  -- all was heard, and the newest event is known if it was
-  abbrev pub PlayedOn : Setup → Line → Run → L → CourseState → L → Type 0
-  PlayedOn = Played (HearsUpTo Hears Knows None)
+-- what is told makes its events
+told_events : (s : Setup) (before : List Happening) (this : Happening) (answer : Told) → TellsOf s (past_after s before) this answer → length (past_after s (this ∷ before)) ≡ length (past_after s before) + events_told answer
+told_events s before this answer tells = by answer (counts_more s before this answer (record { events = length (past_after s before); taken = 0; refused = refusals s before }) tells refl refl).0
+  where
+    by : (answer : Told) → (let had : Summary = record { events = length (past_after s before); taken = 0; refused = refusals s before } in counted answer had).events ≡ length (past_after s (this ∷ before)) → length (past_after s (this ∷ before)) ≡ length (past_after s before) + events_told answer
+    by (told.Accepted made) is = omega (arith, is)
+    by (told.Refused p refusal) is = omega (arith, is)
+    by (told.Tired p) is = omega (arith, is)
+    by (told.Shown store) is = omega (arith, is)
 
-  pub played_start : (s : Setup) (line : Line) (start : Run) (old course : CourseState) (a : L) → ((a : L) (s : Setup) (x : List Happening) → Hears a s x x a) → old.world.setup ≡ s → course ≡ record old { left = turns_in line } → Follows old start → PlayedOn s line start a course a
-  played_start s line start old course a nothing setup begun follows = record {
+module _ {L : Type 0} (Hears : L → Setup → List Happening → List Happening → L → Type 0) where
+  pub played_start : (s : Setup) (line : Line) (floor : ℕ) (start : Run) (old course : CourseState) (a : L) → ((a : L) (s : Setup) (x : List Happening) → Hears a s x x a) → old.world.setup ≡ s → course ≡ record old { left = turns_in line } → Follows old start → Played Hears s line floor start a course 0 a
+  played_start s line floor start old course a nothing setup begun follows = record {
     now = start;
     follows = subst (λ course. Follows course start) (sym begun) (record { shows = follows.shows; flicks = follows.flicks });
     setup = ap (λ (c : CourseState). c.world.setup) begun ∙ setup;
-    hears = (nothing a s start.happened, λ known. known);
+    hears = nothing a s start.happened;
     rest = ap (λ (c : CourseState). rest_of s line c.left start) begun ∙ rest_whole s line start;
+    turns = ap (λ (c : CourseState). turns_made s line (c.left - floor) c.left start) begun;
+    events = omega arith;
   }
 
-  -- what is left once a turn is made
-  rest_after : (s : Setup) (line : Line) (start : Run) (was is is' : L) (course course' : CourseState) (answer : Option Told) → course.left ≤ turns_in line → (u : PlayedOn s line start was course is) → (c : ComesTo (HearsUpTo Hears Knows answer) s line course.left u.now is is' answer course') →
-      rest_of s line (turn_of s line c.left c.now).left (turn_of s line c.left c.now).run ≡ run_after s line start
-  rest_after s line start was is is' course course' answer few u c =
-      let q = rest_quiet s line c.quiet course.left u.now c.left c.now few c.turns in
-      sym (q.1 ∙ turn_on s line c.left c.now q.0) ∙ u.rest
+  module _ (s : Setup) (line : Line) (floor : ℕ) (start : Run) (was is : L) (course : CourseState) (made : ℕ) (few : course.left ≤ turns_in line) (u : Played Hears s line floor start was course made is) where
+    good : checked s ≡ Ok tt
+    good = (good_of s course u.now u.setup u.follows).0
 
-  module _ (s : Setup) (line : Line) (start : Run) (was is is' : L) (course course' : CourseState) (few : course.left ≤ turns_in line) (hears_on : (a b c : L) (s : Setup) (x y z : List Happening) → Hears a s x y b → Hears b s y z c → Hears a s x z c) where
-    abbrev pub Comes : Option Told → Type 0
-    Comes answer = (run : Run) → Follows course run → ComesTo (HearsUpTo Hears Knows answer) course.world.setup line course.left run is is' answer course'
+    -- the part of the line that is played
+    all_of : (most : ℕ) (now : Run) → floor ≡ turns_in line - most → now ≡ turns_made s line (turns_in line - floor) (turns_in line) start → now ≡ part_of_line s most line start
+    all_of most now at is = is ∙ ap (λ n. turns_made s line (turns_in line - n) (turns_in line) start) at ∙ part_made s good line most start
 
-    comes_now : (answer : Option Told) (u : PlayedOn s line start was course is) → Comes answer → ComesTo (HearsUpTo Hears Knows answer) s line course.left u.now is is' answer course'
-    comes_now answer u comes = subst (λ s. ComesTo (HearsUpTo Hears Knows answer) s line course.left u.now is is' answer course') u.setup (comes u.now u.follows)
+    -- no turn above the floor is left
+    pub played_floor : (most : ℕ) → floor ≡ turns_in line - most → course.left ≤ floor → PlaysTurns Hears s line most start course was is made
+    played_floor most at low =
+        let none : course.left - floor ≡ 0 = omega (arith, low) in
+        let all : u.now ≡ part_of_line s most line start = all_of most u.now at (sym (none_made s good line course.left u.now) ∙ ap (λ n. turns_made s line n course.left u.now) (sym none) ∙ u.turns) in
+        let events = u.events in
+        part_played Hears s line most start course was is made u.now all u.follows u.setup u.hears events
 
-    -- a turn more, which is heard
-    pub played_on : (is'' : L) (answer : Told) (taken : List Taken) → PlayedOn s line start was course is → Comes (Some answer) → AnswersTaken course' taken →
-        ((s : Setup) (before : List Happening) (this : Happening) → Happens s before this answer taken → Hears is' s before (this ∷ before) is'') →
-        ((s : Setup) (before : List Happening) (this : Happening) → Happens s before this answer taken → LearnsTold Knows answer is' s before (this ∷ before) is'') → PlayedOn s line start was course' is''
-    played_on is'' answer taken u comes are heard learns =
-        let c = comes_now (Some answer) u comes in
-        let one = tells_one s line c.left c.now answer course' taken c.tells c.follows c.setup are in
-        let t : Turn = turn_of s line c.left c.now in
-        record {
-          now = t.run;
-          follows = c.follows;
-          setup = c.setup;
-          hears = subst (λ l. HearsUpTo Hears Knows None was s start.happened l is'') (sym one.same) (
-            hears_on was is is'' s start.happened u.now.happened (one.this ∷ c.now.happened) u.hears.0 (hears_on is is' is'' s u.now.happened c.now.happened (one.this ∷ c.now.happened) c.hears.0 (heard s c.now.happened one.this one.happens)),
-            λ known. learns s c.now.happened one.this one.happens (c.hears.1 (u.hears.1 known)),
-          );
-          rest = ap (λ n. rest_of s line n t.run) c.left_is ∙ rest_after s line start was is is' course course' (Some answer) few u c;
-        }
+    module _ (hears_on : (a b c : L) (s : Setup) (x y z : List Happening) → Hears a s x y b → Hears b s y z c → Hears a s x z c) (is' : L) (course' : CourseState) (before : ℕ) where
+      abbrev pub Comes : Option Told → Type 0
+      Comes answer = (run : Run) → Follows course run → ComesAlong Hears course.world.setup line course.left run is is' floor before answer course'
 
-    -- the end of the line
-    pub played_ended : PlayedOn s line start was course is → Comes None → Plays Hears s start (run_after s line start) course' was is' × Plays (Keeps Knows) s start (run_after s line start) course' was is'
-    played_ended u comes = by (turned s line c.left c.now)
-      where
-        c : ComesTo (HearsUpTo Hears Knows None) s line course.left u.now is is' None course'
-        c = comes_now None u comes
+      comes_now : (answer : Option Told) → Comes answer → ComesAlong Hears s line course.left u.now is is' floor before answer course'
+      comes_now answer comes = subst (λ s. ComesAlong Hears s line course.left u.now is is' floor before answer course') u.setup (comes u.now u.follows)
 
-        t : Turn
-        t = turn_of s line c.left c.now
+      -- what a turn leaves of the line
+      rest_after : (answer : Option Told) (c : ComesTo Hears s line course.left u.now is is' before answer course') → rest_of s line (turn_of s line before c.now).left (turn_of s line before c.now).run ≡ run_after s line start
+      rest_after answer c =
+          let q = rest_quiet s line c.quiet course.left u.now before c.now few c.turns in
+          sym (q.1 ∙ turn_on s line before c.now q.0) ∙ u.rest
 
-        by : Turned t c.now.happened → Plays Hears s start (run_after s line start) course' was is' × Plays (Keeps Knows) s start (run_after s line start) course' was is'
-        by (One this some same) = absurd (silent_one s (past_in s c.now) t.this this some c.tells)
-        by (Nothing none ended same) =
-            let all : t.run ≡ run_after s line start = sym (rest_none s line t.run) ∙ ap (λ n. rest_of s line n t.run) (sym ended) ∙ rest_after s line start was is is' course course' None few u c in
-            let follows : Follows course' (run_after s line start) = subst (λ (r : Run). Follows course' r) all c.follows in
-            let hears : HearsUpTo Hears Knows None was s start.happened (run_after s line start).happened is' = subst (λ l. HearsUpTo Hears Knows None was s start.happened l is') (sym same ∙ ap (λ (r : Run). r.happened) all)
-            (hears_on was is is' s start.happened u.now.happened c.now.happened u.hears.0 c.hears.0, λ known. c.hears.1 (u.hears.1 known)) in
-            (record { follows = follows; setup = c.setup; hears = hears.0 }, record { follows = follows; setup = c.setup; hears = hears.1 })
+      -- and of its part
+      turns_after : (answer : Option Told) → floor < before → (c : ComesTo Hears s line course.left u.now is is' before answer course') →
+          turns_made s line ((turn_of s line before c.now).left - floor) (turn_of s line before c.now).left (turn_of s line before c.now).run ≡ turns_made s line (turns_in line - floor) (turns_in line) start
+      turns_after answer above c =
+          let q = quiet_made s good line c.quiet course.left u.now before c.now few c.turns in
+          let lower = q.0 in
+          sym (quiet_turns_made s good line floor c.quiet course.left u.now before c.now few (omega (arith, above)) c.turns ∙ turn_turns_made s good line floor before c.now (omega (arith, few, lower)) above) ∙ u.turns
 
-    module _ (Stops : L → Setup → List Happening → List Happening → Fault → L → Type 0) (stops_on : (a b c : L) (s : Setup) (x y z : List Happening) (fault : Fault) → Hears a s x y b → Stops b s y z fault c → Stops a s x z fault c) (fault : Fault) where
-      -- a fault as a turn is heard
-      pub played_cut : (is'' : L) (answer : Told) (taken : List Taken) → ((a b : L) (s : Setup) (x y more : List Happening) (fault : Fault) → Stops a s x y fault b → Stops a s x (more ++ y) fault b) → PlayedOn s line start was course is → Comes (Some answer) → AnswersTaken course' taken →
-          ((s : Setup) (before : List Happening) (this : Happening) → Happens s before this answer taken → Stops is' s before (this ∷ before) fault is'') → Stops was s start.happened (run_after s line start).happened fault is''
-      played_cut is'' answer taken stops_before u comes are cut =
-          let c = comes_now (Some answer) u comes in
-          let one = tells_one s line c.left c.now answer course' taken c.tells c.follows c.setup are in
-          let t : Turn = turn_of s line c.left c.now in
-          let more : Grows t.run.happened (rest_of s line t.left t.run).happened = rest_grows s line t.left t.run in
-          let all : (run_after s line start).happened ≡ more.more ++ (one.this ∷ c.now.happened) = ap (λ (r : Run). r.happened) (sym (rest_after s line start was is is' course course' (Some answer) few u c)) ∙ more.is ∙ ap (λ l. more.more ++ l) one.same in
-          subst (λ l. Stops was s start.happened l fault is'') (sym all)
-          (stops_on was is is'' s start.happened u.now.happened (more.more ++ (one.this ∷ c.now.happened)) fault u.hears.0
-          (stops_on is is' is'' s u.now.happened c.now.happened (more.more ++ (one.this ∷ c.now.happened)) fault c.hears.0
-          (stops_before is' is'' s c.now.happened (one.this ∷ c.now.happened) more.more fault (cut s c.now.happened one.this one.happens))))
+      -- the events of turns without a mark
+      quiet_events : (answer : Option Told) (c : ComesTo Hears s line course.left u.now is is' before answer course') → events_in s c.now ≡ events_in s start + (made + (course.left - before))
+      quiet_events answer c =
+          let q = quiet_made s good line c.quiet course.left u.now before c.now few c.turns in
+          let lower = q.0 in
+          let more = q.1 in
+          let events = u.events in
+          omega (arith, lower, more, events)
 
-      -- a fault before the turn
-      pub played_torn : PlayedOn s line start was course is → ((run : Run) → Follows course run → Stops is course.world.setup run.happened (rest_of course.world.setup line course.left run).happened fault is') → Stops was s start.happened (run_after s line start).happened fault is'
-      played_torn u cut =
-          subst (λ (r : Run). Stops was s start.happened r.happened fault is') u.rest
-          (stops_on was is is' s start.happened u.now.happened (rest_of s line course.left u.now).happened fault u.hears.0
-          (subst (λ s. Stops is s u.now.happened (rest_of s line course.left u.now).happened fault is') u.setup (cut u.now u.follows)))
+      heard_to : (answer : Option Told) (c : ComesTo Hears s line course.left u.now is is' before answer course') → Hears was s start.happened c.now.happened is'
+      heard_to answer c = hears_on was is is' s start.happened u.now.happened c.now.happened u.hears c.hears
+
+      -- a turn more, which is heard
+      pub played_on : (is'' : L) (answer : Told) (taken : List Taken) → Comes (Some answer) → AnswersTaken course' taken →
+          ((s : Setup) (before : List Happening) (this : Happening) → Happens s before this answer taken → Hears is' s before (this ∷ before) is'') → Played Hears s line floor start was course' (made + (course.left - before) + events_told answer) is''
+      played_on is'' answer taken comes are heard =
+          let here = comes_now (Some answer) comes in
+          let c = here.1 in
+          let one = tells_one s line before c.now answer course' taken c.tells c.follows c.setup are in
+          let t : Turn = turn_of s line before c.now in
+          let told : events_in s t.run ≡ events_in s c.now + events_told answer = ap (λ h. length (past_after s h)) one.same ∙ told_events s c.now.happened one.this answer one.happens.tells in
+          let quiet = quiet_events (Some answer) c in
+          record {
+            now = t.run;
+            follows = c.follows;
+            setup = c.setup;
+            hears = subst (λ l. Hears was s start.happened l is'') (sym one.same) (hears_on was is' is'' s start.happened c.now.happened (one.this ∷ c.now.happened) (heard_to (Some answer) c) (heard s c.now.happened one.this one.happens));
+            rest = ap (λ n. rest_of s line n t.run) c.left_is ∙ rest_after (Some answer) c;
+            turns = ap (λ n. turns_made s line (n - floor) n t.run) c.left_is ∙ turns_after (Some answer) here.0 c;
+            events = omega (arith, told, quiet);
+          }
+
+      -- the end of the part, or of the line
+      pub played_ended : (most : ℕ) → floor ≡ turns_in line - most → Comes None → PlaysTurns Hears s line most start course' was is' (made + (course.left - before))
+      played_ended most at comes = by (comes_now None comes)
+        where
+          by : ComesAlong Hears s line course.left u.now is is' floor before None course' → PlaysTurns Hears s line most start course' was is' (made + (course.left - before))
+          by (inl d) =
+              let q = quiet_made s good line d.quiet course.left u.now floor d.now few d.turns in
+              let lower = q.0 in
+              let more = q.1 in
+              let events = u.events in
+              let low = d.before_is in
+              let none : floor - floor ≡ 0 = omega arith in
+              let turns : d.now ≡ turns_made s line (turns_in line - floor) (turns_in line) start = sym (none_made s good line floor d.now) ∙ ap (λ n. turns_made s line n floor d.now) (sym none) ∙ sym (quiet_turns_made s good line floor d.quiet course.left u.now floor d.now few (omega arith) d.turns) ∙ u.turns in
+              part_played Hears s line most start course' was is' (made + (course.left - before)) d.now (all_of most d.now at turns) d.follows d.setup
+              (hears_on was is is' s start.happened u.now.happened d.now.happened u.hears d.hears) (omega (arith, lower, more, events, low))
+          by (inr here) = ended (turned s line before c.now)
+            where
+              c : ComesTo Hears s line course.left u.now is is' before None course'
+              c = here.1
+
+              t : Turn
+              t = turn_of s line before c.now
+
+              ended : Turned t c.now.happened → PlaysTurns Hears s line most start course' was is' (made + (course.left - before))
+              ended (One this some same) = absurd (silent_one s (past_in s c.now) t.this this some c.tells)
+              ended (Nothing none over same) =
+                  let turns : t.run ≡ turns_made s line (turns_in line - floor) (turns_in line) start = sym (ended_still s good line (t.left - floor) t.run) ∙ ap (λ n. turns_made s line (t.left - floor) n t.run) (sym over) ∙ turns_after None here.0 c in
+                  let last : events_in s t.run ≡ events_in s c.now = ap (λ h. length (past_after s h)) same in
+                  part_played Hears s line most start course' was is' (made + (course.left - before)) t.run (all_of most t.run at turns) c.follows c.setup
+                  (subst (λ l. Hears was s start.happened l is') (sym same) (heard_to None c)) (last ∙ quiet_events None c)
+
+      module _ (Stops : L → Setup → List Happening → List Happening → Fault → L → Type 0) (stops_on : (a b c : L) (s : Setup) (x y z : List Happening) (fault : Fault) → Hears a s x y b → Stops b s y z fault c → Stops a s x z fault c) (fault : Fault) where
+        -- a fault as a turn is heard
+        pub played_cut : (is'' : L) (answer : Told) (taken : List Taken) → ((a b : L) (s : Setup) (x y more : List Happening) (fault : Fault) → Stops a s x y fault b → Stops a s x (more ++ y) fault b) → Comes (Some answer) → AnswersTaken course' taken →
+            ((s : Setup) (before : List Happening) (this : Happening) → Happens s before this answer taken → Stops is' s before (this ∷ before) fault is'') → Stops was s start.happened (run_after s line start).happened fault is''
+        played_cut is'' answer taken stops_before comes are cut =
+            let c = (comes_now (Some answer) comes).1 in
+            let one = tells_one s line before c.now answer course' taken c.tells c.follows c.setup are in
+            let t : Turn = turn_of s line before c.now in
+            let more : Grows t.run.happened (rest_of s line t.left t.run).happened = rest_grows s line t.left t.run in
+            let all : (run_after s line start).happened ≡ more.more ++ (one.this ∷ c.now.happened) = ap (λ (r : Run). r.happened) (sym (rest_after (Some answer) c)) ∙ more.is ∙ ap (λ l. more.more ++ l) one.same in
+            subst (λ l. Stops was s start.happened l fault is'') (sym all)
+            (stops_on was is' is'' s start.happened c.now.happened (more.more ++ (one.this ∷ c.now.happened)) fault (heard_to (Some answer) c)
+            (stops_before is' is'' s c.now.happened (one.this ∷ c.now.happened) more.more fault (cut s c.now.happened one.this one.happens)))
+
+    -- a fault before the turn
+    pub played_torn : (is' : L) (Stops : L → Setup → List Happening → List Happening → Fault → L → Type 0) → ((a b c : L) (s : Setup) (x y z : List Happening) (fault : Fault) → Hears a s x y b → Stops b s y z fault c → Stops a s x z fault c) → (fault : Fault) →
+        ((run : Run) → Follows course run → Stops is course.world.setup run.happened (rest_of course.world.setup line course.left run).happened fault is') → Stops was s start.happened (run_after s line start).happened fault is'
+    played_torn is' Stops stops_on fault cut =
+        subst (λ (r : Run). Stops was s start.happened r.happened fault is') u.rest
+        (stops_on was is is' s start.happened u.now.happened (rest_of s line course.left u.now).happened fault u.hears
+        (subst (λ s. Stops is s u.now.happened (rest_of s line course.left u.now).happened fault is') u.setup (cut u.now u.follows)))
 
 -- a fault before anything is heard
 pub unheard : {L : Type 0} (Stops : L → Setup → List Happening → List Happening → Fault → L → Type 0) (s : Setup) (line : Line) (left : ℕ) (run : Run) (a : L) (fault : Fault) → ((a b : L) (s : Setup) (x y more : List Happening) (fault : Fault) → Stops a s x y fault b → Stops a s x (more ++ y) fault b) →
@@ -150,66 +219,25 @@ unheard Stops s line left run a fault stops_before cut =
     let more : Grows run.happened (rest_of s line left run).happened = rest_grows s line left run in
     subst (λ l. Stops a s run.happened l fault a) (sym more.is) (stops_before a a s run.happened run.happened more.more fault cut)
 
--- Lines, one after the other.
-
--- some of them from a run on: the run now, what was heard, and the lines to come
-pub record PlayedTo {L : Type 0} (Hears : L → Setup → List Happening → List Happening → L → Type 0) (s : Setup) (lines rest : List Line) (start : Run) (course : CourseState) (was is : L) : Type 0 where
-  pub now : Run
-  pub plays : Plays Hears s start now course was is
-  pub whole : runs s rest now ≡ runs s lines start
-
-module _ {L : Type 0} (Hears : L → Setup → List Happening → List Happening → L → Type 0) (s : Setup) (lines : List Line) (start : Run) (was : L) where
-  -- before the first
-  pub lines_start : (course : CourseState) → ((a : L) (s : Setup) (x : List Happening) → Hears a s x x a) → course.world.setup ≡ s → Follows course start → PlayedTo Hears s lines lines start course was was
-  lines_start course nothing setup follows = record {
-    now = start;
-    plays = record { follows = record { shows = follows.shows; flicks = follows.flicks }; setup = setup; hears = nothing was s start.happened };
-    whole = refl;
-  }
-
-  -- after the last
-  pub lines_ended : (rest : List Line) (course : CourseState) (is : L) → rest ≡ [] → PlayedTo Hears s lines rest start course was is → Plays Hears s start (runs s lines start) course was is
-  lines_ended rest course is none u = subst (λ (r : Run). Plays Hears s start r course was is) (ap (λ l. runs s l u.now) (sym none) ∙ u.whole) u.plays
-
-  module _ (rest more : List Line) (line : Line) (course : CourseState) (is is' : L) (next : rest ≡ line ∷ more) (u : PlayedTo Hears s lines rest start course was is) where
-    all_of : runs s more (run_after s line u.now) ≡ runs s lines start
-    all_of = ap (λ l. runs s l u.now) (sym next) ∙ u.whole
-
-    -- a line more, which was heard
-    pub lines_on : (course' : CourseState) → ((a b c : L) (s : Setup) (x y z : List Happening) → Hears a s x y b → Hears b s y z c → Hears a s x z c) → PlaysLine Hears course line course' is is' → PlayedTo Hears s lines more start course' was is'
-    lines_on course' hears_on plays =
-        let after : Run = run_after s line u.now in
-        let p : Plays Hears s u.now after course' is is' = subst (λ s. Plays Hears s u.now (run_after s line u.now) course' is is') u.plays.setup (plays u.now u.plays.follows) in
-        record {
-          now = after;
-          plays = record { follows = p.follows; setup = p.setup; hears = hears_on was is is' s start.happened u.now.happened after.happened u.plays.hears p.hears };
-          whole = all_of;
-        }
-
-    -- a fault in it
-    pub lines_cut : (Stops : L → Setup → List Happening → List Happening → Fault → L → Type 0) (fault : Fault) → ((a b : L) (s : Setup) (x y more : List Happening) (fault : Fault) → Stops a s x y fault b → Stops a s x (more ++ y) fault b) →
-        ((a b c : L) (s : Setup) (x y z : List Happening) (fault : Fault) → Hears a s x y b → Stops b s y z fault c → Stops a s x z fault c) → StopsLine Stops course line is is' fault → Stops was s start.happened (runs s lines start).happened fault is'
-    lines_cut Stops fault stops_before stops_on cut =
-        let after : Run = run_after s line u.now in
-        let torn : Stops is s u.now.happened after.happened fault is' = subst (λ s. Stops is s u.now.happened (run_after s line u.now).happened fault is') u.plays.setup (cut u.now u.plays.follows) in
-        let grows : Grows after.happened (runs s more after).happened = lines_grow s more after in
-        let all : (runs s lines start).happened ≡ grows.more ++ after.happened = ap (λ (r : Run). r.happened) (sym all_of) ∙ grows.is in
-        subst (λ l. Stops was s start.happened l fault is') (sym all)
-        (stops_on was is is' s start.happened u.now.happened (grows.more ++ after.happened) fault u.plays.hears (stops_before is is' s u.now.happened after.happened grows.more fault torn))
-
 -- the setup of a run that was played is good, and the run given
 pub played_good : {L : Type 0} {Hears : L → Setup → List Happening → List Happening → L → Type 0} {s : Setup} {before after : Run} {course : CourseState} {was is : L} → Plays Hears s before after course was is → (checked s ≡ Ok tt) × AreGiven s (tried after.happened)
 played_good {L} {Hears} {s} {before} {after} {course} plays = good_of s course after plays.setup plays.follows
 
 -- Room, and faults that are passed on.
 
-pub wanted_one : (told : Option Told) (n m : ℕ) → n < m → room_wanted told n ≤ m
-wanted_one None n m less = omega (arith, less)
-wanted_one (Some told) n m less = omega (arith, less)
+-- what is so anyway
+pub any_ok : {A E : Type 0} (r : Result A E) (P : Type 0) → P → IfOk r (λ a. P)
+any_ok (Ok a) P p = p
+any_ok (Err e) P p = tt
 
-pub wanted_by : {E : Type 0} (r : Result (Option Told) E) (n m : ℕ) → n < m → IfOk r (λ told. room_wanted told n ≤ m)
-wanted_by (Ok told) n m less = wanted_one told n m less
-wanted_by (Err e) n m less = tt
+-- a turn that tells leaves one less than before
+pub wanted_by : {E : Type 0} (r : Result (Option Told) E) (n m : ℕ) → (r ≡ Ok None → m ≡ n) → ((r ≡ Ok None → ⊥) → m ≡ n + 1) → IfOk r (λ told. room_wanted told n ≤ m)
+wanted_by (Ok None) n m none some = let same = none refl in omega (arith, same)
+wanted_by (Ok (Some told)) n m none some = let more = some (λ no. absurd (cc)) in omega (arith, more)
+wanted_by (Err e) n m none some = tt
+
+pub ok_same : {A E : Type 0} (a b : A) → ◌≡◌ {A = Result A E} (Ok a) (Ok b) → a ≡ b
+ok_same a b same = cc
 
 pub on_fault : {A : Type 0} (r : Result A Fault) (e : Fault) (P : Fault → Type 0) → IsErrAnd r (λ x. x ≡ e) → P e → IfErr r P
 on_fault (Ok a) e P is p = tt

@@ -1,5 +1,5 @@
 -- Steps of a line, one after another: those without a mark are heard, and each leaves who makes the next.
-use Rattle.std.proofs.Common.{◌≡◌, ℕ, zero, suc, ◌+◌, ◌-◌, ◌<◌, ◌≤◌, Bool, List, [], ◌∷◌, ◌++◌, Option, None, Some, refl, ap, sym, subst, ◌∙◌, arith}
+use Rattle.std.proofs.Common.{◌≡◌, ℕ, zero, suc, ◌+◌, ◌-◌, ◌<◌, ◌≤◌, Bool, List, [], ◌∷◌, ◌++◌, Option, None, Some, inr, refl, ap, sym, subst, ◌∙◌, arith}
 use Rattle.plain_store.specs.{Setup}
 use Rattle.record.specs.declared.events.Event.TheVariants.{Step}
 use Rattle.scenario.specs.{Line}
@@ -7,7 +7,7 @@ use Rattle.scenario.specs.files.{Fault}
 use Rattle.world.specs.flicks.{FlickState, after_flick, flick_of}
 use Rattle.world.specs.Shows.{Shows, WorldState}
 use Rattle.world.specs.{StepsQuietly}
-use Rattle.course.specs.{AddsMarks, ComesOn, ComesTo, CourseState, Follows, Happening, HearsFrom, HearsStep, IsQuiet, LeavesRoom, Makes, QuietTurns, Run, StopsBy, Tells, TellsOf, TellsStep, Told, Tries, Turn, course, made_turn, next_step, past_in, rest_of, room_wanted, stepped, tried, turn_of, turns_in}
+use Rattle.course.specs.{AddsMarks, ComesAlong, ComesDown, ComesOn, ComesTo, CourseState, Follows, Happening, HearsStep, IsQuiet, LeavesRoom, Makes, QuietTurns, Run, StopsBy, Tells, TellsOf, TellsStep, Told, Tries, Turn, course, made_turn, next_step, past_in, rest_of, room_wanted, stepped, tried, turn_of, turns_in}
 use Rattle.course.proofs.Grows.{Grows, rest_grows}
 use Rattle.course.proofs.TurnLaw.{turn_less, turn_on}
 
@@ -73,10 +73,9 @@ module _ {L : Type 0} (Hears : L → Setup → List Happening → List Happening
       (record { quiet = 0; now = start; turns = (refl, refl); hears = nothing; follows = record { shows = follows.shows; flicks = follows.flicks }; setup = refl; next = next })
 
   -- a turn that tells, with none before it
-  pub at_once : (line : Line) (start : Run) (old new : CourseState) (a : L) (answer : Option Told) → Hears a old.world.setup start.happened start.happened a → Makes old start (turn_of old.world.setup line old.left start) answer new → ComesTo Hears old.world.setup line old.left start a a answer new
+  pub at_once : (line : Line) (start : Run) (old new : CourseState) (a : L) (answer : Option Told) → Hears a old.world.setup start.happened start.happened a → Makes old start (turn_of old.world.setup line old.left start) answer new → ComesTo Hears old.world.setup line old.left start a a old.left answer new
   at_once line start old new a answer nothing m = record {
     quiet = 0;
-    left = old.left;
     now = start;
     turns = (refl, refl);
     hears = nothing;
@@ -86,17 +85,21 @@ module _ {L : Type 0} (Hears : L → Setup → List Happening → List Happening
     setup = m.setup;
   }
 
-  -- the end of a line of which no turn is left
-  pub comes_end : (s : Setup) (line : Line) (had : ℕ) (start : Run) (was is : L) (course : CourseState) (Next : Setup → Line → Run → Type 0) → course.left ≡ 0 → ComesOn Hears s line had start was is course Next → ComesTo Hears s line had start was is None course
-  comes_end s line had start was is course Next none u = record {
+  -- the only turn of a line, above a floor
+  pub comes_once : (line : Line) (start : Run) (old new : CourseState) (a : L) (floor : ℕ) (answer : Option Told) → Hears a old.world.setup start.happened start.happened a → floor < old.left → Makes old start (turn_of old.world.setup line old.left start) answer new → ComesAlong Hears old.world.setup line old.left start a a floor old.left answer new
+  comes_once line start old new a floor None nothing above m = inr (above, at_once line start old new a None nothing m)
+  comes_once line start old new a floor (Some answer) nothing above m = (above, at_once line start old new a (Some answer) nothing m)
+
+  -- down to a floor
+  pub comes_down : (s : Setup) (line : Line) (had : ℕ) (start : Run) (was is : L) (floor before : ℕ) (course : CourseState) (Next : Setup → Line → Run → Type 0) → course.left ≡ floor → before ≡ floor → ComesOn Hears s line had start was is course Next → ComesDown Hears s line had start was is floor before course
+  comes_down s line had start was is floor before course Next left_is before_is u = record {
     quiet = u.quiet;
-    left = course.left;
     now = u.now;
-    turns = u.turns;
+    turns = subst (λ n. QuietTurns s line u.quiet had start n u.now) left_is u.turns;
     hears = u.hears;
-    tells = subst (λ n. Tells s (past_in s u.now) (turn_of s line n u.now).this None) (sym none) tt;
-    follows = subst (λ n. Follows course (turn_of s line n u.now).run) (sym none) (record { shows = u.follows.shows; flicks = u.follows.flicks });
-    left_is = subst (λ n. course.left ≡ (turn_of s line n u.now).left) (sym none) none;
+    follows = u.follows;
+    left_is = left_is;
+    before_is = before_is;
     setup = u.setup;
   }
 
@@ -120,7 +123,7 @@ module _ {L : Type 0} (Hears : L → Setup → List Happening → List Happening
 
   -- one that tells
   pub one_told : (w w' : WorldState) (line : Line) (left p : ℕ) (flick : Bool) (run : Run) (source flicks : FlickState) (left' : ℕ) (a : L) (answer : Told) → (TellsOf w.setup (past_in w.setup run) (Tries (next_step p (drawn_run run source))) answer → Hears a w.setup run.happened run.happened a) → IsStep w line left p flick run source left' → TellsStep w p flick answer w' →
-      flicks ≡ after_flick source → ComesTo Hears w.setup line left run a a (Some answer) (course w' flicks left')
+      flicks ≡ after_flick source → ComesTo Hears w.setup line left run a a left (Some answer) (course w' flicks left')
   one_told w w' line left p flick run source flicks left' a answer nothing step t after =
       let s : Setup = w.setup in
       let tells : TellsOf s (past_in s run) (Tries (next_step p (drawn_run run source))) answer = subst (λ b. TellsOf s (past_in s run) (Tries (Step p b)) answer) step.by (t.tells (tried run.happened) step.shows) in
@@ -128,7 +131,6 @@ module _ {L : Type 0} (Hears : L → Setup → List Happening → List Happening
       let follows : Follows (course w' flicks left') now = record { shows = subst (λ b. Shows w' (Step p b ∷ tried run.happened)) step.by (t.shows (tried run.happened) step.shows); flicks = after } in
       record {
         quiet = 0;
-        left = left;
         now = run;
         turns = (refl, refl);
         hears = nothing tells;
@@ -138,28 +140,22 @@ module _ {L : Type 0} (Hears : L → Setup → List Happening → List Happening
         setup = t.setup;
       }
 
-  -- what is known may be said with less
-  pub comes_as : (P Q R : L → Setup → List Happening → Type 0) (s : Setup) (line : Line) (had : ℕ) (start : Run) (was is : L) (course : CourseState) (Next : Setup → Line → Run → Type 0) → ((x : List Happening) → Q is s x → R is s x) → ComesOn (HearsFrom Hears P Q) s line had start was is course Next →
-      ComesOn (HearsFrom Hears P R) s line had start was is course Next
-  comes_as P Q R s line had start was is course Next less u = record { quiet = u.quiet; now = u.now; turns = u.turns; hears = (u.hears.0, λ known. less u.now.happened (u.hears.1 known)); follows = u.follows; setup = u.setup; next = u.next }
-
-  -- the same, where what is known before is known after
-  module _ (hears_on : (a b c : L) (s : Setup) (x y z : List Happening) → Hears a s x y b → Hears b s y z c → Hears a s x z c) (P Q : L → Setup → List Happening → Type 0) (s : Setup) (line : Line) (had : ℕ) (start : Run) (was mid is : L) (course : CourseState) (Next : Setup → Line → Run → Type 0) (u : ComesOn (HearsFrom Hears P Q) s line had start was mid course Next) where
+  -- after Steps without a mark
+  module _ (hears_on : (a b c : L) (s : Setup) (x y z : List Happening) → Hears a s x y b → Hears b s y z c → Hears a s x z c) (s : Setup) (line : Line) (had : ℕ) (start : Run) (was mid is : L) (course : CourseState) (Next : Setup → Line → Run → Type 0) (u : ComesOn Hears s line had start was mid course Next) where
     here : Next course.world.setup line u.now
     here = subst (λ (s : Setup). Next s line u.now) (sym u.setup) u.next
 
-    pub comes_then : (R : L → Setup → List Happening → Type 0) (course' : CourseState) (Then : Setup → Line → Run → Type 0) → ((run : Run) → Follows course run → Next course.world.setup line run → ComesOn (HearsFrom Hears Q R) course.world.setup line course.left run mid is course' Then) → ComesOn (HearsFrom Hears P R) s line had start was is course' Then
-    comes_then R course' Then = comes_both (HearsFrom Hears P Q) (HearsFrom Hears Q R) (HearsFrom Hears P R) s line had start was mid is course Next u (λ x y z before then. (hears_on was mid is s x y z before.0 then.0, λ known. then.1 (before.1 known))) course' Then
+    pub comes_then : (course' : CourseState) (Then : Setup → Line → Run → Type 0) → ((run : Run) → Follows course run → Next course.world.setup line run → ComesOn Hears course.world.setup line course.left run mid is course' Then) → ComesOn Hears s line had start was is course' Then
+    comes_then course' Then = comes_both Hears Hears Hears s line had start was mid is course Next u (λ x y z before then. hears_on was mid is s x y z before then) course' Then
 
-    pub comes_to : (R : L → Setup → List Happening → Type 0) (course' : CourseState) (answer : Option Told) → ((run : Run) → Follows course run → Next course.world.setup line run → ComesTo (HearsFrom Hears Q R) course.world.setup line course.left run mid is answer course') → ComesTo (HearsFrom Hears P R) s line had start was is answer course'
-    comes_to R course' answer on =
-        let c : ComesTo (HearsFrom Hears Q R) s line course.left u.now mid is answer course' = subst (λ s. ComesTo (HearsFrom Hears Q R) s line course.left u.now mid is answer course') u.setup (on u.now u.follows here) in
+    pub comes_to : (course' : CourseState) (before : ℕ) (answer : Option Told) → ((run : Run) → Follows course run → Next course.world.setup line run → ComesTo Hears course.world.setup line course.left run mid is before answer course') → ComesTo Hears s line had start was is before answer course'
+    comes_to course' before answer on =
+        let c : ComesTo Hears s line course.left u.now mid is before answer course' = subst (λ s. ComesTo Hears s line course.left u.now mid is before answer course') u.setup (on u.now u.follows here) in
         record {
           quiet = u.quiet + c.quiet;
-          left = c.left;
           now = c.now;
-          turns = turns_then s line u.quiet c.quiet had start course.left u.now c.left c.now u.turns c.turns;
-          hears = (hears_on was mid is s start.happened u.now.happened c.now.happened u.hears.0 c.hears.0, λ known. c.hears.1 (u.hears.1 known));
+          turns = turns_then s line u.quiet c.quiet had start course.left u.now before c.now u.turns c.turns;
+          hears = hears_on was mid is s start.happened u.now.happened c.now.happened u.hears c.hears;
           tells = c.tells;
           follows = c.follows;
           left_is = c.left_is;
@@ -169,7 +165,7 @@ module _ {L : Type 0} (Hears : L → Setup → List Happening → List Happening
     -- and then a fault
     pub comes_stop : (Stops : L → Setup → List Happening → List Happening → Fault → L → Type 0) → ((a b c : L) (s : Setup) (x y z : List Happening) (fault : Fault) → Hears a s x y b → Stops b s y z fault c → Stops a s x z fault c) → (fault : Fault) (course' : CourseState) (Then : Setup → Line → Run → Type 0) →
         ((run : Run) → Follows course run → Next course.world.setup line run → ComesOn (StopsBy Stops fault) course.world.setup line course.left run mid is course' Then) → ComesOn (StopsBy Stops fault) s line had start was is course' Then
-    comes_stop Stops stops_on fault course' Then = comes_both (HearsFrom Hears P Q) (StopsBy Stops fault) (StopsBy Stops fault) s line had start was mid is course Next u (λ x y z before cut. stops_on was mid is s x y z fault before.0 cut) course' Then
+    comes_stop Stops stops_on fault course' Then = comes_both Hears (StopsBy Stops fault) (StopsBy Stops fault) s line had start was mid is course Next u (λ x y z before cut. stops_on was mid is s x y z fault before cut) course' Then
 
 -- a fault as Steps without a mark are heard: a front of what the line makes was
 pub line_stops : {L : Type 0} (Stops : L → Setup → List Happening → List Happening → Fault → L → Type 0) (s : Setup) (line : Line) (had : ℕ) (run : Run) (was is : L) (fault : Fault) (course : CourseState) (Next : Setup → Line → Run → Type 0) →

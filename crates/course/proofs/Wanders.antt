@@ -1,5 +1,5 @@
 -- Steps of picked processes without a mark: who may be picked stays the same.
-use Rattle.std.proofs.Common.{◌≡◌, ℕ, zero, suc, arith, ◌-◌, ◌<◌, ◌≤◌, ◌==◌, Bool, List, [], ◌∷◌, ◌++◌, length, slice_index, Option, None, Some, refl, ap, inr, sym, subst, ◌∙◌}
+use Rattle.std.proofs.Common.{◌≡◌, ℕ, zero, suc, arith, ◌-◌, ◌<◌, ◌≤◌, Bool, List, [], ◌∷◌, ◌++◌, length, slice_index, Option, None, Some, refl, ap, inl, sym, subst, ◌∙◌}
 use Rattle.plain_store.specs.{Setup}
 use Rattle.record.specs.declared.events.Event.TheVariants as event
 use Rattle.scenario.specs.{Line}
@@ -9,19 +9,14 @@ use Rattle.world.specs.flicks.{FlickState, Mode, flick_of, after_flick, flicks_a
 use Rattle.world.specs.flicks.Flicks.{after_flick_by, after_word}
 use Rattle.world.specs.flicks.declared.Mode.TheVariants.{Constant, Generator}
 use Rattle.world.specs.{WorldState}
-use Rattle.course.specs.{ComesOn, ComesTo, CourseState, Follows, Happening, HearsFrom, HearsLast, HearsStep, HearsUpTo, KnowsEnough, KnowsOr, Makes, MakesStep, MaySteps, Run, StopsBy, TellsOf, TellsStep, Told, Tries, Turn, after_pick_in, course, ends, made_turn, movers, next_step, past_in, rest_of, tried, turn_of, turns_drawn, wander_turn}
+use Rattle.course.specs.{ComesAlong, ComesOn, ComesTo, CourseState, Follows, Happening, HearsStep, Makes, MakesStep, Run, StopsBy, TellsOf, TellsStep, Told, Tries, Turn, after_pick_in, course, ends, made_turn, movers, next_step, past_in, rest_of, tried, turn_of, turns_drawn, wander_turn}
 use Rattle.course.proofs.CourseTurns.{turn_next}
-use Rattle.course.proofs.Knowing.{pick_steps, step_needs}
 use Rattle.course.proofs.Movers.{movers_quiet}
-use Rattle.course.proofs.Runnings.{IsStep, comes_end, comes_stop, comes_then, comes_to, drawn_run, line_stops, one_on, one_told, quiet_adds}
+use Rattle.course.proofs.Runnings.{IsStep, comes_down, comes_stop, comes_then, comes_to, drawn_run, line_stops, one_on, one_told, quiet_adds}
 
 -- these may be picked
 abbrev pub ArePicked : List ℕ → Setup → Line → Run → Type 0
 ArePicked ps s l run = ps ≡ movers s (past_in s run)
-
--- the newest event is known, or a Step is left
-abbrev pub KnowsWhile : {L : Type 0} → (L → Setup → List Happening → Type 0) → ℕ → L → Setup → List Happening → Type 0
-KnowsWhile Knows left = KnowsOr Knows (λ s happened. 0 < left)
 
 -- the turn of `wander` with one to pick
 pub pick_turn : (s : Setup) (steps left p : ℕ) (flicks : FlickState) (ps : List ℕ) (run : Run) → (left ≡ 0 → ⊥) → 0 < length ps → flicks ≡ run.flicks → p ≡ slice_index ps (pick_of (length ps) flicks) → ps ≡ movers s (past_in s run) →
@@ -54,7 +49,7 @@ module _ (w w' : WorldState) (steps left p : ℕ) (ps : List ℕ) (flick : Bool)
       (are ∙ sym (movers_quiet w.setup (tried run.happened) (event.Step p (flick_of source)) (quiet_adds w w' p flick run source h.step follows.shows by)))
 
   picked_told : {L : Type 0} (Hears : L → Setup → List Happening → List Happening → L → Type 0) (a : L) (answer : Told) → (TellsOf w.setup (past_in w.setup run) (Tries (next_step p (drawn_run run source))) answer → Hears a w.setup run.happened run.happened a) → TellsStep w p flick answer w' →
-      ComesTo Hears w.setup (line.Wander steps) left run a a (Some answer) (course w' flicks' (left - 1))
+      ComesTo Hears w.setup (line.Wander steps) left run a a left (Some answer) (course w' flicks' (left - 1))
   picked_told Hears a answer nothing t = one_told Hears w w' (line.Wander steps) left p flick run source flicks' (left - 1) a answer nothing picked_step t then
 
 -- with nobody to pick the line has ended
@@ -73,10 +68,6 @@ wander_ends w flicks left steps ps none run follows are =
 abbrev pub drawn_to : CourseState → ℕ → FlickState
 drawn_to course left = turns_drawn (course.left - left) course.flicks
 
--- they are those of the course with so many turns left
-pub drawn_by : (old : CourseState) (flicks : FlickState) (had left : ℕ) → flicks ≡ old.flicks → had ≡ old.left → turns_drawn (had - left) flicks ≡ drawn_to old left
-drawn_by old flicks had left same all = λ i. turns_drawn (all i - left) (same i)
-
 -- none is made yet
 pub drawn_none : (old : CourseState) (flicks : FlickState) (left : ℕ) → flicks ≡ old.flicks → left ≡ old.left → drawn_to old left ≡ flicks
 drawn_none old flicks left same all = let none : old.left - left ≡ 0 = omega (arith, all) in ap (λ n. turns_drawn n old.flicks) none ∙ sym same
@@ -86,9 +77,9 @@ pub drawn_more : (old : CourseState) (left : ℕ) → 0 < left → left ≤ old.
 drawn_more old left some few = let more : old.left - (left - 1) ≡ suc (old.left - left) = omega (arith, some, few) in ap (λ n. turns_drawn n old.flicks) more
 
 -- What the next turn makes of a course of `wander`, by a Step whose flick comes from here.
-module _ {L : Type 0} (Hears : L → Setup → List Happening → List Happening → L → Type 0) (Knows : L → Setup → List Happening → Type 0) (hears_on : (a b c : L) (s : Setup) (x y z : List Happening) → Hears a s x y b → Hears b s y z c → Hears a s x z c) (old : CourseState) (steps left p : ℕ) (ps : List ℕ) (run : Run) (was mid is : L) (w w' : WorldState) (source : FlickState)
+module _ {L : Type 0} (Hears : L → Setup → List Happening → List Happening → L → Type 0) (hears_on : (a b c : L) (s : Setup) (x y z : List Happening) → Hears a s x y b → Hears b s y z c → Hears a s x z c) (old : CourseState) (steps left p : ℕ) (ps : List ℕ) (run : Run) (was mid is : L) (w w' : WorldState) (source : FlickState)
     (more : 0 < left) (few : left ≤ old.left) (some : 0 < length ps) (picked : p ≡ slice_index ps (pick_of (length ps) (drawn_to old left))) (from : source ≡ after_pick (drawn_to old left))
-    (u : ComesOn (HearsFrom Hears Knows (KnowsWhile Knows left)) old.world.setup (line.Wander steps) old.left run was mid (course w (drawn_to old left) left) (ArePicked ps)) where
+    (u : ComesOn Hears old.world.setup (line.Wander steps) old.left run was mid (course w (drawn_to old left) left) (ArePicked ps)) where
   abbrev now : CourseState
   now = course w (drawn_to old left) left
 
@@ -101,29 +92,23 @@ module _ {L : Type 0} (Hears : L → Setup → List Happening → List Happening
   one : (R : L → Setup → List Happening → List Happening → L → Type 0) → HearsStep R w p (flick_of source) w' mid is → (run : Run) → Follows now run → ArePicked ps w.setup (line.Wander steps) run → ComesOn R w.setup (line.Wander steps) left run mid is next (ArePicked ps)
   one R h run follows are = picked_on w w' steps left p ps (flick_of source) run now.flicks next.flicks some_left some picked (ap flick_of from) (drawn_more old left more few) follows are R mid is h
 
-  -- a Step without a mark, which is not the last
-  pub wander_on : HearsStep (HearsLast Hears Knows (left - 1 == 0)) w p (flick_of source) w' mid is → 0 < left - 1 → ComesOn (HearsFrom Hears Knows (KnowsWhile Knows (left - 1))) old.world.setup (line.Wander steps) old.left run was is next (ArePicked ps)
-  wander_on h others =
-      comes_then Hears hears_on Knows (KnowsWhile Knows left) old.world.setup (line.Wander steps) old.left run was mid is now (ArePicked ps) u (KnowsWhile Knows (left - 1)) next (ArePicked ps)
-      (one (HearsFrom Hears (KnowsWhile Knows left) (KnowsWhile Knows (left - 1))) (record { step = h.step; hears = λ before shows. ((h.hears before shows).0, λ known. inr others) }))
+  -- a Step without a mark
+  pub wander_on : HearsStep Hears w p (flick_of source) w' mid is → ComesOn Hears old.world.setup (line.Wander steps) old.left run was is next (ArePicked ps)
+  wander_on h = comes_then Hears hears_on old.world.setup (line.Wander steps) old.left run was mid is now (ArePicked ps) u next (ArePicked ps) (one Hears h)
 
-  -- the last one, or one that tells
-  pub wander_to : ((a : L) (s : Setup) (x : List Happening) → Hears a s x x a) → (told : Option Told) (flicks : FlickState) → MakesStep (HearsLast Hears Knows (left - 1 == 0)) w p (flick_of source) told w' mid is → (told ≡ None → left - 1 ≡ 0) → flicks ≡ drawn_to old (left - 1) →
-      ComesTo (HearsUpTo Hears Knows told) old.world.setup (line.Wander steps) old.left run was is told (course w' flicks (left - 1))
-  wander_to hears_nothing None flicks h ended same =
-      subst (λ (f : FlickState). ComesTo (HearsUpTo Hears Knows None) old.world.setup (line.Wander steps) old.left run was is None (course w' f (left - 1))) (sym same)
-      (comes_end (HearsUpTo Hears Knows None) old.world.setup (line.Wander steps) old.left run was is next (ArePicked ps) (ended refl)
-      (comes_then Hears hears_on Knows (KnowsWhile Knows left) old.world.setup (line.Wander steps) old.left run was mid is now (ArePicked ps) u Knows next (ArePicked ps)
-      (one (HearsFrom Hears (KnowsWhile Knows left) Knows) (record { step = h.step; hears = λ before shows. ((h.hears before shows).0, λ known. (h.hears before shows).1 (ap (λ n. n == 0) (ended refl))) }))))
-  wander_to hears_nothing (Some answer) flicks both ended same =
-      subst (λ (b : L). ComesTo (HearsUpTo Hears Knows (Some answer)) old.world.setup (line.Wander steps) old.left run was b (Some answer) (course w' flicks (left - 1))) (sym both.1)
-      (comes_to Hears hears_on Knows (KnowsWhile Knows left) old.world.setup (line.Wander steps) old.left run was mid mid now (ArePicked ps) u (KnowsEnough Knows (Some answer)) (course w' flicks (left - 1)) (Some answer)
-      (λ run follows are. picked_told w w' steps left p ps (flick_of source) run now.flicks flicks some_left some picked (ap flick_of from) (same ∙ drawn_more old left more few) follows are (HearsFrom Hears (KnowsWhile Knows left) (KnowsEnough Knows (Some answer))) mid answer
-      (λ tells. (
-        hears_nothing mid w.setup run.happened,
-        λ known. step_needs w.setup p (flick_of (after_pick run.flicks)) run.happened answer (Knows mid w.setup run.happened) tells
-            (inr (subst (λ p. MaySteps p w.setup run.happened) (sym (picked ∙ ap (λ (f : FlickState). slice_index ps (pick_of (length ps) f)) follows.flicks)) (pick_steps w.setup run ps (sym are) some))),
-      )) both.0))
+  -- the one above the floor, or one that tells
+  pub wander_to : ((a : L) (s : Setup) (x : List Happening) → Hears a s x x a) → (floor before : ℕ) (told : Option Told) (flicks : FlickState) → floor < left → MakesStep Hears w p (flick_of source) told w' mid is → (told ≡ None → (left - 1 ≡ floor) × (before ≡ floor)) → ((told ≡ None → ⊥) → before ≡ left) → flicks ≡ drawn_to old (left - 1) →
+      ComesAlong Hears old.world.setup (line.Wander steps) old.left run was is floor before told (course w' flicks (left - 1))
+  wander_to hears_nothing floor before None flicks above h ended at same =
+      inl (comes_down Hears old.world.setup (line.Wander steps) old.left run was is floor before (course w' flicks (left - 1)) (ArePicked ps) (ended refl).0 (ended refl).1
+      (subst (λ (f : FlickState). ComesOn Hears old.world.setup (line.Wander steps) old.left run was is (course w' f (left - 1)) (ArePicked ps)) (sym same) (wander_on h)))
+  wander_to hears_nothing floor before (Some answer) flicks above both ended at same =
+      subst (λ (n : ℕ). (floor < n) × ComesTo Hears old.world.setup (line.Wander steps) old.left run was is n (Some answer) (course w' flicks (left - 1))) (sym (at (λ none. absurd (cc)))) (
+        above,
+        subst (λ (b : L). ComesTo Hears old.world.setup (line.Wander steps) old.left run was b left (Some answer) (course w' flicks (left - 1))) (sym both.1)
+            (comes_to Hears hears_on old.world.setup (line.Wander steps) old.left run was mid mid now (ArePicked ps) u (course w' flicks (left - 1)) left (Some answer)
+            (λ run follows are. picked_told w w' steps left p ps (flick_of source) run now.flicks flicks some_left some picked (ap flick_of from) (same ∙ drawn_more old left more few) follows are Hears mid answer (λ tells. hears_nothing mid w.setup run.happened) both.0)),
+      )
 
   -- a fault at one without a mark
   pub wander_stops : (Stops : L → Setup → List Happening → List Happening → Fault → L → Type 0) → ((a b c : L) (s : Setup) (x y z : List Happening) (fault : Fault) → Hears a s x y b → Stops b s y z fault c → Stops a s x z fault c) →
@@ -131,7 +116,7 @@ module _ {L : Type 0} (Hears : L → Setup → List Happening → List Happening
       Stops was old.world.setup run.happened (rest_of old.world.setup (line.Wander steps) old.left run).happened fault is
   wander_stops Stops stops_on stops_before fault h within =
       line_stops Stops old.world.setup (line.Wander steps) old.left run was is fault next (ArePicked ps) stops_before
-      (comes_stop Hears hears_on Knows (KnowsWhile Knows left) old.world.setup (line.Wander steps) old.left run was mid is now (ArePicked ps) u Stops stops_on fault next (ArePicked ps) (one (StopsBy Stops fault) h)) within
+      (comes_stop Hears hears_on old.world.setup (line.Wander steps) old.left run was mid is now (ArePicked ps) u Stops stops_on fault next (ArePicked ps) (one (StopsBy Stops fault) h)) within
 
 pick_by_flick : (f : FlickState) → after_pick (after_flick f) ≡ after_flick (after_pick f)
 pick_by_flick f = by f.mode

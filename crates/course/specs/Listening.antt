@@ -1,7 +1,7 @@
 -- Who hears a run: what is told to it, and what it has heard once a line has made its turns.
-use Rattle.std.specs.Prelude.{◌≡◌, ◌⊎◌, ◌+◌, ◌<◌, ℕ, zero, suc, Bool, true, if◌then◌else◌, List, [], ◌∷◌, Option, None, Some, Ok}
+use Rattle.std.specs.Prelude.{◌≡◌, ◌⊎◌, ◌+◌, ◌<◌, ℕ, zero, suc, Bool, if◌then◌else◌, List, [], ◌∷◌, Option, None, Some, Ok}
 use Rattle.plain_store.specs.{Setup, checked}
-use Rattle.record.specs.{Access, AreGiven, Event, Past, Taken, entry_of, history, moves_of, past_of, refused}
+use Rattle.record.specs.{Access, AreGiven, Event, Past, Taken, entry_of, history, moves_of, past_of}
 use Rattle.record.specs.declared.events.Event.TheVariants.{Step}
 use Rattle.record.specs.safe_bit.{Move}
 use Rattle.scenario.specs.{Line}
@@ -19,7 +19,6 @@ use Rattle.course.specs.Telling.{IsMarked, Tells, TellsOf}
 use Rattle.course.specs.Turns.{rest_of, turn_of}
 use Rattle.course.specs.declared.told.Stepped.{Stepped}
 use Rattle.course.specs.declared.told.Told.{Told}
-use Rattle.course.specs.declared.told.Told.TheVariants.{Accepted}
 
 -- this happens in the run of a setup, and is told so; these commands are taken then
 pub record Happens (s : Setup) (before : List Happening) (this : Happening) (told : Told) (taken : List Taken) : Type 0 where
@@ -87,47 +86,6 @@ HearsUnmarked Hears made was is = (s : Setup) (before : List Happening) → Step
 abbrev pub HearsPassing : {L : Type 0} → (L → Setup → List Happening → List Happening → L → Type 0) → ℕ → ℕ → Move → ℕ → L → L → Type 0
 HearsPassing Hears p steps how overlapped was is = (s : Setup) (before after : List Happening) (newest : Access) → newest.how ≡ how → PassBy s p steps newest overlapped before after → Hears was s before after is
 
--- who knew the newest event still does
-abbrev pub Keeps : {L : Type 0} → (L → Setup → List Happening → Type 0) → L → Setup → List Happening → List Happening → L → Type 0
-Keeps Knows was s before after is = Knows was s before → Knows is s after
-
--- who hears a Step knows it
-abbrev pub Learns : {L : Type 0} → (L → Setup → List Happening → Type 0) → L → Setup → List Happening → List Happening → L → Type 0
-Learns Knows was s before after is = Knows is s after
-
--- all is heard; who hears the last Step of a line knows it
-abbrev pub HearsLast : {L : Type 0} → (L → Setup → List Happening → List Happening → L → Type 0) → (L → Setup → List Happening → Type 0) → Bool → L → Setup → List Happening → List Happening → L → Type 0
-HearsLast Hears Knows is_last was s before after is = Hears was s before after is × (is_last ≡ true → Knows is s after)
-
--- what is to be known of the newest event as this is told: nothing where an event is accepted, which is the newest then
-abbrev pub Needs : Option Told → Type 0 → Type 0
-Needs (Some (Accepted made)) Known = Unit {0}
-Needs _ Known = Known
-
--- it knows that
-abbrev pub KnowsEnough : {L : Type 0} → (L → Setup → List Happening → Type 0) → Option Told → L → Setup → List Happening → Type 0
-KnowsEnough Knows answer is s happened = Needs answer (Knows is s happened)
-
--- who hears what is told knows the newest event, if it knew enough
-abbrev pub LearnsTold : {L : Type 0} → (L → Setup → List Happening → Type 0) → Told → L → Setup → List Happening → List Happening → L → Type 0
-LearnsTold Knows answer was s before after is = KnowsEnough Knows (Some answer) was s before → Knows is s after
-
--- all is heard, and where the one holds before, the other does after
-abbrev pub HearsFrom : {L : Type 0} → (L → Setup → List Happening → List Happening → L → Type 0) → (P Q : L → Setup → List Happening → Type 0) → L → Setup → List Happening → List Happening → L → Type 0
-HearsFrom Hears P Q was s before after is = Hears was s before after is × (P was s before → Q is s after)
-
--- all is heard before this is told, and enough is known
-abbrev pub HearsUpTo : {L : Type 0} → (L → Setup → List Happening → List Happening → L → Type 0) → (L → Setup → List Happening → Type 0) → Option Told → L → Setup → List Happening → List Happening → L → Type 0
-HearsUpTo Hears Knows answer = HearsFrom Hears Knows (KnowsEnough Knows answer)
-
--- no Step of this process is refused
-abbrev pub MaySteps : ℕ → Setup → List Happening → Type 0
-MaySteps p s happened = (flick : Bool) → refused s (past_after s happened) (Step p flick) ≡ None
-
--- it knows the newest event, or else this holds
-abbrev pub KnowsOr : {L : Type 0} → (L → Setup → List Happening → Type 0) → (Setup → List Happening → Type 0) → L → Setup → List Happening → Type 0
-KnowsOr Knows Else is s happened = Knows is s happened ⊎ Else s happened
-
 -- who stops by this fault has heard a front of what it would have heard
 abbrev pub StopsBy : {L : Type 0} → (L → Setup → List Happening → List Happening → Fault → L → Type 0) → Fault → L → Setup → List Happening → List Happening → L → Type 0
 StopsBy Stops fault was s before after is = Stops was s before after fault is
@@ -177,26 +135,41 @@ pub record ComesOn {L : Type 0} (Hears : L → Setup → List Happening → List
   pub setup : course.world.setup ≡ s
   pub next : Next s line now
 
--- of a line with so many turns left those without a mark were made and heard, and then the turn that tells was made, which is not heard yet
-pub record ComesTo {L : Type 0} (Hears : L → Setup → List Happening → List Happening → L → Type 0) (s : Setup) (line : Line) (had : ℕ) (run : Run) (was is : L) (answer : Option Told) (course : CourseState) : Type 0 where
+-- of a line with so many turns left those without a mark were made and heard, and then, with so many left before it, the turn that tells was made, which is not heard yet
+pub record ComesTo {L : Type 0} (Hears : L → Setup → List Happening → List Happening → L → Type 0) (s : Setup) (line : Line) (had : ℕ) (run : Run) (was is : L) (before : ℕ) (answer : Option Told) (course : CourseState) : Type 0 where
   pub quiet : ℕ
-  pub left : ℕ
   pub now : Run
-  pub turns : QuietTurns s line quiet had run left now
+  pub turns : QuietTurns s line quiet had run before now
   pub hears : Hears was s run.happened now.happened is
-  pub tells : Tells s (past_in s now) (turn_of s line left now).this answer
-  pub follows : Follows course (turn_of s line left now).run
-  pub left_is : course.left ≡ (turn_of s line left now).left
+  pub tells : Tells s (past_in s now) (turn_of s line before now).this answer
+  pub follows : Follows course (turn_of s line before now).run
+  pub left_is : course.left ≡ (turn_of s line before now).left
   pub setup : course.world.setup ≡ s
 
 -- a process has made Steps up to one that tells, or all that it makes while more than so many turns are left
-abbrev pub RunsTo : {L : Type 0} (Hears : L → Setup → List Happening → List Happening → L → Type 0) → Setup → Line → ℕ → Run → L → L → ℕ → ℕ → Option Told → CourseState → Type 0
-RunsTo Hears s line had run was is p floor (Some answer) course = ComesTo Hears s line had run was is (Some answer) course
-RunsTo Hears s line had run was is p floor None course = ComesOn Hears s line had run was is course (IsAlone p floor)
+abbrev pub RunsTo : {L : Type 0} (Hears : L → Setup → List Happening → List Happening → L → Type 0) → Setup → Line → ℕ → Run → L → L → ℕ → ℕ → ℕ → Option Told → CourseState → Type 0
+RunsTo Hears s line had run was is p floor before (Some answer) course = (floor < before) × ComesTo Hears s line had run was is before (Some answer) course
+RunsTo Hears s line had run was is p floor before None course = ComesOn Hears s line had run was is course (IsAlone p floor)
 
--- the turns of a line up to one that tells are made, in each run that the course shows
-abbrev pub Comes : {L : Type 0} → (L → Setup → List Happening → List Happening → L → Type 0) → (L → Setup → List Happening → Type 0) → CourseState → Line → CourseState → L → L → Option Told → Type 0
-Comes Hears Knows old line new was is told = InItsRun old (λ run. ComesTo (HearsUpTo Hears Knows told) old.world.setup line old.left run was is told new)
+-- of a line with so many turns left those down to a floor were made without a mark, and heard
+pub record ComesDown {L : Type 0} (Hears : L → Setup → List Happening → List Happening → L → Type 0) (s : Setup) (line : Line) (had : ℕ) (run : Run) (was is : L) (floor before : ℕ) (course : CourseState) : Type 0 where
+  pub quiet : ℕ
+  pub now : Run
+  pub turns : QuietTurns s line quiet had run floor now
+  pub hears : Hears was s run.happened now.happened is
+  pub follows : Follows course now
+  pub left_is : course.left ≡ floor
+  pub before_is : before ≡ floor
+  pub setup : course.world.setup ≡ s
+
+-- the turns of a line are made up to one that tells, or else down to the floor or to the end of the line
+abbrev pub ComesAlong : {L : Type 0} (Hears : L → Setup → List Happening → List Happening → L → Type 0) → Setup → Line → ℕ → Run → L → L → ℕ → ℕ → Option Told → CourseState → Type 0
+ComesAlong Hears s line had run was is floor before (Some answer) course = (floor < before) × ComesTo Hears s line had run was is before (Some answer) course
+ComesAlong Hears s line had run was is floor before None course = ComesDown Hears s line had run was is floor before course ⊎ ((floor < before) × ComesTo Hears s line had run was is before None course)
+
+-- so it is in each run that the course shows
+abbrev pub Comes : {L : Type 0} → (L → Setup → List Happening → List Happening → L → Type 0) → CourseState → Line → ℕ → ℕ → CourseState → L → L → Option Told → Type 0
+Comes Hears old line floor before new was is told = InItsRun old (λ run. ComesAlong Hears old.world.setup line old.left run was is floor before told new)
 
 -- a listener stops amid the turns that a line has left, or amid all of them
 abbrev pub StopsAmid : {L : Type 0} → (L → Setup → List Happening → List Happening → Fault → L → Type 0) → CourseState → Line → L → L → Fault → Type 0
@@ -206,15 +179,15 @@ abbrev pub StopsLine : {L : Type 0} → (L → Setup → List Happening → List
 StopsLine Stops old line was is fault = InItsRun old (λ run. Stops was old.world.setup run.happened (run_after old.world.setup line run).happened fault is)
 
 -- one process makes the Steps of a line, in each run that the course shows, or a listener stops at one without a mark
-abbrev pub RunsAlone : {L : Type 0} → (L → Setup → List Happening → List Happening → L → Type 0) → (L → Setup → List Happening → Type 0) → CourseState → ℕ → ℕ → CourseState → L → L → Option Told → Type 0
-RunsAlone Hears Knows old p floor new was is told = (line : Line) → InItsRun old (λ run. IsAlone p floor old.world.setup line run → RunsTo (HearsUpTo Hears Knows told) old.world.setup line old.left run was is p floor told new)
+abbrev pub RunsAlone : {L : Type 0} → (L → Setup → List Happening → List Happening → L → Type 0) → CourseState → ℕ → ℕ → ℕ → CourseState → L → L → Option Told → Type 0
+RunsAlone Hears old p floor before new was is told = (line : Line) → InItsRun old (λ run. IsAlone p floor old.world.setup line run → RunsTo Hears old.world.setup line old.left run was is p floor before told new)
 
 abbrev pub StopsAlone : {L : Type 0} → (L → Setup → List Happening → List Happening → Fault → L → Type 0) → CourseState → ℕ → ℕ → CourseState → L → L → Fault → Type 0
 StopsAlone Stops old p floor new was is fault = (line : Line) → InItsRun old (λ run. IsAlone p floor old.world.setup line run → ComesOn (StopsBy Stops fault) old.world.setup line old.left run was is new (IsAlone p floor))
 
--- it passes Steps by: if before that the newest event is known, or none of its Steps is refused, it is so after
-abbrev pub PassesAlone : {L : Type 0} → (L → Setup → List Happening → List Happening → L → Type 0) → (L → Setup → List Happening → Type 0) → CourseState → ℕ → ℕ → CourseState → L → L → Type 0
-PassesAlone Hears Knows old p floor new was is = (line : Line) → InItsRun old (λ run. IsAlone p floor old.world.setup line run → ComesOn (HearsFrom Hears (KnowsOr Knows (MaySteps p)) (KnowsOr Knows (MaySteps p))) old.world.setup line old.left run was is new (IsAlone p floor))
+-- it passes Steps by
+abbrev pub PassesAlone : {L : Type 0} → (L → Setup → List Happening → List Happening → L → Type 0) → CourseState → ℕ → ℕ → CourseState → L → L → Type 0
+PassesAlone Hears old p floor new was is = (line : Line) → InItsRun old (λ run. IsAlone p floor old.world.setup line run → ComesOn Hears old.world.setup line old.left run was is new (IsAlone p floor))
 
 -- all turns of a line are made, in each run that the course shows
 abbrev pub PlaysLine : {L : Type 0} → (L → Setup → List Happening → List Happening → L → Type 0) → CourseState → Line → CourseState → L → L → Type 0

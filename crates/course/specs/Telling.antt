@@ -69,3 +69,10 @@ told_step p flick place leads (Err refusal) = told.Refused p refusal
 -- what a Step tells that has no mark; since it takes no command, its place does not matter
 abbrev pub told_unmarked : Stepped → Told
 told_unmarked made = told.Accepted (record { event = event.Step made.process made.flick; place = 0; access = Some made.access; overlapped = made.overlapped; effect = Steps step.Nothing })
+
+-- the number of events that are told: an accepted one
+abbrev pub events_told : Told → ℕ
+events_told (told.Accepted made) = 1
+events_told (told.Refused p refusal) = 0
+events_told (told.Tired p) = 0
+events_told (told.Shown store) = 0

@@ -105,3 +105,12 @@ rest_of s (line.Restart p) left run = once left run (run_after s (line.Restart p
 rest_of s (line.Flick flick) left run = once left run (run_after s (line.Flick flick) run)
 rest_of s (line.Wander n) left run = wanders s left run
 rest_of s line.Show left run = once left run (run_after s line.Show run)
+
+-- the run once the first n turns are made of a line that has so many turns left; a line that has ended makes no turn
+unfoldable pub turns_made : Setup → Line → ℕ → ℕ → Run → Run
+turns_made s line zero left run = run
+turns_made s line (suc n) left run = turns_made s line n (turn_of s line left run).left (turn_of s line left run).run
+
+-- the run once the first n turns of a line are made, or all of its turns if it has fewer
+abbrev pub part_of_line : Setup → ℕ → Line → Run → Run
+part_of_line s n line run = turns_made s line n (turns_in line) run

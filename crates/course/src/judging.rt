@@ -124,8 +124,6 @@ impl<L: Listener + Drop> Listener for Overheard<L> {
 
     ghost Hears = { λ a s x y b. L.Hears a.listener s x y b.listener × (Audits s (past_after s x) a.audit → Audits s (past_after s y) b.audit) };
 
-    ghost Knows = { λ a s x. L.Knows a.listener s x };
-
     ghost Stops = { λ a s x y fault b. L.Stops a.listener s x y fault b.listener };
 
     fn hear(&mut self, told: &Told, taken: &[Taken]) -> Result<(), Fault> {

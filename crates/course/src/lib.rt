@@ -12,6 +12,7 @@ mod store_line;
 mod summaries;
 mod told;
 mod turns;
+mod until;
 
 pub use auditor::Watch;
 pub use judging::{Audit, Overheard};
@@ -20,5 +21,6 @@ pub use record::{Access, Entry, Event, Mark, Move, Record, Refusal, Taken, refus
 pub use store_line::{newest_line, newest_words};
 pub use summaries::Summary;
 pub use told::{Accepted, Stepped, Told};
-pub use turns::{Course, is_there};
+pub use turns::Course;
+pub use until::{LineMade, Until};
 pub use world::World;

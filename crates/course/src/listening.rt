@@ -5,7 +5,7 @@ ghost use Rattle.record.specs.declared.events.Event.TheVariants.{Step};
 ghost use Rattle.scenario.specs.files.declared.faults.Fault.{Fault as WhyEnded};
 ghost use Rattle.scenario.specs.files.declared.faults.Fault.TheVariants.{Memory};
 ghost use Rattle.course.specs.Happenings.{Happening, Tries};
-ghost use Rattle.course.specs.Listening.{HearsPassing, HearsTold, HearsUnmarked, Learns, LearnsTold, StopsBy, TakesRoom};
+ghost use Rattle.course.specs.Listening.{HearsPassing, HearsTold, HearsUnmarked, StopsBy, TakesRoom};
 
 use crate::told::{Stepped, Told};
 use record::{Move, Taken};
@@ -30,9 +30,6 @@ pub trait Listener {
     /// It has heard this.
     ghost Hears: { Self → Setup → List Happening → List Happening → Self → Type 0 };
 
-    /// It knows the newest event of this. It need not, once Steps have passed by.
-    ghost Knows: { Self → Setup → List Happening → Type 0 };
-
     /// It has heard a front of this, and then came a fault.
     ghost Stops: { Self → Setup → List Happening → List Happening → WhyEnded → Self → Type 0 };
 
@@ -40,8 +37,6 @@ pub trait Listener {
     fn hear(&mut self, told: &Told, taken: &[Taken]) -> Result<(), Fault>
         requires { HasRoom self.old 1 }
         ensures ok { OnOk result (HearsTold Hears told.now taken.now self.old self.new) }
-        ensures knows { OnOk result
-            (HearsTold (LearnsTold Knows told.now) told.now taken.now self.old self.new) }
         ensures room { OnOk result (TakesRoom HasRoom self.old 1 self.new) }
         ensures cut { IfErr result (λ fault.
             HearsTold (StopsBy Stops fault) told.now taken.now self.old self.new) };
@@ -50,7 +45,6 @@ pub trait Listener {
     fn step(&mut self, made: Stepped) -> Result<(), Fault>
         requires { HasRoom self.old 1 }
         ensures ok { OnOk result (HearsUnmarked Hears made self.old self.new) }
-        ensures knows { OnOk result (HearsUnmarked (Learns Knows) made self.old self.new) }
         ensures room { OnOk result (TakesRoom HasRoom self.old 1 self.new) }
         ensures cut { IfErr result (λ fault.
             HearsUnmarked (StopsBy Stops fault) made self.old self.new) };

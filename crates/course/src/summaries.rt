@@ -1,4 +1,4 @@
-ghost use Rattle.std.specs.Prelude.{◌≡◌, ◌^◌, ◌-◌, ◌<◌, false, refl, ⊤};
+ghost use Rattle.std.specs.Prelude.{◌≡◌, ◌^◌, ◌-◌, ◌<◌, false, refl};
 ghost use Rattle.scenario.specs.files.declared.faults.Fault.TheVariants.{Memory};
 ghost use Rattle.course.specs.Summaries.{CanCount, can_count_less, counted};
 ghost use Rattle.course.specs.Writing.{Counts};
@@ -70,8 +70,6 @@ impl Listener for Summary {
     ghost HasRoom = { λ summary more. CanCount summary more };
 
     ghost Hears = { λ a s x y b. Counts s x a → Counts s y b };
-
-    ghost Knows = { λ _ _ _. ⊤ };
 
     ghost Stops = { λ a s x y fault b. fault ≡ Memory };
 

@@ -1,6 +1,6 @@
 //! What the turns of a run tell.
-ghost use Rattle.std.specs.Prelude.{◌≡◌};
-ghost use Rattle.course.specs.Telling.{entry_made, marks_made};
+ghost use Rattle.std.specs.Prelude.{◌≡◌, ◌≤◌};
+ghost use Rattle.course.specs.Telling.{entry_made, events_told, marks_made};
 
 use plain_store::NestedTypes;
 use record::{Access, Act, Entry, Event, Mark, Refusal};
@@ -66,4 +66,18 @@ pub enum Told {
     Tired(u8),
     /// The newest store; none while somebody is inside.
     Shown(Option<Image>),
+}
+
+impl Told {
+    /// Returns 1 for an accepted event, and 0 for everything else.
+    pub(crate) fn events(&self) -> u32
+        ensures events { result ≡ events_told self.now }
+        ensures one { result ≤ 1 }
+    {
+        let _nested: NestedTypes = None;
+        match self {
+            Told::Accepted(_) => 1,
+            Told::Refused { .. } | Told::Tired(_) | Told::Shown(_) => 0,
+        }
+    }
 }

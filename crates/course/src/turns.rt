@@ -5,12 +5,12 @@ ghost use Rattle.record.specs.declared.Event.{Event as Happening};
 ghost use Rattle.record.specs.declared.Refusal.TheVariants.{Memory};
 ghost use Rattle.record.specs.{history, is_event, past_of};
 ghost use Rattle.world.specs.flicks.{constant_flicks};
-ghost use Rattle.world.specs.{stage_in, with_history};
+ghost use Rattle.world.specs.{with_history};
 ghost use Rattle.world.specs.Shows.{Shows};
 ghost use Rattle.course.specs.Courses.{Follows, Makes, CourseState};
 ghost use Rattle.course.specs.Happenings.{Tries};
 ghost use Rattle.course.specs.Listening.{InItsRun, room_wanted};
-ghost use Rattle.course.specs.Runs.{Run, is_there as is_target, past_in, run_at_start, taken_in};
+ghost use Rattle.course.specs.Runs.{Run, run_at_start, taken_in};
 ghost use Rattle.course.specs.Telling.{is_step};
 ghost use Rattle.course.specs.Texts.{newest_store};
 ghost use Rattle.course.specs.Turns.{happens, makes_steps, turn_of, turns_in as turns_of};
@@ -21,8 +21,7 @@ mod steps;
 
 use crate::told::{Accepted, Told};
 use plain_store::{NestedTypes, Setup};
-use record::{Event, Refusal, Stage, Taken};
-pub use running::is_there;
+use record::{Event, Refusal, Taken};
 use scenario::Line;
 use std::alloc::{AllocError, Global};
 use std::marker::Model;
@@ -89,14 +88,6 @@ impl Course {
         self.world.core()
     }
 
-    /// Where a process stands; none, if there is no such process.
-    pub fn stage(&self, process: u8) -> Option<Stage>
-        ensures { (run : Run) → Follows self.now run
-            → result ≡ stage_in self.now.world.setup (past_in self.now.world.setup run) process }
-    {
-        self.world.stage(process)
-    }
-
     /// A line begins.
     fn begin(&mut self, line: &Line)
         ensures course { self.new ≡ record self.old { left = turns_of line.now } }
@@ -105,18 +96,16 @@ impl Course {
         self.left = turns_in(line);
     }
 
-    /// The turn of a line that makes no Steps, if it is not made yet; none, if it tells nothing.
+    /// Makes the turn of a line that makes no Steps, and returns what it tells.
     fn make(&mut self, line: &Line) -> Result<Option<Told>, AllocError>
         requires few { self.old.left ≤ turns_of line.now }
+        requires some_left { 0 < self.old.left }
         requires still { makes_steps line.now ≡ false }
         ensures left { IfOk result (λ told. room_wanted told self.new.left ≤ self.old.left) }
         ensures made { IfOk result (λ told. InItsRun self.old (λ run.
             Makes self.old run (turn_of self.old.world.setup line.now self.old.left run) told self.new)) }
     {
         let _nested: NestedTypes = None;
-        if self.left == 0 {
-            return Ok(None);
-        }
         match line {
             Line::Step(..) | Line::Go(..) | Line::Wander(_) => unreachable!(),
             Line::Call(process, command) => {

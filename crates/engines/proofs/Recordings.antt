@@ -66,11 +66,6 @@ record_cut said a b c head part =
     let text : List ℕ = entries_text said.setup (happenings said) in
     subst (λ l. WritesFront a c l) (sym (whole_record said)) (front_after a b c (head_text said.setup) text head (part_written text b c part))
 
--- what is so however the writing ends
-pub either_way : {A P : Type 0} (r : Result A Fault) → OnOk r P → IfErr r (λ f. P) → P
-either_way (Ok done) good bad = good
-either_way (Err f) good bad = bad
-
 -- cut short in the head
 pub head_cut : (said : Script) (a b : Option (List ℕ)) → WritesFront a b (head_text said.setup) → WritesFront a b (recorded said)
 head_cut said a b front = front_longer a b (head_text said.setup) (flat_map entry_line (run_record said)) front

@@ -11,7 +11,7 @@ ghost use Rattle.course.specs.{ended};
 ghost use Rattle.course.specs.Writing.{IsWriteFault, failed_write};
 
 use crate::writing::write_line;
-use course::{Audit, Course, Overheard, Summary};
+use course::{Audit, Course, Overheard, Summary, Until};
 use judge::{Audited, status_of, verdict_line};
 use scenario::{Fault, Scenario, Sink, Source, read_input, read_scenario};
 use std::alloc::{AllocError, Global};
@@ -75,7 +75,7 @@ fn audit_run<L: Onlooker>(
     let audit = Audit::new(alloc, &scenario.setup)?;
     let listener = Summary::new();
     let mut judged = Overheard { listener, audit };
-    let Ok(()) = course.play_all(&scenario.lines, &scenario.numbers, &mut judged, onlooker) else {
+    let Ok(_) = course.play_all(scenario, Until::End, &mut judged, onlooker) else {
         return Err(AllocError);
     };
     Ok(Audited {

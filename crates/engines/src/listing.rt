@@ -9,7 +9,9 @@ ghost use Rattle.engines.specs.Listings.{RecordsEvent, event_told};
 ghost use Rattle.engines.specs.RecordedRuns.{IsReadAgain};
 ghost use Rattle.course.specs.{accepted_events, listed};
 
-use course::{Course, Entry, Event, Listener, Move, Record, Refusal, Stepped, Taken, Told, World};
+use course::{
+    Course, Entry, Event, Listener, Move, Record, Refusal, Stepped, Taken, Told, Until, World,
+};
 use plain_store::{NestedTypes, Setup};
 use scenario::{Fault, Scenario};
 use std::alloc::{AllocError, Global};
@@ -22,7 +24,7 @@ pub fn events_of(alloc: Global, scenario: &Scenario) -> Result<Vec<Event>, Alloc
     let mut course = Course::new(alloc, &scenario.setup)?;
     let events = Vec::new(alloc);
     let mut lister = Lister { events };
-    let Ok(()) = course.play_all(&scenario.lines, &[], &mut lister, &mut Nobody) else {
+    let Ok(_) = course.play_all(scenario, Until::End, &mut lister, &mut Nobody) else {
         return Err(AllocError);
     };
     Ok(lister.events)
@@ -49,8 +51,6 @@ impl Listener for Lister {
     ghost HasRoom = { λ lister more. ⊤ };
 
     ghost Hears = { λ a s x y b. a.events.items ≡ listed s x → b.events.items ≡ listed s y };
-
-    ghost Knows = { λ _ _ _. ⊤ };
 
     ghost Stops = { λ a s x y fault b. ⊤ };
 

@@ -11,7 +11,7 @@ ghost use Rattle.engines.specs.RecordedRuns.{InputWritesRecord, RecordedRunsAreR
 ghost use Rattle.engines.specs.Recordings.{entries_longer, entries_text, entry_told, recorded, recording_text, step_line};
 ghost use Rattle.course.specs.{IsWriteFault, Took, TookPart, ended, failed_write, part_before, part_on, part_unheard, took_none, took_on};
 
-use course::{Course, Entry, Listener, Move, Stepped, Taken, Told};
+use course::{Course, Entry, Listener, Move, Stepped, Taken, Told, Until};
 use judge::{StepLine, print_entry, print_setup};
 use scenario::{Fault, Scenario, Sink, Source, read_input, read_scenario, write_all};
 use std::alloc::{AllocError, Global};
@@ -70,7 +70,8 @@ fn record_scenario<W: Sink, L: Onlooker>(
         room: &mut room,
         output,
     };
-    course.play_all(&scenario.lines, &scenario.numbers, &mut copier, onlooker)
+    course.play_all(scenario, Until::End, &mut copier, onlooker)?;
+    Ok(())
 }
 
 /// What is kept from one entry to the next: how many there were, and room for a line.
@@ -104,8 +105,6 @@ impl<'a, W: Sink> Listener for Copier<'a, W> {
     ghost HasRoom = { λ copier more. W.failures copier.output.now < 2 ^ 64 - 1 };
 
     ghost Hears = { λ a s x y b. (b.output.ghost_name ≡ a.output.ghost_name) × Took ⊤ (entries_text s x) (entries_text s y) (W.taken a.output.now) (W.taken b.output.now) (W.failures a.output.now) (W.failures b.output.now) };
-
-    ghost Knows = { λ _ _ _. ⊤ };
 
     ghost Stops = { λ a s x y fault b. (b.output.ghost_name ≡ a.output.ghost_name) × TookPart ⊤ (entries_text s x) (entries_text s y) (W.taken a.output.now) (W.taken b.output.now) (W.failures a.output.now) (W.failures b.output.now) fault };
 

@@ -1,5 +1,5 @@
 //! The engine `replay`: the marks of a scenario's run, each written before the next event is made.
-ghost use Rattle.std.specs.Prelude.{◌≡◌, ◌+◌, ◌-◌, ◌^◌, ◌<◌, IfErr, IfOk, OnOk, false, refl, ⊤};
+ghost use Rattle.std.specs.Prelude.{◌≡◌, ◌+◌, ◌-◌, ◌^◌, ◌<◌, IfErr, IfOk, OnOk, false, refl};
 ghost use Rattle.std.proofs.Common.{◌∙◌};
 ghost use Rattle.scenario.specs.files.Engines.{Ran, streams};
 ghost use Rattle.scenario.specs.{script};
@@ -10,7 +10,7 @@ ghost use Rattle.course.specs.{CanCount, InputKeepsHeadline, IsSummaryOf, RunKee
 ghost use Rattle.course.specs.Writing.{Counts, IsWriteFault, failed_write};
 
 use crate::writing::{tell, write_end};
-use course::{Course, Listener, Move, Stepped, Summary, Taken, Told};
+use course::{Course, Listener, Move, Stepped, Summary, Taken, Told, Until};
 use scenario::{Fault, Scenario, Sink, Source, read_input, read_scenario};
 use std::alloc::Global;
 use sweeper::progress::Onlooker;
@@ -64,7 +64,7 @@ fn replay_scenario<W: Sink, L: Onlooker>(
         summary,
         output,
     };
-    course.play_all(&scenario.lines, &scenario.numbers, &mut printer, onlooker)?;
+    course.play_all(scenario, Until::End, &mut printer, onlooker)?;
     let mut summary = printer.summary;
     summary.taken = course.taken();
     write_end(alloc, &summary, output)?;
@@ -94,8 +94,6 @@ impl<'a, W: Sink> Listener for Printer<'a, W> {
     ghost HasRoom = { λ printer more. CanCount printer.summary more × (W.failures printer.output.now < 2 ^ 64 - 1) };
 
     ghost Hears = { λ a s x y b. (b.output.ghost_name ≡ a.output.ghost_name) × (Counts s x a.summary → Counts s y b.summary) × Took (Counts s x a.summary) (text_of s x) (text_of s y) (W.taken a.output.now) (W.taken b.output.now) (W.failures a.output.now) (W.failures b.output.now) };
-
-    ghost Knows = { λ _ _ _. ⊤ };
 
     ghost Stops = { λ a s x y fault b. (b.output.ghost_name ≡ a.output.ghost_name) × TookPart (Counts s x a.summary) (text_of s x) (text_of s y) (W.taken a.output.now) (W.taken b.output.now) (W.failures a.output.now) (W.failures b.output.now) fault };
 

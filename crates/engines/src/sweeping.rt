@@ -12,7 +12,7 @@ ghost use Rattle.sweeper.specs.{CanSweep, SweepsNone, SweepsOn, can_sweep_less};
 ghost use Rattle.engines.specs.Sweepings.{InputTellsSweep, IsRunSwept, SweepsRun, TellsSweep, accepted_calls, call_of, calls_in, run_swept, status_of_swept, sweep_text, swept, swept_lines as lines_of_swept};
 
 use crate::writing::write_line;
-use course::{Course, Event, Listener, Move, Stepped, Taken, Told};
+use course::{Course, Event, Listener, Move, Stepped, Taken, Told, Until};
 use judge::{Verdict, status_of};
 use plain_store::{Command, NestedTypes};
 use scenario::{Fault, Scenario, Sink, Source, read_input, read_scenario};
@@ -107,7 +107,7 @@ fn calls_of(alloc: Global, scenario: &Scenario) -> Result<Calls, AllocError>
     let mut course = Course::new(alloc, &scenario.setup)?;
     let calls = Vec::new(alloc);
     let mut heard = Calls { calls, events: 0 };
-    let Ok(()) = course.play_all(&scenario.lines, &[], &mut heard, &mut Nobody) else {
+    let Ok(_) = course.play_all(scenario, Until::End, &mut heard, &mut Nobody) else {
         return Err(AllocError);
     };
     if MOST_CALLS < heard.calls.len() {
@@ -131,7 +131,7 @@ fn sweep_lines<L: Onlooker>(
     ensures swept { IfOk result (IsRunSwept (script scenario.now)) }
     ensures is { IfOk result (λ found. found ≡ run_swept (script scenario.now)) }
 {
-    let Ok(()) = course.play_all(&scenario.lines, &[], along, &mut Nobody) else {
+    let Ok(_) = course.play_all(scenario, Until::End, along, &mut Nobody) else {
         return Err(AllocError);
     };
     Ok(along.sweeper.found())
@@ -159,8 +159,6 @@ impl Listener for Calls {
     ghost HasRoom = { λ heard more. ⊤ };
 
     ghost Hears = { λ a s x y b. a.calls.items ≡ calls_in (listed s x) → b.calls.items ≡ calls_in (listed s y) };
-
-    ghost Knows = { λ _ _ _. ⊤ };
 
     ghost Stops = { λ a s x y fault b. ⊤ };
 
@@ -246,8 +244,6 @@ impl<'a, L: Onlooker> Listener for Along<'a, L> {
     ghost HasRoom = { λ along more. CanSweep along.calls.now more along.sweeper };
 
     ghost Hears = { λ a s x y b. (calls : List (ℕ × Said)) → SweepsRun s calls x a.calls.now a.sweeper → SweepsRun s calls y b.calls.now b.sweeper };
-
-    ghost Knows = { λ _ _ _. ⊤ };
 
     ghost Stops = { λ a s x y fault b. ⊤ };
 

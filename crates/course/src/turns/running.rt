@@ -1,6 +1,6 @@
 //! The lines that make Steps. A Step without a mark leaves every process where it is, so that only after one with
 //! marks a line has to look again who is where.
-ghost use Rattle.std.specs.Prelude.{◌≡◌, ◌<◌, ◌≤◌, ℕ, length, slice_index, IfErr, IfOk, IfSome, None, Ok};
+ghost use Rattle.std.specs.Prelude.{◌≡◌, ◌+◌, ◌-◌, ◌^◌, ◌<◌, ◌≤◌, ℕ, length, slice_index, IfErr, IfOk, IfSome, None, Ok};
 ghost use Rattle.record.specs.{stage};
 ghost use Rattle.record.specs.declared.Event.TheVariants.{Step};
 ghost use Rattle.scenario.specs.declared.lines.Line.TheVariants.{Go as GoLine, Wander as WanderLine};
@@ -19,21 +19,24 @@ use smallvec::SmallVec;
 use world::Divisor;
 
 impl Course {
-    /// Steps of this process, while more than so many turns are left, up to the first that is told; one that is
-    /// refused ends the line.
+    /// Makes Steps of this process, while more than `floor` turns are left, up to the first that is told; one that is
+    /// refused ends the line. `before` receives how many turns were left before the Step that is told, or the floor.
     #[inline(never)]
     pub(super) fn run_alone<L: Listener>(
         &mut self,
         process: u8,
         floor: u32,
+        before: &mut u32,
         listener: &mut L,
     ) -> Result<Option<Told>, Fault>
         requires floor { floor ≤ self.old.left }
         requires room { L.HasRoom listener.old self.old.left }
-        ensures left { IfOk result (λ told. room_wanted told self.new.left ≤ self.old.left) }
+        ensures left { IfOk result (λ told. room_wanted told self.new.left ≤ before.new) }
+        ensures fewer { IfOk result (λ told. before.new ≤ self.old.left) }
         ensures ended { IfOk result (λ told. told ≡ None → self.new.left ≡ floor) }
-        ensures ok { IfOk result
-            (RunsAlone L.Hears L.Knows self.old process floor self.new listener.old listener.new) }
+        ensures floor { IfOk result (λ told. told ≡ None → before.new ≡ floor) }
+        ensures ok { IfOk result (RunsAlone L.Hears self.old process floor before.new
+            self.new listener.old listener.new) }
         ensures room { IfOk result
             (LeavesRoom L.HasRoom listener.old self.old.left listener.new self.new.left) }
         ensures cut { IfErr result
@@ -41,7 +44,7 @@ impl Course {
     {
         let mut outcome = Ok(None);
         let mut known = 1;
-        'steps: while floor < self.left {
+        'steps: loop {
             pass_by(
                 &mut self.world,
                 &mut self.flicks,
@@ -51,74 +54,90 @@ impl Course {
                 floor,
                 listener,
             );
-            self.left -= 1;
+            if self.left == floor {
+                *before = floor;
+                return Ok(None);
+            }
             let is_quiet = turn_step(
                 &mut self.world,
                 &mut known,
                 process,
                 &mut self.flicks,
-                self.left == floor,
                 listener,
                 &mut outcome,
             );
             if !is_quiet && !goes_on(&outcome) {
-                self.left = left_after(&outcome, self.left);
+                *before = self.left;
+                self.left = left_after(&outcome, self.left - 1);
                 return outcome;
             }
+            self.left -= 1;
         }
-        Ok(None)
     }
 
-    /// Turns of `go`: Steps, unless the process is there, or has made all its Steps.
+    /// Makes the turns of `go` while more than `floor` turns are left: Steps, unless the process is at its target, or has
+    /// made all its Steps. `before` receives how many turns were left before the turn that is told, or the floor.
     pub(super) fn run_to<L: Listener>(
         &mut self,
         process: u8,
         target: Target,
+        floor: u32,
+        before: &mut u32,
         listener: &mut L,
     ) -> Result<Option<Told>, Fault>
         requires few { self.old.left ≤ turns_in (GoLine process target) }
+        requires floor { floor < self.old.left }
         requires room { L.HasRoom listener.old self.old.left }
-        ensures left { IfOk result (λ told. room_wanted told self.new.left ≤ self.old.left) }
-        ensures ok { IfOk result (Comes L.Hears L.Knows self.old (GoLine process target)
+        ensures left { IfOk result (λ told. room_wanted told self.new.left ≤ before.new) }
+        ensures fewer { IfOk result (λ told. before.new ≤ self.old.left) }
+        ensures ok { IfOk result (Comes L.Hears self.old (GoLine process target) floor before.new
             self.new listener.old listener.new) }
         ensures room { IfOk result
             (LeavesRoom L.HasRoom listener.old self.old.left listener.new self.new.left) }
         ensures cut { IfErr result (StopsAmid L.Stops self.old (GoLine process target)
             listener.old listener.new) }
     {
-        if self.left == 0 {
-            return Ok(None);
-        }
         let Some(stage) = self.world.stage(process) else {
+            *before = self.left;
             self.left = 0;
             let refusal = Refusal::NoProcess;
             return Ok(Some(Told::Refused { process, refusal }));
         };
         if is_there(target, stage) {
+            *before = self.left;
             self.left = 0;
             return Ok(None);
         }
-        if let Some(told) = self.run_alone(process, 1, listener)? {
+        if let Some(told) = self.run_alone(process, floor.max(1), before, listener)? {
             return Ok(Some(told));
+        }
+        if floor > 0 {
+            return Ok(None);
         }
         self.left = 0;
         Ok(Some(Told::Tired(process)))
     }
 
-    /// Turns of `wander`: Steps of picked ones, if there is one to pick. Where that is one alone, and the flicks are constant,
-    /// it makes them as `run_alone` does, many at once: each pick can but find it, so that the words of the picks are skipped
-    /// in the end. Else whose Step comes next is drawn before this one is made: nobody can foretell where in its access a
-    /// picked process is, and so a processor that has foretold it wrongly begins with what comes after anew, but not with that
-    /// draw. For the same reason a process is asked once how many of its next Steps are within its number access, and these are
-    /// counted down: most Steps ask nothing.
+    /// Makes the turns of `wander` while more than `floor` turns are left: Steps of picked processes, if there is one to pick.
+    /// `before` receives how many turns were left before the Step that is told, or the floor. Where one process alone can
+    /// step, and the flicks are constant, it makes them as `run_alone` does, many at once: each pick can only find that
+    /// process, so the words of the picks are skipped at the end. Otherwise the process of the next Step is drawn before this
+    /// Step is made: how far a picked process is in its access cannot be predicted, so a processor that has mispredicted it
+    /// begins what follows anew, except for that draw. For the same reason a process is asked once how many of its next Steps
+    /// are within its register access, and these are counted down: most Steps ask nothing. The turns are counted down to 0
+    /// after the Step, so that one instruction counts a turn and says whether it is the last.
     pub(super) fn run_random<L: Listener>(
         &mut self,
+        floor: u32,
+        before: &mut u32,
         listener: &mut L,
     ) -> Result<Option<Told>, Fault>
-        requires { L.HasRoom listener.old self.old.left }
-        ensures left { IfOk result (λ told. room_wanted told self.new.left ≤ self.old.left) }
+        requires floor { floor < self.old.left }
+        requires room { L.HasRoom listener.old self.old.left }
+        ensures left { IfOk result (λ told. room_wanted told self.new.left ≤ before.new) }
+        ensures fewer { IfOk result (λ told. before.new ≤ self.old.left) }
         ensures ok { IfOk result (λ told. (steps : ℕ) →
-            Comes L.Hears L.Knows self.old (WanderLine steps) self.new
+            Comes L.Hears self.old (WanderLine steps) floor before.new self.new
             listener.old listener.new told) }
         ensures room { IfOk result
             (LeavesRoom L.HasRoom listener.old self.old.left listener.new self.new.left) }
@@ -128,22 +147,21 @@ impl Course {
             (rest_of self.old.world.setup (WanderLine steps) self.old.left run).happened
             fault listener.new)) }
     {
-        if self.left == 0 {
-            return Ok(None);
-        }
         let movers = self.movers();
         let among = movers.as_slice();
         if among.is_empty() {
+            *before = self.left;
             self.left = 0;
             return Ok(None);
         }
-        let had = self.left;
         if among.len() == 1 && self.flicks.is_constant() {
-            let told = self.run_alone(among[0], 0, listener)?;
+            let had = self.left;
+            let told = self.run_alone(among[0], floor, before, listener)?;
             self.flicks.skip_picks(had - self.left);
             return Ok(told);
         }
         let count = Divisor::new(among.len() as u32);
+        let had = self.left - floor;
         let mut left = had;
         let mut outcome = Ok(None);
         let mut within = [1_u32; 256];
@@ -153,18 +171,18 @@ impl Course {
             let (process, mut source) = (next, ahead.twin());
             ahead.flick();
             next = among[ahead.pick(&count)];
-            left -= 1;
             let is_quiet = turn_step(
                 &mut self.world,
                 &mut within[usize::from(process)],
                 process,
                 &mut source,
-                left == 0,
                 listener,
                 &mut outcome,
             );
-            if !is_quiet && (left == 0 || !goes_on(&outcome)) {
-                self.left = left;
+            left -= 1;
+            if left == 0 || (!is_quiet && !goes_on(&outcome)) {
+                self.left = floor + left;
+                *before = left_before(&outcome, self.left);
                 self.flicks.skip_picks(had - left);
                 self.flicks.skip(had - left);
                 return outcome;
@@ -207,7 +225,7 @@ fn has_step_in(stage: Stage) -> bool
 }
 
 /// Whether a process in this stage is where it is to go.
-pub fn is_there(target: Target, stage: Stage) -> bool
+fn is_there(target: Target, stage: Stage) -> bool
     ensures { result ≡ is_target target stage }
 {
     match target {
@@ -227,5 +245,18 @@ fn left_after(outcome: &Result<Option<Told>, Fault>, left: u32) -> u32
     match outcome {
         Ok(Some(Told::Refused { .. })) => 0,
         _ => left,
+    }
+}
+
+/// Returns how many turns were left before the newest turn if it told something or failed, and otherwise how many are left.
+fn left_before(outcome: &Result<Option<Told>, Fault>, left: u32) -> u32
+    requires { left < 2 ^ 32 - 1 }
+    ensures none { outcome.now ≡ Ok None → result ≡ left }
+    ensures told { (outcome.now ≡ Ok None → ⊥) → result ≡ left + 1 }
+    ensures fewer { result ≤ left + 1 }
+{
+    match outcome {
+        Ok(None) => left,
+        _ => left + 1,
     }
 }

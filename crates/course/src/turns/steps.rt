@@ -1,12 +1,12 @@
 //! Steps of a run: they pass a listener by, are heard by it, or are told.
-ghost use Rattle.std.specs.Prelude.{◌≡◌, ◌+◌, ◌<◌, ◌≤◌, Bool, IfErr, IfOk, IfSome, None, Ok, OnOk, false, is_some, true};
+ghost use Rattle.std.specs.Prelude.{◌≡◌, ◌+◌, ◌<◌, ◌≤◌, IfErr, IfOk, IfSome, None, Ok, OnOk, false, is_some, true};
 ghost use Rattle.record.specs.declared.Event.TheVariants.{Step};
 ghost use Rattle.world.specs.flicks.{after_flick, flick_of};
 ghost use Rattle.world.specs.{KeepOthers, left_in};
 ghost use Rattle.world.specs.process.declared.told.StepTold.TheVariants.{Nothing};
 ghost use Rattle.world.specs.process.registers.declared.access_made.AccessMade.{AccessMade as MadeSeen};
 ghost use Rattle.course.specs.Courses.{course};
-ghost use Rattle.course.specs.Listening.{HearsLast, HearsStep, LeavesRoom, MakesStep, PassesAlone, StopsBy};
+ghost use Rattle.course.specs.Listening.{HearsStep, LeavesRoom, MakesStep, PassesAlone, StopsBy};
 ghost use Rattle.course.specs.Telling.{told_step};
 
 use crate::listening::Listener;
@@ -16,8 +16,8 @@ use record::{Event, Refusal};
 use scenario::Fault;
 use world::{AccessMade, Effect, Flicks, StepTold, World};
 
-/// Steps of a process within a number access, of which none has a mark, while more than one turn is left above so
-/// many: they pass by the listener, unless it hears each Step.
+/// Makes the Steps of a process that are within a register access, so that none has a mark, while more than `floor` turns
+/// are left. They pass by the listener, unless it hears each Step.
 #[inline]
 pub(super) fn pass_by<L: Listener>(
     world: &mut World,
@@ -28,23 +28,23 @@ pub(super) fn pass_by<L: Listener>(
     floor: u32,
     listener: &mut L,
 )
-    requires floor { floor < left.old }
+    requires floor { floor ≤ left.old }
     requires room { L.HasRoom listener.old left.old }
     requires some { 0 < known.old }
     requires known { known.old ≤ left_in world.old.seats process + 1 }
     ensures some { 0 < known.new }
     ensures known { known.new ≤ left_in world.new.seats process + 1 }
     ensures fewer { left.new ≤ left.old }
-    ensures above { floor < left.new }
+    ensures floor { floor ≤ left.new }
     ensures setup { world.new.setup ≡ world.old.setup }
-    ensures on { PassesAlone L.Hears L.Knows (course world.old flicks.old left.old) process floor
+    ensures on { PassesAlone L.Hears (course world.old flicks.old left.old) process floor
         (course world.new flicks.new left.new) listener.old listener.new }
     ensures room { LeavesRoom L.HasRoom listener.old left.old listener.new left.new None }
 {
     if listener.hears_steps() {
         return;
     }
-    let within = world.left(process).min(*left - floor - 1);
+    let within = world.left(process).min(*left - floor);
     if within == 0 {
         return;
     }
@@ -56,14 +56,13 @@ pub(super) fn pass_by<L: Listener>(
 
 /// A turn's Step, by the flick that is next: whether it is made within a number access, where it has no mark, and is heard or
 /// passed by; if not, `outcome` has what it tells, or the fault. One less than `known` of the process's next Steps are known to
-/// be within one. Who hears the last Step of a line knows its access. (An outcome by value would be cleared at each Step.)
+/// be within one. (An outcome by value would be cleared at each Step.)
 #[inline(always)]
 pub(super) fn turn_step<L: Listener>(
     world: &mut World,
     known: &mut u32,
     process: u8,
     flicks: &mut Flicks,
-    is_last: bool,
     listener: &mut L,
     outcome: &mut Result<Option<Told>, Fault>,
 ) -> bool
@@ -75,8 +74,7 @@ pub(super) fn turn_step<L: Listener>(
     ensures known { known.new ≤ left_in world.new.seats process + 1 }
     ensures after { flicks.new ≡ after_flick flicks.old }
     ensures quiet { result ≡ true → outcome.new ≡ Ok None }
-    ensures last { result ≡ true → is_last ≡ false }
-    ensures ok { IfOk outcome.new (λ told. MakesStep (HearsLast L.Hears L.Knows is_last) world.old process
+    ensures ok { IfOk outcome.new (λ told. MakesStep L.Hears world.old process
         (flick_of flicks.old) told world.new listener.old listener.new) }
     ensures room { IfOk outcome.new (λ told. LeavesRoom L.HasRoom listener.old 1 listener.new 0 told) }
     ensures cut { IfErr outcome.new (λ fault. HearsStep (StopsBy L.Stops fault) world.old process
@@ -84,7 +82,7 @@ pub(super) fn turn_step<L: Listener>(
     ensures setup { world.new.setup ≡ world.old.setup }
     ensures others { KeepOthers world.old.seats process world.new.seats }
 {
-    if !is_quiet(world, known, process, is_last) {
+    if !is_quiet(world, known, process) {
         *outcome = any_step(world, process, flicks.flick(), listener);
         return false;
     }
@@ -115,21 +113,16 @@ pub(super) fn goes_on(outcome: &Result<Option<Told>, Fault>) -> bool
     matches!(outcome, Ok(None))
 }
 
-/// Whether a process's next Step is within its number access, where one less than so many are known to be: the world is asked, if
-/// none is. The last Step of a line is taken for none. It only counts down where it need not ask, in place.
+/// Returns whether a process's next Step is within its register access, where at least `known - 1` are known to be. The world
+/// is asked only if none is known to be; otherwise `known` is counted down in place.
 #[inline(always)]
-pub(super) fn is_quiet(world: &World, known: &mut u32, process: u8, is_last: bool) -> bool
+pub(super) fn is_quiet(world: &World, known: &mut u32, process: u8) -> bool
     requires some { 0 < known.old }
     requires known { known.old ≤ left_in world.now.seats process + 1 }
     ensures some { 0 < known.new }
     ensures within { result ≡ true → known.new ≤ left_in world.now.seats process }
-    ensures last { result ≡ true → is_last ≡ false }
     ensures none { result ≡ false → known.new ≡ 1 }
 {
-    if is_last {
-        *known = 1;
-        return false;
-    }
     *known -= 1;
     if *known == 0 {
         let left = world.left(process);
@@ -148,8 +141,8 @@ pub(super) fn any_step<L: Listener>(
     listener: &mut L,
 ) -> Result<Option<Told>, Fault>
     requires { L.HasRoom listener.old 1 }
-    ensures ok { (is_last : Bool) → IfOk result (λ told. MakesStep (HearsLast L.Hears L.Knows is_last)
-        world.old process flick told world.new listener.old listener.new) }
+    ensures ok { IfOk result (λ told. MakesStep L.Hears world.old process flick told
+        world.new listener.old listener.new) }
     ensures room { IfOk result (λ told. LeavesRoom L.HasRoom listener.old 1 listener.new 0 told) }
     ensures cut { IfErr result (λ fault.
         HearsStep (StopsBy L.Stops fault) world.old process flick world.new listener.old listener.new) }

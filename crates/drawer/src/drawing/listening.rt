@@ -1,5 +1,5 @@
 //! A listener that draws a run as it hears it.
-ghost use Rattle.std.specs.Prelude.{◌≡◌, ◌+◌, ◌-◌, ◌^◌, ◌<◌, ℕ, Err, IfErr, OnOk, is_some, refl, ⊤};
+ghost use Rattle.std.specs.Prelude.{◌≡◌, ◌+◌, ◌-◌, ◌^◌, ◌<◌, ℕ, Err, IfErr, OnOk, is_some, refl};
 ghost use Rattle.std.proofs.Common.{add-zero, ap, sym, ◌∙◌};
 ghost use Rattle.companions.specs.{IsWriteFault, failed_write};
 ghost use Rattle.course.specs.{CanCount, can_count_less};
@@ -52,8 +52,6 @@ impl<'a, W: Sink> Listener for Drawer<'a, W> {
     ghost HasRoom = { λ drawer more. CanCount drawer.drawing.now.summary more × (W.failures drawer.output.now < 2 ^ 64 - 1) };
 
     ghost Hears = { λ a s x y b. (b.output.ghost_name ≡ a.output.ghost_name) × (b.drawing.ghost_name ≡ a.drawing.ghost_name) × (b.drawing.now.source ≡ a.drawing.now.source) × (W.failures b.output.now ≡ W.failures a.output.now) × GoesOnDrawing s x y a.drawing.now b.drawing.now (W.taken a.output.now) (W.taken b.output.now) };
-
-    ghost Knows = { λ _ _ _. ⊤ };
 
     ghost Stops = { λ a s x y fault b. (b.output.ghost_name ≡ a.output.ghost_name) × IsWriteFault fault × (W.failures b.output.now ≡ W.failures a.output.now + failed_write {A = Unit {0}} (Err fault)) };
 

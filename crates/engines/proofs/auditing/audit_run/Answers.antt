@@ -1,4 +1,4 @@
-use Rattle.std.proofs.Common.{◌≡◌, ◌∙◌, [], length, subst, sym}
+use Rattle.std.proofs.Common.{◌≡◌, ◌∙◌, [], length, subst, sym, refl}
 use Rattle.plain_store.specs.{Setup}
 use Rattle.scenario.specs.{Script, script}
 use Rattle.course.specs.{Audits, run_at_start, run_record}
@@ -12,9 +12,9 @@ use Rattle.engines.proofs.auditing.audit_run.Goals as goal
 pub returns : goal.returns
 returns g c =
     let s = c.in_ok-course.course.world.setup in
-    let said : Script = record { setup = s; lines = c.deref.result.now } in
-    let same : said ≡ script c.args.scenario.now = λ i. record { setup = c.in_ok-course.ensures.setup i; lines = c.deref.ensures.value i } in
-    let plays = c.in-Ok.ensures.ok run_at_start c.in_ok-course.ensures.follows in
+    let said : Script = record { setup = s; lines = c.args.scenario.now.lines.items } in
+    let same : said ≡ script c.args.scenario.now = λ i. record { setup = c.in_ok-course.ensures.setup i; lines = c.args.scenario.now.lines.items } in
+    let plays = c.in-Ok.ensures.whole refl run_at_start c.in_ok-course.ensures.follows in
     let counts = plays.hears.0 (counts_none s c.new-listener.result c.new-listener.ensures) in
     let audits = plays.hears.1 (subst (λ (s : Setup). Audits s [] c.in_ok-audit.audit) (sym c.in_ok-course.ensures.setup) c.in_ok-audit.ensures) in
     let (checked, given) = played_good plays in

@@ -1,4 +1,4 @@
-use Rattle.std.proofs.Common.{◌≡◌, ◌+◌, ◌∙◌, [], ap, arith, subst, sym}
+use Rattle.std.proofs.Common.{◌≡◌, ◌+◌, ◌∙◌, [], ap, arith, subst, sym, refl}
 use Rattle.scenario.specs.files.{WritesFront}
 use Rattle.scenario.specs.{Script, script}
 use Rattle.std.specs.Io.KnownBytes.{Appends}
@@ -12,8 +12,8 @@ use Rattle.engines.proofs.replaying.replay_scenario.Goals as goal
 pub returns-in_err-play_all-clause-front : goal.returns-in_err-play_all-clause-front
 returns-in_err-play_all-clause-front g c =
     let s = c.in_ok-course.course.world.setup in
-    let said : Script = record { setup = s; lines = c.deref.result.now } in
-    let same : said ≡ script c.args.scenario.now = λ i. record { setup = c.in_ok-course.ensures.setup i; lines = c.deref.ensures.value i } in
+    let said : Script = record { setup = s; lines = c.args.scenario.now.lines.items } in
+    let same : said ≡ script c.args.scenario.now = λ i. record { setup = c.in_ok-course.ensures.setup i; lines = c.args.scenario.now.lines.items } in
     let cut = c.in_err-play_all.ensures.cut run_at_start c.in_ok-course.ensures.follows in
     let part : WritesPart [] (text_of s (happenings said)) (g.W.Sink.taken c.args.output.now) (g.W.Sink.taken c.play_all.new.listener.output.now) = cut.1.part (counts_none s c.new-summary.result c.new-summary.ensures) in
     subst (λ w. WritesFront (g.W.Sink.taken c.args.output.now) (g.W.Sink.taken w) (replayed (script c.args.scenario.now))) (sym (c.in_err-play_all.output-1-own.given.1 (sym cut.0)))
@@ -31,16 +31,16 @@ returns-in_err-play_all-clause-failures g c =
 
 pub write_end-requires : goal.write_end-requires
 write_end-requires g c =
-    let plays = c.in_ok-play_all.ensures.ok run_at_start c.in_ok-course.ensures.follows in
+    let plays = c.in_ok-play_all.ensures.whole refl run_at_start c.in_ok-course.ensures.follows in
     let whole = ap g.W.Sink.failures (c.output-2-1.given.1 (sym plays.hears.0)) ∙ plays.hears.2.whole in
     omega (arith, whole, c.requires)
 
 pub returns-in_err-write_end-clause-front : goal.returns-in_err-write_end-clause-front
 returns-in_err-write_end-clause-front g c =
     let s = c.in_ok-course.course.world.setup in
-    let said : Script = record { setup = s; lines = c.deref.result.now } in
-    let same : said ≡ script c.args.scenario.now = λ i. record { setup = c.in_ok-course.ensures.setup i; lines = c.deref.ensures.value i } in
-    let plays = c.in_ok-play_all.ensures.ok run_at_start c.in_ok-course.ensures.follows in
+    let said : Script = record { setup = s; lines = c.args.scenario.now.lines.items } in
+    let same : said ≡ script c.args.scenario.now = λ i. record { setup = c.in_ok-course.ensures.setup i; lines = c.args.scenario.now.lines.items } in
+    let plays = c.in_ok-play_all.ensures.whole refl run_at_start c.in_ok-course.ensures.follows in
     let counts = counts_none s c.new-summary.result c.new-summary.ensures in
     let numbers = run_numbers s (runs s said.lines run_at_start) c.play_all.new.self c.play_all.new.listener.summary c.taken.result plays.follows plays.setup (plays.hears.1 counts) c.taken.ensures in
     let writes : Writes [] (text_of s (happenings said)) (g.W.Sink.taken c.args.output.now) (g.W.Sink.taken c.output-2-1.given.0) =
@@ -50,16 +50,16 @@ returns-in_err-write_end-clause-front g c =
 
 pub returns-in_err-write_end-clause-failures : goal.returns-in_err-write_end-clause-failures
 returns-in_err-write_end-clause-failures g c =
-    let plays = c.in_ok-play_all.ensures.ok run_at_start c.in_ok-course.ensures.follows in
+    let plays = c.in_ok-play_all.ensures.whole refl run_at_start c.in_ok-course.ensures.follows in
     let whole = ap g.W.Sink.failures (c.output-2-1.given.1 (sym plays.hears.0)) ∙ plays.hears.2.whole in
     omega (arith, whole, c.in_err-write_end.ensures.failures, failed_same c.from_residual-in_err-write_end.result c.in_err-write_end.field-0.0 c.from_residual-in_err-write_end.ensures.1)
 
 pub returns : goal.returns
 returns g c =
     let s = c.in_ok-course.course.world.setup in
-    let said : Script = record { setup = s; lines = c.deref.result.now } in
-    let same : said ≡ script c.args.scenario.now = λ i. record { setup = c.in_ok-course.ensures.setup i; lines = c.deref.ensures.value i } in
-    let plays = c.in_ok-play_all.ensures.ok run_at_start c.in_ok-course.ensures.follows in
+    let said : Script = record { setup = s; lines = c.args.scenario.now.lines.items } in
+    let same : said ≡ script c.args.scenario.now = λ i. record { setup = c.in_ok-course.ensures.setup i; lines = c.args.scenario.now.lines.items } in
+    let plays = c.in_ok-play_all.ensures.whole refl run_at_start c.in_ok-course.ensures.follows in
     let counts = counts_none s c.new-summary.result c.new-summary.ensures in
     let numbers = run_numbers s (runs s said.lines run_at_start) c.play_all.new.self c.play_all.new.listener.summary c.taken.result plays.follows plays.setup (plays.hears.1 counts) c.taken.ensures in
     let is = c.output-2-1.given.1 (sym plays.hears.0) in

@@ -1,6 +1,6 @@
-use Rattle.std.proofs.Common.{List, [], reverse, subst}
+use Rattle.std.proofs.Common.{[], reverse, subst, refl}
 use Rattle.plain_store.specs.{Setup}
-use Rattle.scenario.specs.{Line, script}
+use Rattle.scenario.specs.{script}
 use Rattle.sweeper.proofs.Goods.{found_is}
 use Rattle.sweeper.specs.{cuts}
 use Rattle.course.specs.{accepted_events, happenings, run_at_start, runs}
@@ -16,10 +16,9 @@ gone g c =
     let then = c.play_all.new.listener in
     let calls = accepted_calls (script c.args.scenario.now) in
     let s : Setup = c.args.scenario.now.setup in
-    let on = subst (λ (s : Setup). SweepsRun s calls [] along.calls.now along.sweeper → SweepsRun s calls (runs s c.deref.result.now run_at_start).happened then.calls.now then.sweeper) c.requires.setup
-    ((c.in-Ok.ensures.ok run_at_start c.requires.follows).hears calls) in
-    subst (λ (lines : List Line). SweepsRun s calls (runs s lines run_at_start).happened then.calls.now then.sweeper) c.deref.ensures.value
-    (on (record { given_are = c.requires.calls; swept = c.requires.swept calls }))
+    let on = subst (λ (s : Setup). SweepsRun s calls [] along.calls.now along.sweeper → SweepsRun s calls (runs s c.args.scenario.now.lines.items run_at_start).happened then.calls.now then.sweeper) c.requires.setup
+    ((c.in-Ok.ensures.whole refl run_at_start c.requires.follows).hears calls) in
+    on (record { given_are = c.requires.calls; swept = c.requires.swept calls })
 
 pub returns-clause-swept : goal.returns-clause-swept
 returns-clause-swept g c =

@@ -1,15 +1,14 @@
 use Rattle.std.proofs.Common.{◌≡◌, None, Ok, ◌-◌, ◌+◌, ◌<◌, ◌≤◌, ℕ}
 use Rattle.scenario.specs.{Line}
 use Rattle.world.specs.{left_in}
-use Rattle.course.specs.{ComesOn, Follows, HearsFrom, IsAlone, KeepsCourse, Run, course}
-use Rattle.course.proofs.Alone.{KnowsAlone}
+use Rattle.course.specs.{ComesOn, Follows, IsAlone, KeepsCourse, Run, course}
 use Rattle.course.proofs.turns.Course.run_alone.Given as goal
 
--- so far each Step was made without a mark, and was heard; the newest is known, or others are left
+-- so far each Step was made without a mark, and was heard
 abbrev pub invariant-steps : goal.invariant-steps
 invariant-steps g l = record {
   on : (line : Line) (run : Run) → Follows l.fn.self run → IsAlone l.process l.floor l.fn.self.world.setup line run →
-      ComesOn (HearsFrom g.L.Listener.Hears g.L.Listener.Knows (KnowsAlone g.L.Listener.Knows l.process l.floor l.self-inside.left)) l.fn.self.world.setup line l.fn.self.left run l.fn.listener l.listener (course l.self-inside.world l.self-inside.flicks l.self-inside.left) (IsAlone l.process l.floor);
+      ComesOn g.L.Listener.Hears l.fn.self.world.setup line l.fn.self.left run l.fn.listener l.listener (course l.self-inside.world l.self-inside.flicks l.self-inside.left) (IsAlone l.process l.floor);
   none : l.outcome ≡ Ok None;
   kept : KeepsCourse l.self-inside.processes l.self-inside.world;
   left : l.self-inside.left ≤ l.fn.self.left;

@@ -1,26 +1,26 @@
 use Rattle.std.proofs.Common.{None, Ok, ◌≡◌, ◌+◌, ◌<◌, ◌≤◌, ℕ, length, slice_index}
 use Rattle.scenario.specs.declared.lines.Line.TheVariants.{Wander as WanderLine}
 use Rattle.world.specs.flicks.{after_pick, pick_of}
-use Rattle.course.specs.{ComesOn, Follows, HearsFrom, IsCounted, KeepsCourse, Run, course}
-use Rattle.course.proofs.Wanders.{ArePicked, KnowsWhile, drawn_to}
+use Rattle.course.specs.{ComesOn, Follows, IsCounted, KeepsCourse, Run, course}
+use Rattle.course.proofs.Wanders.{ArePicked, drawn_to}
 use Rattle.course.proofs.turns.Course.run_random.Given as goal
 
--- so far each Step was made without a mark and was heard, the newest is known or others are left, and the same processes may be picked; what comes next is
--- drawn already; what is known of how far each process is within its number access is so
+-- so far each Step was made without a mark and was heard, and the same processes may be picked; what comes next is drawn already; what is known of how far
+-- each process is within its register access is so
 abbrev pub invariant-steps : goal.invariant-steps
 invariant-steps g l = record {
   on : (steps : ℕ) (run : Run) → Follows l.fn.self run →
-      ComesOn (HearsFrom g.L.Listener.Hears g.L.Listener.Knows (KnowsWhile g.L.Listener.Knows l.left)) l.fn.self.world.setup (WanderLine steps) l.fn.self.left run l.fn.listener l.listener (course l.self-inside.world (drawn_to l.fn.self l.left) l.left) (ArePicked l.among);
+      ComesOn g.L.Listener.Hears l.fn.self.world.setup (WanderLine steps) l.fn.self.left run l.fn.listener l.listener (course l.self-inside.world (drawn_to l.fn.self (l.floor + l.left)) (l.floor + l.left)) (ArePicked l.among);
   same : l.self-inside.flicks ≡ l.fn.self.flicks;
   none : l.outcome ≡ Ok None;
   kept : KeepsCourse l.self-inside.processes l.self-inside.world;
   more : 0 < l.left;
-  left : l.left ≤ l.fn.self.left;
-  process : l.next ≡ slice_index l.among (pick_of (length l.among) (drawn_to l.fn.self l.left));
+  left : l.floor + l.left ≤ l.fn.self.left;
+  process : l.next ≡ slice_index l.among (pick_of (length l.among) (drawn_to l.fn.self (l.floor + l.left)));
   below : l.next < 256;
-  ahead : l.ahead ≡ after_pick (drawn_to l.fn.self l.left);
+  ahead : l.ahead ≡ after_pick (drawn_to l.fn.self (l.floor + l.left));
   counted : IsCounted l.within l.self-inside.world.seats;
-  room : (more : ℕ) → g.L.Listener.HasRoom l.fn.listener (more + l.fn.self.left) → g.L.Listener.HasRoom l.listener (more + l.left);
+  room : (more : ℕ) → g.L.Listener.HasRoom l.fn.listener (more + l.fn.self.left) → g.L.Listener.HasRoom l.listener (more + (l.floor + l.left));
 }
 
 abbrev pub decreases-steps : goal.decreases-steps

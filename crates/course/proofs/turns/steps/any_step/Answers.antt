@@ -1,20 +1,20 @@
 use Rattle.std.proofs.Common.{length, refl}
-use Rattle.course.specs.{HearsLast, HearsStep, StopsBy}
+use Rattle.course.specs.{HearsStep, StopsBy}
 use Rattle.course.proofs.Played.{on_fault}
 use Rattle.course.proofs.StepsTold.{step_heard, step_told}
 use Rattle.course.proofs.turns.steps.any_step.Goals as goal
 
 pub returns-in_default-clause-ok : goal.returns-in_default-clause-ok
-returns-in_default-clause-ok g c = λ is_last.
+returns-in_default-clause-ok g c =
     let w = c.args.world.now in
     let s = c.step-stepped in
     (step_told w s.new.self c.args.process c.args.flick s.new.told s.result s.ensures.accepted s.ensures.shows s.ensures.setup (length c.history.result.now) c.history.result.now c.told_of.result (c.unmarked.ensures.none c.in_default.is) c.history.ensures refl s.ensures.refused s.ensures.unchanged s.ensures.overlapped c.told_of.ensures, refl)
 
 pub returns-clause-ok : goal.returns-clause-ok
-returns-clause-ok g c = λ is_last.
+returns-clause-ok g c =
     let s = c.step-stepped in
-    step_heard c.args.world.now s.new.self c.args.process c.args.flick s.new.told s.result s.ensures.accepted s.ensures.shows s.ensures.setup (HearsLast g.L.Listener.Hears g.L.Listener.Knows is_last) c.in-Some.made c.number_read.result c.args.listener.now c.step.new.self c.in-Some.ensures.some.0 c.in-Some.ensures.some.1 s.ensures.headline s.ensures.overlapped c.number_read.ensures
-    (λ x before on. (c.in_ok-step.ensures.ok x before on, λ last. c.in_ok-step.ensures.knows x before on))
+    step_heard c.args.world.now s.new.self c.args.process c.args.flick s.new.told s.result s.ensures.accepted s.ensures.shows s.ensures.setup g.L.Listener.Hears c.in-Some.made c.number_read.result c.args.listener.now c.step.new.self c.in-Some.ensures.some.0 c.in-Some.ensures.some.1 s.ensures.headline s.ensures.overlapped c.number_read.ensures
+    c.in_ok-step.ensures.ok
 
 pub returns-in_err-step-clause-cut : goal.returns-in_err-step-clause-cut
 returns-in_err-step-clause-cut g c =

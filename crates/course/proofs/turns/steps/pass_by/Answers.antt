@@ -1,24 +1,18 @@
-use Rattle.std.proofs.Common.{◌+◌, ◌-◌, ◌<◌, ◌∙◌, ℕ, List, arith, inr, refl, sym}
-use Rattle.plain_store.specs.{Setup}
-use Rattle.course.specs.{Happening, HearsFrom, IsAlone, KnowsOr, MaySteps, course}
+use Rattle.std.proofs.Common.{◌+◌, ◌-◌, ◌<◌, ◌∙◌, arith, refl, sym}
+use Rattle.course.specs.{IsAlone, course}
 use Rattle.course.proofs.Alone.{alone_pass, walks_setup}
-use Rattle.course.proofs.Knowing.{passed_steps}
 use Rattle.course.proofs.Runnings.{comes_start}
 use Rattle.course.proofs.turns.steps.pass_by.Goals as goal
-
--- who knew the newest event, or that no Step is refused, still does
-abbrev Alert : {L : Type 0} → (L → Setup → List Happening → List Happening → L → Type 0) → (L → Setup → List Happening → Type 0) → (p : ℕ) → L → Setup → List Happening → List Happening → L → Type 0
-Alert Hears Knows p = HearsFrom Hears (KnowsOr Knows (MaySteps p)) (KnowsOr Knows (MaySteps p))
 
 pub returns-then-hears_steps-clause-on : goal.returns-then-hears_steps-clause-on
 returns-then-hears_steps-clause-on g c = λ l run follows next.
     let here = course c.args.world.now c.args.flicks.now c.args.left.now in
-    comes_start (Alert g.L.Listener.Hears g.L.Listener.Knows c.args.process) l run here here c.args.listener.now (IsAlone c.args.process c.args.floor) (g.met.L.Listener.hears_nothing c.args.listener.now c.args.world.now.setup run.happened, λ known. known) refl follows next
+    comes_start g.L.Listener.Hears l run here here c.args.listener.now (IsAlone c.args.process c.args.floor) (g.met.L.Listener.hears_nothing c.args.listener.now c.args.world.now.setup run.happened) refl follows next
 
 pub returns-then-within-eq0-clause-on : goal.returns-then-within-eq0-clause-on
 returns-then-within-eq0-clause-on g c = λ l run follows next.
     let here = course c.args.world.now c.args.flicks.now c.args.left.now in
-    comes_start (Alert g.L.Listener.Hears g.L.Listener.Knows c.args.process) l run here here c.args.listener.now (IsAlone c.args.process c.args.floor) (g.met.L.Listener.hears_nothing c.args.listener.now c.args.world.now.setup run.happened, λ known. known) refl follows next
+    comes_start g.L.Listener.Hears l run here here c.args.listener.now (IsAlone c.args.process c.args.floor) (g.met.L.Listener.hears_nothing c.args.listener.now c.args.world.now.setup run.happened) refl follows next
 
 pub returns-clause-setup : goal.returns-clause-setup
 returns-clause-setup g c = walks_setup c.min-within.result c.run-made.result.newest c.run-made.result.overlapped c.args.world.now c.run-made.new.self c.args.flicks.now c.run-made.new.flicks c.args.process c.run-made.ensures.runs
@@ -27,9 +21,9 @@ pub returns-clause-on : goal.returns-clause-on
 returns-clause-on g c = λ l run follows next.
     let made = c.run-made in
     let some : 0 < c.min-within.result = omega (arith, c.if-within-eq0.false) in
-    alone_pass (Alert g.L.Listener.Hears g.L.Listener.Knows c.args.process) c.min-within.result c.args.world.now made.new.self c.args.flicks.now made.new.flicks made.result.newest made.result.overlapped l c.args.left.now c.args.process c.args.floor run c.args.listener.now c.pass.new.self
+    alone_pass g.L.Listener.Hears c.min-within.result c.args.world.now made.new.self c.args.flicks.now made.new.flicks made.result.newest made.result.overlapped l c.args.left.now c.args.process c.args.floor run c.args.listener.now c.pass.new.self
     (omega (arith, c.requires.floor, c.min-within.ensures)) some made.ensures.runs
-    (λ s before after by. (c.pass.ensures.ok (sym c.hears_steps.ensures ∙ c.if-hears_steps.false) s before after made.result.newest refl by, λ known. inr (passed_steps s c.args.process c.min-within.result before after some by.within))) follows next
+    (λ s before after by. c.pass.ensures.ok (sym c.hears_steps.ensures ∙ c.if-hears_steps.false) s before after made.result.newest refl by) follows next
 
 pub returns-clause-room : goal.returns-clause-room
 returns-clause-room g c = λ more room.

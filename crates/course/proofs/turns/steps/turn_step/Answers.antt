@@ -1,7 +1,7 @@
-use Rattle.std.proofs.Common.{◌∙◌, ap, refl, subst, sym, true≢false}
+use Rattle.std.proofs.Common.{◌∙◌, ap, refl, subst, sym}
 use Rattle.world.proofs.WorldWithin.{walks-one}
 use Rattle.world.specs.flicks.{flick_of}
-use Rattle.course.specs.{HearsLast, HearsStep, StopsBy}
+use Rattle.course.specs.{HearsStep, StopsBy}
 use Rattle.course.proofs.Within.{within_heard, within_passed}
 use Rattle.course.proofs.turns.steps.turn_step.Goals as goal
 
@@ -20,15 +20,15 @@ returns-in_default-clause-ok g c =
     let r = c.run-made in
     let w = c.args.world.now in
     let flick = c.flick-flick.ensures.flick ∙ ap flick_of c.twin.ensures in
-    let Hears = HearsLast g.L.Listener.Hears g.L.Listener.Knows c.args.is_last in
+    let Hears = g.L.Listener.Hears in
     let one = walks-one w r.new.self c.args.flicks.now r.new.flicks c.args.process c.flick-flick.result r.result.newest r.result.overlapped (sym flick) r.ensures.runs in
     rw c.requires.none (subst (λ b. HearsStep Hears w c.args.process b r.new.self c.args.listener.now c.step-heard.new.self) flick
-    (within_heard Hears w r.new.self c.args.process c.flick-flick.result r.result.newest _ c.args.listener.now c.step-heard.new.self one.0 (λ s before on. (c.in_default.ensures.ok s before on, λ last. c.in_default.ensures.knows s before on))))
+    (within_heard Hears w r.new.self c.args.process c.flick-flick.result r.result.newest _ c.args.listener.now c.step-heard.new.self one.0 c.in_default.ensures.ok))
 
 pub returns-then-not-hears_steps-clause-ok : goal.returns-then-not-hears_steps-clause-ok
 returns-then-not-hears_steps-clause-ok g c =
     let r = c.run-made in
     let w = c.args.world.now in
     let one = walks-one w r.new.self c.args.flicks.now r.new.flicks c.args.process (flick_of c.args.flicks.now) r.result.newest r.result.overlapped refl r.ensures.runs in
-    rw c.requires.none (within_passed (HearsLast g.L.Listener.Hears g.L.Listener.Knows c.args.is_last) w r.new.self c.args.process (flick_of c.args.flicks.now) r.result.newest _ c.args.listener.now c.pass.new.self one.0 r.result.overlapped one.1
-    (λ s before after newest how by. (c.pass.ensures.ok (sym c.hears_steps.ensures ∙ c.if-not-hears_steps.true) s before after newest how by, λ last. absurd (true≢false (sym last ∙ c.is_quiet.ensures.last c.if-not-is_quiet.false)))))
+    rw c.requires.none (within_passed g.L.Listener.Hears w r.new.self c.args.process (flick_of c.args.flicks.now) r.result.newest _ c.args.listener.now c.pass.new.self one.0 r.result.overlapped one.1
+    (c.pass.ensures.ok (sym c.hears_steps.ensures ∙ c.if-not-hears_steps.true)))

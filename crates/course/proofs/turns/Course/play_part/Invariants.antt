@@ -1,13 +1,14 @@
 use Rattle.std.proofs.Common.{◌+◌, ◌^◌, ◌≤◌, ℕ}
 use Rattle.course.specs.{Follows, Run, turns_in}
-use Rattle.course.proofs.Played.{PlayedOn}
-use Rattle.course.proofs.turns.Course.play.Given as goal
+use Rattle.course.proofs.Played.{Played}
+use Rattle.course.proofs.turns.Course.play_part.Given as goal
 
--- what has happened of the line was heard, and what is left of it follows
+-- what has happened of the line was heard and its events counted, and what is left of it follows
 abbrev pub invariant-turns : goal.invariant-turns
 invariant-turns g l = record {
-  played : (run : Run) → Follows l.fn.self run → PlayedOn g.L.Listener.Hears g.L.Listener.Knows l.fn.self.world.setup l.line run l.fn.listener l.self l.listener;
+  played : (run : Run) → Follows l.fn.self run → Played g.L.Listener.Hears l.fn.self.world.setup l.line l.floor run l.fn.listener l.self l.made l.listener;
   left : l.self.left ≤ turns_in l.line;
+  count : l.made + l.self.left ≤ turns_in l.line;
   room : (more : ℕ) → g.L.Listener.HasRoom l.fn.listener (more + 2 ^ 32) → g.L.Listener.HasRoom l.listener (more + l.self.left);
 }
 

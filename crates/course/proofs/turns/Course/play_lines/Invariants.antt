@@ -1,0 +1,12 @@
+use Rattle.std.proofs.Common.{◌≤◌, ◌-◌, ◌*◌, ◌^◌, length}
+use Rattle.course.specs.{Follows, Run}
+use Rattle.course.proofs.Fronts.{PlayedTo}
+use Rattle.course.proofs.turns.Course.play_lines.Given as goal
+
+-- what has happened of the lines so far was heard and its events counted
+abbrev pub invariant-loop-index : goal.invariant-loop-index
+invariant-loop-index g l = record {
+  played : (run : Run) → Follows l.fn.self run → PlayedTo g.L.Listener.Hears l.fn.self.world.setup l.lines l.fn.until l.index run l.self l.fn.listener l.listener l.made l.newest;
+  few : l.made ≤ l.index * (2 ^ 32 - 1);
+  room : g.L.Listener.HasRoom l.listener ((length l.lines - l.index) * 2 ^ 32);
+}
