@@ -13,7 +13,7 @@ ghost use Rattle.calls.specs.Tables.{calls_text, tabled};
 use crate::hearing::{Tabler, write_if};
 use crate::printed::HEADER;
 use crate::table::CallTable;
-use course::Course;
+use course::{Course, Until};
 use plain_store::Setup;
 use scenario::progress::Onlooker;
 use scenario::{Fault, Scenario, Sink, Source, read_input, read_scenario, write_all};
@@ -61,7 +61,7 @@ fn table_scenario<W: Sink, L: Onlooker>(
         table: &mut table,
         output,
     };
-    course.play_all(&scenario.lines, &scenario.numbers, &mut tabler, onlooker)?;
+    course.play_all(scenario, Until::End, &mut tabler, onlooker)?;
     write_open(alloc, &scenario.setup, &table, output)
 }
 

@@ -1,5 +1,5 @@
 //! A listener that tables the calls of a run: the line of each call that ends is written before the next event.
-ghost use Rattle.std.specs.Prelude.{◌≡◌, ◌+◌, ◌-◌, ◌^◌, ◌<◌, ◌∷◌, [], IfErr, OnErr, OnOk, Some, length, refl, false, ⊤};
+ghost use Rattle.std.specs.Prelude.{◌≡◌, ◌+◌, ◌-◌, ◌^◌, ◌<◌, ◌∷◌, [], IfErr, OnErr, OnOk, Some, length, refl, false};
 ghost use Rattle.std.proofs.Common.{◌∙◌};
 ghost use Rattle.std.specs.Io.KnownBytes.{Appends};
 ghost use Rattle.record.specs.{Entry as Noted, Past};
@@ -40,8 +40,6 @@ impl<'a, W: Sink> Listener for Tabler<'a, W> {
     ghost HasRoom = { λ tabler more. (tabler.table.now.entries + more < 2 ^ 64) × (W.failures tabler.output.now < 2 ^ 64 - 1) };
 
     ghost Hears = { λ a s x y b. (b.output.ghost_name ≡ a.output.ghost_name) × (b.table.ghost_name ≡ a.table.ghost_name) × (HasTabled s x a.table.now → HasTabled s y b.table.now) × Took (HasTabled s x a.table.now) (lines_after s x) (lines_after s y) (W.taken a.output.now) (W.taken b.output.now) (W.failures a.output.now) (W.failures b.output.now) };
-
-    ghost Knows = { λ _ _ _. ⊤ };
 
     ghost Stops = { λ a s x y fault b. (b.output.ghost_name ≡ a.output.ghost_name) × TookPart (HasTabled s x a.table.now) (lines_after s x) (lines_after s y) (W.taken a.output.now) (W.taken b.output.now) (W.failures a.output.now) (W.failures b.output.now) fault };
 

@@ -1,12 +1,13 @@
 pub mod Ranges
-pub mod Images
+pub mod RegisterBytes
+pub mod CopyBits
+pub mod CopyTexts
 pub mod Keeps
 pub mod FirstAccesses
 pub mod OfCalls
 pub mod Stand
-pub mod Along
-pub mod Going
 pub mod Makers
+pub mod Played
 pub mod Seeing
-pub mod Standing
 pub mod WholeInputs
+pub mod Written

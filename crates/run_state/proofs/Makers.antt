@@ -1,29 +1,60 @@
 -- The line that made an event, as a script's lines are run one after another.
-use Rattle.std.proofs.Common.{◌≡◌, inl, inr, ℕ, ◌+◌, ◌-◌, ◌<◌, ◌≤◌, nat_le, Bool, true, false, List, [], ◌∷◌, ◌++◌, length, Option, None, Some, refl, ap, sym, subst, ◌∙◌, arith}
+use Rattle.std.proofs.Common.{◌≡◌, inl, inr, ℕ, suc, ◌+◌, ◌-◌, ◌<◌, ◌≤◌, nat_le, Bool, true, false, List, [], ◌∷◌, ◌++◌, drop, get_or, length, slice_index, Option, None, Some, refl, ap, sym, ◌∙◌, arith, append_assoc, get_or-append-add}
+use Rattle.std.specs.Prelude.{IfSome}
+use Rattle.std.proofs.Math.Seq.{drop-append_seam}
 use Rattle.std.proofs.lemmas.Bool.Decides.{nat_tests}
 use Rattle.std.proofs.lemmas.List.{length-append}
 use Rattle.plain_store.specs.{Setup}
-use Rattle.record.specs.{Past}
-use Rattle.calls.specs.scenario.{Line, Script}
-use Rattle.calls.specs.course.{Happening, Run, happenings, past_after, past_in, run_after, run_at_start, runs}
-use Rattle.calls.proofs.course_proofs.Grows.{Grows, line_grows}
-use Rattle.run_state.specs.{ComesAlong, EventsAreMade, IsMade, MakingLine, PartOfRun, WritesPart, events_in, first_of, made_line, makes_event, making_line, number_in, remembered_line, state_after, state_of, stated}
-use Rattle.run_state.proofs.Along.{events_are, past_longer}
+use Rattle.record.specs.{Entry, Past, entry_of}
+use Rattle.calls.specs.scenario.{Line}
+use Rattle.calls.specs.course.{Happening, IsFront, IsLineMade, Lacks, LineMade, Looks, MadeNewest, Run, Tires, Tries, events_in, past_after, past_in, run_after, run_at_start, runs}
+use Rattle.calls.proofs.course_proofs.Grows.{Grows, lines_grow}
+use Rattle.run_state.specs.{EventsAreMade, IsMade, first_of, made_line, makes_event, making_line, number_in}
 
--- a run only has more events
-grown : (s : Setup) (old new : Run) (more : List Happening) → new.happened ≡ more ++ old.happened → events_in s old ≤ events_in s new
-grown s old new more is =
-    let m = past_longer s old.happened more in
-    let all : past_in s new ≡ m.0 ++ past_in s old = ap (past_after s) is ∙ m.1 in
-    let long : length (past_in s new) ≡ length m.0 + length (past_in s old) = ap (λ (p : Past). length p) all ∙ length-append m.0 (past_in s old) in
-    omega (arith, long)
+-- The events of a run.
 
-more_events : (s : Setup) (l : Line) (run : Run) → events_in s run ≤ events_in s (run_after s l run)
-more_events s l run = let g : Grows run.happened (run_after s l run).happened = line_grows s l run in grown s run (run_after s l run) g.more g.is
+-- what happens only adds to the past
+one_longer : (s : Setup) (before : List Happening) (this : Happening) → (es : Past) × (past_after s (this ∷ before) ≡ es ++ past_after s before)
+one_longer s before (Tries event) = by (entry_of s (past_after s before) event)
+  where
+    by : (o : Option Entry) → (es : Past) × ((elim o as (λ _. Past) [ None ↦ past_after s before | Some e ↦ e ∷ past_after s before ]) ≡ es ++ past_after s before)
+    by None = ([], refl)
+    by (Some e) = (e ∷ [], refl)
+one_longer s before (Lacks p) = ([], refl)
+one_longer s before (Tires p) = ([], refl)
+one_longer s before Looks = ([], refl)
 
--- a line that is remembered
-abbrev pub remembered : Line → ℕ → ℕ → MakingLine
-remembered l number before = record { line = l; number = number; before = before }
+past_longer : (s : Setup) (before more : List Happening) → (es : Past) × (past_after s (more ++ before) ≡ es ++ past_after s before)
+past_longer s before [] = ([], refl)
+past_longer s before (this ∷ more) =
+    let u = past_longer s before more in
+    let v = one_longer s (more ++ before) this in
+    (v.0 ++ u.0, v.1 ∙ ap (λ l. v.0 ++ l) u.1 ∙ sym (append_assoc v.0 u.0 (past_after s before)))
+
+-- a run that goes on has the past of the run before it at the end of its own
+run_longer : (s : Setup) (now whole : Run) (more : List Happening) → whole.happened ≡ more ++ now.happened → (es : Past) × (past_in s whole ≡ es ++ past_in s now) × (events_in s whole ≡ length es + events_in s now)
+run_longer s now whole more is =
+    let m = past_longer s now.happened more in
+    let all : past_in s whole ≡ m.0 ++ past_in s now = ap (past_after s) is ∙ m.1 in
+    (m.0, all, ap (λ (p : Past). length p) all ∙ length-append m.0 (past_in s now))
+
+-- the front of a whole run has its first events
+pub front_is : (s : Setup) (n : ℕ) (now whole : Run) → IsFront s n run_at_start now whole → past_in s now ≡ first_of n (past_in s whole)
+front_is s n now whole u = elim u.ends [
+  | inr same ↦
+      let long : length (past_in s whole) ≡ length (past_in s now) = ap (events_in s) same in
+      let most = u.most in
+      let none : length (past_in s whole) - n ≡ 0 = omega (arith, long, most) in
+      sym (ap (λ k. drop k (past_in s whole)) none ∙ ap (past_in s) same)
+  | inl many ↦
+      let m = run_longer s now whole u.more u.is in
+      let long : length (past_in s whole) ≡ length m.0 + length (past_in s now) = m.2 in
+      let most = u.most in
+      let over : length (past_in s whole) - n ≡ length m.0 = omega (arith, long, many, most) in
+      sym (ap (λ k. drop k (past_in s whole)) over ∙ ap (drop (length m.0)) m.1 ∙ drop-append_seam m.0 (past_in s now))
+]
+
+-- The line that makes an event.
 
 -- a line makes an event or not
 at_test : (numbers : List ℕ) (s : Setup) (e : ℕ) (run : Run) (l : Line) (after : List Line) (b : Bool) → makes_event s e l run ≡ b →
@@ -41,33 +72,15 @@ pub none_made : (numbers : List ℕ) (s : Setup) (run : Run) (lines : List Line)
 none_made numbers s run [] = refl
 none_made numbers s run (l ∷ lines) = let none : makes_event s 0 l run ≡ false = grind (arith, nat_tests) in at_test numbers s 0 run l lines false none ∙ none_made numbers s (run_after s l run) lines
 
--- the line that made the newest event is remembered, and that of a later event is one of the rest
-pub record Remembers (numbers : List ℕ) (s : Setup) (all rest : List Line) (whole : Run) (events : ℕ) (newest : Option MakingLine) : Type 0 where
-  pub made : making_line numbers s events run_at_start all ≡ remembered_line events newest
-  pub later : (e : ℕ) → events_in s whole < e → making_line numbers s e run_at_start all ≡ making_line numbers s e whole rest
-
-pub remembers_none : (numbers : List ℕ) (s : Setup) (all : List Line) → Remembers numbers s all all run_at_start 0 None
-remembers_none numbers s all = record { made = none_made numbers s run_at_start all; later = λ e fewer. refl }
-
-later_on : (numbers : List ℕ) (s : Setup) (all : List Line) (l : Line) (rest : List Line) (whole : Run) (events : ℕ) (newest : Option MakingLine) → Remembers numbers s all (l ∷ rest) whole events newest →
-    (e : ℕ) → events_in s (run_after s l whole) < e → making_line numbers s e run_at_start all ≡ making_line numbers s e (run_after s l whole) rest
-later_on numbers s all l rest whole events newest was e fewer =
-    let grows : events_in s whole ≤ events_in s (run_after s l whole) = more_events s l whole in
-    was.later e (omega (arith, grows, fewer)) ∙ at_test numbers s e whole l rest false (not_yet s e whole l fewer)
-
--- with a line that makes no event
-pub remembers_on : (numbers : List ℕ) (s : Setup) (all : List Line) (l : Line) (rest : List Line) (whole : Run) (events : ℕ) (newest : Option MakingLine) → Remembers numbers s all (l ∷ rest) whole events newest →
-    Remembers numbers s all rest (run_after s l whole) events newest
-remembers_on numbers s all l rest whole events newest was = record { made = was.made; later = later_on numbers s all l rest whole events newest was }
-
--- with one that makes the newest
-pub remembers_new : (numbers : List ℕ) (s : Setup) (all : List Line) (l : Line) (rest : List Line) (whole : Run) (events : ℕ) (newest : Option MakingLine) → Remembers numbers s all (l ∷ rest) whole events newest →
-    (now : ℕ) (new : MakingLine) → events_in s whole < now → now ≤ events_in s (run_after s l whole) → new ≡ remembered l (number_in numbers (length rest)) (events_in s whole) →
-    Remembers numbers s all rest (run_after s l whole) now (Some new)
-remembers_new numbers s all l rest whole events newest was now new fewer enough is = record {
-  made = was.later now fewer ∙ at_test numbers s now whole l rest true (makes s now whole l fewer enough) ∙ ap (λ (m : MakingLine). remembered_line now (Some m)) (sym is);
-  later = later_on numbers s all l rest whole events newest was;
-}
+-- the lines before it make fewer events
+made_at : (numbers : List ℕ) (s : Setup) (e : ℕ) (run : Run) (before : List Line) (l : Line) (after : List Line) → events_in s (runs s before run) < e → e ≤ events_in s (run_after s l (runs s before run)) →
+    making_line numbers s e run (before ++ l ∷ after) ≡ made_line (number_in numbers (length after)) (e - events_in s (runs s before run)) l
+made_at numbers s e run [] l after fewer enough = at_test numbers s e run l after true (makes s e run l fewer enough)
+made_at numbers s e run (first ∷ before) l after fewer enough =
+    let next : Run = run_after s first run in
+    let grows : Grows next.happened (runs s before next).happened = lines_grow s before next in
+    let longer : events_in s (runs s before next) ≡ length (run_longer s next (runs s before next) grows.more grows.is).0 + events_in s next = (run_longer s next (runs s before next) grows.more grows.is).2 in
+    at_test numbers s e run first (before ++ l ∷ after) false (not_yet s e run first (omega (arith, longer, fewer))) ∙ made_at numbers s e next before l after fewer enough
 
 -- an event that one of the later lines makes
 made_later : (numbers : List ℕ) (s : Setup) (e : ℕ) (run : Run) (l : Line) (lines : List Line) → events_in s (run_after s l run) < e → IsMade numbers s e (run_after s l run) lines → IsMade numbers s e run (l ∷ lines)
@@ -97,53 +110,31 @@ event_made numbers s e run (l ∷ lines) fewer enough = by (nat_le e (events_in 
 pub events_made : EventsAreMade
 events_made numbers said e some few = event_made numbers said.setup e run_at_start said.lines some few
 
--- Along a part of a run.
+-- The line that made the newest event.
 
--- it has no more events than the lines so far make
-few_in : (s : Setup) (whole : Run) (part : PartOfRun) → ComesAlong s whole part → part.heard.snapshot.entries ≤ events_in s whole
-few_in s whole part u =
-    let events = events_are s part u.now u.at in
-    let few : events_in s u.now ≤ events_in s whole = grown s u.now whole u.more u.is in
-    omega (arith, events, few)
+module _ (lines : List Line) (s : Setup) (run : Run) (made : LineMade) (u : IsLineMade s lines run_at_start run made) where
+  long : length lines ≡ made.line + suc (length u.after)
+  long = let all : length lines ≡ length u.before + suc (length u.after) = ap (λ (ls : List Line). length ls) u.is ∙ length-append u.before (u.line ∷ u.after) in let index = u.index in omega (arith, all, index)
 
--- a line that adds no event to it
-pub along_same : (numbers : List ℕ) (s : Setup) (all : List Line) (l : Line) (rest : List Line) (whole : Run) (part part' : PartOfRun) (newest : Option MakingLine) → ComesAlong s whole part → ComesAlong s (run_after s l whole) part' → part'.most ≡ part.most →
-    part'.heard.snapshot.entries ≤ part.heard.snapshot.entries → Remembers numbers s all (l ∷ rest) whole part.heard.snapshot.entries newest → Remembers numbers s all rest (run_after s l whole) part'.heard.snapshot.entries newest
-along_same numbers s all l rest whole part part' newest u v most none was =
-    let events = events_are s part u.now u.at in
-    let events' = events_are s part' v.now v.at in
-    let few = few_in s whole part u in
-    let grows = more_events s l whole in
-    let same : part'.heard.snapshot.entries ≡ part.heard.snapshot.entries = elim v.ends [
-      | inl many ↦ omega (arith, many, most, u.few, events, events', none)
-      | inr is ↦ let long : events_in s (run_after s l whole) ≡ events_in s v.now = ap (events_in s) is in omega (arith, long, few, grows, events', none)
-    ] in
-    subst (λ n. Remembers numbers s all rest (run_after s l whole) n newest) (sym same) (remembers_on numbers s all l rest whole part.heard.snapshot.entries newest was)
+  pub line_within : made.line < length lines
+  line_within = let all = long in omega (arith, all)
 
--- and one that does
-pub along_new : (numbers : List ℕ) (s : Setup) (all : List Line) (l : Line) (rest : List Line) (whole : Run) (part part' : PartOfRun) (newest : Option MakingLine) → ComesAlong s whole part → ComesAlong s (run_after s l whole) part' → part'.most ≡ part.most →
-    part.heard.snapshot.entries < part'.heard.snapshot.entries → Remembers numbers s all (l ∷ rest) whole part.heard.snapshot.entries newest → (new : MakingLine) → new ≡ remembered l (number_in numbers (length rest)) part.heard.snapshot.entries →
-    Remembers numbers s all rest (run_after s l whole) part'.heard.snapshot.entries (Some new)
-along_new numbers s all l rest whole part part' newest u v most some was new is =
-    let events = events_are s part u.now u.at in
-    let events' = events_are s part' v.now v.at in
-    let few' = few_in s (run_after s l whole) part' v in
-    let had : part.heard.snapshot.entries ≡ events_in s whole = elim u.ends [
-      | inl many ↦ absurd (omega (arith, many, most, v.few, events, events', some))
-      | inr same ↦ let long : events_in s whole ≡ events_in s u.now = ap (events_in s) same in omega (arith, long, events)
-    ] in
-    remembers_new numbers s all l rest whole part.heard.snapshot.entries newest was part'.heard.snapshot.entries new (omega (arith, had, some)) few' (is ∙ ap (remembered l (number_in numbers (length rest))) had)
+  pub line_there : (d : Line) → get_or lines made.line d ≡ u.line
+  line_there d =
+      let index = u.index in
+      let at : made.line ≡ length u.before + 0 = omega (arith, index) in
+      (λ i. get_or (u.is i) (at i) d) ∙ get_or-append-add u.before (u.line ∷ u.after) 0 d
 
--- the line that is remembered is the one that made the newest event
-pub line_known : (numbers : List ℕ) (s : Setup) (all rest : List Line) (whole : Run) (part : PartOfRun) (newest : Option MakingLine) (u : ComesAlong s whole part) → Remembers numbers s all rest whole part.heard.snapshot.entries newest →
-    remembered_line (events_in s u.now) newest ≡ making_line numbers s (events_in s u.now) run_at_start all
-line_known numbers s all rest whole part newest u was =
-    subst (λ n. remembered_line n newest ≡ making_line numbers s n run_at_start all) (events_are s part u.now u.at) (sym was.made)
+  -- it is the one that is written
+  pub newest_written : (numbers : List ℕ) → length numbers ≡ length lines → making_line numbers s (events_in s run) run_at_start lines ≡ made_line (slice_index numbers made.line) (events_in s run - made.before) u.line
+  newest_written numbers numbered =
+      let all = long in
+      let place : length numbers - suc (length u.after) ≡ made.line = omega (arith, all, numbered) in
+      let had : events_in s (runs s u.before run_at_start) ≡ made.before = let events = u.events in omega (arith, events) in
+      ap (making_line numbers s (events_in s run) run_at_start) u.is ∙ made_at numbers s (events_in s run) run_at_start u.before u.line u.after u.fewer u.enough
+      ∙ (λ i. made_line (slice_index numbers (place i)) (events_in s run - had i) u.line)
 
--- so the text of a part that has the first n events of a script's run is the state after these
-pub text_is : (numbers : List ℕ) (said : Script) (whole : Run) (rest : List Line) (part : PartOfRun) (newest : Option MakingLine) (text : List ℕ) (n : ℕ) (u : ComesAlong said.setup whole part) →
-    Remembers numbers said.setup said.lines rest whole part.heard.snapshot.entries newest → past_in said.setup u.now ≡ first_of n (past_after said.setup (happenings said)) → WritesPart part newest text → text ≡ stated n numbers said
-text_is numbers said whole rest part newest text n u was past writes =
-    writes said.setup u.now u.at
-    ∙ ap (λ (made : List ℕ). state_after made said.setup (past_in said.setup u.now)) (line_known numbers said.setup said.lines rest whole part newest u was)
-    ∙ ap (state_of numbers said) past
+-- the line that made the newest event is there
+pub lines_within : (lines : List Line) (s : Setup) (run : Run) (newest : Option LineMade) → MadeNewest s lines run_at_start run newest → IfSome newest (λ made. made.line < length lines)
+lines_within lines s run None u = tt
+lines_within lines s run (Some made) u = line_within lines s run made u

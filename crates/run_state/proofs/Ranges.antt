@@ -1,9 +1,9 @@
 -- One more of a range.
-use Rattle.std.proofs.Common.{◌≡◌, ℕ, suc, ◌+◌, ◌<◌, Bool, false, true, ◌&&◌, ◌||◌, List, [], ◌∷◌, ◌++◌, flat_map, get_or, length, map, take, ap, refl, sym, ◌∙◌, arith, append-nil, append_assoc}
+use Rattle.std.proofs.Common.{◌≡◌, ℕ, suc, ◌+◌, ◌<◌, Bool, false, true, ◌||◌, List, [], ◌∷◌, ◌++◌, flat_map, get_or, length, map, take, ap, refl, sym, ◌∙◌, arith, append-nil, append_assoc}
 use Rattle.std.proofs.Math.Seq.{take-suc}
 use Rattle.std.proofs.lemmas.Grind.{flat_map-append}
 use Rattle.std.proofs.lemmas.List.FromFn.{map-range_with_len_more}
-use Rattle.std.specs.List.{list_all, list_any, range_with_len}
+use Rattle.std.specs.List.{list_any, range_with_len}
 use Rattle.calls.proofs.Ranges.{lines_more, range_more}
 
 any_behind : {A : Type 0} (f : A → Bool) (xs : List A) (x : A) → list_any f (xs ++ x ∷ []) ≡ list_any f xs || f x
@@ -18,25 +18,9 @@ any_behind f (y ∷ ys) x = by (f y) (any_behind f ys x)
     by true rest = refl
     by false rest = rest
 
-all_behind : {A : Type 0} (f : A → Bool) (xs : List A) (x : A) → list_all f (xs ++ x ∷ []) ≡ list_all f xs && f x
-all_behind f [] x = by (f x)
-  where
-    by : (b : Bool) → b && true ≡ true && b
-    by true = refl
-    by false = refl
-all_behind f (y ∷ ys) x = by (f y) (all_behind f ys x)
-  where
-    by : (b : Bool) → list_all f (ys ++ x ∷ []) ≡ list_all f ys && f x → b && list_all f (ys ++ x ∷ []) ≡ (b && list_all f ys) && f x
-    by true rest = rest
-    by false rest = refl
-
 -- whether one of them passes a test
 pub any_next : (f : ℕ → Bool) (k : ℕ) → list_any f (range_with_len 0 (k + 1)) ≡ list_any f (range_with_len 0 k) || f k
 any_next f k = ap (list_any f) (range_more k) ∙ any_behind f (range_with_len 0 k) k
-
--- whether all do
-pub all_next : (f : ℕ → Bool) (k : ℕ) → list_all f (range_with_len 0 (k + 1)) ≡ list_all f (range_with_len 0 k) && f k
-all_next f k = ap (list_all f) (range_more k) ∙ all_behind f (range_with_len 0 k) k
 
 -- what is made of each
 pub map_next : {A : Type 0} (f : ℕ → A) (k : ℕ) → map f (range_with_len 0 (k + 1)) ≡ map f (range_with_len 0 k) ++ f k ∷ []

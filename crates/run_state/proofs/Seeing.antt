@@ -1,5 +1,5 @@
--- What is told of a run is heard.
-use Rattle.std.proofs.Common.{◌≡◌, ◌+◌, ◌<◌, Bool, true, false, List, [], ◌∷◌, ℕ, zero, suc, Option, None, Some, refl, ap, sym, subst, ◌∙◌}
+-- What a run reports is observed.
+use Rattle.std.proofs.Common.{◌≡◌, ◌+◌, ◌<◌, Bool, true, false, List, [], ◌∷◌, ℕ, zero, suc, Option, None, Some, refl, ap, sym, subst, ◌∙◌, arith}
 use Rattle.plain_store.specs.{Setup}
 use Rattle.record.specs.{Access, Entry, Past, Taken, entry_of, width}
 use Rattle.record.specs.declared.events.Event.TheVariants.{Step}
@@ -8,20 +8,17 @@ use Rattle.calls.proofs.course_proofs.laws.Steps.{step_is}
 use Rattle.calls.specs.course.world.laws.{doing}
 use Rattle.calls.specs.course.world.process.{number_read}
 use Rattle.calls.specs.{ends_number}
-use Rattle.run_state.specs.{HasSeen, HeardRun, HearsTold, Knows, KnowsNewest, KnowsTold, Passes, TellsNumber, newest, newest_line}
+use Rattle.run_state.specs.{HasSeen, HearsTold, IsNewestWithin, Passes, StateObserver, TellsNumber, newest, newest_line, unmarked_entry}
 use Rattle.run_state.proofs.FirstAccesses.{has-first}
 use Rattle.calls.proofs.world_proofs.WorldShows.{past-after}
 use Rattle.calls.proofs.UnmarkedSteps.{inside_never, not_so}
-use Rattle.calls.specs.course.{Happening, Happens, LearnsTold, PassWithin, Stepped, StepsOn, StepsWithin, Told, Tries, past_after, told_unmarked, tried}
+use Rattle.calls.specs.course.{Happening, Happens, PassWithin, Stepped, StepsOn, StepsWithin, Told, Tries, past_after, told_unmarked, tried}
 use Rattle.calls.proofs.Tabling.{in_turn, past_told}
 
 -- what a turn tells
-pub told_seen : (s : Setup) (before : List Happening) (this : Happening) (answer : Told) (taken : List Taken) (old new : HeardRun) → Happens s before this answer taken → HearsTold answer old new → HasSeen s (past_after s before) old → HasSeen s (past_after s (this ∷ before)) new
+pub told_seen : (s : Setup) (before : List Happening) (this : Happening) (answer : Told) (taken : List Taken) (old new : StateObserver) → Happens s before this answer taken → HearsTold answer old new → HasSeen s (past_after s before) old → HasSeen s (past_after s (this ∷ before)) new
 told_seen s before this answer taken old new h heard seen =
     subst (λ past. HasSeen s past new) (sym (past_told s before this answer h.tells)) (heard s (past_after s before) (in_turn s before this answer h.tells h.marked) h.marked seen)
-
-pub told_known : (s : Setup) (before : List Happening) (this : Happening) (answer : Told) (taken : List Taken) (old new : HeardRun) → Happens s before this answer taken → KnowsTold answer old new → LearnsTold Knows answer old s before (this ∷ before) new
-told_known s before this answer taken old new h knows known = subst (λ past. KnowsNewest past new) (sym (past_told s before this answer h.tells)) (knows (past_after s before) known)
 
 -- A Step without a mark.
 
@@ -53,6 +50,16 @@ pass_one s p n flick before after w more = by w.quiet.0 w.quiet.1
 pub passes_of : (s : Setup) (p n : ℕ) (before after : List Happening) → PassWithin s p n before after → Passes s p n (past_after s before) (past_after s after)
 passes_of s p zero before after same = ap (past_after s) same
 passes_of s p (suc n) before after (flick, w, more) = pass_one s p n flick before after w (passes_of s p n (Tries (Step p flick) ∷ before) after more)
+
+-- the newest of them is one of p
+pub newest_within : (s : Setup) (p n : ℕ) (before after : List Happening) → 0 < n → PassWithin s p n before after → IsNewestWithin s p (past_after s after)
+newest_within s p zero before after some all = absurd (omega (arith, some))
+newest_within s p (suc zero) before after some (flick, w, same) = by w.quiet.0 w.quiet.1
+  where
+    by : (o : Option Access) → entry_of s (past_after s before) (Step p flick) ≡ Some (unmarked_entry p o) → IsNewestWithin s p (past_after s after)
+    by None adds = absurd (let is = (step_is s (is_good s w.good) (tried before) p flick (unmarked_entry p None) adds).access in cc)
+    by (Some a) adds = record { access = a; before = past_after s before; is = ap (past_after s) same ∙ past-after s (tried before) (Step p flick) (unmarked_entry p (Some a)) adds; within = w.within }
+newest_within s p (suc (suc n)) before after some (flick, w, more) = newest_within s p (suc n) (Tries (Step p flick) ∷ before) after (omega arith) more
 
 -- the newest entry, and its line
 pub newest_none : (past : Past) → newest past ≡ None → newest_line past ≡ []

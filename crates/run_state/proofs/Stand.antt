@@ -1,11 +1,16 @@
 -- What a world shows that a snapshot has heard.
-use Rattle.std.proofs.Common.{◌≡◌, ◌<◌, ℕ, nat_lt, Bool, true, cond, List, None, Some, ap, sym, ◌∙◌, arith}
+use Rattle.std.proofs.Common.{◌≡◌, ◌<◌, ℕ, nat_lt, Bool, true, false, cond, List, Option, None, Some, refl, ap, sym, subst, ◌∙◌, arith}
 use Rattle.std.proofs.lemmas.Bool.Decides.{nat_tests}
 use Rattle.std.specs.Prelude.{OnOk, Result, Ok, Err}
 use Rattle.plain_store.specs.{Setup}
-use Rattle.record.specs.{Event, Past, Taken, entry_of, history, past_of, stage}
-use Rattle.calls.specs.world.{CoreState, WorldState, stage_in}
-use Rattle.run_state.specs.{CoreShows, SnapshotState, Stands}
+use Rattle.record.specs.{Access, Entry, Event, Past, Taken, entry_of, history, past_of, stage}
+use Rattle.record.specs.declared.events.Event.TheVariants.{Step}
+use Rattle.record.proofs.Width.{is_good}
+use Rattle.calls.specs.world.laws.{IsThere}
+use Rattle.calls.proofs.world_proofs.laws_proofs.HeldThere.{access_there}
+use Rattle.calls.specs.world.process.{ProcessState, process_after}
+use Rattle.calls.specs.world.{CoreState, InEachCorePast, WorldState, stage_in}
+use Rattle.run_state.specs.{AreGiven, AreOf, ComesNext, CoreShows, ProcessLines, SnapshotState, Stands, access_in}
 
 -- the past, by the snapshot's setup
 pub past_is : (t : SnapshotState) (c : CoreState) (taken : List Taken) (past : Past) → (u : Stands t c taken past) → past_of t.setup u.events ≡ past
@@ -23,10 +28,6 @@ stage_is t c taken past p there u =
     ap (λ (s : Setup). stage_in s (past_of c.setup u.events) p) u.setup ∙ ap (λ (q : Past). stage_in t.setup q p) (sym u.is_past)
     ∙ ap (λ (b : Bool). cond b (Some (stage p past)) None) within
 
--- the entry that an event adds
-pub added_is : (t : SnapshotState) (c : CoreState) (taken : List Taken) (past : Past) (event : Event) (u : Stands t c taken past) → entry_of c.setup (past_of c.setup u.events) event ≡ entry_of t.setup past event
-added_is t c taken past event u = ap (λ (s : Setup). entry_of s (past_of c.setup u.events) event) u.setup ∙ ap (λ (q : Past). entry_of t.setup q event) (sym u.is_past)
-
 -- the core shows the past
 pub core_shows : (t : SnapshotState) (c : CoreState) (taken : List Taken) (past : Past) → Stands t c taken past → CoreShows c past
 core_shows t c taken past u = record { taken = taken; events = u.events; shows = u.shows; is = sym u.is_past }
@@ -35,3 +36,30 @@ core_shows t c taken past u = record { taken = taken; events = u.events; shows =
 pub ok_then : {A E : Type 0} (r : Result A E) {P Q : Type 0} → (P → Q) → OnOk r P → OnOk r Q
 ok_then (Ok a) then p = then p
 ok_then (Err e) then p = tt
+
+-- What the lines of a process are of.
+
+pub core_of : (l : ProcessLines) (past : Past) → AreOf l past → CoreShows l.core.now past
+core_of l past u = record { taken = l.history.now; events = u.events; shows = u.shows; is = u.is }
+
+pub history_is : (l : ProcessLines) (past : Past) → AreGiven l → AreOf l past → l.history.now ≡ history l.setup.now past
+history_is l past g u = ap (λ (w : WorldState). w.history) u.shows.shown ∙ (λ i. history (g.core i) (u.is i))
+
+-- the past is that of these events
+pub events_of : (l : ProcessLines) (past : Past) → AreGiven l → (u : AreOf l past) → past_of l.setup.now u.events ≡ past
+events_of l past g u = ap (λ (s : Setup). past_of s u.events) (sym g.core) ∙ u.is
+
+-- the next access is of a register that there is
+pub next_there : (l : ProcessLines) (past : Past) (a : Access) → AreGiven l → AreOf l past → ComesNext l.setup.now past l.process a → IsThere l.setup.now a
+next_there l past a g u next = go (entry_of s (past_of s u.events) (Step l.process false)) refl (subst (λ q. ComesNext s q l.process a) (sym (events_of l past g u)) next)
+  where
+    s : Setup
+    s = l.setup.now
+
+    go : (o : Option Entry) → entry_of s (past_of s u.events) (Step l.process false) ≡ o → access_in o ≡ Some a → IsThere s a
+    go None is some = absurd (cc)
+    go (Some e) is some = access_there s (is_good s g.good) u.events (Step l.process false) e is a some
+
+-- what the core knows of the process
+pub place_is : (l : ProcessLines) (past : Past) (q : ProcessState) → AreGiven l → AreOf l past → InEachCorePast l.core.now (λ s past. q ≡ process_after s past l.process) → q ≡ process_after l.setup.now past l.process
+place_is l past q g u is = is l.history.now u.events u.shows ∙ (λ i. process_after (g.core i) (u.is i) l.process)

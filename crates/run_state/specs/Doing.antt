@@ -1,18 +1,18 @@
 -- How far a process is: its ticket, for whom it waits, what it or its unit reads, writes or settles, and what is open.
-use Rattle.std.specs.Prelude.{ℕ, zero, suc, ◌+◌, ◌-◌, ◌*◌, ◌/◌, ◌%◌, ◌==◌, nat_lt, Bool, true, false, not, ◌&&◌, ◌||◌, List, [], ◌++◌, codes, cond, Option, None, Some}
+use Rattle.std.specs.Prelude.{◌≡◌, ℕ, ◌+◌, ◌-◌, ◌*◌, ◌/◌, ◌%◌, ◌==◌, nat_lt, Bool, true, false, not, ◌&&◌, ◌||◌, List, [], ◌++◌, codes, cond, if◌then◌else◌, Option, None, Some}
 use Rattle.std.specs.Fmt.{decimal}
 use Rattle.plain_store.specs.{Setup}
 use Rattle.record.specs.safe_bit.{Move}
 use Rattle.record.specs.safe_bit.declared.Move.TheVariants.{BeginWrite, EndWrite, EndRead}
-use Rattle.record.specs.{Access, Entry, Field, Past, Stage, entry_of, field_word, width, with_event}
+use Rattle.record.specs.{Access, Entry, Field, Past, Stage, entry_of, field_word, width}
 use Rattle.record.specs.declared.access.Field.TheVariants.{Ticket}
 use Rattle.record.specs.declared.events.Event.TheVariants.{Step}
 use Rattle.record.specs.declared.stages.Stage.TheVariants.{Doorway, Waiting, Inside, Settling}
 use Rattle.record_file.specs.scenario.{bit_word}
 use Rattle.calls.specs.{Called, holds_up, is_read_end, open_call}
 use Rattle.run_state.specs.declared.kept.FinishedRead.{FinishedRead}
-use Rattle.calls.specs.world.laws.{Doing, doing}
-use Rattle.calls.specs.world.process.{TicketKnown, number_read, settling_of, ticket_known}
+use Rattle.calls.specs.world.laws.{Doing, doing, steps_alone}
+use Rattle.calls.specs.world.process.{AccessProgress, TicketKnown, number_read, settling_of, ticket_known}
 use Rattle.calls.specs.world.process.declared.looks.Settling.{Settling as Torn}
 use Rattle.calls.specs.world.process.declared.looks.TicketKnown.TheVariants.{Above, Is}
 use Rattle.calls.specs.world.process.registers.reader_copies.{BitSeen}
@@ -71,51 +71,41 @@ ticket_lines p stage known read (Some c) = call_told p stage known read c
 
 -- What it reads, writes or settles.
 
--- the name of a register, of whose accesses so many are made, of so many
-abbrev pub progress_words : Access → ℕ → ℕ → List ℕ
-progress_words a made all = decimal a.owner ++ (codes "." ++ (field_word a.field ++ (codes " " ++ (decimal made ++ (codes " of " ++ decimal all)))))
+-- the name of a register, and how many of its accesses are made, of how many
+abbrev pub progress_words : ℕ → Field → AccessProgress → List ℕ
+progress_words owner field g = decimal owner ++ (codes "." ++ (field_word field ++ (codes " " ++ (decimal g.made ++ (codes " of " ++ decimal g.all)))))
 
 -- one more, where a test holds
 abbrev pub one_if : Bool → ℕ
-one_if b = cond b 1 0
+one_if b = if b then 1 else 0
 
 -- a write ends
 abbrev pub is_write_end : Move → Bool
 is_write_end EndWrite = true
 is_write_end _ = false
 
--- of the write of a number so many accesses come before this one, and there are so many: of each bit two on each copy
-abbrev pub writes_before : Setup → Access → ℕ
-writes_before s a = 2 * (a.bit * s.processes + a.reader) + one_if (is_write_end a.how)
-
-abbrev pub writes_in_all : Setup → Access → ℕ
-writes_in_all s a = 2 * (s.processes * width s a.field)
+-- of the write of a register the accesses before this one are made: of each bit two on each copy
+abbrev pub write_progress : Setup → Access → AccessProgress
+write_progress s a = record { made = 2 * (a.bit * s.processes + a.reader) + one_if (is_write_end a.how); all = 2 * (s.processes * width s a.field) }
 
 -- of its read: of each bit two
-abbrev pub reads_before : Access → ℕ
-reads_before a = 2 * a.bit + one_if (is_read_end a.how)
+abbrev pub read_progress : Setup → Access → AccessProgress
+read_progress s a = record { made = 2 * a.bit + one_if (is_read_end a.how); all = 2 * width s a.field }
 
-abbrev pub reads_in_all : Setup → Access → ℕ
-reads_in_all s a = 2 * width s a.field
-
--- the past once p has made so many Steps alone
-abbrev pub ahead : Setup → Past → ℕ → ℕ → Past
-ahead s past p zero = past
-ahead s past p (suc n) = with_event s (Step p false) (ahead s past p n)
-
--- what the register's first copy holds once its write is done
+-- what the register's first copy holds once p alone has made the accesses that are left of its write
 abbrev pub value_written : Setup → Past → ℕ → Access → List ℕ
-value_written s past p a = copy_text s (ahead s past p (writes_in_all s a - writes_before s a)) a.owner a.field 0
+value_written s past p a = copy_text s (steps_alone s p ((write_progress s a).all - (write_progress s a).made) past) a.owner a.field 0
 
-abbrev pub writes_words : Setup → Past → ℕ → Access → List ℕ
-writes_words s past p a = (codes "writes " ++ (progress_words a (writes_before s a) (writes_in_all s a) ++ codes " value ")) ++ value_written s past p a
+-- the words before that value
+abbrev pub writes_words : Access → AccessProgress → List ℕ
+writes_words a g = codes "writes " ++ (progress_words a.owner a.field g ++ codes " value ")
 
 -- the bits of a number that are read so far; an image's are not told
 abbrev pub so_far : Access → ℕ → List ℕ
 so_far a n = cond (is_image a.field || (a.bit == 0)) [] (codes " so far " ++ decimal n)
 
-abbrev pub reads_words : Setup → Access → ℕ → List ℕ
-reads_words s a n = codes "reads " ++ (progress_words a (reads_before a) (reads_in_all s a) ++ so_far a n)
+abbrev pub reads_words : Access → AccessProgress → ℕ → List ℕ
+reads_words a g n = codes "reads " ++ (progress_words a.owner a.field g ++ so_far a n)
 
 -- the value that a unit has chosen, if it has
 abbrev pub chosen_words : Option Bool → List ℕ
@@ -130,15 +120,15 @@ cut_access p t = record { owner = p; field = t.field; bit = t.bit; reader = t.cu
 abbrev pub is_cut_open : Torn → Bool
 is_cut_open t = t.cut % 2 == 1
 
--- of a settling so many accesses are made: two on each copy, but one on that whose write was open; and there are so many
-abbrev pub settled_before : Torn → ℕ
-settled_before t = 2 * t.copy + one_if t.begun - one_if (is_cut_open t && nat_lt (t.cut / 2) t.copy)
+-- of a settling: two on each copy, and one on that whose write was open
+abbrev pub settling_progress : Setup → Torn → AccessProgress
+settling_progress s t = record {
+  made = 2 * t.copy + one_if t.begun - one_if (is_cut_open t && nat_lt (t.cut / 2) t.copy);
+  all = 2 * s.processes - one_if (is_cut_open t);
+}
 
-abbrev pub settled_in_all : Setup → Torn → ℕ
-settled_in_all s t = 2 * s.processes - one_if (is_cut_open t)
-
-abbrev pub settles_words : Setup → ℕ → Torn → List ℕ
-settles_words s p t = codes "settles " ++ (progress_words (cut_access p t) (settled_before t) (settled_in_all s t) ++ chosen_words t.value)
+abbrev pub settles_words : ℕ → Torn → AccessProgress → List ℕ
+settles_words p t g = codes "settles " ++ (progress_words p t.field g ++ chosen_words t.value)
 
 abbrev pub torn_words : ℕ → Torn → List ℕ
 torn_words p t = codes "torn " ++ (decimal p ++ (codes "." ++ (field_word t.field ++ (codes "." ++ (decimal t.bit ++ (codes " write " ++ bit_word t.written))))))
@@ -150,11 +140,14 @@ is_writing _ = false
 
 -- what it is within, or begins with this access
 abbrev pub access_words : Setup → Past → ℕ → Access → ℕ → List ℕ
-access_words s past p a n = cond (is_writing a.how) (writes_words s past p a) (reads_words s a n)
+access_words s past p a n = cond (is_writing a.how) (writes_words a (write_progress s a) ++ value_written s past p a) (reads_words a (read_progress s a) n)
+
+abbrev pub settling_lines : ℕ → Torn → AccessProgress → List ℕ
+settling_lines p t g = process_line p (settles_words p t g) ++ process_line p (torn_words p t)
 
 abbrev pub busy_lines : Setup → Past → ℕ → Access → ℕ → Option Torn → List ℕ
 busy_lines s past p a n None = process_line p (access_words s past p a n)
-busy_lines s past p a n (Some t) = process_line p (settles_words s p t) ++ process_line p (torn_words p t)
+busy_lines s past p a n (Some t) = settling_lines p t (settling_progress s t)
 
 -- What is open.
 
@@ -202,6 +195,10 @@ doing_with s past p stage call k d a =
 abbrev pub access_in : Option Entry → Option Access
 access_in None = None
 access_in (Some e) = e.access
+
+-- p makes this access with its next step
+abbrev pub ComesNext : Setup → Past → ℕ → Access → Type 0
+ComesNext s past p a = access_in (entry_of s past (Step p false)) ≡ Some a
 
 abbrev pub doing_by : Setup → Past → ℕ → Stage → Option Access → List ℕ
 doing_by s past p stage None = []

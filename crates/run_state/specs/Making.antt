@@ -1,18 +1,13 @@
 -- The line of a scenario file that made an event, and how `state` writes it.
-use Rattle.std.specs.Prelude.{◌≡◌, ◌<◌, ◌≤◌, ℕ, suc, ◌+◌, ◌-◌, nat_le, nat_lt, Bool, true, false, ◌&&◌, List, [], ◌∷◌, ◌++◌, codes, length, slice_index, Option, None, Some}
+use Rattle.std.specs.Prelude.{◌≡◌, ◌<◌, ◌≤◌, ℕ, suc, ◌+◌, ◌-◌, nat_le, nat_lt, Bool, true, false, ◌&&◌, List, [], ◌∷◌, ◌++◌, codes, length, slice_index, Option}
 use Rattle.std.specs.Fmt.{decimal}
 use Rattle.plain_store.specs.{Setup}
 use Rattle.calls.specs.scenario.{Line, Script, line_words, spaced}
-use Rattle.calls.specs.course.{Run, happenings, past_after, past_in, run_after, run_at_start, runs}
-use Rattle.run_state.specs.declared.stating.MakingLine.{MakingLine}
+use Rattle.calls.specs.course.{LineMade, MadeNewest, Run, events_in, happenings, past_after, run_after, run_at_start, runs}
 
 -- Of the numbers of some lines, that of the line with so many lines after it.
 abbrev pub number_in : List ℕ → ℕ → ℕ
 number_in numbers after = slice_index numbers (length numbers - suc after)
-
--- how many events a run has
-abbrev pub events_in : Setup → Run → ℕ
-events_in s run = length (past_in s run)
 
 -- whether a line makes event number e: before the line a run has fewer events, and after it that many or more
 abbrev pub makes_event : Setup → ℕ → Line → Run → Bool
@@ -31,10 +26,10 @@ making_line numbers s e run (line ∷ after) = elim (makes_event s e line run) [
   | false ↦ making_line numbers s e (run_after s line run) after
 ]
 
--- the line of the state for a line that is remembered, at so many events
-abbrev pub remembered_line : ℕ → Option MakingLine → List ℕ
-remembered_line events None = []
-remembered_line events (Some newest) = made_line newest.number (events - newest.before) newest.line
+-- The line of the state for the line that made the newest of so many events is added to a text.
+abbrev pub WritesMade : List ℕ → List Line → Option LineMade → ℕ → List ℕ → List ℕ → Type 0
+WritesMade numbers lines newest events old new = (s : Setup) (run : Run) →
+    MadeNewest s lines run_at_start run newest → events ≡ events_in s run → new ≡ old ++ making_line numbers s events run_at_start lines
 
 -- What holds of it.
 

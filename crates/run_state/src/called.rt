@@ -37,7 +37,7 @@ pub(crate) fn push_line(
     text.extend_from_slice(b"\n")
 }
 
-/// The same with words that are dropped here, so that its caller has none to drop.
+/// Writes a line of a process, and drops its words here, so that the caller has none to drop.
 pub(crate) fn push_words(
     alloc: Global,
     process: u8,
@@ -128,7 +128,7 @@ fn push_call(
     push_line_if(alloc, process, withdrew, text)
 }
 
-/// Which call it is, its command, and the event with which it began.
+/// Returns which call it is, its command, and the event with which it began.
 fn call_words(alloc: Global, called: &Called) -> Result<String, AllocError>
     ensures { IfOk result (λ words. string_bytes words ≡ call_words called.now) }
 {
@@ -139,7 +139,7 @@ fn call_words(alloc: Global, called: &Called) -> Result<String, AllocError>
     format!(in alloc; "call {call} {command} at {at}")
 }
 
-/// Writes from which event something goes on, and up to which, if it has begun.
+/// Writes from which event to which one `what` lasts, if it has begun.
 fn push_span(
     alloc: Global,
     process: u8,
@@ -158,7 +158,7 @@ fn push_span(
     push_words(alloc, process, words, text)
 }
 
-/// The words of what has begun.
+/// Returns the words of a span that has begun.
 fn since_words(alloc: Global, what: &str, from: u64, to: Option<u64>) -> Result<String, AllocError>
     ensures { IfOk result (λ words. Some (string_bytes words)
         ≡ span_words what.now (Some from) to) }
@@ -169,7 +169,7 @@ fn since_words(alloc: Global, what: &str, from: u64, to: Option<u64>) -> Result<
     }
 }
 
-/// With which event it was withdrawn, if it was.
+/// Returns with which event a call was withdrawn, if it was.
 fn withdrew_words(alloc: Global, at: Option<u64>) -> Result<Option<String>, AllocError>
     ensures { IfOk result (λ words. option_map string_bytes words
         ≡ at_words (codes "withdrew") at) }
@@ -180,7 +180,7 @@ fn withdrew_words(alloc: Global, at: Option<u64>) -> Result<Option<String>, Allo
     }
 }
 
-/// The place at which a command is taken, the reply there, and the event, if it is taken.
+/// Returns the position of a command in the history, its reply and the event with which it took effect, if it did.
 fn taken_words(
     alloc: Global,
     history: &[Taken],
@@ -202,7 +202,7 @@ fn taken_words(
     }
 }
 
-/// The same of this reply.
+/// Returns the words of a command that took effect.
 fn taking_words(alloc: Global, place: u64, reply: Reply, at: u64) -> Result<String, AllocError>
     ensures { IfOk result (λ words. string_bytes words ≡ codes "taken " ++ (decimal place
         ++ (codes " " ++ (reply_text reply ++ (codes " at " ++ decimal at))))) }

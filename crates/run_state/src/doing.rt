@@ -1,19 +1,19 @@
-//! How far a process is: its ticket, for whom it waits, what it reads or writes, what its unit settles, and what is open.
-ghost use Rattle.std.specs.Prelude.{◌≡◌, ◌<◌, ◌≤◌, ◌^◌, IfOk, Ok, option_map};
+//! How far a process is: its ticket, the process for which it waits, what it reads or writes, what its unit settles, and
+//! which access is open.
+ghost use Rattle.std.specs.Prelude.{◌≡◌, IfOk, option_map};
 ghost use Rattle.std.specs.String.{string_bytes};
-ghost use Rattle.plain_store.specs.{checked};
 ghost use Rattle.record_file.specs.scenario.{bit_word};
 ghost use Rattle.run_state.specs.Copies.{is_image};
-ghost use Rattle.run_state.specs.Doing.{awaited, chosen_words, cut_access, cut_open, doorway_ticket, failed_words, is_cut_open, is_writing, one_if, open_by, opened_words, progress_words, read_word, reads_words, settles_words, so_far, ticket_at, ticket_words, torn_words, waiting_ticket, waits_at, waits_by, writes_before, writes_in_all, written_word};
+ghost use Rattle.run_state.specs.Doing.{access_in, awaited, chosen_words, cut_access, cut_open, doorway_ticket, failed_words, is_cut_open, open_by, opened_words, progress_words, read_word, reads_words, settles_words, so_far, ticket_at, ticket_words, torn_words, waiting_ticket, waits_at, waits_by, writes_words, written_word};
 
 use crate::kept::FinishedRead;
+use calls::world::{AccessProgress, BitSeen, Settling, TicketKnown};
 use calls::{Called, holds_up};
-use plain_store::{NestedTypes, Setup};
-use record::{Access, Field, Move, Stage, width_of};
+use plain_store::NestedTypes;
+use record::{Access, Entry, Field, Move, Stage};
 use std::alloc::{AllocError, Global};
-use calls::world::{BitSeen, Settling, TicketKnown};
 
-/// When a process failed, while its unit settles.
+/// Returns when a process failed, while its unit settles.
 pub(crate) fn failed_words(
     alloc: Global,
     stage: Stage,
@@ -27,7 +27,7 @@ pub(crate) fn failed_words(
     }
 }
 
-/// The ticket of a process at a stage of its call, of which so much is known in its doorway.
+/// Returns the ticket of a process at a stage of its call; `known` is what its doorway has fixed of it.
 pub(crate) fn ticket_at(
     alloc: Global,
     stage: Stage,
@@ -44,7 +44,7 @@ pub(crate) fn ticket_at(
     }
 }
 
-/// That of one in its doorway.
+/// Returns the ticket of a process in its doorway, as far as it is known.
 fn doorway_ticket(alloc: Global, known: &Option<TicketKnown>) -> Result<Option<String>, AllocError>
     ensures { IfOk result (λ words. option_map string_bytes words ≡ doorway_ticket known.now) }
 {
@@ -55,7 +55,7 @@ fn doorway_ticket(alloc: Global, known: &Option<TicketKnown>) -> Result<Option<S
     }
 }
 
-/// That of one that waits.
+/// Returns `ticket T` for a waiting process, or `None` if it has no ticket.
 fn waiting_ticket(alloc: Global, ticket: Option<u32>) -> Result<Option<String>, AllocError>
     ensures { IfOk result (λ words. option_map string_bytes words ≡ waiting_ticket ticket) }
 {
@@ -65,14 +65,14 @@ fn waiting_ticket(alloc: Global, ticket: Option<u32>) -> Result<Option<String>, 
     }
 }
 
-/// The words of a ticket.
+/// Returns the words of a ticket.
 fn ticket_words(alloc: Global, ticket: u32) -> Result<String, AllocError>
     ensures { IfOk result (λ words. string_bytes words ≡ ticket_words ticket) }
 {
     format!(in alloc; "ticket {ticket}")
 }
 
-/// For whom a process waits at a stage of its call, which has read this number last.
+/// Returns for which process a process waits at a stage of its call; `read` is the number that it has read last.
 pub(crate) fn waits_at(
     alloc: Global,
     process: u8,
@@ -90,7 +90,7 @@ pub(crate) fn waits_at(
     }
 }
 
-/// For whom it waits with this ticket, by the number that it has read last.
+/// Returns for which process it waits with this ticket, by the number that it has read last.
 fn waits_by(
     alloc: Global,
     process: u8,
@@ -114,7 +114,7 @@ fn waits_by(
     Ok(Some(format!(in alloc; "waits for {owner}{what}")?))
 }
 
-/// What of another process it waits for.
+/// Returns the register of another process for which it waits.
 fn awaited(alloc: Global, field: Field, number: u64) -> Result<String, AllocError>
     ensures { IfOk result (λ words. string_bytes words ≡ awaited field number) }
 {
@@ -124,65 +124,48 @@ fn awaited(alloc: Global, field: Field, number: u64) -> Result<String, AllocErro
     }
 }
 
-/// The name of the register of an access, of whose accesses so many are made, of so many.
-pub(crate) fn progress_words(
+/// Returns the name of a register, and how many of its accesses are made, of how many.
+fn progress_words(
     alloc: Global,
-    access: &Access,
-    made: u64,
-    all: u64,
+    owner: u8,
+    field: Field,
+    progress: AccessProgress,
 ) -> Result<String, AllocError>
-    ensures { IfOk result (λ words. string_bytes words ≡ progress_words access.now made all) }
+    ensures { IfOk result (λ words. string_bytes words ≡ progress_words owner field progress) }
 {
-    let owner = access.owner;
-    let field = access.field.word();
+    let field = field.word();
+    let made = progress.made;
+    let all = progress.all;
     format!(in alloc; "{owner}.{field} {made} of {all}")
 }
 
-/// How many accesses of the write of a number come before this one.
-pub(crate) fn writes_before(setup: &Setup, access: &Access) -> u64
-    ensures before { result ≡ writes_before setup.now access.now }
-    ensures few { result < 2 ^ 32 }
+/// Returns the words before the value that a process writes.
+pub(crate) fn writes_words(
+    alloc: Global,
+    access: &Access,
+    progress: AccessProgress,
+) -> Result<String, AllocError>
+    ensures { IfOk result (λ words. string_bytes words ≡ writes_words access.now progress) }
 {
-    let copies = u64::from(access.bit) * u64::from(setup.processes) + u64::from(access.reader);
-    2 * copies + one_if(matches!(access.how, Move::EndWrite))
+    let progress = progress_words(alloc, access.owner, access.field, progress)?;
+    format!(in alloc; "writes {progress} value ")
 }
 
-/// How many there are in all.
-pub(crate) fn writes_in_all(setup: &Setup, access: &Access) -> u64
-    requires { checked setup.now ≡ Ok tt }
-    ensures all { result ≡ writes_in_all setup.now access.now }
-    ensures few { result < 2 ^ 32 }
-{
-    2 * (u64::from(setup.processes) * u64::from(width_of(access.field, setup)))
-}
-
-/// One more, where a test holds.
-fn one_if(test: bool) -> u64
-    ensures one { result ≡ one_if test }
-    ensures few { result ≤ 1 }
-{
-    if test { 1 } else { 0 }
-}
-
-/// What a process reads, how many accesses of that are made, and the number so far.
+/// Returns what a process reads, how far it is, and the number so far.
 pub(crate) fn reads_words(
     alloc: Global,
-    setup: &Setup,
     access: &Access,
+    progress: AccessProgress,
     number: u32,
 ) -> Result<String, AllocError>
-    requires { checked setup.now ≡ Ok tt }
-    ensures { IfOk result (λ words. string_bytes words
-        ≡ reads_words setup.now access.now number) }
+    ensures { IfOk result (λ words. string_bytes words ≡ reads_words access.now progress number) }
 {
-    let made = 2 * u64::from(access.bit) + one_if(matches!(access.how, Move::EndRead(_)));
-    let all = 2 * u64::from(width_of(access.field, setup));
-    let progress = progress_words(alloc, access, made, all)?;
+    let progress = progress_words(alloc, access.owner, access.field, progress)?;
     let number = so_far(alloc, access, number)?;
     format!(in alloc; "reads {progress}{number}")
 }
 
-/// The bits of a number that are read so far; an image's are not told.
+/// Returns the bits of a number that were read so far; those of an image are omitted.
 fn so_far(alloc: Global, access: &Access, number: u32) -> Result<String, AllocError>
     ensures { IfOk result (λ words. string_bytes words ≡ so_far access.now number) }
 {
@@ -192,14 +175,14 @@ fn so_far(alloc: Global, access: &Access, number: u32) -> Result<String, AllocEr
     format!(in alloc; " so far {number}")
 }
 
-/// Whether a register is an image.
+/// Returns whether a register is an image.
 fn is_image(field: Field) -> bool
     ensures { result ≡ is_image field }
 {
     matches!(field, Field::Image0 | Field::Image1)
 }
 
-/// The last access of the write that a failure of a process has cut.
+/// Returns the last access of the write that a failure of a process has cut.
 fn cut_access(process: u8, torn: &Settling) -> Access
     ensures { result ≡ cut_access process torn.now }
 {
@@ -212,32 +195,28 @@ fn cut_access(process: u8, torn: &Settling) -> Access
     }
 }
 
-/// Whether the write of a copy was begun, and has not ended.
+/// Returns whether the write of a copy was begun and has not ended.
 fn is_cut_open(torn: &Settling) -> bool
     ensures { result ≡ is_cut_open torn.now }
 {
     torn.cut % 2 == 1
 }
 
-/// What a unit settles, how many accesses of that are made, and the value that it has chosen.
+/// Returns what a unit settles, how far it is, and the value that it has chosen.
 pub(crate) fn settles_words(
     alloc: Global,
-    setup: &Setup,
     process: u8,
     torn: &Settling,
+    progress: AccessProgress,
 ) -> Result<String, AllocError>
-    ensures { IfOk result (λ words. string_bytes words ≡ settles_words setup.now process torn.now) }
+    ensures { IfOk result (λ words. string_bytes words ≡ settles_words process torn.now progress) }
 {
-    let open = is_cut_open(torn);
-    let passed = open && torn.cut / 2 < torn.copy;
-    let made = (2 * u64::from(torn.copy) + one_if(torn.begun)).saturating_sub(one_if(passed));
-    let all = (2 * u64::from(setup.processes)).saturating_sub(one_if(open));
-    let progress = progress_words(alloc, &cut_access(process, torn), made, all)?;
+    let progress = progress_words(alloc, process, torn.field, progress)?;
     let chosen = chosen_words(alloc, torn.value)?;
     format!(in alloc; "settles {progress}{chosen}")
 }
 
-/// The value that a unit has chosen, if it has.
+/// Returns the value that a unit has chosen, if it has chosen one.
 fn chosen_words(alloc: Global, chosen: Option<bool>) -> Result<String, AllocError>
     ensures { IfOk result (λ words. string_bytes words ≡ chosen_words chosen) }
 {
@@ -248,7 +227,7 @@ fn chosen_words(alloc: Global, chosen: Option<bool>) -> Result<String, AllocErro
     format!(in alloc; " value {value}")
 }
 
-/// The torn bit, and the value that was being written.
+/// Returns the torn bit, and the value that was being written.
 pub(crate) fn torn_words(alloc: Global, process: u8, torn: &Settling) -> Result<String, AllocError>
     ensures { IfOk result (λ words. string_bytes words ≡ torn_words process torn.now) }
 {
@@ -258,21 +237,14 @@ pub(crate) fn torn_words(alloc: Global, process: u8, torn: &Settling) -> Result<
     format!(in alloc; "torn {process}.{field}.{bit} write {value}")
 }
 
-/// The digit of a bit.
+/// Returns the digit of a bit.
 fn bit_word(value: bool) -> &'static str
     ensures { result.now ≡ bit_word value }
 {
     if value { "1" } else { "0" }
 }
 
-/// Whether an access is one of a write.
-pub(crate) fn is_writing(how: Move) -> bool
-    ensures { result ≡ is_writing how }
-{
-    matches!(how, Move::BeginWrite(_) | Move::EndWrite)
-}
-
-/// Which access of a process is open, where this one comes next, of a copy that is so, or this is torn.
+/// Returns which access of a process is open, where `next` comes next, its copy is as `seen`, and `torn` is being settled.
 pub(crate) fn opened_words(
     alloc: Global,
     process: u8,
@@ -290,7 +262,7 @@ pub(crate) fn opened_words(
     }
 }
 
-/// The write that a failure has cut, if it is open and nothing of the settling is made.
+/// Returns the write that a failure has cut, if it is open and no access of the settling is made.
 fn cut_open(
     alloc: Global,
     process: u8,
@@ -308,7 +280,7 @@ fn cut_open(
     Ok(None)
 }
 
-/// An access that is open, and how.
+/// Returns the words of an open access.
 fn open_access(alloc: Global, access: &Access, how: &str) -> Result<String, AllocError>
     ensures { IfOk result (λ words. string_bytes words ≡ opened_words access.now how.now) }
 {
@@ -319,14 +291,14 @@ fn open_access(alloc: Global, access: &Access, how: &str) -> Result<String, Allo
     format!(in alloc; "open {owner}.{field}.{bit}.{reader}{how}")
 }
 
-/// That a write is open.
+/// Returns the words of an open write.
 fn written_word(value: bool) -> &'static str
     ensures { result.now ≡ written_word value }
 {
     if value { " write 1" } else { " write 0" }
 }
 
-/// That a read is open.
+/// Returns the words of an open read.
 fn read_word(overlapped: bool) -> &'static str
     ensures { result.now ≡ read_word overlapped }
 {
@@ -334,5 +306,16 @@ fn read_word(overlapped: bool) -> &'static str
         " read overlapped"
     } else {
         " read"
+    }
+}
+
+/// Returns the access of an entry, if there is one.
+pub(crate) fn access_in(entry: &Option<Entry>) -> Option<Access>
+    ensures { result ≡ access_in entry.now }
+{
+    let _nested: NestedTypes = None;
+    match entry {
+        None => None,
+        Some(entry) => entry.act.access,
     }
 }

@@ -9,7 +9,7 @@ use calls::{CallStanding, Called, called_in, ends_number, first_if, number_after
 use plain_store::{NestedTypes, Setup};
 use record::{Access, Field, Mark};
 
-/// A number that was read of a register.
+/// A number that was read from a register.
 #[derive(Clone, Copy)]
 pub(crate) struct FinishedRead {
     pub owner: u8,
@@ -28,7 +28,7 @@ pub(crate) struct ProcessKept {
 }
 
 impl ProcessKept {
-    /// Of a process without an entry.
+    /// Creates the state of a process without an entry.
     pub fn nothing(process: u8) -> ProcessKept
         ensures { result ≡ nothing_kept process }
     {
@@ -39,7 +39,7 @@ impl ProcessKept {
         }
     }
 
-    /// Its call, if it goes on.
+    /// Returns its call, if it has not ended.
     pub fn open_call(&self) -> Option<Called>
         ensures { result ≡ cond self.now.standing.calling (Some self.now.standing.last) None }
     {
@@ -50,7 +50,7 @@ impl ProcessKept {
         }
     }
 
-    /// One more entry, with this number and these marks, and with an access or not.
+    /// Observes an entry with this number and these marks; `steps` is whether it has an access.
     pub fn mark(&mut self, number: u64, steps: bool, marks: &[Mark])
         ensures { self.old.standing.last.call < 2 ^ 64 - 1
             → self.new ≡ kept_marked number steps marks.now self.old }
@@ -70,8 +70,8 @@ impl ProcessKept {
         self.standing.mark_all(number, marks);
     }
 
-    /// One more entry, with this number and this access, and without a mark. So much of the number that it reads was read
-    /// before it.
+    /// Observes an entry with this number and this access and without a mark; `read` is what was read before of the number
+    /// that it reads.
     #[inline]
     pub fn step(&mut self, setup: &Setup, number: u64, access: &Access, read: u32)
         requires { checked setup.now ≡ Ok tt }
@@ -98,7 +98,7 @@ impl ProcessKept {
     }
 }
 
-/// Whether with these marks a process fails.
+/// Returns whether a process fails with these marks.
 fn has_failed(marks: &[Mark]) -> bool
     ensures { result ≡ list_any is_failed marks.now }
 {

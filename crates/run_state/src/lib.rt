@@ -1,23 +1,23 @@
-//! The state of a run after its first events: who stands where and does what next, what the registers hold, and the history.
-//! A snapshot hears the entries of a run that have marks or end a number access, and how many others there are, in memory of a
-//! fixed size. All else that it prints it reads off the run's world. The engine `state` makes the first events of a scenario's
-//! run, and writes the state after them. The engine `calls` is passed on, and so is what tells the place of a fault in a file.
+//! The state of a run after its first events: where each process is and what it does next, what the registers hold, and the
+//! history. A snapshot observes the entries of a run that have marks or end a register access, and counts the others, in memory
+//! of a fixed size. All else that it prints it asks of the run's core. The engine `state` makes the first events of a scenario's
+//! run, and writes the state after them. The crate re-exports the engine `calls`, and what finds the place of a fault in a file.
 //!
 //! ```rust
-//! .print(alloc, self.course.core(), self.course.history(), text)
+//! snapshot.print(alloc, core, course.history(), &mut text)?;
 //! ```
 #![tactic(auto)]
 
-mod ahead;
 mod called;
 mod copies;
 mod doing;
-mod heard;
 mod kept;
-mod known;
 mod laws_of_lines;
-mod part_of_run;
+mod next_lines;
+mod observer;
+mod process_lines;
 mod register_lines;
+mod register_text;
 mod snapshot;
 mod stating;
 mod stores;

@@ -1,18 +1,19 @@
 //! The lines of registers.
-ghost use Rattle.std.specs.Prelude.{◌≡◌, ◌<◌, ◌≤◌, ◌++◌, [], IfOk, Ok, OnOk, codes, cond, flat_map};
-ghost use Rattle.std.specs.List.{list_all, list_any, range_with_len};
+ghost use Rattle.std.specs.Prelude.{◌≡◌, ◌<◌, ◌++◌, [], IfOk, List, Ok, OnOk, codes, cond, flat_map, length, ℕ};
+ghost use Rattle.std.specs.List.{range_with_len};
+ghost use Rattle.std.specs.Str.{bytes_eq};
 ghost use Rattle.std.specs.String.{string_bytes};
 ghost use Rattle.plain_store.specs.{checked};
 ghost use Rattle.record.specs.{Past, fields};
 ghost use Rattle.run_state.specs.Knowing.{CoreShows};
-ghost use Rattle.run_state.specs.Copies.{copy_text, have_one_text, line_of_first, lines_of_register, reader_if, register_lines, register_words};
+ghost use Rattle.run_state.specs.Copies.{are_all, copies_lines, is_among, line_of_first, lines_of_register, reader_if, register_lines, register_words, texts_in};
 ghost use Rattle.run_state.specs.Stores.{number_word};
 
-use crate::copies::RegisterCopies;
+use crate::copies::{are_changed, copies_held, copy_texts, opening_bytes};
+use calls::world::{Core, RegisterName};
 use plain_store::Setup;
-use record::{FIELDS, Field, field_numbered};
+use record::{FIELDS, field_numbered};
 use std::alloc::{AllocError, Global};
-use calls::world::Core;
 
 /// Writes the lines of the registers of which a copy is not as it opened, or is being written.
 pub(crate) fn push_registers(
@@ -26,111 +27,164 @@ pub(crate) fn push_registers(
     ensures { OnOk result ((past : Past) → CoreShows core.now past
         → text.new.items ≡ text.old.items ++ register_lines setup.now past) }
 {
-    let opening = Core::new(alloc, setup)?;
     for owner in 0..setup.processes {
-        push_owned(alloc, setup, core, &opening, owner, text)?;
+        push_owned(alloc, setup, core, owner, text)?;
     }
     Ok(())
 }
 
-/// Writes those of a process.
+/// Writes the lines of the registers of a process.
 fn push_owned(
     alloc: Global,
     setup: &Setup,
     core: &Core,
-    opening: &Core,
     owner: u8,
     text: &mut Vec<u8>,
 ) -> Result<(), AllocError>
     requires good { checked setup.now ≡ Ok tt }
     requires setup { core.now.setup ≡ setup.now }
-    requires opening { opening.now.setup ≡ setup.now }
-    requires unheard { CoreShows opening.now [] }
     requires owner { owner < setup.now.processes }
     ensures { OnOk result ((past : Past) → CoreShows core.now past
         → text.new.items ≡ text.old.items ++ flat_map
         (lines_of_register setup.now past owner) fields) }
 {
     for number in 0..FIELDS.len() {
-        let copies = RegisterCopies {
-            alloc,
-            setup,
-            core,
-            owner,
-            field: field_numbered(number),
-        };
-        push_register(&copies, opening, text)?;
+        let field = field_numbered(number);
+        push_register(alloc, setup, core, RegisterName { owner, field }, text)?;
     }
     Ok(())
 }
 
 /// Writes the lines of a register, if a copy is not as it opened, or is being written.
 fn push_register(
-    copies: &RegisterCopies<'_>,
-    opening: &Core,
+    alloc: Global,
+    setup: &Setup,
+    core: &Core,
+    register: RegisterName,
     text: &mut Vec<u8>,
 ) -> Result<(), AllocError>
-    requires good { checked copies.now.setup.now ≡ Ok tt }
-    requires setup { copies.now.core.now.setup ≡ copies.now.setup.now }
-    requires opening { opening.now.setup ≡ copies.now.setup.now }
-    requires unheard { CoreShows opening.now [] }
-    requires owner { copies.now.owner < copies.now.setup.now.processes }
-    ensures { OnOk result ((past : Past) → CoreShows copies.now.core.now past
-        → text.new.items ≡ text.old.items ++ lines_of_register copies.now.setup.now past
-        copies.now.owner copies.now.field) }
+    requires good { checked setup.now ≡ Ok tt }
+    requires setup { core.now.setup ≡ setup.now }
+    requires owner { register.owner < setup.now.processes }
+    ensures { OnOk result ((past : Past) → CoreShows core.now past
+        → text.new.items ≡ text.old.items ++ lines_of_register setup.now past
+        register.owner register.field) }
 {
-    if !copies.are_changed(opening) {
+    let copies = copies_held(alloc, setup, core, register)?;
+    let opening = opening_bytes(setup, register)?;
+    if !are_changed(copies.as_slice(), &opening) {
         return Ok(());
     }
-    let name = register_words(copies.alloc, copies.owner, copies.field)?;
-    if have_all_one_text(copies)? {
-        return push_one_text(copies, &name, text);
-    }
-    push_texts(copies, &name, text)
+    let texts = copy_texts(alloc, setup, register.field, copies.as_slice())?;
+    let name = register_words(alloc, register)?;
+    push_copies(alloc, &name, texts.as_slice(), text)
 }
 
-/// The name of a register behind the word.
-fn register_words(alloc: Global, owner: u8, field: Field) -> Result<String, AllocError>
-    ensures { IfOk result (λ words. string_bytes words ≡ register_words owner field) }
+/// Returns the word `register` and the name of a register.
+fn register_words(alloc: Global, register: RegisterName) -> Result<String, AllocError>
+    ensures { IfOk result (λ words. string_bytes words ≡ register_words register.owner register.field) }
 {
-    let word = field.word();
+    let owner = register.owner;
+    let word = register.field.word();
     format!(in alloc; "register {owner}.{word}")
 }
 
-/// Whether all copies have one text.
-fn have_all_one_text(copies: &RegisterCopies<'_>) -> Result<bool, AllocError>
-    requires good { checked copies.now.setup.now ≡ Ok tt }
-    requires setup { copies.now.core.now.setup ≡ copies.now.setup.now }
-    requires owner { copies.now.owner < copies.now.setup.now.processes }
-    ensures { IfOk result (λ all. (past : Past) → CoreShows copies.now.core.now past
-        → all ≡ list_all (λ r. have_one_text (copy_text copies.now.setup.now past copies.now.owner
-        copies.now.field) r 0) (range_with_len 0 copies.now.setup.now.processes)) }
-{
-    let mut all = true;
-    for reader in 0..copies.setup.processes {
-        let same = copies.have_one_text(reader, 0)?;
-        all = all & same;
-    }
-    Ok(all)
-}
-
-/// Writes the line of copies that all have one text.
-fn push_one_text(
-    copies: &RegisterCopies<'_>,
+/// Writes the lines of a register by the texts of its copies: one line if all are equal, otherwise a line for each text.
+fn push_copies(
+    alloc: Global,
     name: &str,
+    texts: &[Vec<u8>],
     text: &mut Vec<u8>,
 ) -> Result<(), AllocError>
-    requires good { checked copies.now.setup.now ≡ Ok tt }
-    requires setup { copies.now.core.now.setup ≡ copies.now.setup.now }
-    requires owner { copies.now.owner < copies.now.setup.now.processes }
-    ensures { OnOk result ((past : Past) → CoreShows copies.now.core.now past
-        → text.new.items ≡ text.old.items ++ (name.now ++ (codes " "
-        ++ (copy_text copies.now.setup.now past copies.now.owner copies.now.field 0
-        ++ codes "\n")))) }
+    requires { 0 < length texts.now }
+    ensures { OnOk result (text.new.items
+        ≡ text.old.items ++ copies_lines name.now (texts_in texts.now)) }
 {
+    let first = texts[0].as_slice();
+    if are_all(texts, first) {
+        text.extend_from_slice(name.as_bytes())?;
+        return push_copy(first, text);
+    }
+    for reader in 0..texts.len() {
+        push_if_first(alloc, name, texts, reader, text)?;
+    }
+    Ok(())
+}
+
+/// Returns whether all texts are this one.
+fn are_all(texts: &[Vec<u8>], text: &[u8]) -> bool
+    ensures { result ≡ are_all text.now (texts_in texts.now) }
+{
+    texts.iter().all(|other| is_same(other, text))
+}
+
+/// Returns whether a text is among texts.
+fn is_among(texts: &[Vec<u8>], text: &[u8]) -> bool
+    ensures { result ≡ is_among text.now (texts_in texts.now) }
+{
+    texts.iter().any(|other| is_same(other, text))
+}
+
+/// Returns whether a text is this one.
+fn is_same(other: &Vec<u8>, text: &[u8]) -> bool
+    ensures { result ≡ bytes_eq other.now.items text.now }
+{
+    other.as_slice() == text
+}
+
+/// Writes the line of a reader's text, unless an earlier reader has it.
+fn push_if_first(
+    alloc: Global,
+    name: &str,
+    texts: &[Vec<u8>],
+    reader: usize,
+    text: &mut Vec<u8>,
+) -> Result<(), AllocError>
+    requires { reader < length texts.now }
+    ensures { OnOk result (text.new.items
+        ≡ text.old.items ++ line_of_first name.now (texts_in texts.now) reader) }
+{
+    let copy = texts[reader].as_slice();
+    if is_among(&texts[..reader], copy) {
+        return Ok(());
+    }
     text.extend_from_slice(name.as_bytes())?;
-    let copy = copies.text(0)?;
-    push_copy(copy.as_slice(), text)
+    text.extend_from_slice(b" readers")?;
+    push_readers(alloc, texts, copy, text)?;
+    push_copy(copy, text)
+}
+
+/// Writes the readers that have this text.
+fn push_readers(
+    alloc: Global,
+    texts: &[Vec<u8>],
+    copy: &[u8],
+    text: &mut Vec<u8>,
+) -> Result<(), AllocError>
+    ensures { OnOk result (text.new.items ≡ text.old.items ++ flat_map
+        (reader_if (texts_in texts.now) copy.now) (range_with_len 0 (length (texts_in texts.now)))) }
+{
+    for reader in 0..texts.len() {
+        let has = is_same(&texts[reader], copy);
+        push_reader_if(alloc, has, reader, text)?;
+    }
+    Ok(())
+}
+
+/// Writes the word of a reader, if it is to stand there.
+fn push_reader_if(
+    alloc: Global,
+    stands: bool,
+    reader: usize,
+    text: &mut Vec<u8>,
+) -> Result<(), AllocError>
+    ensures { OnOk result (text.new.items ≡ text.old.items ++ cond stands (number_word reader) []) }
+{
+    if !stands {
+        return Ok(());
+    }
+    let word = format!(in alloc; " {reader}")?;
+    text.extend_from_slice(word.as_bytes())
 }
 
 /// Writes the text of a copy, which ends its line.
@@ -141,102 +195,4 @@ fn push_copy(copy: &[u8], text: &mut Vec<u8>) -> Result<(), AllocError>
     text.extend_from_slice(b" ")?;
     text.extend_from_slice(copy)?;
     text.extend_from_slice(b"\n")
-}
-
-/// Writes a line for each text, in the order of its first reader.
-fn push_texts(copies: &RegisterCopies<'_>, name: &str, text: &mut Vec<u8>) -> Result<(), AllocError>
-    requires good { checked copies.now.setup.now ≡ Ok tt }
-    requires setup { copies.now.core.now.setup ≡ copies.now.setup.now }
-    requires owner { copies.now.owner < copies.now.setup.now.processes }
-    ensures { OnOk result ((past : Past) → CoreShows copies.now.core.now past
-        → text.new.items ≡ text.old.items ++ flat_map (line_of_first name.now
-        (copy_text copies.now.setup.now past copies.now.owner copies.now.field)
-        copies.now.setup.now.processes) (range_with_len 0 copies.now.setup.now.processes)) }
-{
-    for reader in 0..copies.setup.processes {
-        push_if_first(copies, name, reader, text)?;
-    }
-    Ok(())
-}
-
-/// Writes the line of the text of a reader's copy, if it is the first with this text.
-fn push_if_first(
-    copies: &RegisterCopies<'_>,
-    name: &str,
-    reader: u8,
-    text: &mut Vec<u8>,
-) -> Result<(), AllocError>
-    requires good { checked copies.now.setup.now ≡ Ok tt }
-    requires setup { copies.now.core.now.setup ≡ copies.now.setup.now }
-    requires owner { copies.now.owner < copies.now.setup.now.processes }
-    requires reader { reader < copies.now.setup.now.processes }
-    ensures { OnOk result ((past : Past) → CoreShows copies.now.core.now past
-        → text.new.items ≡ text.old.items ++ line_of_first name.now
-        (copy_text copies.now.setup.now past copies.now.owner copies.now.field)
-        copies.now.setup.now.processes reader) }
-{
-    if has_earlier(copies, reader)? {
-        return Ok(());
-    }
-    text.extend_from_slice(name.as_bytes())?;
-    text.extend_from_slice(b" readers")?;
-    push_readers(copies, reader, text)?;
-    let copy = copies.text(reader)?;
-    push_copy(copy.as_slice(), text)
-}
-
-/// Whether an earlier reader's copy has the text of this one's.
-fn has_earlier(copies: &RegisterCopies<'_>, reader: u8) -> Result<bool, AllocError>
-    requires good { checked copies.now.setup.now ≡ Ok tt }
-    requires setup { copies.now.core.now.setup ≡ copies.now.setup.now }
-    requires owner { copies.now.owner < copies.now.setup.now.processes }
-    requires reader { reader < copies.now.setup.now.processes }
-    ensures { IfOk result (λ has. (past : Past) → CoreShows copies.now.core.now past
-        → has ≡ list_any (λ q. have_one_text (copy_text copies.now.setup.now past copies.now.owner
-        copies.now.field) q reader) (range_with_len 0 reader)) }
-{
-    let mut has = false;
-    for earlier in 0..reader {
-        let same = copies.have_one_text(earlier, reader)?;
-        has = has | same;
-    }
-    Ok(has)
-}
-
-/// Writes the readers whose copies have the text of this one's.
-fn push_readers(
-    copies: &RegisterCopies<'_>,
-    reader: u8,
-    text: &mut Vec<u8>,
-) -> Result<(), AllocError>
-    requires good { checked copies.now.setup.now ≡ Ok tt }
-    requires setup { copies.now.core.now.setup ≡ copies.now.setup.now }
-    requires owner { copies.now.owner < copies.now.setup.now.processes }
-    requires reader { reader < copies.now.setup.now.processes }
-    ensures { OnOk result ((past : Past) → CoreShows copies.now.core.now past
-        → text.new.items ≡ text.old.items ++ flat_map (reader_if
-        (copy_text copies.now.setup.now past copies.now.owner copies.now.field) reader)
-        (range_with_len 0 copies.now.setup.now.processes)) }
-{
-    for other in 0..copies.setup.processes {
-        let same = copies.have_one_text(other, reader)?;
-        push_reader_if(copies.alloc, same, other, text)?;
-    }
-    Ok(())
-}
-
-/// Writes the word of a reader, if it is to stand there.
-fn push_reader_if(
-    alloc: Global,
-    stands: bool,
-    reader: u8,
-    text: &mut Vec<u8>,
-) -> Result<(), AllocError>
-    ensures { OnOk result (text.new.items ≡ text.old.items ++ cond stands (number_word reader) []) }
-{
-    if !stands {
-        return Ok(());
-    }
-    let word = format!(in alloc; " {reader}")?;
-    text.extend_from_slice(word.as_bytes())
 }

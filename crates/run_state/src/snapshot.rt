@@ -1,29 +1,26 @@
 //! The state of a run.
-ghost use Rattle.std.specs.Prelude.{◌≡◌, ◌+◌, ◌-◌, ◌^◌, ◌<◌, ◌++◌, ◌∷◌, [], IfOk, List, Ok, OnOk, Some, false, flat_map, is_some, true, ℕ};
+ghost use Rattle.std.specs.Prelude.{◌≡◌, ◌+◌, ◌-◌, ◌^◌, ◌<◌, ◌++◌, ◌∷◌, [], IfOk, List, Ok, OnOk, Some, flat_map, is_some, ℕ};
 ghost use Rattle.plain_store.specs.{checked};
-ghost use Rattle.record.specs.{Entry as Noted, Past, entry_of, processes};
-ghost use Rattle.record.specs.declared.Event.TheVariants.{Step};
-ghost use Rattle.record.specs.declared.history.Taken.{Taken as Seen};
-ghost use Rattle.run_state.specs.Doing.{access_in, doing_lines};
+ghost use Rattle.record.specs.{Entry as Noted, Past, processes};
 ghost use Rattle.run_state.specs.Keeping.{Passes, TellsNumber, kept as kept_of};
-ghost use Rattle.run_state.specs.Processes.{is_resting as rests, newest_line, process_lines, rest_line, running_lines};
+ghost use Rattle.run_state.specs.Processes.{is_resting as rests, newest_line, process_lines, rest_line};
 ghost use Rattle.run_state.specs.Snapshots.{HasHeard, Stands, state_lines};
 
-use crate::ahead::{next_entry, push_newest, push_next};
-use crate::called::{push_line, push_open, push_words};
+use crate::called::{push_line, push_words};
 use crate::kept::ProcessKept;
-use crate::known::Known;
+use crate::next_lines::push_newest;
+use crate::process_lines::ProcessLines;
 use crate::register_lines::push_registers;
 use crate::stores::push_history;
+use calls::world::Core;
 use calls::{Accesses, CallStanding, Called, Marked};
 use plain_store::{NestedTypes, Setup};
 use record::{Access, Entry, Mark, Stage, Taken};
 use std::alloc::{AllocError, Global};
 use std::marker::Model;
-use calls::world::Core;
 
-/// What is kept of a run as it goes on: of each process its last call, when it failed, and what it has read last. So it needs the
-/// same memory however long the run is.
+/// The state of a run that its core does not have: of each process its last call, when it failed, and what it has read last.
+/// Its memory does not grow with the run.
 #[derive(Drop)]
 pub struct Snapshot {
     setup: Setup,
@@ -42,7 +39,11 @@ impl Model for Snapshot {
 }
 
 impl Snapshot {
-    /// Before the first entry. The one fault is want of memory; to hear takes none.
+    /// Creates the state before the first entry.
+    ///
+    /// # Errors
+    ///
+    /// Fails only if an allocation fails. Observing entries does not allocate.
     pub fn new(alloc: Global, setup: &Setup) -> Result<Snapshot, AllocError>
         requires { checked setup.now ≡ Ok tt }
         ensures setup { IfOk result (λ snapshot. snapshot.setup ≡ setup.now) }
@@ -62,7 +63,7 @@ impl Snapshot {
         })
     }
 
-    /// One more entry of a run, with marks; `steps`: it has an access.
+    /// Observes one more entry, which has marks; `steps` is whether it has an access.
     pub fn hear(&mut self, process: u8, steps: bool, marks: &[Mark])
         requires { self.old.entries < 2 ^ 64 - 1 }
         ensures setup { self.new.setup ≡ self.old.setup }
@@ -80,8 +81,7 @@ impl Snapshot {
         self.kept[place].mark(number, steps, marks);
     }
 
-    /// One more entry without a mark; `read`: so much of the number was read before it, which matters where the entry ends the
-    /// read of one.
+    /// Observes one more entry, which has no mark. If it ends the read of a number, `read` is what was read of it before.
     pub fn step(&mut self, process: u8, access: &Access, read: u32)
         requires { self.old.entries < 2 ^ 64 - 1 }
         ensures setup { self.new.setup ≡ self.old.setup }
@@ -100,7 +100,7 @@ impl Snapshot {
         self.kept[place].step(&self.setup, number, access, read);
     }
 
-    /// So many more entries of one process within a number access: they change nothing that is kept.
+    /// Observes `steps` more entries of one process within a register access, which change nothing that is kept.
     #[inline(always)]
     pub fn pass(&mut self, steps: u32)
         requires { self.old.entries + steps < 2 ^ 64 }
@@ -112,14 +112,14 @@ impl Snapshot {
         self.entries += u64::from(steps);
     }
 
-    /// How many entries there were.
+    /// Returns how many entries there were.
     pub fn entries(&self) -> u64
         ensures { result ≡ self.now.entries }
     {
         self.entries
     }
 
-    /// What is kept of a process.
+    /// Returns what is kept of a process.
     fn kept(&self, process: u8) -> ProcessKept
         requires { process < self.now.setup.processes }
         ensures { (past : Past) → HasHeard self.now past → result ≡ kept_of self.now.setup process past }
@@ -127,7 +127,7 @@ impl Snapshot {
         self.kept[usize::from(process)]
     }
 
-    /// Writes the line of the newest entry behind the text.
+    /// Appends the line of the newest entry.
     pub fn print_newest(alloc: Global, entry: &Entry, text: &mut Vec<u8>) -> Result<(), AllocError>
         ensures { OnOk result ((past : Past) → text.new.items ≡ text.old.items
             ++ newest_line (entry.now ∷ past)) }
@@ -135,8 +135,7 @@ impl Snapshot {
         push_newest(alloc, entry, text)
     }
 
-    /// Writes the lines of processes and of registers, and those of the history, behind the text. The run's world keeps this
-    /// core and this history.
+    /// Appends the lines of processes, of registers and of the history; `core` and `history` are those of the run.
     pub fn print(
         &self,
         alloc: Global,
@@ -166,9 +165,8 @@ impl Snapshot {
             → text.new.items ≡ text.old.items
             ++ flat_map (process_lines self.now.setup past) (processes self.now.setup)) }
     {
-        let mut twin = Core::new(alloc, &self.setup)?;
         for process in 0..self.setup.processes {
-            self.push_process(alloc, &mut twin, core, history, process, text)?;
+            self.push_process(alloc, core, history, process, text)?;
         }
         Ok(())
     }
@@ -177,17 +175,14 @@ impl Snapshot {
     fn push_process(
         &self,
         alloc: Global,
-        twin: &mut Core,
         core: &Core,
         history: &[Taken],
         process: u8,
         text: &mut Vec<u8>,
     ) -> Result<(), AllocError>
         requires core { core.now.setup ≡ self.now.setup }
-        requires twin { twin.old.setup ≡ self.now.setup }
         requires process { process < self.now.setup.processes }
-        ensures twin { twin.new.setup ≡ self.now.setup }
-        ensures lines { OnOk result ((past : Past) → Stands self.now core.now history.now past
+        ensures { OnOk result ((past : Past) → Stands self.now core.now history.now past
             → text.new.items ≡ text.old.items ++ process_lines self.now.setup past process) }
     {
         let Some(stage) = core.stage(process) else {
@@ -197,94 +192,27 @@ impl Snapshot {
         if is_resting(stage) {
             return push_rest(alloc, process, stage, kept.standing.last.call, text);
         }
-        self.push_running(alloc, twin, core, history, process, stage, &kept, text)
-    }
-
-    /// Writes the lines of a process that runs, or whose unit settles.
-    fn push_running(
-        &self,
-        alloc: Global,
-        twin: &mut Core,
-        core: &Core,
-        history: &[Taken],
-        process: u8,
-        stage: Stage,
-        kept: &ProcessKept,
-        text: &mut Vec<u8>,
-    ) -> Result<(), AllocError>
-        requires core { core.now.setup ≡ self.now.setup }
-        requires twin { twin.old.setup ≡ self.now.setup }
-        requires process { process < self.now.setup.processes }
-        ensures twin { twin.new.setup ≡ self.now.setup }
-        ensures lines { OnOk result ((past : Past) → Stands self.now core.now history.now past
-            → kept.now ≡ kept_of self.now.setup process past
-            → text.new.items ≡ text.old.items ++ running_lines self.now.setup past process stage) }
-    {
-        push_line(alloc, process, stage.word(), text)?;
-        push_open(alloc, process, history, &kept.open_call(), text)?;
-        let taken = history.len() as u64;
-        let first = next_entry(alloc, twin, core, taken, process, false);
-        self.push_doing(alloc, twin, core, process, stage, kept, &first, text)?;
-        let second = next_entry(alloc, twin, core, taken, process, true);
-        push_next(alloc, process, &first, &second, text)
-    }
-
-    /// Writes how far a process is, of which this entry comes next.
-    fn push_doing(
-        &self,
-        alloc: Global,
-        twin: &mut Core,
-        core: &Core,
-        process: u8,
-        stage: Stage,
-        kept: &ProcessKept,
-        next: &Option<Entry>,
-        text: &mut Vec<u8>,
-    ) -> Result<(), AllocError>
-        requires core { core.now.setup ≡ self.now.setup }
-        requires twin { twin.old.setup ≡ self.now.setup }
-        requires process { process < self.now.setup.processes }
-        ensures twin { twin.new.setup ≡ self.now.setup }
-        ensures lines { OnOk result ((history : List Seen) (past : Past)
-            → Stands self.now core.now history past
-            → kept.now ≡ kept_of self.now.setup process past
-            → next.now ≡ entry_of self.now.setup past (Step process false)
-            → text.new.items ≡ text.old.items ++ doing_lines self.now.setup past process stage) }
-    {
-        let Some(next) = access_in(next) else {
-            return Ok(());
-        };
-        let known = Known {
+        let lines = ProcessLines {
             alloc,
             setup: &self.setup,
             core,
+            history,
             process,
             stage,
-            kept,
+            kept: &kept,
         };
-        known.push(twin, &next, text)
+        lines.push(text)
     }
 }
 
-/// The access of an entry, if there is one.
-fn access_in(entry: &Option<Entry>) -> Option<Access>
-    ensures { result ≡ access_in entry.now }
-{
-    let _nested: NestedTypes = None;
-    match entry {
-        None => None,
-        Some(entry) => entry.act.access,
-    }
-}
-
-/// Whether a process in this stage is idle or down.
+/// Returns whether a process at this stage is idle or down.
 fn is_resting(stage: Stage) -> bool
     ensures { result ≡ rests stage }
 {
     matches!(stage, Stage::Idle | Stage::Down)
 }
 
-/// Writes the line of a process that is idle or down, which has made so many calls.
+/// Writes the line of a process that is idle or down and has made `calls` calls.
 fn push_rest(
     alloc: Global,
     process: u8,

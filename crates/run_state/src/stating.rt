@@ -1,21 +1,22 @@
 //! The engine `state`: the state after the first events of a scenario's run.
-ghost use Rattle.std.specs.Prelude.{◌≡◌, ◌-◌, ◌^◌, ◌<◌, ◌++◌, IfOk, OnOk};
+ghost use Rattle.std.specs.Prelude.{◌≡◌, ◌-◌, ◌^◌, ◌<◌, [], IfOk, IfSome, OnOk, length};
 ghost use Rattle.calls.specs.scenario.files.Engines.{Ran, streams};
 ghost use Rattle.calls.specs.scenario.files.{ReadsFront};
 ghost use Rattle.calls.specs.scenario.{script};
-ghost use Rattle.calls.specs.course.{run_at_start};
-ghost use Rattle.run_state.specs.Making.{remembered_line};
-ghost use Rattle.run_state.specs.States.{IsAt, WritesPart, events_said as said_by, state_text, stated};
+ghost use Rattle.calls.specs.course.{Follows, run_at_start};
+ghost use Rattle.run_state.specs.Making.{WritesMade};
+ghost use Rattle.run_state.specs.States.{HasSeen, events_said as said_by, state_text, stated};
 
-use crate::part_of_run::PartOfRun;
-use fault_place::progress::{LinePlace, Onlooker};
-use plain_store::NestedTypes;
+use crate::observer::StateObserver;
+use calls::course::{Course, LineMade, Until};
 use calls::scenario::operands::number;
-use calls::scenario::{Fault, Line, Scenario, Sink, Source, read_input, read_scenario, write_all};
+use calls::scenario::{Fault, Scenario, Sink, Source, read_input, read_scenario, write_all};
+use fault_place::progress::Onlooker;
+use plain_store::NestedTypes;
 use std::alloc::{AllocError, Global};
 
-/// After how many events a word asks for the state: a number below 2^64 without leading zeros; `end` is more than a run can
-/// have.
+/// Returns after how many events a word asks for the state: a number below 2^64 without leading zeros, or `end`, which
+/// is more than a run can have.
 pub fn events_said(word: &str) -> Option<u64>
     ensures { result ≡ said_by word.now }
 {
@@ -26,16 +27,6 @@ pub fn events_said(word: &str) -> Option<u64>
         Ok(events) => Some(events),
         Err(_) => None,
     }
-}
-
-/// The line that made the newest event.
-#[derive(Clone, Copy)]
-struct MakingLine {
-    line: Line,
-    /// The number of the line in its file.
-    number: u16,
-    /// How many events there were before it.
-    before: u64,
 }
 
 /// Reads a whole scenario file, makes so many events of its run, or all if there are fewer, and then writes the state. However it
@@ -61,7 +52,7 @@ pub fn run_state<R: Source, W: Sink, L: Onlooker>(
     write_all(output, text.as_slice())
 }
 
-/// The state after so many events of the run of a file's scenario.
+/// Returns the state after so many events of the run of a scenario.
 fn state_text<L: Onlooker>(
     alloc: Global,
     events: u64,
@@ -71,76 +62,66 @@ fn state_text<L: Onlooker>(
     ensures { IfOk result (λ text.
         text.items ≡ stated events scenario.now.numbers.items (script scenario.now)) }
 {
-    let mut part = PartOfRun::new(alloc, &scenario.setup, events)?;
-    lines_text(alloc, scenario, &mut part, onlooker)
+    let mut course = Course::new(alloc, &scenario.setup)?;
+    let mut observer = StateObserver::new(alloc, &scenario.setup)?;
+    played_text(
+        alloc,
+        events,
+        scenario,
+        &mut course,
+        &mut observer,
+        onlooker,
+    )
 }
 
-/// The same, lent a part of the run that has no event yet. It is a function of its own, since values that are dropped at each
-/// way out of a function are dear to prove.
-fn lines_text<L: Onlooker>(
+/// Plays the first events of a scenario's run on a new course, and returns the state after them. It is a function of its
+/// own because values that are dropped at each return of a function are costly to prove.
+fn played_text<L: Onlooker>(
     alloc: Global,
+    events: u64,
     scenario: &Scenario,
-    part: &mut PartOfRun,
+    course: &mut Course,
+    observer: &mut StateObserver,
     onlooker: &mut L,
 ) -> Result<Vec<u8>, AllocError>
-    requires entries { part.old.heard.snapshot.entries ≡ 0 }
-    requires at { IsAt scenario.now.setup part.old run_at_start }
+    requires course { Follows course.old run_at_start }
+    requires setup { course.old.world.setup ≡ scenario.now.setup }
+    requires seen { HasSeen scenario.now.setup [] observer.old }
     ensures { IfOk result (λ text.
-        text.items ≡ stated part.old.most scenario.now.numbers.items (script scenario.now)) }
+        text.items ≡ stated events scenario.now.numbers.items (script scenario.now)) }
 {
-    let mut newest = None;
-    let mut place = LinePlace::before(&scenario.numbers);
-    let mut at = 0;
-    for line in &scenario.lines {
-        let number = scenario.numbers[at];
-        at += 1;
-        let before = part.events();
-        onlooker.reached(place.begin_line(before));
-        part.make_line(line)?;
-        if before < part.events() {
-            newest = Some(MakingLine {
-                line: *line,
-                number,
-                before,
-            });
-        }
-    }
-    part_text(alloc, part, &newest)
-}
-
-/// The state after the events of a part of a run, the newest of which this line made.
-fn part_text(
-    alloc: Global,
-    part: &PartOfRun,
-    newest: &Option<MakingLine>,
-) -> Result<Vec<u8>, AllocError>
-    requires { part.now.course.world.setup ≡ part.now.heard.snapshot.setup }
-    ensures { IfOk result (λ text. WritesPart part.now newest.now text.items) }
-{
+    let until = Until::Event(events);
+    let Ok(newest) = course.play_all(scenario, until, observer, onlooker) else {
+        return Err(AllocError);
+    };
+    let core = course.core();
+    let snapshot = &observer.snapshot;
     let mut text = Vec::new(alloc);
-    part.heard.print_head(&mut text)?;
-    push_made(alloc, newest, part.events(), &mut text)?;
-    part.print(alloc, &mut text)?;
+    observer.print_head(core, &mut text)?;
+    push_made(alloc, scenario, newest, snapshot.entries(), &mut text)?;
+    snapshot.print(alloc, core, course.history(), &mut text)?;
     Ok(text)
 }
 
 /// Writes the line that made the newest of so many events, if there is one.
 fn push_made(
     alloc: Global,
-    newest: &Option<MakingLine>,
+    scenario: &Scenario,
+    newest: Option<LineMade>,
     events: u64,
     text: &mut Vec<u8>,
 ) -> Result<(), AllocError>
-    ensures { OnOk result (text.new.items
-        ≡ text.old.items ++ remembered_line events newest.now) }
+    requires { IfSome newest (λ made. made.line < length scenario.now.lines.items) }
+    ensures { OnOk result (WritesMade scenario.now.numbers.items scenario.now.lines.items
+        newest events text.old.items text.new.items) }
 {
     let _nested: NestedTypes = None;
     let Some(newest) = newest else {
         return Ok(());
     };
-    let number = newest.number;
+    let number = scenario.numbers[newest.line];
     let made = events.saturating_sub(newest.before);
-    let line = newest.line;
+    let line = scenario.lines[newest.line];
     let words = format!(in alloc; "line {number} made {made} {line}\n")?;
     text.extend_from_slice(words.as_bytes())
 }

@@ -5,12 +5,12 @@ ghost use Rattle.plain_store.specs.{checked};
 ghost use Rattle.record.specs.{store_after};
 ghost use Rattle.run_state.specs.Stores.{history_lines, is_some_call, number_word, numbers_of, store_text};
 
+use calls::world::Image;
 use plain_store::{Caller, NestedTypes, Setup, Store, opened, store_words};
 use record::Taken;
 use std::alloc::{AllocError, Global};
-use calls::world::Image;
 
-/// Writes the pairs of a store, or `empty`; and the numbers of its callers, unless all are 0.
+/// Writes the pairs of a store, or `empty`, and the numbers of its callers, unless all are 0.
 pub(crate) fn push_store<S: Store>(
     alloc: Global,
     callers: u8,
@@ -29,7 +29,7 @@ pub(crate) fn push_store<S: Store>(
     push_numbers(alloc, callers, store, text)
 }
 
-/// Whether one of so many callers has a number other than 0.
+/// Returns whether one of the first `callers` callers has a number other than 0.
 #[tactic(auto, using(crate::proofs::Ranges::any_more))]
 fn has_numbers<S: Store>(callers: u8, store: &S) -> bool
     ensures { result ≡ list_any is_some_call (numbers_of callers (S.contents store.now).numbers) }
@@ -41,7 +41,7 @@ fn has_numbers<S: Store>(callers: u8, store: &S) -> bool
     has
 }
 
-/// Writes the numbers of so many callers.
+/// Writes the numbers of the first `callers` callers.
 fn push_numbers<S: Store>(
     alloc: Global,
     callers: u8,
@@ -77,7 +77,7 @@ pub(crate) fn push_history(
     Ok(text.push(b'\n')?)
 }
 
-/// The one-thread store after some commands.
+/// Returns the one-thread store after some commands.
 fn store_after(setup: &Setup, history: &[Taken]) -> Result<Image, AllocError>
     requires { checked setup.now ≡ Ok tt }
     ensures { IfOk result (λ store. store ≡ store_after setup.now history.now) }

@@ -6,7 +6,4 @@ use Rattle.run_state.proofs.snapshot.Snapshot.push_processes.Given as goal
 
 -- the lines of those below were written
 abbrev pub invariant-loop-process : goal.invariant-loop-process
-invariant-loop-process l = record {
-  twin : l.twin.setup ≡ l.self.setup;
-  lines : (past : Past) → Stands l.self l.core l.history past → l.text.items ≡ l.fn.text.items ++ flat_map (process_lines l.self.setup past) (range_with_len 0 l.process);
-}
+invariant-loop-process l = (past : Past) → Stands l.self l.core l.history past → l.text.items ≡ l.fn.text.items ++ flat_map (process_lines l.self.setup past) (range_with_len 0 l.process)

@@ -1,8 +1,0 @@
-use Rattle.std.proofs.Common.{refl}
-use Rattle.run_state.proofs.heard.HeardRun.new.Goals as goal
-
-pub returns-clause-seen : goal.returns-clause-seen
-returns-clause-seen c = record { setup = c.in_ok-snapshot.ensures.setup; heard = c.in_ok-snapshot.ensures.heard }
-
-pub returns-clause-knows : goal.returns-clause-knows
-returns-clause-knows c = refl

@@ -1,0 +1,16 @@
+use Rattle.std.proofs.Common.{subst, sym, ◌∙◌}
+use Rattle.plain_store.specs.{Setup}
+use Rattle.calls.specs.course.{past_after}
+use Rattle.run_state.specs.{Passes}
+use Rattle.run_state.proofs.Seeing.{newest_within, passes_of}
+use Rattle.run_state.proofs.observer.StateObserverListener.pass.Goals as goal
+
+pub returns-clause-ok : goal.returns-clause-ok
+returns-clause-ok c = λ off s before after newest is passed seen.
+    let p = c.args.process in
+    let n = c.args.steps in
+    record {
+      setup = c.pass.ensures.setup ∙ seen.setup;
+      heard = c.pass.ensures.heard p (past_after s before) (past_after s after) (subst (λ (s' : Setup). Passes s' p n (past_after s before) (past_after s after)) (sym seen.setup) (passes_of s p n before after passed.within)) seen.heard;
+      newest_is = newest_within s p n before after c.requires.some passed.within;
+    }
