@@ -17,7 +17,7 @@ pub use Lines.{line_if, open_lines, process_line, taken_words}
 pub use Making.{EventsAreMade, IsMade, WritesMade, made_line, makes_event, making_line, number_in}
 pub use Processes.{is_resting, lines_at, lines_of_two, newest_line, process_lines, rest_line, running_lines, words_added}
 pub use Snapshots.{HasHeard, SnapshotState, Stands, state_lines}
-pub use States.{HasSeen, Hears, HearsTold, IsNewestWithin, StoresNewest, first_of, head_lines, newest, state_after, state_of, state_text, stated, stated_in, unmarked_entry}
+pub use States.{HasSeen, Hears, HearsTold, IsNewestWithin, StoresNewest, entry_reported, first_of, head_lines, newest, state_after, state_of, state_text, stated, stated_in, unmarked_entry}
 pub use Stores.{history_lines, is_some_call, number_word, store_text}
 pub use declared.kept.FinishedRead.{FinishedRead}
 pub use declared.kept.ProcessKept.{ProcessKept}

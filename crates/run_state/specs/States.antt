@@ -13,7 +13,7 @@ use Rattle.run_state.specs.Snapshots.{HasHeard, state_lines}
 use Rattle.run_state.specs.Making.{making_line}
 use Rattle.calls.specs.Tables.{IsInTurn, past_with}
 use Rattle.run_state.specs.declared.observer.NewestEvent.{NewestEvent}
-use Rattle.run_state.specs.declared.observer.NewestEvent.TheVariants.{Marked, Nothing, Passed, Unmarked}
+use Rattle.run_state.specs.declared.observer.NewestEvent.TheVariants.{Marked, Nothing, Unmarked}
 use Rattle.run_state.specs.declared.observer.StateObserver.{StateObserver}
 
 -- The text.
@@ -79,18 +79,22 @@ pub record IsNewestWithin (s : Setup) (p : ℕ) (past : Past) : Type 0 where
   pub is : past ≡ unmarked_entry p (Some access) ∷ before
   pub within : 0 < left_at (process_after s before p)
 
--- this is stored of the newest event
-abbrev pub StoresNewest : Setup → NewestEvent → Past → Type 0
-StoresNewest s Nothing past = newest past ≡ None
-StoresNewest s (Marked made) past = newest past ≡ Some (entry_made made)
-StoresNewest s (Unmarked p access) past = newest past ≡ Some (unmarked_entry p (Some access))
-StoresNewest s (Passed p) past = IsNewestWithin s p past
+-- the entry of the newest event that was reported
+abbrev pub entry_reported : NewestEvent → Option Entry
+entry_reported Nothing = None
+entry_reported (Marked made) = Some (entry_made made)
+entry_reported (Unmarked p access) = Some (unmarked_entry p (Some access))
+
+-- The newest event is the one that was reported last; or else it is a Step of this process that has passed by since.
+abbrev pub StoresNewest : Setup → NewestEvent → Option ℕ → Past → Type 0
+StoresNewest s reported None past = newest past ≡ entry_reported reported
+StoresNewest s reported (Some p) past = IsNewestWithin s p past
 
 -- these entries were observed
 pub record HasSeen (s : Setup) (past : Past) (observer : StateObserver) : Type 0 where
   pub setup : observer.snapshot.setup ≡ s
   pub heard : HasHeard observer.snapshot past
-  pub newest_is : StoresNewest s observer.newest past
+  pub newest_is : StoresNewest s observer.newest observer.passed past
 
 -- all that has happened between two moments was observed
 abbrev pub Hears : StateObserver → Setup → List Happening → List Happening → StateObserver → Type 0

@@ -6,7 +6,7 @@ ghost use Rattle.calls.specs.course.{HearsUnmarked};
 ghost use Rattle.calls.specs.course.declared.told.Told.TheVariants.{Accepted as IsAccepted};
 ghost use Rattle.calls.specs.world.Cores.{InEachCorePast};
 ghost use Rattle.run_state.specs.Processes.{newest_line};
-ghost use Rattle.run_state.specs.States.{HasSeen, Hears, HearsTold, head_lines, newest as newest_of, unmarked_entry};
+ghost use Rattle.run_state.specs.States.{HasSeen, Hears, HearsTold, entry_reported, head_lines, newest as newest_of, unmarked_entry};
 ghost use Rattle.calls.specs.Tables.{fewer};
 
 use crate::snapshot::Snapshot;
@@ -18,7 +18,7 @@ use record::{Access, Act, Entry, Move};
 use smallvec::SmallVec;
 use std::alloc::{AllocError, Global};
 
-/// What is stored of the newest event.
+/// What is stored of the newest event that was reported.
 #[derive(Clone, Copy)]
 enum NewestEvent {
     /// There was no event.
@@ -27,8 +27,6 @@ enum NewestEvent {
     Marked(Accepted),
     /// A Step of this process, with this access and without a mark.
     Unmarked(u8, Access),
-    /// A Step of this process within a register access, without a mark. It passed by, so its access is not stored.
-    Passed(u8),
 }
 
 /// The state of a run, and its newest event.
@@ -37,6 +35,9 @@ pub(crate) struct StateObserver {
     alloc: Global,
     pub snapshot: Snapshot,
     newest: NewestEvent,
+    /// The process whose Steps have passed by since, within a register access and without a mark; their accesses are not stored.
+    /// It has a field of its own, because `pass` would otherwise write as many bytes as an event has.
+    passed: Option<u8>,
 }
 
 impl StateObserver {
@@ -51,6 +52,7 @@ impl StateObserver {
             alloc,
             snapshot,
             newest: NewestEvent::Nothing,
+            passed: None,
         })
     }
 
@@ -84,6 +86,7 @@ impl StateObserver {
             marks.as_slice(),
         );
         self.newest = NewestEvent::Marked(made);
+        self.passed = None;
     }
 
     /// Observes a Step without a mark. One that is reported without a number ends no register read.
@@ -96,6 +99,7 @@ impl StateObserver {
         let number = made.number.unwrap_or(0);
         self.snapshot.step(made.process, &made.access, number);
         self.newest = NewestEvent::Unmarked(made.process, made.access);
+        self.passed = None;
     }
 
     /// Writes how many events there were and the entry of the newest one. The run's world keeps this core.
@@ -126,15 +130,25 @@ impl StateObserver {
         ensures { InEachCorePast core.now (λ s past. HasSeen s past self.now → result ≡ newest_of past) }
     {
         let _nested: NestedTypes = None;
+        match self.passed {
+            None => self.reported_entry(),
+            Some(process) => {
+                let access = core.last_access(process);
+                Some(unmarked_entry(self.alloc, process, access))
+            }
+        }
+    }
+
+    /// Returns the entry of the newest event that was reported. It does not allocate.
+    fn reported_entry(&self) -> Option<Entry>
+        ensures { result ≡ entry_reported self.now.newest }
+    {
+        let _nested: NestedTypes = None;
         match &self.newest {
             NewestEvent::Nothing => None,
             NewestEvent::Marked(made) => Some(made.entry(self.alloc)),
             NewestEvent::Unmarked(process, access) => {
                 Some(unmarked_entry(self.alloc, *process, Some(*access)))
-            }
-            NewestEvent::Passed(process) => {
-                let access = core.last_access(*process);
-                Some(unmarked_entry(self.alloc, *process, access))
             }
         }
     }
@@ -186,7 +200,7 @@ impl Listener for StateObserver {
     #[inline(always)]
     fn pass(&mut self, process: u8, steps: u32, _newest: Move, _overlapped: u32) {
         self.snapshot.pass(steps);
-        self.newest = NewestEvent::Passed(process);
+        self.passed = Some(process);
     }
 
     ghost room_less = { λ a n k few room. fewer a.snapshot.entries n k few room };

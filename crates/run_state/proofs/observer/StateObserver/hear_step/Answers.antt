@@ -1,4 +1,4 @@
-use Rattle.std.proofs.Common.{◌<◌, [], Option, Some, ℕ, ap, refl, sym, subst, ◌∙◌}
+use Rattle.std.proofs.Common.{◌<◌, [], None, Option, Some, ℕ, ap, refl, sym, subst, ◌∙◌}
 use Rattle.std.specs.Option.{unwrap_or}
 use Rattle.plain_store.specs.{Setup}
 use Rattle.record.specs.{Entry, Past}
@@ -15,7 +15,7 @@ returns-clause-heard c = λ s before on seen.
     let number = c.unwrap_or-number.result in
     let past : Past = past_after s before in
     let e : Entry = unmarked_entry made.process (Some made.access) in
-    let new : StateObserver = record c.args.self.now { snapshot = c.step.new.self; newest = Unmarked made.process made.access } in
+    let new : StateObserver = record c.args.self.now { snapshot = c.step.new.self; newest = Unmarked made.process made.access; passed = None } in
     subst (λ past. HasSeen s past new) (sym (step_past s before made on)) (record {
       setup = c.step.ensures.setup ∙ seen.setup;
       heard = c.step.ensures.heard past e refl refl refl (subst (λ (s : Setup). TellsNumber s past made.process made.access number) (sym seen.setup) (tells_number s before made number (λ m is. c.unwrap_or-number.ensures ∙ ap (λ (o : Option ℕ). unwrap_or o 0) is) on))
