@@ -1,15 +1,17 @@
 -- The entry that a step of a process adds, by its seat.
-use Rattle.std.proofs.Common.{◌≡◌, ℕ, Bool, true, cond, List, Option, None, Some, length, map, sym, ap, subst, ◌∙◌}
+use Rattle.std.proofs.Common.{◌≡◌, ◌<◌, ℕ, Bool, true, cond, List, [], Option, None, Some, length, map, refl, sym, ap, subst, ◌∙◌}
 use Rattle.std.specs.Prelude.{slice_get}
 use Rattle.plain_store.specs.{Setup}
 use Rattle.record.specs.declared.events.Event.TheVariants.{Step}
 use Rattle.record.specs.declared.refusals.Refusal.TheVariants.{NotRunning}
 use Rattle.record.specs.{Access, Entry, Mark, Past, Refusal, added, history, past_of, placed, refused, value_of}
-use Rattle.process.specs.{answered_at, marks_on, may_step}
-use Rattle.world.specs.{CoreRefuses, CoreState, IsStepEntry, Seat, with_history}
+use Rattle.process.specs.{StepTold, answered_at, left_at, marks_on, marks_told, may_step}
+use Rattle.process.proofs.Left.{left-quiet}
+use Rattle.world.specs.{CoreAddsQuietly, CoreAddsStep, CoreRefuses, CoreState, IsStepEntry, Seat, with_history}
 use Rattle.world.proofs.CoreGoes.{entry_told, made}
 use Rattle.world.proofs.CoreRefused.{refused-step}
 use Rattle.world.proofs.WorldOpen.{core-shown, history-shown, seat-shown}
+use Rattle.world.proofs.WorldStages.{left-may}
 
 -- a step that is refused adds none
 pub none-next : (c : CoreState) (p : ℕ) (flick : Bool) (taken : ℕ) (why : Refusal) → CoreRefuses c (Step p flick) (Some why) → IsStepEntry c p flick taken None
@@ -28,9 +30,26 @@ entry-next c p flick taken seat there goes taken_before events many shows =
     ∙ sym (made s shows.good events (Step p flick) allowed)
 
 -- the same of an access and of marks that are those of the seat
-pub told-next : (c : CoreState) (p : ℕ) (flick : Bool) (taken : ℕ) (seat : Seat) (a : Access) (marks : List Mark) → slice_get c.seats p ≡ Some seat → may_step seat.process.doing ≡ true →
+told-next : (c : CoreState) (p : ℕ) (flick : Bool) (taken : ℕ) (seat : Seat) (a : Access) (marks : List Mark) → slice_get c.seats p ≡ Some seat → may_step seat.process.doing ≡ true →
     a ≡ answered_at seat.process c.registers flick → marks ≡ map (placed taken) (marks_on seat.process flick (value_of a.how)) → IsStepEntry c p flick taken (Some (record { process = p; access = Some a; marks = marks }))
 told-next c p flick taken seat a marks there goes access are =
     subst (IsStepEntry c p flick taken)
     (λ i. let e : Entry = record { process = p; access = Some (sym access i); marks = sym (are ∙ ap (λ (x : Access). map (placed taken) (marks_on seat.process flick (value_of x.how))) access) i } in Some e)
     (entry-next c p flick taken seat there goes)
+
+-- so is the step known by what it leads to,
+pub step-next : (c : CoreState) (p : ℕ) (flick : Bool) (seat : Seat) (a : Access) (told : StepTold) → slice_get c.seats p ≡ Some seat → may_step seat.process.doing ≡ true →
+    a ≡ answered_at seat.process c.registers flick → marks_told told ≡ marks_on seat.process flick (value_of a.how) → CoreAddsStep c p flick told a
+step-next c p flick seat a told there goes access are = λ taken events shows.
+    sym (told-next c p flick (length taken) seat a (map (placed (length taken)) (marks_told told)) there goes access (ap (map (placed (length taken))) are) taken events refl shows)
+
+-- one within a register access by its access alone,
+pub quiet-next : (c : CoreState) (p : ℕ) (flick : Bool) (seat : Seat) (a : Access) → slice_get c.seats p ≡ Some seat → 0 < left_at seat.process → a ≡ answered_at seat.process c.registers flick → CoreAddsQuietly c p flick a
+quiet-next c p flick seat a there left access = λ taken events shows.
+    sym (told-next c p flick (length taken) seat a [] there (left-may seat.process left) access (sym (ap (map (placed (length taken))) (left-quiet seat.process flick (value_of a.how) left))) taken events refl shows)
+
+-- and its entry, where so many commands were taken
+pub entry-of-step : (c : CoreState) (p : ℕ) (flick : Bool) (taken : ℕ) (a : Access) (told : StepTold) (marks : List Mark) → CoreAddsStep c p flick told a → marks ≡ map (placed taken) (marks_told told) →
+    IsStepEntry c p flick taken (Some (record { process = p; access = Some a; marks = marks }))
+entry-of-step c p flick taken a told marks adds are = λ history events many shows.
+    (λ i. let e : Entry = record { process = p; access = Some a; marks = (are ∙ ap (λ n. map (placed n) (marks_told told)) (sym many)) i } in Some e) ∙ sym (adds history events shows)

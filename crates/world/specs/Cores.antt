@@ -14,7 +14,7 @@ use Rattle.world.specs.Events.{AddsEvent, GoesOn, InEachPast, IsRefused, IsTurne
 use Rattle.flicks.specs.{FlickState}
 use Rattle.world.specs.Seats.{Seat}
 use Rattle.world.specs.Shows.{Shows, WorldState}
-use Rattle.world.specs.Walks.{TellsOverlapped, Walks}
+use Rattle.world.specs.Walks.{AddsQuietly, TellsOverlapped, Walks}
 
 -- the registers, and what is kept of each process: of fixed size
 pub record CoreState : Type 0 where
@@ -67,6 +67,10 @@ CoreAdds c event effect access = (taken : List Taken) → AddsEvent (with_histor
 
 abbrev pub CoreAddsStep : CoreState → ℕ → Bool → StepTold → Access → Type 0
 CoreAddsStep c p flick told access = CoreAdds c (Step p flick) (Steps told) (Some access)
+
+-- that of a step that has no mark
+abbrev pub CoreAddsQuietly : CoreState → ℕ → Bool → Access → Type 0
+CoreAddsQuietly c p flick access = (taken : List Taken) → AddsQuietly (with_history c taken) p flick access
 
 -- and whether an access to come ends a read that a write overlapped
 abbrev pub CoreTellsOverlapped : CoreState → Access → Bool → Type 0

@@ -1,16 +1,17 @@
 //! What a core keeps of a process and of a bit. It is looked at, and stays as it is.
-ghost use Rattle.std.specs.Prelude.{◌≡◌, ◌<◌};
+ghost use Rattle.std.specs.Prelude.{◌≡◌, ◌<◌, IfErr, IfOk};
 ghost use Rattle.record.specs.{width};
 ghost use Rattle.laws.specs.{doing};
 ghost use Rattle.process.specs.{number_read, process_after};
 ghost use Rattle.process.specs.registers.reader_copies.{bit_seen};
-ghost use Rattle.world.specs.Cores.{InEachCorePast};
+ghost use Rattle.world.specs.Cores.{CoreAddsQuietly, CoreAddsStep, CoreRefusesStep, InEachCorePast};
 ghost use Rattle.world.specs.Looking.{IsNewestAccess, IsStepEntry, bytes_held, copy_held};
+ghost use Rattle.world.specs.Walks.{left_in};
 
 use super::Core;
 use crate::marks::step_marks;
-use process::{BitCopy, BitSeen, Process, RegisterName};
-use record::{Access, Act, Entry};
+use process::{BitCopy, BitSeen, Process, RegisterName, StepTold};
+use record::{Access, Act, Entry, Refusal};
 use std::alloc::Global;
 
 impl Core {
@@ -61,16 +62,44 @@ impl Core {
         self.seat(process)?.process.last_access()
     }
 
+    /// Returns the access that the next step of a process makes by this flick, within a register access of its call. Nothing
+    /// changes.
+    #[inline]
+    pub fn next_access(&self, process: u8, flick: bool) -> Access
+        requires { 0 < left_in self.now.seats process }
+        ensures { CoreAddsQuietly self.now process flick result }
+    {
+        let next = self.seats[usize::from(process)].process.next(flick);
+        self.registers.answered(&self.setup, &next, flick)
+    }
+
+    /// Returns the access that the next step of a process makes by this flick, and what the step leads to. Nothing changes,
+    /// and it does not allocate.
+    ///
+    /// # Errors
+    ///
+    /// Returns why the step is refused.
+    pub fn next_step(&self, process: u8, flick: bool) -> Result<(Access, StepTold), Refusal>
+        ensures accepted { IfOk result (λ next. CoreAddsStep self.now process flick next.1 next.0) }
+        ensures refused { IfErr result (CoreRefusesStep self.now process flick) }
+    {
+        let Some(seat) = self.seat(process) else {
+            return Err(Refusal::NoProcess);
+        };
+        if !seat.process.goes() {
+            return Err(Refusal::NotRunning);
+        }
+        Ok(seat.process.next_step(&self.registers, flick))
+    }
+
     /// Returns the entry that a step of a process would add by this flick, where `taken` commands were taken; `None` if
     /// the step is refused. Nothing changes, and it does not allocate.
     pub fn next_entry(&self, alloc: Global, process: u8, flick: bool, taken: u64) -> Option<Entry>
         ensures entry { IsStepEntry self.now process flick taken result }
     {
-        let seat = self.seat(process)?;
-        if !seat.process.goes() {
+        let Ok((access, told)) = self.next_step(process, flick) else {
             return None;
-        }
-        let (access, told) = seat.process.next_step(&self.registers, flick);
+        };
         Some(Entry {
             process,
             act: Act {
