@@ -9,9 +9,9 @@ use Rattle.plain_store.proofs.Changes.{same_value-Decides}
 use Rattle.record.specs.{Entry, IsAlone, Mark, Past, TakesItsPlace, first_of, has, history, inside, inside_after, is_before, is_entered, is_waiting_stage, stage as stage_at, stage_after, takings}
 use Rattle.record.specs.declared.marks.Mark.TheVariants as mark
 use Rattle.record.specs.declared.stages.Stage.TheVariants as stage
-use Rattle.any_lock.specs.declared.verdicts.AnyLockLaw.TheVariants as law
-use Rattle.any_lock.specs.{AnyLockVerdict, OvertakesNobody, breaks_access, breaks_history, breaks_marks, breaks_overtaken, breaks_together, first_broken, is_that, lowest_below, refusal_of_access, refusal_of_marks, right_reply, same_reply, standing, verdict_after, verdict_with, waits_before}
-use Rattle.any_lock.specs.declared.verdicts.AnyLockVerdict.TheVariants.{Good, Bad}
+use Rattle.any_lock.specs.declared.any_lock_law.AnyLockLaw.TheVariants as law
+use Rattle.any_lock.specs.{AnyLockLaw, Verdict, OvertakesNobody, breaks_access, breaks_history, breaks_marks, breaks_overtaken, breaks_together, first_broken, is_that, lowest_below, refusal_of_access, refusal_of_marks, right_reply, same_reply, standing, verdict_after, verdict_with, waits_before}
+use Rattle.read_law.specs.declared.verdicts.Verdict.TheVariants.{Good, Bad}
 use Rattle.any_lock.proofs.Breaks.{none_else, none_if, process_there, unbroken, unrefused, unsome}
 use Rattle.any_lock.proofs.Told.{found_good}
 
@@ -46,13 +46,13 @@ pub all_keep : (s : Setup) (past : Past) → verdict_after s past ≡ Good → A
 all_keep s [] good = tt
 all_keep s (e ∷ past) good = go (verdict_after s past) refl (all_keep s past)
   where
-    go : (v : AnyLockVerdict) → verdict_after s past ≡ v → (verdict_after s past ≡ Good → AllKeep s past) → AllKeep s (e ∷ past)
+    go : (v : Verdict AnyLockLaw) → verdict_after s past ≡ v → (verdict_after s past ≡ Good → AllKeep s past) → AllKeep s (e ∷ past)
     go Good is before = (
       keeps s past e (found_good (length past) (first_broken s past e)
-          (ap (λ v. elim v as (λ _. AnyLockVerdict) [ Good ↦ verdict_with (length past) (first_broken s past e) | Bad k l ↦ Bad k l ]) (sym is) ∙ good)),
+          (ap (λ v. elim v as (λ _. Verdict AnyLockLaw) [ Good ↦ verdict_with (length past) (first_broken s past e) | Bad k l ↦ Bad k l ]) (sym is) ∙ good)),
       before is,
     )
-    go (Bad k l) is before = let both : Bad k l ≡ Good = ap (λ v. elim v as (λ _. AnyLockVerdict) [ Good ↦ verdict_with (length past) (first_broken s past e) | Bad k l ↦ Bad k l ]) (sym is) ∙ good in absurd (cc)
+    go (Bad k l) is before = let both : Bad k l ≡ Good = ap (λ v. elim v as (λ _. Verdict AnyLockLaw) [ Good ↦ verdict_with (length past) (first_broken s past e) | Bad k l ↦ Bad k l ]) (sym is) ∙ good in absurd (cc)
 
 -- A process that is not there does nothing.
 

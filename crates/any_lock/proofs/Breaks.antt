@@ -9,7 +9,7 @@ use Rattle.record.specs.{Access, Entry, Past, begins_read, moves_of, opening_bit
 use Rattle.read_law.specs.{IsOfThere, KeepsSafe, MatchBool}
 use Rattle.any_lock.specs.{AccessRefusal, access_refusal, breaks_access, breaks_history, breaks_marks, breaks_overtaken, breaks_safe, breaks_together, broken_inside, broken_later, ends_wrongly, first_broken, first_that, is_there, refusal_of_access, refusal_of_marks, same_truth, standing}
 use Rattle.any_lock.specs.declared.refusals.AccessRefusal.TheVariants as access
-use Rattle.any_lock.specs.declared.verdicts.AnyLockLaw.TheVariants as law
+use Rattle.any_lock.specs.declared.any_lock_law.AnyLockLaw.TheVariants as law
 
 -- Tests of which none holds.
 

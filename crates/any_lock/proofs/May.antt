@@ -14,7 +14,7 @@ use Rattle.record.specs.{Access, Entry, Mark, Past, begins_read, has, history, i
 use Rattle.record.specs.declared.marks.Mark.TheVariants as mark
 use Rattle.any_lock.specs.{AnyLockLaw, MarkRefusal, MaysKeepAllLaws, Remedy, Standing, accessed_by, breaks_access, breaks_history, breaks_marks, breaks_overtaken, breaks_safe, breaks_together, broken_inside, broken_later, change_of, changed, ends_with, ends_wrongly, first_broken, first_that, has_other_reply, is_in_doorway, is_leaving, is_reply, is_that, is_withdrawn, lowest_other, mark_refusal, mark_with, marked, other_value, refusal_of_marks, refusal_on, right_reply, same_reply, same_truth, standing, stands_alone, value_in, waits_before, with_value}
 use Rattle.any_lock.specs.declared.reasons.Remedy.TheVariants.{Value, Taking}
-use Rattle.any_lock.specs.declared.verdicts.AnyLockLaw.TheVariants as law
+use Rattle.any_lock.specs.declared.any_lock_law.AnyLockLaw.TheVariants as law
 use Rattle.any_lock.specs.declared.refusals.MarkRefusal.TheVariants as refusal
 use Rattle.any_lock.proofs.Alone.{AllKeep, all_keep}
 use Rattle.any_lock.proofs.Breaks.{none_else, none_if, unsome}

@@ -4,8 +4,8 @@ use Rattle.std.proofs.lemmas.List.{length-append, length-reverse, reverse-append
 use Rattle.plain_store.specs.{Setup}
 use Rattle.record.specs.{Entry, Past}
 use Rattle.read_law.specs.{AllAreOfThere, HasHeard as HasWatched, WatchState}
-use Rattle.any_lock.specs.{AnyLockLaw, AnyLockVerdict, AreReasonsAt, AreReasonsIf, AreReasonsOf, BothHeard, HasJudged, JudgeState, KeptState, Knows, breaks_safe, first_broken, verdict_after, verdict_of, verdict_with}
-use Rattle.any_lock.specs.declared.verdicts.AnyLockVerdict.TheVariants.{Good, Bad}
+use Rattle.any_lock.specs.{AnyLockLaw, Verdict, AreReasonsAt, AreReasonsIf, AreReasonsOf, BothHeard, HasJudged, JudgeState, KeptState, Knows, breaks_safe, first_broken, verdict_after, verdict_of, verdict_with}
+use Rattle.read_law.specs.declared.verdicts.Verdict.TheVariants.{Good, Bad}
 use Rattle.any_lock.specs.declared.reasons.Reasons.{Reasons}
 use Rattle.any_lock.proofs.Breaks.{access_there, unbroken, unrefused}
 
@@ -17,14 +17,14 @@ newest_first entries e = reverse-append entries (e ∷ [])
 pub verdict_good : (s : Setup) (entries : List Entry) (e : Entry) → verdict_of s entries ≡ Good → verdict_of s (entries ++ e ∷ []) ≡ verdict_with (length entries) (first_broken s (reverse entries) e)
 verdict_good s entries e good =
     ap (verdict_after s) (newest_first entries e)
-    ∙ ap (λ v. elim v as (λ _. AnyLockVerdict) [ Good ↦ verdict_with (length (reverse entries)) (first_broken s (reverse entries) e) | Bad k l ↦ Bad k l ]) good
+    ∙ ap (λ v. elim v as (λ _. Verdict AnyLockLaw) [ Good ↦ verdict_with (length (reverse entries)) (first_broken s (reverse entries) e) | Bad k l ↦ Bad k l ]) good
     ∙ ap (λ n. verdict_with n (first_broken s (reverse entries) e)) (length-reverse entries)
 
 -- a bad one stays
 pub verdict_bad : (s : Setup) (entries : List Entry) (e : Entry) (k : ℕ) (l : AnyLockLaw) → verdict_of s entries ≡ Bad k l → verdict_of s (entries ++ e ∷ []) ≡ Bad k l
 verdict_bad s entries e k l bad =
     ap (verdict_after s) (newest_first entries e)
-    ∙ ap (λ v. elim v as (λ _. AnyLockVerdict) [ Good ↦ verdict_with (length (reverse entries)) (first_broken s (reverse entries) e) | Bad k l ↦ Bad k l ]) bad
+    ∙ ap (λ v. elim v as (λ _. Verdict AnyLockLaw) [ Good ↦ verdict_with (length (reverse entries)) (first_broken s (reverse entries) e) | Bad k l ↦ Bad k l ]) bad
 
 -- a verdict is good where no law is broken
 pub found_good : (k : ℕ) (law : Option AnyLockLaw) → verdict_with k law ≡ Good → law ≡ None
@@ -69,7 +69,7 @@ reasons_at s entries e None r are = are
 reasons_at s entries e (Some l) r are = record { entry = e; past = reverse entries; later = []; splits = newest_first entries e; number = length-reverse entries; told = are.0; is = are.1; are = are.2 }
 
 -- a judge with a good verdict and one more entry
-pub hears_on : (old new : JudgeState) (e : Entry) (found : AnyLockVerdict) (s : Setup) (entries : List Entry) → HasJudged old s entries → old.verdict ≡ Good → new.entries ≡ old.entries + 1 →
+pub hears_on : (old new : JudgeState) (e : Entry) (found : Verdict AnyLockLaw) (s : Setup) (entries : List Entry) → HasJudged old s entries → old.verdict ≡ Good → new.entries ≡ old.entries + 1 →
     ((past : Past) → BothHeard old s past → found ≡ verdict_with old.entries (first_broken s past e)) →
     ((past : Past) → BothHeard old s past → AreReasonsIf (first_broken s past e) new.reasons s past e) →
     ((past : Past) → BothHeard old s past → found ≡ Good → BothHeard new s (e ∷ past)) →
@@ -90,7 +90,7 @@ hears_on old new e found s entries judged good more heard reasons on =
 pub hears_bad : (old : JudgeState) (e : Entry) (s : Setup) (entries : List Entry) → HasJudged old s entries → (old.verdict ≡ Good → ⊥) → HasJudged (record old { entries = old.entries + 1 }) s (entries ++ e ∷ [])
 hears_bad old e s entries judged bad = by old.verdict refl judged.reasons
   where
-    by : (v : AnyLockVerdict) → old.verdict ≡ v → AreReasonsOf s entries old.verdict old.reasons → HasJudged (record old { entries = old.entries + 1 }) s (entries ++ e ∷ [])
+    by : (v : Verdict AnyLockLaw) → old.verdict ≡ v → AreReasonsOf s entries old.verdict old.reasons → HasJudged (record old { entries = old.entries + 1 }) s (entries ++ e ∷ [])
     by Good is reasons = absurd (bad is)
     by (Bad k l) is reasons =
         let at : AreReasonsAt s entries k l old.reasons = subst (λ v. AreReasonsOf s entries v old.reasons) is reasons in

@@ -6,8 +6,8 @@ use Rattle.record.specs.{Access, Entry, Mark, Past}
 use Rattle.record.specs.declared.marks.Mark.TheVariants.{Answered, Taken}
 use Rattle.any_lock.specs.declared.reasons.Remedy.{Remedy}
 use Rattle.any_lock.specs.declared.reasons.Remedy.TheVariants.{Value, Taking}
-use Rattle.any_lock.specs.declared.verdicts.AnyLockLaw.{AnyLockLaw}
-use Rattle.any_lock.specs.declared.verdicts.AnyLockVerdict.TheVariants.{Good}
+use Rattle.any_lock.specs.declared.any_lock_law.AnyLockLaw.{AnyLockLaw}
+use Rattle.read_law.specs.declared.verdicts.Verdict.TheVariants.{Good}
 use Rattle.any_lock.specs.Laws.{first_broken}
 use Rattle.any_lock.specs.Reasons.{change_of, ends_with}
 use Rattle.any_lock.specs.Verdicts.{verdict_after}

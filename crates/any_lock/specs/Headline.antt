@@ -3,8 +3,9 @@ use Rattle.std.specs.Prelude.{◌≡◌, ℕ, List, ◌∷◌, ◌++◌, reverse
 use Rattle.plain_store.specs.{Answer, Setup}
 use Rattle.record.specs.{AnswersNoCutCall, CallsTakeOnce, Entry, IsAlone, IsAnswerTo, Past, PlacesKeepOrder, StandsInHistory, TakesItsPlace, all_takings, has, is_entered}
 use Rattle.record.specs.declared.marks.Mark.TheVariants.{Answered}
-use Rattle.any_lock.specs.declared.verdicts.AnyLockVerdict.{AnyLockVerdict}
-use Rattle.any_lock.specs.declared.verdicts.AnyLockVerdict.TheVariants.{Good}
+use Rattle.read_law.specs.declared.verdicts.Verdict.{Verdict}
+use Rattle.any_lock.specs.declared.any_lock_law.AnyLockLaw.{AnyLockLaw}
+use Rattle.read_law.specs.declared.verdicts.Verdict.TheVariants.{Good}
 use Rattle.any_lock.specs.Laws.{waits_before}
 use Rattle.any_lock.specs.Standings.{its_call, standing}
 use Rattle.any_lock.specs.Verdicts.{verdict_of}
@@ -33,7 +34,7 @@ abbrev pub KeepsHeadlineThroughout : Setup → Past → Type 0
 KeepsHeadlineThroughout s past = (later earlier : Past) (e : Entry) → past ≡ later ++ e ∷ earlier → KeepsHeadline s earlier e
 
 -- If this is a good verdict, each entry of these keeps it.
-abbrev pub SaysHeadline : AnyLockVerdict → Setup → List Entry → Type 0
+abbrev pub SaysHeadline : Verdict AnyLockLaw → Setup → List Entry → Type 0
 SaysHeadline verdict s entries = verdict ≡ Good → KeepsHeadlineThroughout s (reverse entries)
 
 -- A good verdict says the headline.

@@ -1,24 +1,25 @@
 -- What a judge keeps of the entries that it has heard.
-use Rattle.std.specs.Prelude.{◌≡◌, ◌<◌, ℕ, Bool, not, [], List, ◌∷◌, ◌++◌, length, reverse, Option, None, Some, Ok}
+use Rattle.std.specs.Prelude.{◌≡◌, ◌<◌, ℕ, [], List, ◌∷◌, ◌++◌, length, reverse, Option, None, Some, Ok}
 use Rattle.plain_store.specs.{Setup, checked}
 use Rattle.record.specs.{Access, Entry, Past}
 use Rattle.read_law.specs.{AllAreOfThere, HasHeard as HasWatched, WatchState}
 use Rattle.any_lock.specs.declared.reasons.Reasons.{Reasons}
 use Rattle.any_lock.specs.declared.standings.Standing.{Standing}
-use Rattle.any_lock.specs.declared.verdicts.AnyLockLaw.{AnyLockLaw}
-use Rattle.any_lock.specs.declared.verdicts.AnyLockVerdict.{AnyLockVerdict}
-use Rattle.any_lock.specs.declared.verdicts.AnyLockVerdict.TheVariants.{Good, Bad}
+use Rattle.any_lock.specs.declared.any_lock_law.AnyLockLaw.{AnyLockLaw}
+use Rattle.read_law.specs.declared.verdicts.Verdict.{Verdict}
+use Rattle.read_law.specs.declared.verdicts.Verdict.TheVariants.{Good, Bad}
 use Rattle.any_lock.specs.Keeping.{KeptState, Knows}
 use Rattle.any_lock.specs.Reasons.{AreReasons, doorway_with, entered}
 use Rattle.any_lock.specs.Standings.{standing}
-use Rattle.any_lock.specs.Laws.{breaks_safe, first_broken}
-use Rattle.any_lock.specs.Verdicts.{verdict_of, verdict_with}
+use Rattle.any_lock.specs.Laws.{first_broken}
+use Rattle.read_law.specs.Verdicts.{verdict_with}
+use Rattle.any_lock.specs.Verdicts.{verdict_of}
 
 -- a watch, what is kept beside it, the verdict so far, and how many entries were heard
 pub record JudgeState : Type 0 where
   pub watch : WatchState
   pub kept : KeptState
-  pub verdict : AnyLockVerdict
+  pub verdict : Verdict AnyLockLaw
   pub entries : ℕ
   pub reasons : Option Reasons
 
@@ -42,7 +43,7 @@ pub record AreReasonsAt (s : Setup) (entries : List Entry) (k : ℕ) (l : AnyLoc
   pub are : AreReasons s past entry l told
 
 -- these are the reasons of a verdict on a record: a good one has none
-abbrev pub AreReasonsOf : Setup → List Entry → AnyLockVerdict → Option Reasons → Type 0
+abbrev pub AreReasonsOf : Setup → List Entry → Verdict AnyLockLaw → Option Reasons → Type 0
 AreReasonsOf s entries Good reasons = reasons ≡ None
 AreReasonsOf s entries (Bad k l) reasons = AreReasonsAt s entries k l reasons
 
@@ -64,7 +65,7 @@ AreReasonsIf None reasons s past e = reasons ≡ None
 AreReasonsIf (Some l) reasons s past e = (told : Reasons) × (reasons ≡ Some told) × AreReasonsBy l told s past e
 
 -- where both have heard the entries before, this is the verdict with an entry of this number
-abbrev pub Finds : JudgeState → ℕ → Entry → AnyLockVerdict → Type 0
+abbrev pub Finds : JudgeState → ℕ → Entry → Verdict AnyLockLaw → Type 0
 Finds j number e verdict = (s : Setup) (past : Past) → BothHeard j s past → verdict ≡ verdict_with number (first_broken s past e)
 
 -- it has the reasons of that entry
@@ -72,7 +73,7 @@ abbrev pub TellsReasons : JudgeState → Entry → JudgeState → Type 0
 TellsReasons j e then = (s : Setup) (past : Past) → BothHeard j s past → AreReasonsIf (first_broken s past e) then.reasons s past e
 
 -- and both go on, if the verdict is good
-abbrev pub HearOn : JudgeState → Entry → AnyLockVerdict → JudgeState → Type 0
+abbrev pub HearOn : JudgeState → Entry → Verdict AnyLockLaw → JudgeState → Type 0
 HearOn j e verdict then = (s : Setup) (past : Past) → BothHeard j s past → verdict ≡ Good → BothHeard then s (e ∷ past)
 
 -- It has heard these entries: it has the verdict on them and its reasons, and as long as that is good the watch and what is kept go on.

@@ -5,8 +5,8 @@ use Rattle.record.specs.safe_bit.{Move, before_read, is_overlapped, last_written
 use Rattle.record.specs.safe_bit.declared.Move.TheVariants.{EndRead}
 use Rattle.plain_store.specs.{Reply, Setup, reply_to}
 use Rattle.record.specs.{Entry, Mark, Past, begins_read, first_of, has, history, is_before, is_entered, is_waiting_stage, moves_of, opening_bit, store_after, takings}
-use Rattle.any_lock.specs.declared.verdicts.AnyLockLaw.{AnyLockLaw}
-use Rattle.any_lock.specs.declared.verdicts.AnyLockLaw.TheVariants as law
+use Rattle.any_lock.specs.declared.any_lock_law.AnyLockLaw.{AnyLockLaw}
+use Rattle.any_lock.specs.declared.any_lock_law.AnyLockLaw.TheVariants as law
 use Rattle.any_lock.specs.declared.standings.Standing.{Standing}
 use Rattle.any_lock.specs.Refusals.{first_that, refusal_of_access, refusal_of_marks, same_reply, same_truth}
 use Rattle.any_lock.specs.Standings.{standing}

@@ -10,8 +10,8 @@ use Rattle.any_lock.specs.declared.reasons.Refused.{Refused}
 use Rattle.any_lock.specs.declared.reasons.Refused.TheVariants as by
 use Rattle.any_lock.specs.declared.standings.Begun.{Begun}
 use Rattle.any_lock.specs.declared.standings.Standing.{Standing}
-use Rattle.any_lock.specs.declared.verdicts.AnyLockLaw.{AnyLockLaw}
-use Rattle.any_lock.specs.declared.verdicts.AnyLockLaw.TheVariants as law
+use Rattle.any_lock.specs.declared.any_lock_law.AnyLockLaw.{AnyLockLaw}
+use Rattle.any_lock.specs.declared.any_lock_law.AnyLockLaw.TheVariants as law
 use Rattle.any_lock.specs.Laws.{broken_later, is_other_ahead, other_inside, right_reply}
 use Rattle.any_lock.specs.Refusals.{refusal_of_access, refusal_of_marks}
 use Rattle.any_lock.specs.Standings.{has_access, standing}

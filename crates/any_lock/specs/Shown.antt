@@ -1,14 +1,11 @@
--- How laws, refusals and verdicts are printed.
-use Rattle.std.specs.Prelude.{ℕ, List, ◌++◌, codes}
-use Rattle.std.specs.Fmt.{decimal}
-use Rattle.any_lock.specs.declared.verdicts.AnyLockLaw.{AnyLockLaw}
-use Rattle.any_lock.specs.declared.verdicts.AnyLockLaw.TheVariants as law
+-- How laws and refusals are printed.
+use Rattle.std.specs.Prelude.{ℕ, List, codes}
+use Rattle.any_lock.specs.declared.any_lock_law.AnyLockLaw.{AnyLockLaw}
+use Rattle.any_lock.specs.declared.any_lock_law.AnyLockLaw.TheVariants as law
 use Rattle.any_lock.specs.declared.refusals.AccessRefusal.{AccessRefusal}
 use Rattle.any_lock.specs.declared.refusals.AccessRefusal.TheVariants as access
 use Rattle.any_lock.specs.declared.refusals.MarkRefusal.{MarkRefusal}
 use Rattle.any_lock.specs.declared.refusals.MarkRefusal.TheVariants as mark
-use Rattle.any_lock.specs.declared.verdicts.AnyLockVerdict.{AnyLockVerdict}
-use Rattle.any_lock.specs.declared.verdicts.AnyLockVerdict.TheVariants.{Good, Bad}
 
 -- a law
 abbrev pub law_text : AnyLockLaw → List ℕ
@@ -54,8 +51,3 @@ mark_refusal_text mark.AccessOpen = codes "access-open"
 mark_refusal_text mark.NotSettling = codes "not-settling"
 mark_refusal_text mark.Torn = codes "torn"
 mark_refusal_text mark.StillInside = codes "still-inside"
-
--- the verdict on a record of so many entries
-abbrev pub verdict_text : ℕ → AnyLockVerdict → List ℕ
-verdict_text entries Good = codes "good " ++ decimal entries
-verdict_text entries (Bad entry law) = codes "bad " ++ decimal entry ++ codes " " ++ law_text law

@@ -2,14 +2,14 @@
 ghost use Rattle.std.specs.Prelude.{◌≡◌, ◌+◌, ◌-◌, ◌^◌, ◌<◌, ◌≤◌, [], IfOk, Some};
 ghost use Rattle.std.specs.List.{list_all, list_any};
 ghost use Rattle.record.specs.{is_entered};
-ghost use Rattle.any_lock.specs.declared.verdicts.AnyLockLaw.{AnyLockLaw as Named};
+ghost use Rattle.any_lock.specs.declared.any_lock_law.AnyLockLaw.{AnyLockLaw as Named};
 ghost use Rattle.any_lock.specs.Keeping.{GoesOn, IsOfEntry, IsOfMarks, OfEntry, OfPast, StandsAfter, is_taken_as};
 ghost use Rattle.any_lock.specs.Laws.{IsFirst, breaks_overtaken, breaks_together, broken_inside, broken_later, takes_rightly};
 
+use crate::any_lock_law::AnyLockLaw;
 use crate::kept::{Kept, takes};
 use crate::mark_rules::same_reply;
 use crate::standings::Standing;
-use crate::verdicts::AnyLockLaw;
 use plain_store::{NestedTypes, Reply};
 use record::{Access, Mark};
 

@@ -3,13 +3,13 @@ ghost use Rattle.plain_store.specs.{checked};
 ghost use Rattle.read_law.specs.{entry_by};
 ghost use Rattle.any_lock.specs.Headline.{SaysHeadline};
 ghost use Rattle.any_lock.specs.Judging.{HasJudged, HearOn, IsExplained, JudgesOn, OfJudged, TellsReasons, Finds};
-ghost use Rattle.any_lock.specs.Verdicts.{verdict_of, verdict_with};
+ghost use Rattle.any_lock.specs.Verdicts.{verdict_of};
 
+use crate::any_lock_law::AnyLockLaw;
 use crate::kept::Kept;
 use crate::reasons::Reasons;
-use crate::verdicts::{AnyLockLaw, AnyLockVerdict, Judged};
 use plain_store::{NestedTypes, Setup};
-use read_law::Watch;
+use read_law::{Audited, Verdict, Watch};
 use record::{Access, Mark};
 use std::alloc::{AllocError, Global};
 use std::marker::Model;
@@ -21,7 +21,7 @@ use std::marker::Model;
 pub struct Judge {
     watch: Watch,
     kept: Kept,
-    verdict: AnyLockVerdict,
+    verdict: Verdict<AnyLockLaw>,
     entries: u64,
     reasons: Option<Reasons>,
 }
@@ -46,7 +46,7 @@ impl Judge {
         Ok(Judge {
             watch: Watch::new(alloc, setup)?,
             kept: Kept::new(alloc, setup)?,
-            verdict: AnyLockVerdict::Good,
+            verdict: Verdict::Good,
             entries: 0,
             reasons: None,
         })
@@ -60,7 +60,7 @@ impl Judge {
     {
         let number = self.entries;
         self.entries += 1;
-        if self.verdict == AnyLockVerdict::Good {
+        if self.verdict.is_good() {
             self.verdict = self.verdict_with(number, process, access, marks);
         }
     }
@@ -72,7 +72,7 @@ impl Judge {
         process: u8,
         access: &Option<Access>,
         marks: &[Mark],
-    ) -> AnyLockVerdict
+    ) -> Verdict<AnyLockLaw>
         requires few { self.old.kept.entries < self.old.entries }
         ensures verdict { self.new.verdict ≡ self.old.verdict }
         ensures entries { self.new.entries ≡ self.old.entries }
@@ -84,18 +84,18 @@ impl Judge {
         let is_safe = self.watch.hear(access);
         let law = self.kept.hear(is_safe, process, access, marks);
         self.reasons = self.kept.reasons_of(law, process, access, marks);
-        found(number, law)
+        Verdict::found(number, law)
     }
 
     /// The verdict on the entries so far, and how many there are: the lowest entry that breaks a law, and the first law
     /// that it breaks.
-    pub fn judged(&self) -> Judged
+    pub fn judged(&self) -> Audited<AnyLockLaw>
         ensures now { result.verdict ≡ self.now.verdict }
         ensures verdict { OfJudged self.now (λ s entries. result.verdict ≡ verdict_of s entries) }
         ensures entries { OfJudged self.now (λ _ entries. result.entries ≡ length entries) }
         ensures headline { OfJudged self.now (SaysHeadline result.verdict) }
     {
-        Judged {
+        Audited {
             verdict: self.verdict,
             entries: self.entries,
         }
@@ -106,15 +106,5 @@ impl Judge {
         ensures { OfJudged self.now (IsExplained result) }
     {
         self.reasons
-    }
-}
-
-/// The verdict with an entry, by the first law that it breaks.
-fn found(number: u64, law: Option<AnyLockLaw>) -> AnyLockVerdict
-    ensures { result ≡ verdict_with number law }
-{
-    match law {
-        None => AnyLockVerdict::Good,
-        Some(law) => AnyLockVerdict::Bad(number, law),
     }
 }

@@ -4,16 +4,20 @@ ghost use Rattle.any_lock.specs.Changes.{MaysKeepAllLaws};
 ghost use Rattle.any_lock.specs.Headline.{GoodSaysTheHeadline, SaysHeadline};
 ghost use Rattle.any_lock.specs.Verdicts.{verdict_of};
 
+use crate::any_lock_law::AnyLockLaw;
 use crate::judge::Judge;
-use crate::verdicts::Judged;
 use plain_store::Setup;
-use read_law::parts;
+use read_law::{Audited, parts};
 use record::Entry;
 use std::alloc::{AllocError, Global};
 
 /// The verdict on a record, and how many entries it has: the lowest entry that breaks a law, and the first law that it
 /// breaks. The one fault is want of memory.
-pub fn judge_all(alloc: Global, setup: &Setup, entries: &[Entry]) -> Result<Judged, AllocError>
+pub fn judge_all(
+    alloc: Global,
+    setup: &Setup,
+    entries: &[Entry],
+) -> Result<Audited<AnyLockLaw>, AllocError>
     requires good { checked setup.now ≡ Ok tt }
     ensures verdict { IfOk result (λ judged. judged.verdict ≡ verdict_of setup.now entries.now) }
     ensures entries { IfOk result (λ judged. judged.entries ≡ length entries.now) }

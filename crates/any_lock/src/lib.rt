@@ -4,6 +4,7 @@
 #![tactic(auto)]
 
 mod access_rules;
+mod any_lock_law;
 mod changes;
 mod hearing;
 mod judge;
@@ -14,13 +15,12 @@ mod reasons;
 mod refusals;
 mod shown;
 mod standings;
-mod verdicts;
 
+pub use any_lock_law::AnyLockLaw;
 pub use changes::changed;
 pub use judge::Judge;
 pub use judging::{changed_entries_keep_all_laws, good_says_the_headline, judge_all};
-pub use read_law::parts;
+pub use read_law::{Audited, NamedLaw, Verdict, parts};
 pub use reasons::{Reasons, Refused, Remedy};
 pub use refusals::{AccessRefusal, MarkRefusal};
 pub use standings::{Begun, Standing};
-pub use verdicts::{AnyLockLaw, AnyLockVerdict, Judged};

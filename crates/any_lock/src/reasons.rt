@@ -1,14 +1,14 @@
 //! The reasons of a verdict: what is looked up for the bad entry.
 ghost use Rattle.std.specs.Prelude.{◌≡◌, None};
-ghost use Rattle.any_lock.specs.declared.verdicts.AnyLockLaw.TheVariants as broken;
+ghost use Rattle.any_lock.specs.declared.any_lock_law.AnyLockLaw.TheVariants as broken;
 ghost use Rattle.any_lock.specs.Judging.{AreReasonsBy, AreReasonsIf, TellsDoorway, TellsEntered};
 ghost use Rattle.any_lock.specs.Keeping.{IsOfAccess, IsOfEntry, IsOfProcess, OfEntry, OfPast};
 ghost use Rattle.any_lock.specs.Reasons.{AreWaits, change_of, doorway_by, doorway_of, entry_of as began_at, inside_by, inside_since, opened_by, other_value, refused, since, stage_of, stands, torn_by, wait_ahead, wait_by};
 
+use crate::any_lock_law::AnyLockLaw;
 use crate::kept::Kept;
 use crate::refusals::{AccessRefusal, MarkRefusal};
 use crate::standings::{Begun, Standing};
-use crate::verdicts::AnyLockLaw;
 use plain_store::{NestedTypes, Reply};
 use record::{Access, Mark, Move, Stage};
 

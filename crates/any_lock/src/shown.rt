@@ -1,8 +1,9 @@
-//! How laws, refusals and verdicts are printed.
-ghost use Rattle.any_lock.specs.Shown.{access_refusal_text, law_text, mark_refusal_text, verdict_text};
+//! How laws and refusals are printed.
+ghost use Rattle.any_lock.specs.Shown.{access_refusal_text, law_text, mark_refusal_text};
 
+use crate::any_lock_law::AnyLockLaw;
 use crate::refusals::{AccessRefusal, MarkRefusal};
-use crate::verdicts::{AnyLockLaw, AnyLockVerdict, Judged};
+use read_law::NamedLaw;
 use std::fmt;
 
 impl fmt::Display for AnyLockLaw {
@@ -20,6 +21,14 @@ impl fmt::Display for AnyLockLaw {
             AnyLockLaw::History => "history",
         })
     }
+}
+
+impl NamedLaw for AnyLockLaw {
+    ghost use Rattle.std.specs.Prelude.{refl};
+
+    ghost name = { law_text };
+
+    ghost prints = { λ _. refl };
 }
 
 impl fmt::Display for AccessRefusal {
@@ -71,18 +80,5 @@ impl fmt::Display for MarkRefusal {
             MarkRefusal::Torn => "torn",
             MarkRefusal::StillInside => "still-inside",
         })
-    }
-}
-
-impl fmt::Display for Judged {
-    ghost use Rattle.std.specs.Prelude.{Some};
-
-    ghost output = { λ judged. Some (verdict_text judged.entries judged.verdict) };
-
-    fn fmt<W: fmt::Write>(&self, f: &mut fmt::Formatter<W>) -> fmt::Result {
-        match self.verdict {
-            AnyLockVerdict::Good => write!(f, "good {}", self.entries),
-            AnyLockVerdict::Bad(entry, law) => write!(f, "bad {entry} {law}"),
-        }
     }
 }

@@ -5,7 +5,7 @@ use Rattle.plain_store.specs.{Setup}
 use Rattle.record.specs.{Entry, Past}
 use Rattle.read_law.specs.Safe.{TellsSafe}
 use Rattle.auditor.specs.{AllKeep, BreaksFirst, BreaksNext, IsBadAt, Keeps, Law, number_of}
-use Rattle.auditor.specs.declared.verdicts.Law.TheVariants as law
+use Rattle.read_law.specs.declared.verdicts.Law.TheVariants as law
 use Rattle.auditor.proofs.Entries.{entries_split}
 
 pub breaks_safe : (s : Setup) (past : Past) (e : Entry) (told : Bool) → told ≡ false → TellsSafe told s past e → BreaksFirst law.Safe s past e

@@ -15,7 +15,7 @@ use Rattle.world.specs.process.declared.told.StepTold.TheVariants.{Nothing, Wait
 use Rattle.world.specs.{Adds, CoreMakes, CoreRefuses, CoreState, CoreSteps, call_in, entry_with, with_history, with_taken}
 use Rattle.world.specs.Shows.{Shows, WorldState}
 use Rattle.world.proofs.WorldShows.{past-after}
-use Rattle.auditor.specs.declared.verdicts.Law.TheVariants as law
+use Rattle.read_law.specs.declared.verdicts.Law.TheVariants as law
 use Rattle.auditor.specs.{AreAt, AuditorState, BreaksNext, HasHeard, IsAlike, IsCount, IsHeard, KeepsAll, event_in, event_marked, flick_in, law_of_misplaced, law_of_wrong, step_told, stepped_as, tells_event, with_reply}
 use Rattle.auditor.proofs.Events.{told-adds}
 use Rattle.auditor.proofs.Marks.{all_placed-again}
@@ -125,6 +125,15 @@ module _ (a : AuditorState) (past : Past) (e : Entry) (access : Access) (told : 
     where
       is : e ≡ stepped
       is = right_place setup h.heard.events e stepped step_tried (alike-placed place e access told alike) (subst (λ m. AreAt m e.marks) (sym same_place) at)
+
+-- Two steps that a process may make by one flick lead to the same.
+pub alike_again : (a : AuditorState) (past : Past) (e : Entry) (access other : Access) (told then : StepTold) → StepMade a past e access told → StepMade a past e other then → IsAlike e (stepped_as e.process access told) → IsAlike e (stepped_as e.process other then)
+alike_again a past e access other told then first second alike =
+    let before : List Taken = history a.core.setup past in
+    let n : ℕ = length before in
+    let both : Some (step_told n e.process access told) ≡ Some (step_told n e.process other then) = sym (first.adds before first.heard.events first.heard.shows) ∙ second.adds before first.heard.events first.heard.shows in
+    let same : step_told n e.process access told ≡ step_told n e.process other then = cc in
+    alike-open n e other then (subst (IsAlike e) same (alike-placed n e access told alike))
 
 -- An event that is no step.
 

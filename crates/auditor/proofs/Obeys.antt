@@ -13,7 +13,7 @@ use Rattle.read_law.proofs.laws.FrameMarks.{entered-is}
 use Rattle.read_law.proofs.laws.SafeRecords.{ends_as_it_may}
 use Rattle.world.proofs.history_laws_proofs.Headlines.{alone, history_is_one, in_turn}
 use Rattle.world.proofs.WorldShows.{past-after}
-use Rattle.auditor.specs.declared.verdicts.Law.TheVariants as law
+use Rattle.read_law.specs.declared.verdicts.Law.TheVariants as law
 use Rattle.auditor.specs.{IsMade, IsOfEvent, KeepsAll, KeepsProgram, KeepsUnit, KeepsTogether, OwesAt, tells_event}
 
 -- an entry is made by the step that it is of

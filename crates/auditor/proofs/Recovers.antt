@@ -7,7 +7,7 @@ use Rattle.record.specs.{Entry, Mark, Next, Past, Refusal, Stage, TakesItsPlace,
 use Rattle.record.specs.declared.refusals.Refusal.TheVariants.{NoProcess}
 use Rattle.record.specs.declared.stages.Stage.TheVariants as stages
 use Rattle.record.proofs.Local.{option_map-some}
-use Rattle.auditor.specs.declared.verdicts.Law.TheVariants as law
+use Rattle.read_law.specs.declared.verdicts.Law.TheVariants as law
 use Rattle.auditor.specs.{IsAlike, IsMade, IsOfEvent, KeepsAll, OwesAt, tells_event}
 use Rattle.auditor.proofs.Marks.{same_marks}
 

@@ -11,7 +11,7 @@ use Rattle.record.specs.declared.stages.Stage.TheVariants as stages
 use Rattle.record.proofs.Width.{is_good}
 use Rattle.record.proofs.World.{entry-accepted}
 use Rattle.auditor.specs.{AreAt, BreaksNext, IsAlike, IsMade, IsOfEvent, Keeps, KeepsAll, KeepsProgram, Law, OwesAt, event_in, flick_in, number_of, tells_event}
-use Rattle.auditor.specs.declared.verdicts.Law.TheVariants as law
+use Rattle.read_law.specs.declared.verdicts.Law.TheVariants as law
 use Rattle.auditor.proofs.Events.{IsNoStep, calls, fails, withdraws, restarts, step-tells-none, tells-it}
 use Rattle.auditor.proofs.ToldAgain.{told_again}
 use Rattle.auditor.proofs.Marks.{same_marks}

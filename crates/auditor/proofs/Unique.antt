@@ -3,8 +3,8 @@ use Rattle.std.proofs.Common.{◌≡◌, ◌⊎◌, ℕ, zero, suc, ◌<◌, Lis
 use Rattle.plain_store.specs.{Setup}
 use Rattle.record.specs.{Entry, Past}
 use Rattle.auditor.specs.{AllKeep, BreaksFirst, IsBadAt, IsVerdict, KeepsAll, Law, Verdict, number_of}
-use Rattle.auditor.specs.declared.verdicts.Law.TheVariants as law
-use Rattle.auditor.specs.declared.verdicts.Verdict.TheVariants.{Good, Bad}
+use Rattle.read_law.specs.declared.verdicts.Law.TheVariants as law
+use Rattle.read_law.specs.declared.verdicts.Verdict.TheVariants.{Good, Bad}
 
 -- an entry in a past in which all laws are kept keeps them
 keeps-in : (s : Setup) (later : Past) (e : Entry) (past : Past) → AllKeep s (later ++ e ∷ past) → KeepsAll s past e
@@ -15,7 +15,7 @@ keeps-in s (x ∷ later) e past all = keeps-in s later e past all.1
 pub not_bad : (s : Setup) (entries : List Entry) (k : ℕ) (l : Law) → AllKeep s (reverse entries) → IsBadAt s entries k l → ⊥
 not_bad s entries k l all bad = bad.breaks.broken (keeps-in s bad.at.later bad.entry bad.past (subst (AllKeep s) bad.at.splits all) l)
 
-pub good_only : (s : Setup) (entries : List Entry) (v : Verdict) → AllKeep s (reverse entries) → IsVerdict s entries v → v ≡ Good
+pub good_only : (s : Setup) (entries : List Entry) (v : Verdict Law) → AllKeep s (reverse entries) → IsVerdict s entries v → v ≡ Good
 good_only s entries Good all is = refl
 good_only s entries (Bad k l) all is = absurd (not_bad s entries k l all is)
 
@@ -81,7 +81,7 @@ same_bad s entries k j l m a b = elim (order k j) [
     long_b : length b.past ≡ j
     long_b = b.at.number
 
-pub one_verdict : (s : Setup) (entries : List Entry) (v w : Verdict) → IsVerdict s entries v → IsVerdict s entries w → v ≡ w
+pub one_verdict : (s : Setup) (entries : List Entry) (v w : Verdict Law) → IsVerdict s entries v → IsVerdict s entries w → v ≡ w
 one_verdict s entries Good Good a b = refl
 one_verdict s entries Good (Bad j m) a b = absurd (not_bad s entries j m a b)
 one_verdict s entries (Bad k l) Good a b = absurd (not_bad s entries k l b a)

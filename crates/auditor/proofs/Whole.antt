@@ -6,7 +6,7 @@ use Rattle.record.specs.{AreGiven, Entry, Event, KeepsHeadlineThroughout, Past, 
 use Rattle.record.proofs.Width.{is_good}
 use Rattle.read_law.proofs.laws.HeldThere.{access_there}
 use Rattle.world.proofs.WorldShows.{past-after}
-use Rattle.auditor.specs.{AllKeep, AuditorState, GoodAccessesAreThere, GoodIsOfEvents, HasHeard, IsGoodOfEvents, IsOfEvent, IsTrueRecord, IsVerdict, OfEventsIsGood, Verdict}
+use Rattle.auditor.specs.{AllKeep, AuditorState, GoodAccessesAreThere, GoodIsOfEvents, HasHeard, IsGoodOfEvents, IsOfEvent, IsTrueRecord, IsVerdict, OfEventsIsGood, Law, Verdict}
 use Rattle.world.proofs.history_laws_proofs.Given.{given_before}
 use Rattle.world.proofs.history_laws_proofs.Headlines.{throughout}
 use Rattle.auditor.proofs.Obeys.{obeys}
@@ -44,7 +44,7 @@ good_of s good (what ∷ events) given = go (entry_of s (past_of s events) what)
     go (Some e) k before = subst (AllKeep s) (sym (past-after s events what e k)) (obeys s good events what e given k, before)
 
 -- The verdict on the record of given events is that it is good.
-pub good_of_events : (s : Setup) → checked s ≡ Ok tt → (entries : List Entry) (v : Verdict) → IsVerdict s entries v → IsGoodOfEvents s entries v
+pub good_of_events : (s : Setup) → checked s ≡ Ok tt → (entries : List Entry) (v : Verdict Law) → IsVerdict s entries v → IsGoodOfEvents s entries v
 good_of_events s good entries v is events same given =
     good_only s entries v (subst (AllKeep s) (sym (reverse-reverse (past_of s (reverse events))) ∙ ap reverse same) (good_of s good (reverse events) given)) is
 

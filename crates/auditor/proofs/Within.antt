@@ -1,13 +1,14 @@
 -- An entry with an access and without a mark, of a process that is within a number access.
-use Rattle.std.proofs.Common.{◌≡◌, ℕ, ◌↔◌, Bool, false, true≢false, List, [], Option, None, Some, refl, sym, subst}
-use Rattle.std.specs.Prelude.{IfSome}
+use Rattle.std.proofs.Common.{◌≡◌, ◌<◌, ℕ, Bool, false, true≢false, List, [], Option, None, Some, refl, sym, ap, subst, ◌∙◌}
+use Rattle.std.specs.Prelude.{unwrap_or}
 use Rattle.record.specs.{Access, Entry, Past, Taken, history}
 use Rattle.record.specs.declared.events.Event.TheVariants as event
 use Rattle.world.specs.process.declared.told.StepTold.TheVariants.{Nothing}
-use Rattle.world.specs.{CoreState, MakesQuietly, with_history}
+use Rattle.world.specs.{CoreAddsQuietly, CoreState, MakesQuietly, left_in, with_history}
 use Rattle.world.specs.Walks.{AddsQuietly}
 use Rattle.world.proofs.WithinStages.{within-unsettled}
-use Rattle.auditor.specs.{AuditorState, BreaksNext, HasHeard, IsHeard, Law, flick_in, law_of_wrong}
+use Rattle.read_law.specs.declared.verdicts.Law.TheVariants as law
+use Rattle.auditor.specs.{AuditorState, BreaksNext, HasHeard, IsHeard, flick_in}
 use Rattle.auditor.proofs.Hearing.{heard_on, heard_wrong}
 
 -- what the auditor knows of its step that it has made
@@ -21,23 +22,33 @@ made_adds core new p flick overlapped made m taken = subst (AddsQuietly (with_hi
 abbrev pub access_entry : ℕ → Access → Entry
 access_entry p access = record { process = p; access = Some access; marks = [] }
 
--- the entry of that step is heard
-same_heard : (a : AuditorState) (past : Past) (p : ℕ) (flick overlapped : Bool) (made : Access) (new : CoreState) → MadeWithin a.core p flick made overlapped new → HasHeard a past → IsHeard a.core.setup past (access_entry p made) (record { core = new; taken = a.taken }) None
-same_heard a past p flick overlapped made new m h =
+-- what it knows of the next access, which is not made yet
+pub record IsNextWithin (core : CoreState) (p : ℕ) (flick : Bool) (next : Access) : Type 0 where
+  pub within : 0 < left_in core.seats p
+  pub adds : CoreAddsQuietly core p flick next
+
+-- one entry has one access
+same_access : (p : ℕ) (a b : Access) → Some (access_entry p a) ≡ Some (access_entry p b) → a ≡ b
+same_access p a b both = ap (λ (o : Option Entry). elim o as (λ _. Access) [ None ↦ a | Some e ↦ unwrap_or e.access a ]) both
+
+-- the access that is made is the next one
+next_made : (a : AuditorState) (past : Past) (p : ℕ) (flick overlapped : Bool) (next made : Access) (new : CoreState) → IsNextWithin a.core p flick next → MadeWithin a.core p flick made overlapped new → HasHeard a past → made ≡ next
+next_made a past p flick overlapped next made new is m h =
     let before : List Taken = history a.core.setup past in
-    heard_on a.core new a.taken a.taken past h (event.Step p flick) (access_entry p made) before (m before).steps.setup (made_adds a.core new p flick overlapped made m before h.events h.shows) ((m before).steps.shows h.events h.shows) h.counted
+    same_access p made next (sym (made_adds a.core new p flick overlapped made m before h.events h.shows) ∙ is.adds before h.events h.shows)
+
+-- the entry of that step is heard
+pub heard_within : (a : AuditorState) (past : Past) (p : ℕ) (overlapped : Bool) (access next made : Access) (new : CoreState) → IsNextWithin a.core p (flick_in (Some access)) next → next ≡ access → MadeWithin a.core p (flick_in (Some access)) made overlapped new → HasHeard a past →
+    IsHeard a.core.setup past (access_entry p access) (record { core = new; taken = a.taken }) None
+heard_within a past p overlapped access next made new is same m h =
+    let before : List Taken = history a.core.setup past in
+    let flick : Bool = flick_in (Some access) in
+    subst (λ x. IsHeard a.core.setup past (access_entry p x) (record { core = new; taken = a.taken }) None) (next_made a past p flick overlapped next made new is m h ∙ same)
+    (heard_on a.core new a.taken a.taken past h (event.Step p flick) (access_entry p made) before (m before).steps.setup (made_adds a.core new p flick overlapped made m before h.events h.shows) ((m before).steps.shows h.events h.shows) h.counted)
 
 -- and one with another access breaks a law
-other_heard : (a : AuditorState) (past : Past) (p : ℕ) (overlapped : Bool) (access made : Access) (new : CoreState) → MadeWithin a.core p (flick_in (Some access)) made overlapped new → HasHeard a past → (made ≡ access → ⊥) → BreaksNext (law_of_wrong false false) a.core.setup past (access_entry p access)
-other_heard a past p overlapped access made new m h wrong =
-    heard_wrong a past (access_entry p access) made Nothing (record { heard = h; none = refl; adds = made_adds a.core new p (flick_in (Some access)) overlapped made m }) false
-    (λ alike. let both : Some access ≡ Some made = alike.access in wrong (cc))
-    (λ below. (λ is. absurd (true≢false (sym is)), λ settling. let taken : List Taken = history a.core.setup past in absurd (within-unsettled (with_history a.core taken) h.events p h.shows (m taken).within settling)))
-
-pub heard_within : (a : AuditorState) (past : Past) (p : ℕ) (overlapped : Bool) (access made : Access) (new : CoreState) (law : Option Law) → MadeWithin a.core p (flick_in (Some access)) made overlapped new → HasHeard a past → (law ≡ None) ↔ (made ≡ access) → IfSome law (λ l. l ≡ law_of_wrong false false) →
-    IsHeard a.core.setup past (access_entry p access) (record { core = new; taken = a.taken }) law
-heard_within a past p overlapped access made new None m h same is =
-    subst (λ x. IsHeard a.core.setup past (access_entry p x) (record { core = new; taken = a.taken }) None) (same.0 refl) (same_heard a past p (flick_in (Some access)) overlapped made new m h)
-heard_within a past p overlapped access made new (Some l) m h same is =
-    subst (λ l. BreaksNext l a.core.setup past (access_entry p access)) (sym is)
-    (other_heard a past p overlapped access made new m h (λ equal. let both : Some l ≡ None = same.1 equal in absurd (cc)))
+pub other_heard : (a : AuditorState) (past : Past) (p : ℕ) (access next : Access) → IsNextWithin a.core p (flick_in (Some access)) next → HasHeard a past → (next ≡ access → ⊥) → BreaksNext law.Program a.core.setup past (access_entry p access)
+other_heard a past p access next is h wrong =
+    heard_wrong a past (access_entry p access) next Nothing (record { heard = h; none = refl; adds = is.adds }) false
+    (λ alike. let both : Some access ≡ Some next = alike.access in wrong (cc))
+    (λ below. (λ yes. absurd (true≢false (sym yes)), λ settling. absurd (within-unsettled (with_history a.core (history a.core.setup past)) h.events p h.shows is.within settling)))

@@ -1,17 +1,17 @@
 -- What an auditor keeps, and what it answers to an entry.
 use Rattle.std.specs.Prelude.{◌≡◌, ◌↔◌, ℕ, ◌+◌, ◌<◌, ◌≤◌, ◌^◌, IsTrue, map, nat_lt, Bool, true, false, Contains, List, [], ◌∷◌, length, Option, None, Some}
 use Rattle.record.specs.safe_bit.declared.Move.TheVariants.{BeginWrite, EndWrite, BeginRead, EndRead, Settle}
-use Rattle.record.specs.{Access, Entry, Event, Mark, Past, Taken, history, past_of, placed, reply_taken, stage, takings}
+use Rattle.record.specs.{Access, Entry, Event, Mark, Past, Taken, entry_of, history, past_of, placed, reply_taken, stage, takings}
 use Rattle.plain_store.specs.{Reply, Setup}
-use Rattle.record.specs.declared.events.Event.TheVariants.{Call, Fail, Withdraw, Restart}
+use Rattle.record.specs.declared.events.Event.TheVariants.{Call, Step, Fail, Withdraw, Restart}
 use Rattle.record.specs.declared.marks.Mark.TheVariants.{Called, Failed, Withdrew, Restarted}
 use Rattle.record.specs.declared.stages.Stage.TheVariants.{Settling}
 use Rattle.read_law.specs.{entry_by}
 use Rattle.world.specs.{CoreState, with_history}
 use Rattle.world.specs.Shows.{Shows}
 use Rattle.world.specs.process.{StepTold, marks_told}
-use Rattle.auditor.specs.declared.verdicts.Law.{Law}
-use Rattle.auditor.specs.declared.verdicts.Law.TheVariants as law
+use Rattle.read_law.specs.declared.verdicts.Law.{Law}
+use Rattle.read_law.specs.declared.verdicts.Law.TheVariants as law
 use Rattle.auditor.specs.Verdicts.{IsAlike, Keeps, KeepsAll, number_of}
 
 -- the flick that an access tells: the value with which a read ends, or a write begins or is settled
@@ -47,9 +47,17 @@ abbrev pub IsHeard : Setup → Past → Entry → AuditorState → Option Law �
 IsHeard s past e then None = KeepsAll s past e × HasHeard then (e ∷ past)
 IsHeard s past e then (Some l) = BreaksNext l s past e
 
+-- this holds of every past that it has heard
+abbrev pub OfHeard : AuditorState → (Setup → Past → Type 0) → Type 0
+OfHeard a P = (past : Past) → HasHeard a past → P a.core.setup past
+
+-- this is the entry that a step of p adds by this flick, if it adds one
+abbrev pub IsAddedByStep : AuditorState → ℕ → Bool → Option Entry → Type 0
+IsAddedByStep a p flick added = OfHeard a (λ s past. length past < 2 ^ 64 → added ≡ entry_of s past (Step p flick))
+
 -- this is what is answered to an entry, whatever past was heard
 abbrev pub Hears : AuditorState → Entry → AuditorState → Option Law → Type 0
-Hears a e then law = (past : Past) → HasHeard a past → IsHeard a.core.setup past e then law
+Hears a e then law = OfHeard a (λ s past. IsHeard s past e then law)
 
 -- the event of a process that one mark alone tells, if it tells one
 abbrev pub event_marked : ℕ → List Mark → Option Event

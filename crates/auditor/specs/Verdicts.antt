@@ -5,10 +5,10 @@ use Rattle.record.specs.{AreGiven, Entry, Event, KeepsHeadlineThroughout, Mark, 
 use Rattle.record.specs.declared.marks.Mark.TheVariants.{Called, Failed, Withdrew, Restarted}
 use Rattle.record.specs.declared.stages.Stage.TheVariants.{Idle, Settling, Down}
 use Rattle.read_law.specs.{AllAreOfThere, KeepsSafe}
-use Rattle.auditor.specs.declared.verdicts.Law.{Law}
-use Rattle.auditor.specs.declared.verdicts.Law.TheVariants as law
-use Rattle.auditor.specs.declared.verdicts.Verdict.{Verdict}
-use Rattle.auditor.specs.declared.verdicts.Verdict.TheVariants.{Good, Bad}
+use Rattle.read_law.specs.declared.verdicts.Law.{Law}
+use Rattle.read_law.specs.declared.verdicts.Law.TheVariants as law
+use Rattle.read_law.specs.declared.verdicts.Verdict.{Verdict}
+use Rattle.read_law.specs.declared.verdicts.Verdict.TheVariants.{Good, Bad}
 
 -- The laws.
 
@@ -102,7 +102,7 @@ pub record IsBadAt (s : Setup) (entries : List Entry) (k : ℕ) (l : Law) : Type
   pub breaks : BreaksFirst l s past entry
 
 -- the verdict on a record
-abbrev pub IsVerdict : Setup → List Entry → Verdict → Type 0
+abbrev pub IsVerdict : Setup → List Entry → Verdict Law → Type 0
 IsVerdict s entries Good = AllKeep s (reverse entries)
 IsVerdict s entries (Bad k l) = IsBadAt s entries k l
 
@@ -116,7 +116,7 @@ pub record IsTrueRecord (s : Setup) (entries : List Entry) : Type 0 where
   pub headline : KeepsHeadlineThroughout s (reverse entries)
 
 -- if the entries are the record of some list of events, whose names, values and counts are what their types allow, the verdict is good
-abbrev pub IsGoodOfEvents : Setup → List Entry → Verdict → Type 0
+abbrev pub IsGoodOfEvents : Setup → List Entry → Verdict Law → Type 0
 IsGoodOfEvents s entries v = (events : List Event) → record_of s events ≡ entries → AreGiven s (reverse events) → v ≡ Good
 
 -- A past in which each entry keeps all laws is that of some list of events.
@@ -129,7 +129,7 @@ OfEventsIsGood = (s : Setup) → checked s ≡ Ok tt → (events : List Event) �
 
 -- A record has one verdict.
 abbrev pub VerdictsAreUnique : Type 0
-VerdictsAreUnique = (s : Setup) (entries : List Entry) (v w : Verdict) → IsVerdict s entries v → IsVerdict s entries w → v ≡ w
+VerdictsAreUnique = (s : Setup) (entries : List Entry) (v w : Verdict Law) → IsVerdict s entries v → IsVerdict s entries w → v ≡ w
 
 -- In a past in which each entry keeps all laws, each access is of a bit that there is.
 abbrev pub GoodAccessesAreThere : Type 0

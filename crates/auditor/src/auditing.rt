@@ -2,13 +2,12 @@ ghost use Rattle.std.specs.Prelude.{◌≡◌, IfOk, Ok, reverse};
 ghost use Rattle.plain_store.specs.{checked};
 ghost use Rattle.read_law.specs.Safe.{TellsSafe};
 ghost use Rattle.auditor.specs.Hearing.{BreaksNext};
-ghost use Rattle.auditor.specs.declared.verdicts.Verdict.TheVariants.{Good};
+ghost use Rattle.read_law.specs.declared.verdicts.Verdict.TheVariants.{Good};
 ghost use Rattle.auditor.specs.Verdicts.{AllKeep, BreaksFirst, IsGoodOfEvents, IsTrueRecord, IsVerdict};
 
 use crate::auditor::Auditor;
-use crate::verdicts::{Law, Verdict};
 use plain_store::Setup;
-use read_law::{Watch, parts};
+use read_law::{Law, Verdict, Watch, parts};
 use record::{Entry, Record};
 use std::alloc::{AllocError, Global};
 

@@ -1,15 +1,16 @@
-ghost use Rattle.std.specs.Prelude.{◌≡◌, ◌↔◌, ◌<◌, false, IfOk, IfSome, IsTrue, Ok, Some, None, []};
+ghost use Rattle.std.specs.Prelude.{◌≡◌, ◌↔◌, ◌<◌, IfOk, IsTrue, Ok, Some, None, []};
 ghost use Rattle.std.specs.List.{list_any};
 ghost use Rattle.plain_store.specs.{checked};
 ghost use Rattle.record.specs.declared.stages.Stage.TheVariants.{Settling};
+ghost use Rattle.read_law.specs.declared.verdicts.Law.{Law as Named};
 ghost use Rattle.read_law.specs.{entry_by};
 ghost use Rattle.world.specs.{left_in};
 ghost use Rattle.auditor.specs.Hearing.{HasHeard, Hears, HearsEvent, TellsSettling, event_in, law_of_misplaced, law_of_wrong};
 ghost use Rattle.auditor.specs.Verdicts.{tells_event};
 
 use crate::matching::{are_at, event_in, flick_in, flick_of, is_alike, is_that, more, tells_event};
-use crate::verdicts::Law;
 use plain_store::Setup;
+use read_law::Law;
 use record::{Access, Event, Mark, Stage};
 use std::alloc::{AllocError, Global};
 use std::marker::Model;
@@ -23,9 +24,9 @@ use world::{Core, Effect, Flicks, StepTold};
 /// is compared with the entry.
 #[derive(Drop)]
 pub struct Auditor {
-    alloc: Global,
-    core: Core,
-    taken: Option<u64>,
+    pub(crate) alloc: Global,
+    pub(crate) core: Core,
+    pub(crate) taken: Option<u64>,
 }
 
 impl Model for Auditor {
@@ -60,36 +61,21 @@ impl Auditor {
         self.taken = other.taken;
     }
 
-    /// The processes as they stand after the entries heard.
-    pub fn core(&self) -> &Core
-        ensures { result.now ≡ self.now.core }
-    {
-        &self.core
-    }
-
-    /// How many commands were taken in the entries heard; none from 2^64 on.
-    pub fn taken(&self) -> Option<u64>
-        ensures { result ≡ self.now.taken }
-    {
-        self.taken
-    }
-
-    /// One more entry, by its parts: none, if it keeps all laws; else the first law after `Safe` that it breaks. An entry that
-    /// breaks `Safe` breaks `Program` or `Unit` too; whether it does is looked up in the entries before. After an entry that
-    /// broke a law nothing is known of the auditor.
+    /// Observes one more entry, by its parts. Returns the first law after `Safe` that it breaks, or `None` if it keeps all
+    /// laws. An entry that breaks a law changes nothing, so the auditor still has observed the entries before it.
+    ///
+    /// An entry that breaks `Safe` breaks `Program` or `Unit` too; a [`Watch`](read_law::Watch) tells whether it does.
     ///
     /// The marks are lent. An `Entry` has room for three, which would be cleared and moved for each Step, though few have one.
     #[inline]
     pub fn hear(&mut self, process: u8, access: &Option<Access>, marks: &[Mark]) -> Option<Law>
         ensures setup { result ≡ None → self.new.core.setup ≡ self.old.core.setup }
         ensures heard { Hears self.old (entry_by process access.now marks.now) self.new result }
+        ensures unchanged { (law : Named) → result ≡ Some law → self.new ≡ self.old }
     {
         match access {
-            // It has nothing else to do than a step, and does not settle: the step is made, and its access alone is compared.
             Some(told) if marks.is_empty() && self.core.left(process) > 0 => {
-                let mut flicks = Flicks::only(flick_of(*told));
-                let made = self.core.run(process, &mut flicks, 1);
-                different(made.newest, *told)
+                self.hear_within(process, *told)
             }
             _ => match event_in(process, access, marks) {
                 Some(event) => self.hear_event(&event),
@@ -98,10 +84,28 @@ impl Auditor {
         }
     }
 
+    /// Observes an entry without a mark, of a process within a register access of its call. The process can do nothing else
+    /// than its next step, and it does not settle, so the access of that step is all there is to compare.
+    #[inline]
+    fn hear_within(&mut self, process: u8, told: Access) -> Option<Law>
+        requires { 0 < left_in self.old.core.seats process }
+        ensures setup { result ≡ None → self.new.core.setup ≡ self.old.core.setup }
+        ensures heard { Hears self.old (entry_by process (Some told) []) self.new result }
+        ensures unchanged { (law : Named) → result ≡ Some law → self.new ≡ self.old }
+    {
+        let flick = flick_of(told);
+        if !is_that(self.core.next_access(process, flick), told) {
+            return Some(Law::Program);
+        }
+        let _made = self.core.run(process, &mut Flicks::only(flick), 1);
+        None
+    }
+
     /// An entry that tells an event which is no step.
     fn hear_event(&mut self, event: &Event) -> Option<Law>
         ensures setup { result ≡ None → self.new.core.setup ≡ self.old.core.setup }
         ensures heard { HearsEvent self.old event.now self.new result }
+        ensures unchanged { (law : Named) → result ≡ Some law → self.new ≡ self.old }
     {
         let mut effect = Effect::Steps(StepTold::Nothing);
         let Ok(_access) = self.core.event(event, &mut effect) else {
@@ -116,33 +120,24 @@ impl Auditor {
         requires { event_in (entry_by process access.now marks.now) ≡ None }
         ensures setup { result ≡ None → self.new.core.setup ≡ self.old.core.setup }
         ensures heard { Hears self.old (entry_by process access.now marks.now) self.new result }
+        ensures unchanged { (law : Named) → result ≡ Some law → self.new ≡ self.old }
     {
-        let settles = settles(&self.core, process);
-        let mut told = StepTold::Nothing;
-        let Ok(made) = self.core.step(process, flick_in(access), &mut told) else {
+        let flick = flick_in(access);
+        let Ok((next, told)) = self.core.next_step(process, flick) else {
             return Some(Law::Program);
         };
-        if !is_alike(self.alloc, access, marks, &made.access, &told) {
-            return Some(wrong(marks, settles));
+        if !is_alike(self.alloc, access, marks, &next, &told) {
+            return Some(wrong(marks, settles(&self.core, process)));
         }
         if !are_at(marks, self.taken) {
             return Some(misplaced(marks));
         }
-        self.taken = more(self.taken, &told);
+        let mut made = StepTold::Nothing;
+        let Ok(_access) = self.core.step(process, flick, &mut made) else {
+            return Some(Law::Program);
+        };
+        self.taken = more(self.taken, &made);
         None
-    }
-}
-
-/// The law that is broken by an entry without a mark that is to have this access, where its process does not settle.
-#[inline]
-fn different(made: Access, access: Access) -> Option<Law>
-    ensures none { result ≡ None ↔ (made ≡ access) }
-    ensures program { IfSome result (λ law. law ≡ law_of_wrong false false) }
-{
-    if is_that(made, access) {
-        None
-    } else {
-        Some(Law::Program)
     }
 }
 

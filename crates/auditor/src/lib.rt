@@ -12,9 +12,8 @@
 mod auditing;
 mod auditor;
 mod laws_of_verdicts;
+mod looking;
 mod matching;
-mod shown;
-mod verdicts;
 
 pub use auditing::audit;
 pub use auditor::Auditor;
@@ -23,7 +22,6 @@ pub use laws_of_verdicts::{
     records_of_events_are_good,
 };
 pub use matching::{event_in, tells_event};
-pub use read_law::{Watch, parts};
+pub use read_law::{Audited, Law, NamedLaw, Verdict, Watch, parts};
 pub use record::{Entry, Record};
-pub use verdicts::{Audited, Law, Verdict};
 pub use world::{Core, Flicks, World};

@@ -3,7 +3,7 @@ use Rattle.std.specs.Prelude.{◌≡◌}
 use Rattle.plain_store.specs.{Setup}
 use Rattle.record.specs.{Past}
 use Rattle.auditor.specs.{HasHeard}
-use Rattle.auditor.specs.declared.verdicts.Verdict.TheVariants.{Good}
+use Rattle.auditor.specs.read_law.declared.verdicts.Verdict.TheVariants.{Good}
 use Rattle.course.specs.declared.judging.Audit.{Audit}
 
 -- it has heard the entries of this past, and none broke a law

@@ -3,9 +3,8 @@ ghost use Rattle.std.specs.Prelude.{◌≡◌, ◌↔◌, [], ◌∷◌, List, I
 ghost use Rattle.plain_store.specs.{checked};
 ghost use Rattle.plain_store.specs.declared.setups.Setup.{Setup as Given};
 ghost use Rattle.record.specs.{Entry as Noted, Past};
-ghost use Rattle.record.specs.declared.history.Taken.{Taken as Seen};
 ghost use Rattle.auditor.specs.{KeepsAll};
-ghost use Rattle.auditor.specs.declared.verdicts.Verdict.TheVariants.{Good};
+ghost use Rattle.auditor.specs.read_law.declared.verdicts.Verdict.TheVariants.{Good};
 ghost use Rattle.course.specs.Happenings.{Happening, past_after};
 ghost use Rattle.course.specs.Judging.{Audits};
 ghost use Rattle.course.specs.Listening.{Happens};
@@ -14,7 +13,7 @@ use crate::listening::Listener;
 use crate::told::{Stepped, Told};
 use auditor::{Auditor, Law, Verdict};
 use plain_store::{NestedTypes, Setup};
-use record::{Access, Mark, Move, Taken};
+use record::{Access, Mark, Move};
 use scenario::Fault;
 use std::alloc::{AllocError, Global};
 
@@ -54,8 +53,8 @@ impl Audit {
     /// Hears what a turn tells, if it is an entry.
     #[inline(never)]
     fn hear_told(&mut self, told: &Told)
-        ensures { (s : Given) (before : List Happening) (this : Happening) (taken : List Seen) →
-            Happens s before this told.now taken → Audits s (past_after s before) self.old →
+        ensures { (s : Given) (before : List Happening) (this : Happening) →
+            Happens s before this told.now → Audits s (past_after s before) self.old →
             Audits s (past_after s (this ∷ before)) self.new }
     {
         let _nested: NestedTypes = None;
@@ -126,9 +125,9 @@ impl<L: Listener + Drop> Listener for Overheard<L> {
 
     ghost Stops = { λ a s x y fault b. L.Stops a.listener s x y fault b.listener };
 
-    fn hear(&mut self, told: &Told, taken: &[Taken]) -> Result<(), Fault> {
+    fn hear(&mut self, told: &Told) -> Result<(), Fault> {
         self.audit.hear_told(told);
-        self.listener.hear(told, taken)
+        self.listener.hear(told)
     }
 
     #[inline(always)]

@@ -1,7 +1,7 @@
 //! The engine `audit`: the verdict on the record of a scenario's run, of which an auditor hears each entry as the
 //! run makes it. No record is held.
 ghost use Rattle.std.specs.Prelude.{◌≡◌, ◌+◌, ◌-◌, ◌^◌, ◌<◌, IfErr, IfOk, OnOk};
-ghost use Rattle.judge.specs.auditor.declared.verdicts.Verdict.TheVariants.{Good};
+ghost use Rattle.judge.specs.read_law.declared.verdicts.Verdict.TheVariants.{Good};
 ghost use Rattle.scenario.specs.files.Engines.{Ran, streams};
 ghost use Rattle.engines.specs.Sinks.{Wrote, WroteFront};
 ghost use Rattle.scenario.specs.files.{ReadsFront};

@@ -7,7 +7,7 @@ use Rattle.std.proofs.lemmas.Bool.{cases_eq}
 use Rattle.plain_store.specs.{Reply, Setup}
 use Rattle.record.specs.{Entry, Past, TakesItsPlace, has, history, inside, is_entered, takings}
 use Rattle.judge.specs.auditor.{KeepsTogether}
-use Rattle.judge.specs.auditor.declared.verdicts.Law.TheVariants as law
+use Rattle.judge.specs.read_law.declared.verdicts.Law.TheVariants as law
 use Rattle.any_lock.specs.{breaks_history, breaks_together, is_that, lowest_other, right_reply, same_reply, standing}
 use Rattle.any_lock.proofs.Breaks.{broken_by}
 use Rattle.judge.specs.{GoodKeepsOfAny}

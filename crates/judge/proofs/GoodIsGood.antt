@@ -9,12 +9,12 @@ use Rattle.any_lock.proofs.read_law.laws.Doings as laws
 use Rattle.any_lock.proofs.read_law.laws.FrameInside.{stage-is}
 use Rattle.judge.specs.auditor.{IsOfEvent, KeepsAll}
 use Rattle.judge.specs.auditor.Verdicts as own
-use Rattle.judge.specs.auditor.declared.verdicts.Law.TheVariants as law
+use Rattle.judge.specs.read_law.declared.verdicts.Law.TheVariants as law
 use Rattle.judge.proofs.auditor.Recovers.{recovers}
 use Rattle.judge.proofs.auditor.Whole.{of_events}
-use Rattle.any_lock.specs.declared.verdicts.AnyLockLaw.TheVariants as any
-use Rattle.any_lock.specs.{AnyLockVerdict, breaks_overtaken, breaks_safe, broken_later, first_broken, has_access, refusal_of_access, refusal_of_marks, verdict_after, verdict_with}
-use Rattle.any_lock.specs.declared.verdicts.AnyLockVerdict.TheVariants.{Good, Bad}
+use Rattle.any_lock.specs.declared.any_lock_law.AnyLockLaw.TheVariants as any
+use Rattle.any_lock.specs.{AnyLockLaw, Verdict, breaks_overtaken, breaks_safe, broken_later, first_broken, has_access, refusal_of_access, refusal_of_marks, verdict_after, verdict_with}
+use Rattle.judge.specs.read_law.declared.verdicts.Verdict.TheVariants.{Good, Bad}
 use Rattle.any_lock.proofs.Alone.{AllKeep, Keeps}
 use Rattle.any_lock.proofs.Breaks.{at_inside, broken_by, inside_is}
 use Rattle.any_lock.proofs.Took.{CallTakes, all_take}
@@ -59,7 +59,7 @@ good_past : (s : Setup) → checked s ≡ Ok tt → (past : Past) → own.AllKee
 good_past s good [] all = refl
 good_past s good (e ∷ past) all =
     let kept : AllKeep s (e ∷ past) = all_keep s good (e ∷ past) all in
-    ap (λ v. elim v as (λ _. AnyLockVerdict) [ Good ↦ verdict_with (length past) (first_broken s past e) | Bad k l ↦ Bad k l ]) (good_past s good past all.1)
+    ap (λ v. elim v as (λ _. Verdict AnyLockLaw) [ Good ↦ verdict_with (length past) (first_broken s past e) | Bad k l ↦ Bad k l ]) (good_past s good past all.1)
     ∙ ap (verdict_with (length past)) (breaks_none s past e (broken_by s past e (all.0 law.Safe)) kept.0)
 
 pub good_is_good : GoodIsGood

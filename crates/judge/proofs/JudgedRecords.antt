@@ -1,19 +1,17 @@
 -- The verdict with one more entry.
-use Rattle.std.proofs.Common.{◌≡◌, ℕ, ◌+◌, ◌++◌, Bool, true, false, List, [], ◌∷◌, length, reverse, Option, Some, None, refl, ap, sym, subst, ◌∙◌, arith}
-use Rattle.std.proofs.lemmas.List.{length-append, length-reverse, reverse-append}
-use Rattle.plain_store.specs.{Setup}
+use Rattle.std.proofs.Common.{◌≡◌, ℕ, ◌+◌, ◌++◌, Bool, true, false, List, [], ◌∷◌, length, reverse, Ok, Option, Some, None, refl, ap, sym, subst, ◌∙◌, arith}
+use Rattle.std.proofs.lemmas.List.{length-append, length-reverse}
+use Rattle.plain_store.specs.{Setup, checked}
 use Rattle.record.specs.{Entry, Past}
 use Rattle.auditor.specs.read_law.{AllAreOfThere, HasHeard as HasWatched, KeepsSafe, MatchBool, WatchState}
-use Rattle.auditor.specs.{AllKeep, AuditorState, BreaksFirst, HasHeard, IsBadAt, IsHeard, IsVerdict, Law, Verdict}
-use Rattle.auditor.specs.declared.verdicts.Law.TheVariants as law
-use Rattle.auditor.specs.declared.verdicts.Verdict.TheVariants.{Good, Bad}
+use Rattle.auditor.specs.{AllKeep, AuditorState, BreaksFirst, HasHeard, IsAt, IsBadAt, IsHeard, IsVerdict, Law, Verdict}
+use Rattle.auditor.specs.read_law.declared.verdicts.Law.TheVariants as law
+use Rattle.auditor.specs.read_law.declared.verdicts.Verdict.TheVariants.{Good, Bad}
 use Rattle.auditor.proofs.Firsts.{breaks_safe, breaks_then}
 use Rattle.auditor.proofs.Whole.{there_of}
-use Rattle.judge.specs.{BothHeard, HasJudged, JudgeState, found}
-
--- some entries and one more, the newest first
-pub newest_first : (entries : List Entry) (e : Entry) → reverse (entries ++ e ∷ []) ≡ e ∷ reverse entries
-newest_first entries e = reverse-append entries (e ∷ [])
+use Rattle.judge.specs.{AreReasons, BothHeard, GivesReasons, HasAudited, HasJudged, JudgeState, Writes, found, reason_lines}
+use Rattle.judge.specs.ThisLockVerdicts.{newest_first, newest_is_bad, stays_bad}
+use Rattle.judge.proofs.Splits.{at_before, at_newest, one_place}
 
 -- an entry behind a good record that breaks a law first
 first_bad : (s : Setup) (entries : List Entry) (e : Entry) (l : Law) → AllKeep s (reverse entries) → BreaksFirst l s (reverse entries) e → IsBadAt s (entries ++ e ∷ []) (length entries) l
@@ -45,6 +43,7 @@ pub record AreTold (j : JudgeState) (e : Entry) (is_safe : Bool) (w : WatchState
   pub safe : (past : Past) → HasWatched j.watch past → AllAreOfThere j.watch.setup past → MatchBool is_safe (KeepsSafe j.watch.setup past e) (KeepsSafe j.watch.setup past e → ⊥)
   pub audited : heard ≡ None → a.core.setup ≡ j.auditor.core.setup
   pub auditor : (past : Past) → HasHeard j.auditor past → IsHeard j.auditor.core.setup past e a heard
+  pub stayed : (l : Law) → heard ≡ Some l → a ≡ j.auditor
 
 -- behind a good record this is the verdict
 pub told_verdict : (j : JudgeState) (e : Entry) (is_safe : Bool) (w : WatchState) (heard : Option Law) (a : AuditorState) → AreTold j e is_safe w heard a → (s : Setup) (entries : List Entry) → j.verdict ≡ Good → HasJudged j s entries →
@@ -73,45 +72,80 @@ told_goes_on j e is_safe w heard a told s entries good judged is =
       auditor = next.1;
     })
 
--- one more entry behind a bad one
-pub stays_bad : (s : Setup) (entries : List Entry) (e : Entry) (v : Verdict) → (v ≡ Good → ⊥) → IsVerdict s entries v → IsVerdict s (entries ++ e ∷ []) v
-stays_bad s entries e Good bad is = absurd (bad refl)
-stays_bad s entries e (Bad k l) bad is = record {
-  entry = is.entry;
-  past = is.past;
-  at = record { later = e ∷ is.at.later; splits = newest_first entries e ∙ ap (λ l. e ∷ l) is.at.splits; number = is.at.number };
-  before = is.before;
-  breaks = is.breaks;
-}
+-- an auditor that finds no law broken has heard an entry that keeps them all, and so the law `Safe`
+found_none : (k : ℕ) (is_safe : Bool) (s : Setup) (past : Past) (e : Entry) (a : AuditorState) → MatchBool is_safe (KeepsSafe s past e) (KeepsSafe s past e → ⊥) → IsHeard s past e a None → found k is_safe None ≡ Good
+found_none k true s past e a safe heard = refl
+found_none k false s past e a safe heard = absurd (safe (heard.0 law.Safe))
+
+-- and if it is bad the auditor has stayed
+pub told_stays : (j : JudgeState) (e : Entry) (is_safe : Bool) (w : WatchState) (heard : Option Law) (a : AuditorState) → AreTold j e is_safe w heard a → (s : Setup) (entries : List Entry) → j.verdict ≡ Good → HasJudged j s entries → (found j.entries is_safe heard ≡ Good → ⊥) → a ≡ j.auditor
+told_stays j e is_safe w (Some l) a told s entries good judged bad = told.stayed l refl
+told_stays j e is_safe w None a told s entries good judged bad =
+    let both : BothHeard j s (reverse entries) = judged.goes_on good in
+    let past : Past = reverse entries in
+    let there : AllAreOfThere s past = there_of s judged.good past (subst (IsVerdict s entries) good judged.verdict) in
+    let safe = subst (λ (t : Setup). MatchBool is_safe (KeepsSafe t past e) (KeepsSafe t past e → ⊥)) both.watched (told.safe past both.watch (subst (λ (t : Setup). AllAreOfThere t past) (sym both.watched) there)) in
+    let is = subst (λ (t : Setup). IsHeard t past e a None) both.audited (told.auditor past both.auditor) in
+    absurd (bad (found_none j.entries is_safe s past e a safe is))
 
 -- What a judge keeps.
-
--- an entry behind a good record
-pub judged_more : (j j' : JudgeState) (s : Setup) (entries : List Entry) (e : Entry) → HasJudged j s entries → IsVerdict s (entries ++ e ∷ []) j'.verdict → (j'.verdict ≡ Good → BothHeard j' s (reverse (entries ++ e ∷ []))) → j'.entries ≡ j.entries + 1 → HasJudged j' s (entries ++ e ∷ [])
-judged_more j j' s entries e judged is both one = record {
-  good = judged.good;
-  count = let count : j.entries ≡ length entries = judged.count in omega (arith, one, count, length-append entries (e ∷ []));
-  verdict = is;
-  goes_on = both;
-}
-
--- and behind a bad one
-pub judged_past : (j j' : JudgeState) (s : Setup) (entries : List Entry) (e : Entry) → HasJudged j s entries → (j.verdict ≡ Good → ⊥) → j'.verdict ≡ j.verdict → j'.entries ≡ j.entries + 1 → HasJudged j' s (entries ++ e ∷ [])
-judged_past j j' s entries e judged bad same one =
-    judged_more j j' s entries e judged (subst (IsVerdict s (entries ++ e ∷ [])) (sym same) (stays_bad s entries e j.verdict bad judged.verdict)) (λ is. absurd (bad (sym same ∙ is))) one
 
 -- one more entry was heard, and is to be counted
 abbrev pub HearsOn : JudgeState → Entry → JudgeState → Type 0
 HearsOn old e j = (s : Setup) (entries : List Entry) → HasJudged old s entries → HasJudged (record j { entries = j.entries + 1 }) s (entries ++ e ∷ [])
 
+one_more : (n : ℕ) (entries : List Entry) (e : Entry) → n ≡ length entries → n + 1 ≡ length (entries ++ e ∷ [])
+one_more n entries e count = omega (arith, count, length-append entries (e ∷ []))
+
 -- with the verdict on it, behind a good record,
-pub hears_good : (old now : JudgeState) (e : Entry) (v : Verdict) → old.verdict ≡ Good → now.entries ≡ old.entries → ((s : Setup) (entries : List Entry) → old.verdict ≡ Good → HasJudged old s entries → IsVerdict s (entries ++ e ∷ []) v) →
-    ((s : Setup) (entries : List Entry) → old.verdict ≡ Good → HasJudged old s entries → v ≡ Good → BothHeard now s (reverse (entries ++ e ∷ []))) → HearsOn old e (record now { verdict = v })
-hears_good old now e v good same verdict goes_on s entries judged =
-    judged_more old (record now { verdict = v; entries = now.entries + 1 }) s entries e judged (verdict s entries good judged)
-    (λ still. let both : BothHeard now s (reverse (entries ++ e ∷ [])) = goes_on s entries good judged still in record { watched = both.watched; watch = both.watch; audited = both.audited; auditor = both.auditor })
-    (ap (λ k. k + 1) same)
+pub hears_good : (old now : JudgeState) (e : Entry) (v : Verdict Law) → old.verdict ≡ Good → now.entries ≡ old.entries → ((s : Setup) (entries : List Entry) → old.verdict ≡ Good → HasJudged old s entries → IsVerdict s (entries ++ e ∷ []) v) →
+    ((s : Setup) (entries : List Entry) → old.verdict ≡ Good → HasJudged old s entries → v ≡ Good → BothHeard now s (reverse (entries ++ e ∷ []))) →
+    ((s : Setup) (entries : List Entry) → old.verdict ≡ Good → HasJudged old s entries → (v ≡ Good → ⊥) → now.auditor ≡ old.auditor) → HearsOn old e (record now { verdict = v })
+hears_good old now e v good same verdict goes_on stays s entries judged = record {
+  good = judged.good;
+  count = one_more now.entries entries e (same ∙ judged.count);
+  verdict = verdict s entries good judged;
+  goes_on = λ still. let both : BothHeard now s (reverse (entries ++ e ∷ [])) = goes_on s entries good judged still in record { watched = both.watched; watch = both.watch; audited = both.audited; auditor = both.auditor };
+  stays = λ k l x past bad at.
+      let both : BothHeard old s (reverse entries) = judged.goes_on good in
+      let kept : IsVerdict s entries Good = subst (IsVerdict s entries) good judged.verdict in
+      let is : IsVerdict s (entries ++ e ∷ []) (Bad k l) = subst (IsVerdict s (entries ++ e ∷ [])) bad (verdict s entries good judged) in
+      let place : k ≡ length entries = newest_is_bad s entries e k l kept is in
+      let before : past ≡ reverse entries = (one_place (entries ++ e ∷ []) (length entries) x e past (reverse entries) (subst (λ m. IsAt (entries ++ e ∷ []) m x past) place at) (at_newest entries e)).1 in
+      let stayed : now.auditor ≡ old.auditor = stays s entries good judged (λ fine. let no : Bad k l ≡ Good = sym bad ∙ fine in cc) in
+      subst (λ (l : Past). HasAudited now.auditor s l) (sym before)
+      (subst (λ (a : AuditorState). HasAudited a s (reverse entries)) (sym stayed) (record { setup = both.audited; heard = both.auditor }));
+}
 
 -- and behind a bad one
 pub hears_bad : (old : JudgeState) (e : Entry) → (old.verdict ≡ Good → ⊥) → HearsOn old e old
-hears_bad old e bad s entries judged = judged_past old (record old { entries = old.entries + 1 }) s entries e judged bad refl refl
+hears_bad old e bad s entries judged = record {
+  good = judged.good;
+  count = one_more old.entries entries e judged.count;
+  verdict = still old.verdict bad judged.verdict;
+  goes_on = λ good. absurd (bad good);
+  stays = λ k l x past is at.
+      let found : IsBadAt s entries k l = subst (IsVerdict s entries) is judged.verdict in
+      let before : past ≡ found.past = (one_place (entries ++ e ∷ []) k x found.entry past found.past at (at_before entries k found.entry e found.past found.at)).1 in
+      subst (λ (l : Past). HasAudited old.auditor s l) (sym before) (judged.stays k l found.entry found.past is found.at);
+}
+  where
+    still : (v : Verdict Law) → (v ≡ Good → ⊥) → IsVerdict s entries v → IsVerdict s (entries ++ e ∷ []) v
+    still Good bad is = absurd (bad refl)
+    still (Bad k l) bad is = stays_bad s entries e k l is
+
+-- before the first entry
+pub judges_none : (j : JudgeState) (s : Setup) → checked s ≡ Ok tt → j.entries ≡ 0 → j.verdict ≡ Good → BothHeard j s [] → HasJudged j s []
+judges_none j s good count verdict both = record {
+  good = good;
+  count = count;
+  verdict = subst (IsVerdict s []) (sym verdict) tt;
+  goes_on = λ _. both;
+  stays = λ k l e past bad at. let no : Bad k l ≡ Good = sym bad ∙ verdict in cc;
+}
+
+-- the lines that are written of a bad entry are those of its reasons
+pub gives_reasons : (j : JudgeState) (n : ℕ) (e : Entry) (lines : List ℕ) → Writes j.auditor (λ s past. reason_lines s past n e) [] lines → GivesReasons HasJudged (λ (j : JudgeState). j.verdict) AreReasons j n e lines
+gives_reasons j n e lines writes s entries past k l judged bad at few =
+    let audited : HasAudited j.auditor s past = judged.stays k l e past bad at in
+    writes past audited.heard few ∙ ap (λ (s : Setup). reason_lines s past n e) audited.setup

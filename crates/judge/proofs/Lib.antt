@@ -11,19 +11,15 @@ pub mod Ends
 pub mod EngineEnds
 -- Texts
 pub mod Texts
-pub mod VerdictLines
 -- Reasons
 pub mod LinesAt
+pub mod Splits
 pub mod Written
 -- A judge
 pub mod JudgedRecords
--- What is told
-pub mod Tells
--- What goes along, and reasons
-pub mod Followed
 pub mod Explained
+pub mod AnyLockReasons
 pub mod Mays
-pub mod AnyExplained
 -- What a process has open, and what of it is torn
 pub mod StepMarks
 pub mod Opened

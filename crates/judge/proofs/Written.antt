@@ -1,38 +1,41 @@
 -- The lines of reasons, as they are written one behind another.
 use Rattle.std.proofs.Common.{◌≡◌, ℕ, Bool, true, false, List, ◌++◌, Option, cond, codes, ap, ◌∙◌, append_assoc}
+use Rattle.plain_store.specs.{Setup}
 use Rattle.record.specs.{Entry, Event, Refusal, Stage, refused}
 use Rattle.auditor.specs.world.{stage_in}
-use Rattle.auditor.specs.{AuditorState}
-use Rattle.judge.specs.Explanations.{Writes, event_or_step, is_crowded, may_lines, reason_lines, refusal_line, refused_line}
-use Rattle.judge.specs.Following.{OfFollowed}
+use Rattle.auditor.specs.{AuditorState, OfHeard}
+use Rattle.judge.specs.Reasons.{Writes, event_or_step, is_crowded, may_lines, reason_lines, refusal_line, refused_line}
 use Rattle.judge.specs.ReasonLines.{bad_lines, stage_line, word_line}
 use Rattle.judge.proofs.Texts.{three}
 
 -- the mark of its event is in company
-pub writes_crowded : (f : AuditorState) (e : Entry) (p : ℕ) (stage : Option Stage) (old new : List ℕ) → p ≡ e.process → OfFollowed f (λ s past. stage ≡ stage_in s past p) → true ≡ is_crowded stage e →
-    new ≡ old ++ word_line (codes "refused") (codes "not-alone") → Writes f (λ s past. refused_line s past e) old new
-writes_crowded f e p stage old new of at crowded written = λ s past followed few.
-    let here : stage ≡ stage_in s past e.process = at s past followed ∙ ap (stage_in s past) of in
+pub writes_crowded : (a : AuditorState) (e : Entry) (p : ℕ) (stage : Option Stage) (old new : List ℕ) → p ≡ e.process → OfHeard a (λ s past. stage ≡ stage_in s past p) → true ≡ is_crowded stage e →
+    new ≡ old ++ word_line (codes "refused") (codes "not-alone") → Writes a (λ s past. refused_line s past e) old new
+writes_crowded a e p stage old new of at crowded written = λ past heard few.
+    let s : Setup = a.core.setup in
+    let here : stage ≡ stage_in s past e.process = at past heard ∙ ap (stage_in s past) of in
     written ∙ ap (λ (b : Bool). old ++ cond b (word_line (codes "refused") (codes "not-alone")) (refusal_line (refused s past (event_or_step e)))) (crowded ∙ ap (λ (stage : Option Stage). is_crowded stage e) here)
 
 -- it is not
-pub writes_refusal : (f : AuditorState) (e : Entry) (p : ℕ) (stage : Option Stage) (event : Event) (refusal : Option Refusal) (old new : List ℕ) → p ≡ e.process → OfFollowed f (λ s past. stage ≡ stage_in s past p) → false ≡ is_crowded stage e →
-    event ≡ event_or_step e → OfFollowed f (λ s past. refusal ≡ refused s past event) → new ≡ old ++ refusal_line refusal → Writes f (λ s past. refused_line s past e) old new
-writes_refusal f e p stage event refusal old new of at alone told is written = λ s past followed few.
-    let here : stage ≡ stage_in s past e.process = at s past followed ∙ ap (stage_in s past) of in
-    let why : refusal ≡ refused s past (event_or_step e) = is s past followed ∙ ap (refused s past) told in
+pub writes_refusal : (a : AuditorState) (e : Entry) (p : ℕ) (stage : Option Stage) (event : Event) (refusal : Option Refusal) (old new : List ℕ) → p ≡ e.process → OfHeard a (λ s past. stage ≡ stage_in s past p) → false ≡ is_crowded stage e →
+    event ≡ event_or_step e → OfHeard a (λ s past. refusal ≡ refused s past event) → new ≡ old ++ refusal_line refusal → Writes a (λ s past. refused_line s past e) old new
+writes_refusal a e p stage event refusal old new of at alone told is written = λ past heard few.
+    let s : Setup = a.core.setup in
+    let here : stage ≡ stage_in s past e.process = at past heard ∙ ap (stage_in s past) of in
+    let why : refusal ≡ refused s past (event_or_step e) = is past heard ∙ ap (refused s past) told in
     written ∙ ap (λ (r : Option Refusal). old ++ refusal_line r) why
     ∙ ap (λ (b : Bool). old ++ cond b (word_line (codes "refused") (codes "not-alone")) (refusal_line (refused s past (event_or_step e)))) (alone ∙ ap (λ (stage : Option Stage). is_crowded stage e) here)
 
 -- all of them
-pub writes_reasons : (f : AuditorState) (n : ℕ) (e : Entry) (p : ℕ) (stage : Option Stage) (old bad may why new : List ℕ) → p ≡ e.process → bad ≡ old ++ bad_lines n e → Writes f (λ s past. may_lines s past p) bad may → Writes f (λ s past. refused_line s past e) may why →
-    OfFollowed f (λ s past. stage ≡ stage_in s past p) → new ≡ why ++ stage_line stage → Writes f (λ s past. reason_lines s past n e) old new
-writes_reasons f n e p stage old bad may why new of is_bad is_may is_why at is_stage = λ s past followed few.
+pub writes_reasons : (a : AuditorState) (n : ℕ) (e : Entry) (p : ℕ) (stage : Option Stage) (old bad may why new : List ℕ) → p ≡ e.process → bad ≡ old ++ bad_lines n e → Writes a (λ s past. may_lines s past p) bad may → Writes a (λ s past. refused_line s past e) may why →
+    OfHeard a (λ s past. stage ≡ stage_in s past p) → new ≡ why ++ stage_line stage → Writes a (λ s past. reason_lines s past n e) old new
+writes_reasons a n e p stage old bad may why new of is_bad is_may is_why at is_stage = λ past heard few.
+    let s : Setup = a.core.setup in
     let mays = may_lines s past e.process in
     let refusal = refused_line s past e in
-    let text : may ≡ (old ++ bad_lines n e) ++ mays = is_may s past followed few ∙ ap (λ p. bad ++ may_lines s past p) of ∙ ap (λ (t : List ℕ). t ++ mays) is_bad in
-    let stands : stage ≡ stage_in s past e.process = at s past followed ∙ ap (stage_in s past) of in
+    let text : may ≡ (old ++ bad_lines n e) ++ mays = is_may past heard few ∙ ap (λ p. bad ++ may_lines s past p) of ∙ ap (λ (t : List ℕ). t ++ mays) is_bad in
+    let stands : stage ≡ stage_in s past e.process = at past heard ∙ ap (stage_in s past) of in
     is_stage ∙ ap (λ (stage : Option Stage). why ++ stage_line stage) stands
-    ∙ ap (λ (t : List ℕ). t ++ stage_line (stage_in s past e.process)) (is_why s past followed few ∙ ap (λ (t : List ℕ). t ++ refusal) text)
+    ∙ ap (λ (t : List ℕ). t ++ stage_line (stage_in s past e.process)) (is_why past heard few ∙ ap (λ (t : List ℕ). t ++ refusal) text)
     ∙ three (old ++ bad_lines n e) mays refusal (stage_line (stage_in s past e.process))
     ∙ append_assoc old (bad_lines n e) (mays ++ (refusal ++ stage_line (stage_in s past e.process)))

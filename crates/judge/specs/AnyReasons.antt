@@ -1,9 +1,10 @@
 -- The lines of the reasons, on a record of any lock.
-use Rattle.std.specs.Prelude.{ℕ, ◌+◌, List, [], ◌∷◌, ◌++◌, codes, Option, Some, None}
+use Rattle.std.specs.Prelude.{◌≡◌, ℕ, ◌+◌, List, [], ◌∷◌, ◌++◌, codes, Option, Some, None}
 use Rattle.std.specs.Fmt.{decimal}
-use Rattle.record.specs.{Entry}
+use Rattle.plain_store.specs.{Setup}
+use Rattle.record.specs.{Entry, Past}
 use Rattle.judge.specs.ReasonLines.{bad_lines, named_entry, number_line, stage_line, word_line}
-use Rattle.any_lock.specs.{Refused, Remedy, access_refusal_text, changed, mark_refusal_text}
+use Rattle.any_lock.specs.{AnyLockLaw, AreReasons, Refused, Remedy, access_refusal_text, changed, mark_refusal_text}
 use Rattle.any_lock.specs.declared.reasons.Reasons.{Reasons}
 use Rattle.any_lock.specs.declared.reasons.Refused.TheVariants as by
 
@@ -53,3 +54,7 @@ others_lines r = inside_line r.inside ++ (waits_from 0 r.waits ++ entry_if (code
 -- The lines of the reasons of an entry that stands in line n.
 abbrev pub any_reason_lines : ℕ → Entry → Reasons → List ℕ
 any_reason_lines n e r = bad_lines n e ++ (any_may_line e r.may ++ (any_refused_line r.refused ++ (standing_lines r ++ others_lines r)))
+
+-- These are the lines of the reasons of an entry that breaks this law first.
+abbrev pub AreAnyLockReasons : AnyLockLaw → Setup → Past → ℕ → Entry → List ℕ → Type 0
+AreAnyLockReasons l s past n e lines = (reasons : Reasons) × AreReasons s past e l reasons × (lines ≡ any_reason_lines n e reasons)

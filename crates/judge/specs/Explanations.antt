@@ -1,83 +1,24 @@
--- The reasons that stand behind a bad verdict, by looking back over the entries before it.
-use Rattle.std.specs.Prelude.{◌≡◌, ◌<◌, ◌^◌, ℕ, Bool, false, true, ◌&&◌, List, [], ◌∷◌, ◌++◌, codes, cond, length, reverse, Option, Some, None, is_none}
-use Rattle.std.specs.Option.{is_some}
-use Rattle.std.specs.Str.{bytes_eq}
+-- The reasons that stand behind a bad verdict, whoever judges.
+use Rattle.std.specs.Prelude.{◌≡◌, ◌<◌, ◌^◌, ℕ, List, [], length}
 use Rattle.plain_store.specs.{Setup}
-use Rattle.record.specs.{Entry, Event, Past, Refusal, Stage, entry_of, has, refusal_text, refused}
-use Rattle.record.specs.declared.events.Event.TheVariants.{Step}
-use Rattle.auditor.specs.world.{stage_in}
-use Rattle.auditor.specs.{AuditorState, IsVerdict, Verdict, event_in, tells_event}
-use Rattle.auditor.specs.declared.verdicts.Verdict.TheVariants.{Good, Bad}
-use Rattle.judge.specs.ReasonLines.{AreLinesAt, bad_lines, named_entry, stage_line, word_line}
-use Rattle.judge.specs.Following.{HasFollowed}
-use Rattle.judge.specs.Judging.{HasJudged, JudgeState}
-
--- The lines.
-
--- the entry that an event adds, unless it is refused
-abbrev pub may_line : Option Entry → List ℕ
-may_line None = []
-may_line (Some e) = named_entry (codes "may") e
-
--- a line and another one, unless they are the same
-abbrev pub without_twin : List ℕ → List ℕ → List ℕ
-without_twin line other = line ++ cond (bytes_eq line other) [] other
-
--- what a Step of a process adds: with flick 0, and with flick 1 if that is another entry
-abbrev pub may_lines : Setup → Past → ℕ → List ℕ
-may_lines s past p = without_twin (may_line (entry_of s past (Step p false))) (may_line (entry_of s past (Step p true)))
-
--- why an event is refused, if it is
-abbrev pub refusal_line : Option Refusal → List ℕ
-refusal_line None = []
-refusal_line (Some r) = word_line (codes "refused") (refusal_text r)
-
--- the event that an entry tells, or else a Step
-abbrev pub event_or_step : Entry → Event
-event_or_step e = elim (event_in e) as (λ _. Event) [ None ↦ Step e.process false | Some event ↦ event ]
-
--- its process is there, and the mark of an event that is no Step is in company
-abbrev pub is_crowded : Option Stage → Entry → Bool
-is_crowded stage e = is_some stage && is_none (event_in e) && has tells_event e
-
--- why an entry is refused, if it is
-abbrev pub refused_line : Setup → Past → Entry → List ℕ
-refused_line s past e = cond (is_crowded (stage_in s past e.process) e) (word_line (codes "refused") (codes "not-alone")) (refusal_line (refused s past (event_or_step e)))
-
--- The lines of the reasons of an entry that stands in line n: that line and the entry, what may stand there, why it is refused, and the stage of its process.
-abbrev pub reason_lines : Setup → Past → ℕ → Entry → List ℕ
-reason_lines s past n e = bad_lines n e ++ (may_lines s past e.process ++ (refused_line s past e ++ stage_line (stage_in s past e.process)))
-
--- Whose they are.
-
--- these are they
-abbrev pub AreReasons : Setup → Past → ℕ → Entry → List ℕ → Type 0
-AreReasons s past n e lines = lines ≡ reason_lines s past n e
+use Rattle.record.specs.{Entry, Past}
+use Rattle.auditor.specs.{IsAt}
+use Rattle.auditor.specs.read_law.{Verdict}
+use Rattle.auditor.specs.read_law.declared.verdicts.Verdict.TheVariants.{Good, Bad}
+use Rattle.judge.specs.ReasonLines.{AreLinesAt}
 
 -- these are the lines of the reasons of a verdict on a record: a good one has none, a bad one those of its entry
-abbrev pub AreLinesOf : Setup → List Entry → List ℕ → Verdict → List ℕ → Type 0
-AreLinesOf s entries numbers Good lines = lines ≡ []
-AreLinesOf s entries numbers (Bad k l) lines = AreLinesAt AreReasons s entries numbers k lines
+abbrev pub AreLinesOf : {L : Type 0} → (L → Setup → Past → ℕ → Entry → List ℕ → Type 0) → Setup → List Entry → List ℕ → Verdict L → List ℕ → Type 0
+AreLinesOf AreReasons s entries numbers Good lines = lines ≡ []
+AreLinesOf AreReasons s entries numbers (Bad k l) lines = AreLinesAt (AreReasons l) s entries numbers k lines
 
--- As entries are heard.
+module _ {J L : Type 0} (HasJudged : J → Setup → List Entry → Type 0) (verdict : J → Verdict L) (AreReasons : L → Setup → Past → ℕ → Entry → List ℕ → Type 0) where
+  -- whatever a judge has judged, these are the lines of the reasons of its bad entry, which is in line n
+  abbrev pub GivesReasons : J → ℕ → Entry → List ℕ → Type 0
+  GivesReasons j n e lines = (s : Setup) (entries : List Entry) (past : Past) (k : ℕ) (l : L) → HasJudged j s entries → verdict j ≡ Bad k l → IsAt entries k e past → length past < 2 ^ 64 → AreReasons l s past n e lines
 
--- the verdict on these entries, which stand in the lines with these numbers; the lines of its reasons; and as long as it is good the follower goes on
-pub record HasReasons (verdict : Verdict) (f : AuditorState) (lines : List ℕ) (s : Setup) (entries : List Entry) (numbers : List ℕ) : Type 0 where
-  pub is : IsVerdict s entries verdict
-  pub counted : length numbers ≡ length entries
-  pub are : AreLinesOf s entries numbers verdict lines
-  pub follows : verdict ≡ Good → HasFollowed f s (reverse entries)
-
--- with one more entry the verdict is `now`, and these are its reasons
-abbrev pub ReasonsGoOn : (was now : Verdict) → (f then : AuditorState) → ℕ → Entry → (old new : List ℕ) → Type 0
-ReasonsGoOn was now f then n e old new = (s : Setup) (entries : List Entry) (numbers : List ℕ) → length entries < 2 ^ 64 →
-    IsVerdict s (entries ++ e ∷ []) now → HasReasons was f old s entries numbers → HasReasons now then new s (entries ++ e ∷ []) (numbers ++ n ∷ [])
-
--- these lines on the past that the follower has followed were written behind a text
-abbrev pub Writes : AuditorState → (Setup → Past → List ℕ) → (old new : List ℕ) → Type 0
-Writes f lines old new = (s : Setup) (past : Past) → HasFollowed f s past → length past < 2 ^ 64 → new ≡ old ++ lines s past
-
--- a judge has heard these entries, and has the reasons of his verdict
-pub record HasExplained (j : JudgeState) (f : AuditorState) (lines : List ℕ) (s : Setup) (entries : List Entry) (numbers : List ℕ) : Type 0 where
-  pub judged : HasJudged j s entries
-  pub reasons : HasReasons j.verdict f lines s entries numbers
+  -- a judge has heard these entries, which are in the lines with these numbers, and these are the lines of the reasons of its verdict
+  pub record HasExplained (j : J) (lines : List ℕ) (s : Setup) (entries : List Entry) (numbers : List ℕ) : Type 0 where
+    pub judged : HasJudged j s entries
+    pub counted : length numbers ≡ length entries
+    pub are : AreLinesOf AreReasons s entries numbers (verdict j) lines

@@ -3,8 +3,7 @@ use Rattle.std.specs.Prelude.{◌≡◌, ℕ, List, ◌∷◌, false, true, Ok}
 use Rattle.plain_store.specs.{Setup, checked}
 use Rattle.record.specs.{Entry, Past, doorway_begin, is_running, number_in_call, stage}
 use Rattle.auditor.specs.{AllKeep, IsVerdict}
-use Rattle.auditor.specs.declared.verdicts.Verdict.TheVariants as own
-use Rattle.any_lock.specs.declared.verdicts.AnyLockVerdict.TheVariants as any
+use Rattle.auditor.specs.read_law.declared.verdicts.Verdict.TheVariants.{Good}
 use Rattle.any_lock.specs.{breaks_history, breaks_safe, breaks_together, has_access, verdict_of}
 
 -- the laws `Safe`, `Together` and `History` of any lock are kept
@@ -19,7 +18,7 @@ GoodKeepsOfAny = (s : Setup) (past : Past) (e : Entry) → AllKeep s (e ∷ past
 
 -- Good is good: where this project's lock is what a record is judged by, and the verdict is good, it is good by what any lock keeps.
 abbrev pub GoodIsGood : Type 0
-GoodIsGood = (s : Setup) → checked s ≡ Ok tt → (entries : List Entry) → IsVerdict s entries own.Good → verdict_of s entries ≡ any.Good
+GoodIsGood = (s : Setup) → checked s ≡ Ok tt → (entries : List Entry) → IsVerdict s entries Good → verdict_of s entries ≡ Good
 
 -- There the doorway of a process that runs its call began, by what any lock keeps, where it begins for this project's lock.
 abbrev pub DoorwaysAreOne : Type 0

@@ -1,40 +1,40 @@
--- What the engine `judge` answers and writes.
+-- What the engine `judge` answers and writes, whoever judges.
 use Rattle.std.specs.Prelude.{◌≡◌, ℕ, Bool, true, false, List, ◌++◌, codes, length, Result}
 use Rattle.plain_store.specs.{Setup}
-use Rattle.auditor.specs.{IsVerdict, Verdict, verdict_text}
-use Rattle.auditor.specs.declared.verdicts.Verdict.TheVariants.{Good, Bad}
-use Rattle.record.specs.{Entry}
+use Rattle.record.specs.{Entry, Past}
+use Rattle.auditor.specs.read_law.{Verdict, verdict_text}
+use Rattle.auditor.specs.read_law.declared.verdicts.Verdict.TheVariants.{Good, Bad}
 use Rattle.judge.specs.Ends.{TrialEnds}
 use Rattle.files.specs.Engines.{Streams}
 use Rattle.files.specs.{Fault}
 use Rattle.judge.specs.Explanations.{AreLinesOf}
 
--- the line of a verdict on so many entries
-abbrev pub verdict_line : ℕ → Verdict → List ℕ
-verdict_line entries verdict = verdict_text entries verdict ++ codes "\n"
+-- the line of a verdict on so many entries, by the names of the laws
+abbrev pub verdict_line : {L : Type 0} → (L → List ℕ) → ℕ → Verdict L → List ℕ
+verdict_line name entries verdict = verdict_text name entries verdict ++ codes "\n"
 
 -- the exit status of a verdict
-abbrev pub status_of_verdict : Verdict → ℕ
+abbrev pub status_of_verdict : {L : Type 0} → Verdict L → ℕ
 status_of_verdict Good = 0
 status_of_verdict (Bad entry law) = 3
 
 -- the line of the verdict on a record, and its status
-pub record TellsVerdict (s : Setup) (entries : List Entry) (numbers told : List ℕ) (status : ℕ) : Type 0 where
-  pub verdict : Verdict
+pub record TellsVerdict {L : Type 0} (name : L → List ℕ) (IsVerdict : Setup → List Entry → Verdict L → Type 0) (s : Setup) (entries : List Entry) (numbers told : List ℕ) (status : ℕ) : Type 0 where
+  pub verdict : Verdict L
   pub is : IsVerdict s entries verdict
   pub answer : status ≡ status_of_verdict verdict
-  pub line : told ≡ verdict_line (length entries) verdict
+  pub line : told ≡ verdict_line name (length entries) verdict
 
 -- the line of the verdict, behind it the lines of its reasons, and its status
-pub record TellsReasons (s : Setup) (entries : List Entry) (numbers told : List ℕ) (status : ℕ) : Type 0 where
-  pub verdict : Verdict
+pub record TellsReasons {L : Type 0} (name : L → List ℕ) (IsVerdict : Setup → List Entry → Verdict L → Type 0) (AreReasons : L → Setup → Past → ℕ → Entry → List ℕ → Type 0) (s : Setup) (entries : List Entry) (numbers told : List ℕ) (status : ℕ) : Type 0 where
+  pub verdict : Verdict L
   pub is : IsVerdict s entries verdict
   pub answer : status ≡ status_of_verdict verdict
   pub lines : List ℕ
-  pub are : AreLinesOf s entries numbers verdict lines
-  pub text : told ≡ verdict_line (length entries) verdict ++ lines
+  pub are : AreLinesOf AreReasons s entries numbers verdict lines
+  pub text : told ≡ verdict_line name (length entries) verdict ++ lines
 
 -- How judging ends: with the verdict on what the whole input says, and with lines of reasons if they are asked for; or with its fault. Each fault has its cause, and nothing was written unless the verdict is known.
-abbrev pub JudgeEnds : Bool → Result ℕ Fault → Streams → Streams → Type 0
-JudgeEnds false = TrialEnds TellsVerdict
-JudgeEnds true = TrialEnds TellsReasons
+abbrev pub JudgeEnds : {L : Type 0} → (L → List ℕ) → (Setup → List Entry → Verdict L → Type 0) → (L → Setup → Past → ℕ → Entry → List ℕ → Type 0) → Bool → Result ℕ Fault → Streams → Streams → Type 0
+JudgeEnds name IsVerdict AreReasons false = TrialEnds (TellsVerdict name IsVerdict)
+JudgeEnds name IsVerdict AreReasons true = TrialEnds (TellsReasons name IsVerdict AreReasons)

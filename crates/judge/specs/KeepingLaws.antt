@@ -1,33 +1,17 @@
--- What a judge finds of the entries that he has heard: whether each keeps all laws.
-use Rattle.std.specs.Prelude.{◌≡◌, true, false, List, [], ◌∷◌, ◌++◌, reverse}
-use Rattle.std.proofs.Common.{subst, sym, true≢false}
+-- What is found of entries by the verdict on them.
+use Rattle.std.specs.Prelude.{◌≡◌, true, false, List}
+use Rattle.std.proofs.Common.{ap, sym, true≢false, ◌∙◌}
 use Rattle.plain_store.specs.{Setup}
-use Rattle.record.specs.{Entry, Past}
-use Rattle.auditor.specs.{AllKeep, IsVerdict, KeepsAll, Verdict}
-use Rattle.auditor.specs.declared.verdicts.Verdict.TheVariants.{Good, Bad}
-use Rattle.judge.specs.Judging.{HasJudged, JudgeState, is_good}
+use Rattle.record.specs.{Entry}
+use Rattle.auditor.specs.read_law.{Verdict, is_good}
+use Rattle.auditor.specs.read_law.declared.verdicts.Verdict.TheVariants.{Good, Bad}
 
--- each entry of a record keeps all laws
-abbrev pub KeepsLaws : Setup → List Entry → Type 0
-KeepsLaws s entries = AllKeep s (reverse entries)
+-- each entry keeps all laws by a good verdict
+pub found_good : {L : Type 0} (IsVerdict : Setup → List Entry → Verdict L → Type 0) (s : Setup) (entries : List Entry) (v : Verdict L) → IsVerdict s entries v → is_good v ≡ true → IsVerdict s entries Good
+found_good IsVerdict s entries Good is good = is
+found_good IsVerdict s entries (Bad k l) is good = absurd (true≢false (sym good))
 
--- so it is by a good verdict
-good_by : (s : Setup) (entries : List Entry) (v : Verdict) → IsVerdict s entries v → is_good v ≡ true → KeepsLaws s entries
-good_by s entries Good is good = is
-good_by s entries (Bad k l) is good = absurd (true≢false (sym good))
-
-pub found_good : (j : JudgeState) (s : Setup) (entries : List Entry) → HasJudged j s entries → is_good j.verdict ≡ true → KeepsLaws s entries
-found_good j s entries heard good = good_by s entries j.verdict heard.verdict good
-
--- an entry that stands among those that keep all laws keeps them
-keeps_there : (s : Setup) (later : Past) (e : Entry) (past : Past) → AllKeep s (later ++ e ∷ past) → KeepsAll s past e
-keeps_there s [] e past all = all.0
-keeps_there s (f ∷ later) e past all = keeps_there s later e past all.1
-
--- so it is not by a bad one
-bad_by : (s : Setup) (entries : List Entry) (v : Verdict) → IsVerdict s entries v → is_good v ≡ false → KeepsLaws s entries → ⊥
-bad_by s entries Good is bad keeps = absurd (true≢false bad)
-bad_by s entries (Bad k l) is bad keeps = is.breaks.broken (keeps_there s is.at.later is.entry is.past (subst (λ (l : Past). AllKeep s l) is.at.splits keeps) l)
-
-pub found_bad : (j : JudgeState) (s : Setup) (entries : List Entry) → HasJudged j s entries → is_good j.verdict ≡ false → KeepsLaws s entries → ⊥
-found_bad j s entries heard bad keeps = bad_by s entries j.verdict heard.verdict bad keeps
+-- and not by a bad one
+pub found_bad : {L : Type 0} (IsVerdict : Setup → List Entry → Verdict L → Type 0) → ((s : Setup) (entries : List Entry) (v w : Verdict L) → IsVerdict s entries v → IsVerdict s entries w → v ≡ w) →
+    (s : Setup) (entries : List Entry) (v : Verdict L) → IsVerdict s entries v → is_good v ≡ false → IsVerdict s entries Good → ⊥
+found_bad IsVerdict one s entries v is bad keeps = true≢false (sym (ap is_good (one s entries v Good is keeps)) ∙ bad)

@@ -8,30 +8,28 @@ pub mod Numbers
 pub mod Trials
 pub mod Ends
 pub mod ReasonLines
--- Records of this project's lock
-pub mod Judging
-pub mod Following
+-- What is told of a record, whoever judges
 pub mod Explanations
 pub mod Judgements
-pub mod Mays
 pub mod KeepingLaws
--- Records of any lock: names that stand for the other judge too begin with any here
-pub mod AnyJudgements
+-- Records of this project's lock
+pub mod Judging
+pub mod ThisLockVerdicts
+pub mod Reasons
+pub mod Mays
+-- Records of any lock
+pub mod AnyLockVerdicts
 pub mod AnyReasons
-pub mod AnyExplanations
-pub mod AnyKeepingLaws
 pub mod Good
-pub use AnyExplanations.{AnyAreLinesOf, AnyHasExplained, AnyTellsReasons, AreLines, Explains, ExplainsIf, any_is_good}
-pub use AnyJudgements.{AnyTellsVerdict, any_status_of_verdict, any_verdict_line}
-pub use AnyReasons.{any_reason_lines, wait_line, waits_from}
+pub use AnyReasons.{AreAnyLockReasons, any_reason_lines, wait_line, waits_from}
 pub use Ends.{IsInputFault, IsOfRecord}
-pub use Explanations.{AreLinesOf, AreReasons, HasExplained, HasReasons, ReasonsGoOn, Writes, reason_lines}
-pub use Following.{HasFollowed}
+pub use Explanations.{AreLinesOf, GivesReasons, HasExplained}
 pub use Good.{DoorwaysAreOne, GoodIsGood, GoodKeepsOfAny}
-pub use Judgements.{TellsReasons, TellsVerdict, status_of_verdict, verdict_line}
-pub use Judging.{BothHeard, HasJudged, JudgeState, found}
+pub use Judgements.{JudgeEnds, TellsReasons, TellsVerdict, status_of_verdict, verdict_line}
+pub use Judging.{BothHeard, HasAudited, HasJudged, JudgeState, found}
 pub use Mays.{OnlyStepsKeepAllLaws, StepsKeepAllLaws}
 pub use Numbers.{number_in, numbers_from, numbers_of, say_entry}
 pub use ReasonLines.{AreLinesAt}
+pub use Reasons.{AreReasons, Writes, reason_lines}
 pub use Trials.{good_in}
 pub use declared.hearers.Telling.{Telling}

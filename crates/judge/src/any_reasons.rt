@@ -11,9 +11,9 @@ use plain_store::NestedTypes;
 use record::Entry;
 use std::alloc::{AllocError, Global};
 
-/// Writes the reasons of a bad entry, which stands in this line.
+/// Writes the reasons of a bad entry, which is in line `number`.
 #[tactic(auto, using(crate::proofs::Texts::five))]
-pub(crate) fn reason_lines(
+pub(crate) fn push_reasons(
     alloc: Global,
     number: u64,
     entry: &Entry,

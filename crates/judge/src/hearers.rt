@@ -1,9 +1,10 @@
 //! Who hears the entries of a record file.
 ghost use Rattle.std.specs.Prelude.{◌≡◌, ◌-◌, ◌^◌, ◌<◌, ◌∷◌, ◌++◌, [], IfOk, List, Ok, OnOk, length, ℕ};
 ghost use Rattle.plain_store.specs.{checked};
+ghost use Rattle.auditor.specs.read_law.{entry_by};
 
 use plain_store::Setup;
-use record::Entry;
+use record::{Access, Mark};
 use std::alloc::{AllocError, Global};
 
 /// What is told of a record: a text, and an exit status.
@@ -32,10 +33,21 @@ pub trait Hearer: Sized + Drop {
         requires { checked setup.now ≡ Ok tt }
         ensures { IfOk result (λ hearer. HasHeard hearer setup.now [] []) };
 
-    /// One more entry, and the number of its line. After an `Err`, which is want of memory, no more is heard.
-    fn take(&mut self, alloc: Global, number: u64, entry: &Entry) -> Result<(), AllocError>
+    /// Observes one more entry, by its parts, which is in line `number`.
+    ///
+    /// # Errors
+    ///
+    /// Returns [`AllocError`] if memory runs out. Then it may observe no more entries.
+    fn take(
+        &mut self,
+        alloc: Global,
+        number: u64,
+        process: u8,
+        access: &Option<Access>,
+        marks: &[Mark],
+    ) -> Result<(), AllocError>
         requires { count self.old < 2 ^ 64 - 1 }
-        ensures { OnOk result ((s : Given) (entries : List Noted) (numbers : List ℕ) → HasHeard self.old s entries numbers → HasHeard self.new s (entries ++ entry.now ∷ []) (numbers ++ number ∷ [])) };
+        ensures { OnOk result ((s : Given) (entries : List Noted) (numbers : List ℕ) → HasHeard self.old s entries numbers → HasHeard self.new s (entries ++ entry_by process access.now marks.now ∷ []) (numbers ++ number ∷ [])) };
 
     /// What is told of the entries so far. The one fault is want of memory.
     fn tell(&self, alloc: Global) -> Result<Telling, AllocError>

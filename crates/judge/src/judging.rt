@@ -1,18 +1,26 @@
 //! The engine `judge`: the verdict on the record that a file says, which is read line by line.
 ghost use Rattle.std.specs.Prelude.{◌-◌, ◌^◌, ◌<◌};
-ghost use Rattle.judge.specs.Judgements.{JudgeEnds};
+ghost use Rattle.any_lock.specs.{IsVerdict as IsAnyLockVerdict, law_text as any_lock_law};
+ghost use Rattle.auditor.specs.read_law.{law_text};
+ghost use Rattle.auditor.specs.{IsVerdict};
 ghost use Rattle.files.specs.{streams};
+ghost use Rattle.judge.specs.AnyReasons.{AreAnyLockReasons};
+ghost use Rattle.judge.specs.Judgements.{JudgeEnds};
+ghost use Rattle.judge.specs.Reasons.{AreReasons};
 
 use crate::engine::run_trial;
 use crate::explaining::Explaining;
-use crate::judge::RecordJudge;
+use crate::plain::Plain;
+use crate::record_judge::RecordJudge;
+use crate::this_lock_judge::ThisLockJudge;
+use any_lock::Judge;
 use files::{Fault, Sink, Source};
 use std::alloc::Global;
 
-/// Reads a whole record file, line by line, and then writes the verdict on the record that it says, on one line, and
-/// behind a bad one its reasons, if they are asked for; answers the exit status. It holds a line, a block and the reasons,
-/// however long the file is; where they are asked for it goes along with the record, and takes about twice the time. A
-/// file of 2^64 - 1 lines or more, whose numbers want more than 64 bits, ends with `Memory`.
+/// Reads a whole record file, line by line, and then writes the verdict on its record by the laws of this project's lock, on
+/// one line, and behind a bad one its reasons, if they are asked for. Returns the exit status. It holds a line, a block and
+/// the reasons, however long the file is. A file of 2^64 - 1 lines or more, whose numbers want more than 64 bits, ends with
+/// `Memory`.
 pub fn run_judge<R: Source, W: Sink>(
     alloc: Global,
     input: &mut R,
@@ -21,13 +29,45 @@ pub fn run_judge<R: Source, W: Sink>(
 ) -> Result<u8, Fault>
     requires reads { R.failures input.old < 2 ^ 64 - 1 }
     requires writes { W.failures output.old < 2 ^ 64 - 1 }
-    ensures { JudgeEnds asked result
+    ensures { JudgeEnds law_text IsVerdict AreReasons asked result
+        (streams ⟦<R as Source>⟧ ⟦<W as Sink>⟧ input.old output.old)
+        (streams ⟦<R as Source>⟧ ⟦<W as Sink>⟧ input.new output.new) }
+{
+    run_judged::<ThisLockJudge, R, W>(alloc, input, output, asked)
+}
+
+/// Does the same by the laws of any lock on safe bits.
+pub fn judge_any_lock<R: Source, W: Sink>(
+    alloc: Global,
+    input: &mut R,
+    output: &mut W,
+    asked: bool,
+) -> Result<u8, Fault>
+    requires reads { R.failures input.old < 2 ^ 64 - 1 }
+    requires writes { W.failures output.old < 2 ^ 64 - 1 }
+    ensures { JudgeEnds any_lock_law IsAnyLockVerdict AreAnyLockReasons asked result
+        (streams ⟦<R as Source>⟧ ⟦<W as Sink>⟧ input.old output.old)
+        (streams ⟦<R as Source>⟧ ⟦<W as Sink>⟧ input.new output.new) }
+{
+    run_judged::<Judge, R, W>(alloc, input, output, asked)
+}
+
+/// Does the same by the laws of a judge.
+fn run_judged<J: RecordJudge, R: Source, W: Sink>(
+    alloc: Global,
+    input: &mut R,
+    output: &mut W,
+    asked: bool,
+) -> Result<u8, Fault>
+    requires reads { R.failures input.old < 2 ^ 64 - 1 }
+    requires writes { W.failures output.old < 2 ^ 64 - 1 }
+    ensures { JudgeEnds J.Law.name J.IsVerdict J.AreReasons asked result
         (streams ⟦<R as Source>⟧ ⟦<W as Sink>⟧ input.old output.old)
         (streams ⟦<R as Source>⟧ ⟦<W as Sink>⟧ input.new output.new) }
 {
     if asked {
-        run_trial::<Explaining, R, W>(alloc, input, output)
+        run_trial::<Explaining<J>, R, W>(alloc, input, output)
     } else {
-        run_trial::<RecordJudge, R, W>(alloc, input, output)
+        run_trial::<Plain<J>, R, W>(alloc, input, output)
     }
 }

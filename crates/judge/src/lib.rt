@@ -7,28 +7,23 @@
 //! ```
 #![tactic(auto)]
 
-mod any_explaining;
-mod any_hearing;
-mod any_judging;
+mod any_lock_judging;
 mod any_reasons;
-mod any_verdicts;
 mod common_laws;
 mod engine;
 mod explaining;
-mod finding;
-mod follower;
 mod hearers;
-mod hearing;
-mod judge;
 mod judging;
 mod laws_of_reasons;
+mod plain;
 mod reason_lines;
+mod reasons;
+mod record_judge;
+mod this_lock_judge;
 mod trial;
 mod verdicts;
 
-pub use any_explaining::ExplainingAnyLock;
-pub use any_judging::judge_any_lock;
-pub use any_lock::{AnyLockLaw, AnyLockVerdict, Judge, Judged};
+pub use any_lock::{AnyLockLaw, Judge};
 pub use auditor::{
     Audited, Auditor, Law, Verdict, Watch, audit, good_records_are_of_events, parts,
     records_have_one_verdict, records_of_events_are_good,
@@ -38,9 +33,10 @@ pub use engine::run_trial;
 pub use explaining::Explaining;
 pub use files::{DONE, Fault, Sink, Source};
 pub use hearers::{Hearer, Judging, Telling};
-pub use judge::RecordJudge;
-pub use judging::run_judge;
+pub use judging::{judge_any_lock, run_judge};
 pub use laws_of_reasons::only_steps_keep_all_laws;
 pub use record_file::{StepLine, print_entry, print_setup};
+pub use record_judge::RecordJudge;
+pub use this_lock_judge::ThisLockJudge;
 pub use trial::Trial;
 pub use verdicts::{status_of, verdict_line};

@@ -1,12 +1,37 @@
 //! The lines of reasons that all judges have.
 ghost use Rattle.std.specs.Prelude.{◌≡◌, ◌++◌, IfOk, OnOk};
 ghost use Rattle.std.specs.String.{string_bytes};
+ghost use Rattle.auditor.specs.read_law.{entry_by};
 ghost use Rattle.judge.specs.ReasonLines.{bad_lines, named_entry, number_line, stage_line, word_line};
 
 use plain_store::NestedTypes;
-use record::{Entry, Stage};
+use record::{Access, Act, Entry, Mark, Stage};
 use record_file::print_entry;
+use smallvec::SmallVec;
 use std::alloc::{AllocError, Global};
+
+/// Returns the entry of a process with this access and these marks.
+///
+/// # Errors
+///
+/// Returns [`AllocError`] if memory runs out, which it does not for up to three marks.
+pub(crate) fn entry_of_parts(
+    alloc: Global,
+    process: u8,
+    access: &Option<Access>,
+    marks: &[Mark],
+) -> Result<Entry, AllocError>
+    ensures { IfOk result (λ entry. entry ≡ entry_by process access.now marks.now) }
+{
+    let _nested: NestedTypes = None;
+    Ok(Entry {
+        process,
+        act: Act {
+            access: *access,
+            marks: SmallVec::from_slice(alloc, marks)?,
+        },
+    })
+}
 
 /// Writes the line of a word and a number.
 pub fn push_number(

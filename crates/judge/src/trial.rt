@@ -1,15 +1,15 @@
 ghost use Rattle.std.specs.Prelude.{◌≡◌, ◌-◌, ◌^◌, ◌<◌, ◌≤◌, ◌∷◌, ◌++◌, [], ℕ, None, Some, true, false, IfOk, IsSome, List, Ok, OnOk, Option, length};
 ghost use Rattle.plain_store.specs.{checked};
 ghost use Rattle.record.specs.{Entry as Noted};
-ghost use Rattle.record_file.specs.{Progress, step_entry};
+ghost use Rattle.record_file.specs.{Progress};
 ghost use Rattle.judge.specs.Trials.{GoesOn, Hears, IsHeard, LineEnds, Stands, count_in, good_in};
 
 use crate::hearers::{Hearer, Judging};
+use auditor::parts;
 use files::{FaultKind, read_any_line};
 use plain_store::{NestedTypes, Setup};
-use record::{Access, Act, Entry};
+use record::Entry;
 use record_file::{RecordReader, read_step};
-use smallvec::SmallVec;
 use std::alloc::{AllocError, Global};
 
 /// A record file that is heard line by line: what was read, and who hears its entries, once there is one.
@@ -18,8 +18,6 @@ pub struct Trial<H: Hearer> {
     alloc: Global,
     reader: Option<RecordReader>,
     hearer: Option<H>,
-    /// The entry of a Step that was read at once. It stands here, since room for its marks is not made anew for each.
-    step: Entry,
 }
 
 impl<H: Hearer> Trial<H> {
@@ -31,13 +29,6 @@ impl<H: Hearer> Trial<H> {
             alloc,
             reader: None,
             hearer: None,
-            step: Entry {
-                process: 0,
-                act: Act {
-                    access: None,
-                    marks: SmallVec::new(alloc),
-                },
-            },
         }
     }
 
@@ -67,8 +58,7 @@ impl<H: Hearer> Trial<H> {
         let Some((process, access)) = read_step(line) else {
             return Ok(false);
         };
-        set_step(&mut self.step, process, access);
-        hearer.take(self.alloc, number, &self.step)?;
+        hearer.take(self.alloc, number, process, &Some(access), &[])?;
         Ok(true)
     }
 
@@ -97,7 +87,6 @@ impl<H: Hearer> Trial<H> {
             alloc,
             reader,
             hearer,
-            step: _step,
         } = self;
         let Some(reader) = reader else {
             return Ok(None);
@@ -121,17 +110,6 @@ impl<H: Judging> Trial<H> {
     }
 }
 
-/// The entry becomes that of a Step with this access and no mark.
-#[inline]
-fn set_step(entry: &mut Entry, process: u8, access: Access)
-    ensures { entry.new ≡ step_entry process access }
-{
-    let _nested: NestedTypes = None;
-    entry.process = process;
-    entry.act.access = Some(access);
-    entry.act.marks.clear();
-}
-
 /// One more entry is heard; with the first one there is who hears it.
 fn hear<H: Hearer>(
     alloc: Global,
@@ -149,7 +127,8 @@ fn hear<H: Hearer>(
         begin(alloc, setup, hearer)?;
     }
     if let Some(hearer) = hearer {
-        hearer.take(alloc, number, entry)?;
+        let (process, access, marks) = parts(entry);
+        hearer.take(alloc, number, process, access, marks)?;
     }
     Ok(())
 }

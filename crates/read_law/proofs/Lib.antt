@@ -5,3 +5,4 @@ pub mod Opened
 pub mod Openings
 pub mod OwnPlaces
 pub mod Packs
+pub mod GoodVerdicts

@@ -1,11 +1,16 @@
-//! The law `Safe` of an entry, told by a watch that hears the entries of a record one by one.
+//! The law `Safe` of an entry, told by a watch that hears the entries of a record one by one; and the verdicts that judges of
+//! records report.
 #![tactic(auto)]
 
 mod by_parts;
 mod look;
 mod packed;
 mod places;
+mod shown;
+mod verdicts;
 mod watch;
 
 pub use by_parts::parts;
+pub use shown::NamedLaw;
+pub use verdicts::{Audited, Law, Verdict};
 pub use watch::Watch;

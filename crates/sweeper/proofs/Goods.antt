@@ -5,8 +5,8 @@ use Rattle.std.proofs.lemmas.List.Elements.{All-head, All-tail}
 use Rattle.std.specs.List.{All, AllZip}
 use Rattle.plain_store.specs.{Setup, checked}
 use Rattle.record.specs.{AreGiven, past_of}
-use Rattle.auditor.specs.{AllKeep, IsVerdict, Verdict}
-use Rattle.auditor.specs.declared.verdicts.Verdict.TheVariants.{Good, Bad}
+use Rattle.auditor.specs.{AllKeep, IsVerdict, Law, Verdict}
+use Rattle.auditor.specs.read_law.declared.verdicts.Verdict.TheVariants.{Good, Bad}
 use Rattle.auditor.proofs.Unique.{not_bad}
 use Rattle.auditor.proofs.Whole.{good_of}
 use Rattle.sweeper.specs.{AreAllGood, Counts, Cut, IsFound, Swept, SweptRunsAreGood, all_good, cuts, first_bad_of, is_good, record_of_cut}
@@ -21,7 +21,7 @@ is_verdict : (s : Setup) (c : Cut) → IsGoodRun s c → IsVerdict s (record_of_
 is_verdict s c keeps = subst (AllKeep s) (sym (reverse-reverse (past_of s c.run.events))) keeps
 
 -- of all of them
-all_kept : (s : Setup) (cs : List Cut) (vs : List Verdict) → All (IsGoodRun s) cs → AllZip (λ c v. IsVerdict s (record_of_cut s c) v) cs vs → (length (filter is_good vs) ≡ length cs) × (first_bad_of cs vs ≡ None)
+all_kept : (s : Setup) (cs : List Cut) (vs : List (Verdict Law)) → All (IsGoodRun s) cs → AllZip (λ c v. IsVerdict s (record_of_cut s c) v) cs vs → (length (filter is_good vs) ≡ length cs) × (first_bad_of cs vs ≡ None)
 all_kept s [] [] keeps each = (refl, refl)
 all_kept s [] (v ∷ vs) keeps each = absurd each
 all_kept s (c ∷ cs) [] keeps each = absurd each
@@ -49,7 +49,7 @@ all_verdicts s (c ∷ cs) keeps = (is_verdict s c (All-head (IsGoodRun s) c cs k
 
 pub is_found : (s : Setup) (cs : List Cut) (found : Swept) → Counts s cs found → IsFound s cs found
 is_found s cs found counts =
-    let verdicts : List Verdict = map (λ (c : Cut). Good) cs in
+    let verdicts : List (Verdict Law) = map (λ (c : Cut). Good) cs in
     let each = all_verdicts s cs counts.good in
     let all = all_kept s cs verdicts counts.good each in
     record {

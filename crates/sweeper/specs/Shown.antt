@@ -1,7 +1,7 @@
 -- How what a sweep finds is printed.
 use Rattle.std.specs.Prelude.{ℕ, List, [], ◌++◌, cond, codes, Option, None, Some}
 use Rattle.std.specs.Fmt.{decimal}
-use Rattle.auditor.specs.{law_text}
+use Rattle.auditor.specs.read_law.{law_text}
 use Rattle.sweeper.specs.declared.swept.BadRun.{BadRun}
 use Rattle.sweeper.specs.declared.swept.Swept.{Swept}
 

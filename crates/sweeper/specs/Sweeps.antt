@@ -5,8 +5,8 @@ use Rattle.plain_store.specs.{Command, Setup, checked, is_command}
 use Rattle.record.specs.{AreGiven, Entry, Event, KeepsHeadlineThroughout, Stage, past_of, process_of, processes, refused, stage}
 use Rattle.record.specs.declared.events.Event.TheVariants.{Call, Step, Fail, Restart}
 use Rattle.record.specs.declared.stages.Stage.TheVariants.{Idle, Settling, Down}
-use Rattle.auditor.specs.{IsVerdict, Verdict}
-use Rattle.auditor.specs.declared.verdicts.Verdict.TheVariants.{Good, Bad}
+use Rattle.auditor.specs.{IsVerdict, Law, Verdict}
+use Rattle.auditor.specs.read_law.declared.verdicts.Verdict.TheVariants.{Good, Bad}
 use Rattle.sweeper.specs.declared.swept.BadRun.{BadRun}
 use Rattle.sweeper.specs.declared.swept.Swept.{Swept}
 
@@ -94,19 +94,19 @@ abbrev pub record_of_cut : Setup → Cut → List Entry
 record_of_cut s c = reverse (past_of s c.run.events)
 
 -- the verdict is that the record is good
-abbrev pub is_good : Verdict → Bool
+abbrev pub is_good : Verdict Law → Bool
 is_good Good = true
 is_good (Bad entry law) = false
 
 -- the first run whose verdict is bad
-abbrev pub first_bad_of : List Cut → List Verdict → Option BadRun
+abbrev pub first_bad_of : List Cut → List (Verdict Law) → Option BadRun
 first_bad_of (c ∷ cs) (Good ∷ vs) = first_bad_of cs vs
 first_bad_of (c ∷ cs) (Bad entry law ∷ vs) = Some (record { cut = c.number; value = c.value; entry = entry; law = law })
 first_bad_of _ _ = None
 
 -- what a sweep finds in these runs: each has its verdict; so many there are, so many are good, so many stuck, and this is the first bad one
 pub record IsFound (s : Setup) (cs : List Cut) (found : Swept) : Type 0 where
-  pub verdicts : List Verdict
+  pub verdicts : List (Verdict Law)
   pub each : AllZip (λ c v. IsVerdict s (record_of_cut s c) v) cs verdicts
   pub runs : found.runs ≡ length cs
   pub good : found.good ≡ length (filter is_good verdicts)

@@ -1,18 +1,19 @@
-use Rattle.std.proofs.Common.{rules, ◌≡◌, ◌+◌, [], ◌∷◌, ◌++◌, sym, ap, subst}
+use Rattle.std.proofs.Common.{◌≡◌, ◌+◌, [], ◌∷◌, ◌++◌, sym, ap, subst, ◌∙◌}
 use Rattle.record.specs.{Entry}
-use Rattle.any_lock.specs.declared.verdicts.AnyLockVerdict.TheVariants.{Good}
+use Rattle.read_law.specs.declared.verdicts.Verdict.TheVariants.{Good}
+use Rattle.read_law.proofs.GoodVerdicts.{bad_is, good_is}
 use Rattle.any_lock.specs.{HasJudged, JudgeState}
 use Rattle.any_lock.proofs.Told.{hears_bad, hears_on, with_entries}
 use Rattle.any_lock.proofs.judge.Judge.hear.Goals as goal
 
-pub returns-then-eq-clause-heard : goal.returns-then-eq-clause-heard
-returns-then-eq-clause-heard c =
+pub returns-then-is_good-clause-heard : goal.returns-then-is_good-clause-heard
+returns-then-is_good-clause-heard c =
     let i = c.self.inside in
     let e : Entry = record { process = c.args.process; access = c.args.access.now; marks = c.args.marks.now } in
     let old : JudgeState = record { watch = i.watch; kept = i.kept; verdict = i.verdict; entries = i.entries; reasons = i.reasons } in
     let v = c.verdict_with-self-inside in
-    let good : old.verdict ≡ Good = search (rules, c.eq.ensures, c.if-eq.true) in
-    let is = ap (λ (m : JudgeState). record m { verdict = v.result }) c.self-then-eq.view_is in
+    let good : old.verdict ≡ Good = good_is old.verdict (sym c.is_good.ensures ∙ c.if-is_good.true) in
+    let is = ap (λ (m : JudgeState). record m { verdict = v.result }) c.self-then-is_good.view_is in
     λ s entries judged.
     subst (λ (m : JudgeState). HasJudged m s (entries ++ e ∷ [])) (sym is)
     (hears_on old v.new.self e v.result s entries (subst (λ (m : JudgeState). HasJudged m s entries) (sym c.self.view_is) judged) good v.ensures.entries
@@ -20,10 +21,10 @@ returns-then-eq-clause-heard c =
     (λ past both. v.ensures.reasons s past (with_entries old (old.entries + 1) s past both))
     (λ past both. v.ensures.goes_on s past (with_entries old (old.entries + 1) s past both)))
 
-pub returns-else-eq-clause-heard : goal.returns-else-eq-clause-heard
-returns-else-eq-clause-heard c =
+pub returns-else-is_good-clause-heard : goal.returns-else-is_good-clause-heard
+returns-else-is_good-clause-heard c =
     let i = c.self.inside in
     let e : Entry = record { process = c.args.process; access = c.args.access.now; marks = c.args.marks.now } in
     let old : JudgeState = record { watch = i.watch; kept = i.kept; verdict = i.verdict; entries = i.entries; reasons = i.reasons } in
     λ s entries judged.
-    hears_bad old e s entries (subst (λ (m : JudgeState). HasJudged m s entries) (sym c.self.view_is) judged) (λ good. search (rules, c.eq.ensures, c.if-eq.false, good))
+    hears_bad old e s entries (subst (λ (m : JudgeState). HasJudged m s entries) (sym c.self.view_is) judged) (bad_is old.verdict (sym c.is_good.ensures ∙ c.if-is_good.false))

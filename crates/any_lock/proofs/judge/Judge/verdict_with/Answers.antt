@@ -2,7 +2,7 @@ use Rattle.std.proofs.Common.{◌≡◌, ◌∷◌, Option, refl, sym, ap, subst
 use Rattle.plain_store.specs.{Setup}
 use Rattle.record.specs.{Entry, Past}
 use Rattle.any_lock.specs.{AnyLockLaw, AreReasonsIf, BothHeard, JudgeState, first_broken, verdict_with}
-use Rattle.any_lock.specs.declared.verdicts.AnyLockVerdict.TheVariants.{Good}
+use Rattle.read_law.specs.declared.verdicts.Verdict.TheVariants.{Good}
 use Rattle.any_lock.proofs.Breaks.{told_by}
 use Rattle.any_lock.proofs.Told.{AreTold, found_good, reasons_given, told_law, told_on}
 use Rattle.any_lock.proofs.judge.Judge.verdict_with.Goals as goal

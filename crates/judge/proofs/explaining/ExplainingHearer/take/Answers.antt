@@ -1,13 +1,33 @@
-use Rattle.std.proofs.Common.{arith, subst}
+use Rattle.std.proofs.Common.{◌<◌, ◌^◌, length, sym, subst, ◌∙◌, arith}
 use Rattle.record.specs.{Entry}
-use Rattle.judge.specs.Judging.{JudgesOneMore}
-use Rattle.judge.proofs.LinesAt.{ok_then}
-use Rattle.judge.proofs.Explained.{explained_on}
+use Rattle.auditor.specs.read_law.{entry_by}
+use Rattle.judge.specs.{GivesReasons}
+use Rattle.judge.proofs.Explained.{gets_bad, still_bad, still_good}
 use Rattle.judge.proofs.explaining.ExplainingHearer.take.Goals as goal
+use Rattle.judge.proofs.explaining.ExplainingHearer.take.Goals.{then-not-was_good-via-then-not-was_good, then-not-was_good-via-else-not-was_good+then-is_good}
+
+pub returns-then-not-was_good : goal.returns-then-not-was_good
+returns-then-not-was_good g c =
+    let J = g.J.RecordJudge in
+    let laws = g.met.J.RecordJudge in
+    let e : Entry = entry_by c.args.process c.args.access.now c.args.marks.now in
+    λ s entries numbers had. elim c.then-not-was_good.branch [
+      | then-not-was_good-via-then-not-was_good w ↦
+          still_bad J.HasJudged J.verdict J.AreReasons J.IsVerdict laws.finds laws.one laws.stays laws.newest c.args.self.now.judge c.hear.new.self c.args.number e s entries numbers c.args.self.now.reasons.items had (c.hear.ensures.heard s entries had.judged)
+          (sym c.is_good-was_good.ensures ∙ w.if-not-was_good.true)
+      | then-not-was_good-via-else-not-was_good+then-is_good w ↦
+          still_good J.HasJudged J.verdict J.AreReasons J.IsVerdict laws.finds laws.one laws.stays laws.newest c.args.self.now.judge c.hear.new.self c.args.number e s entries numbers c.args.self.now.reasons.items had (c.hear.ensures.heard s entries had.judged)
+          (sym c.is_good-was_good.ensures ∙ w.if-not-was_good.false) (sym w.is_good.ensures ∙ w.if-is_good.true)
+    ]
 
 pub returns : goal.returns
-returns c =
-    let old = c.args.self.now in
-    ok_then c.go_on.result
-    (explained_on old.judge c.hear.new.self old.follower c.go_on.new.follower old.reasons.items c.go_on.new.lines.items c.args.number c.args.entry.now c.audited-was.result.verdict c.audited-now.result.verdict (omega (arith, c.requires)) (subst (λ (e : Entry). JudgesOneMore old.judge e c.hear.new.self) c.parts-process.ensures c.hear.ensures.heard) c.audited-was.ensures.verdict c.audited-now.ensures.verdict)
-    c.go_on.ensures
+returns g c =
+    let J = g.J.RecordJudge in
+    let laws = g.met.J.RecordJudge in
+    let e : Entry = entry_by c.args.process c.args.access.now c.args.marks.now in
+    let lines = c.in_ok-self.field-0.items in
+    let gives = subst (λ (e : Entry). GivesReasons J.HasJudged J.verdict J.AreReasons c.hear.new.self c.args.number e lines) c.in_ok-entry.ensures c.in_ok-self.ensures in
+    λ s entries numbers had.
+    let few : length entries < 2 ^ 64 = let count = laws.counts c.args.self.now.judge s entries had.judged in omega (arith, count, c.requires) in
+    gets_bad J.HasJudged J.verdict J.AreReasons J.IsVerdict laws.finds laws.one laws.stays laws.newest c.args.self.now.judge c.hear.new.self c.args.number e s entries numbers c.args.self.now.reasons.items had (c.hear.ensures.heard s entries had.judged)
+    lines few (sym c.is_good-was_good.ensures ∙ c.if-not-was_good.false) (sym c.is_good.ensures ∙ c.if-is_good.false) gives

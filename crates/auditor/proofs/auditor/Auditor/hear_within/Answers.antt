@@ -1,0 +1,52 @@
+use Rattle.std.proofs.Common.{◌≡◌, ◌<◌, [], Bool, Some, None, sym, subst, ◌∙◌, true≢false, arith}
+use Rattle.std.specs.Prelude.{nat_lt}
+use Rattle.world.specs.{CoreAddsQuietly, left_in, with_history}
+use Rattle.world.proofs.WorldWithin.{walks-one}
+use Rattle.read_law.specs.declared.verdicts.Law.TheVariants as law
+use Rattle.auditor.specs.{AuditorState, BreaksNext, HasHeard, IsHeard, flick_in}
+use Rattle.auditor.proofs.Within.{IsNextWithin, MadeWithin, access_entry, heard_within, other_heard}
+use Rattle.auditor.proofs.auditor.Auditor.hear_within.Goals as goal
+use Rattle.auditor.proofs.auditor.Auditor.hear_within.Goals.{After-is_that, After-run-made}
+
+abbrev before : After-is_that → AuditorState
+before c = record { core = c.self.inside.core; taken = c.self.inside.taken }
+
+-- its next access
+next : (c : After-is_that) → IsNextWithin c.self.inside.core c.args.process (flick_in (Some c.args.told)) c.next_access.result
+next c = record {
+  within = subst (λ (a : AuditorState). 0 < left_in a.core.seats c.args.process) (sym c.self.view_is) c.requires;
+  adds = subst (λ (f : Bool). CoreAddsQuietly c.self.inside.core c.args.process f c.next_access.result) c.flick_of-flick.ensures c.next_access.ensures;
+}
+
+-- its step
+made : (c : After-run-made) → MadeWithin c.self.inside.core c.args.process (flick_in (Some c.args.told)) c.run-made.result.newest (nat_lt 0 c.run-made.result.overlapped) c.run-made.new.self
+made c = λ taken.
+    let step = c.run-made in
+    (walks-one (with_history c.self.inside.core taken) (with_history step.new.self taken) c.only.result step.new.flicks c.args.process (flick_in (Some c.args.told)) step.result.newest step.result.overlapped (c.only.ensures ∙ c.flick_of-flick.ensures) (step.ensures.runs.walks taken)).0
+
+pub next_access-requires : goal.next_access-requires
+next_access-requires c = subst (λ (a : AuditorState). 0 < left_in a.core.seats c.args.process) (sym c.self.view_is) c.requires
+
+pub returns-then-not-is_that-clause-heard : goal.returns-then-not-is_that-clause-heard
+returns-then-not-is_that-clause-heard c = λ past h.
+    let b = (goal.at.returns-then-not-is_that-clause-heard c).After-is_that in
+    subst (λ (x : AuditorState). BreaksNext law.Program x.core.setup past (access_entry c.args.process c.args.told)) c.self.view_is
+    (other_heard (before b) past c.args.process c.args.told c.next_access.result (next b) (subst (λ (x : AuditorState). HasHeard x past) (sym c.self.view_is) h)
+    (λ same. true≢false (sym (c.is_that.ensures.1 same) ∙ c.if-not-is_that.true)))
+
+pub run-made-requires : goal.run-made-requires
+run-made-requires c =
+    let some = (next (goal.at.run-made-requires c).After-is_that).within in
+    record { some = omega arith; within = omega (arith, some) }
+
+pub returns-clause-setup : goal.returns-clause-setup
+returns-clause-setup c = λ none. subst (λ (x : AuditorState). c.run-made.new.self.setup ≡ x.core.setup) c.self.view_is (made (goal.at.returns-clause-setup c).After-run-made []).steps.setup
+
+pub returns-clause-heard : goal.returns-clause-heard
+returns-clause-heard c = λ past h.
+    let a = goal.at.returns-clause-heard c in
+    let b = a.After-is_that in
+    let step = c.run-made in
+    subst (λ (x : AuditorState). IsHeard x.core.setup past (access_entry c.args.process c.args.told) (record { core = step.new.self; taken = c.self.inside.taken }) None) c.self.view_is
+    (heard_within (before b) past c.args.process (nat_lt 0 step.result.overlapped) c.args.told c.next_access.result step.result.newest step.new.self (next b) (c.is_that.ensures.0 c.if-not-is_that.false) (made a.After-run-made)
+    (subst (λ (x : AuditorState). HasHeard x past) (sym c.self.view_is) h))

@@ -1,0 +1,16 @@
+-- The lines of the reasons of a bad verdict on a record of any lock.
+use Rattle.std.proofs.Common.{◌≡◌, ℕ, List, Option, Some, sym, subst, ◌∙◌}
+use Rattle.plain_store.specs.{Setup}
+use Rattle.record.specs.{Entry, Past}
+use Rattle.any_lock.specs.{AnyLockLaw, AreReasons, AreReasonsAt, AreReasonsOf, HasJudged, JudgeState, Verdict, verdict_of}
+use Rattle.any_lock.specs.declared.reasons.Reasons.{Reasons}
+use Rattle.judge.specs.{AreAnyLockReasons, GivesReasons, any_reason_lines}
+use Rattle.judge.proofs.Splits.{one_place}
+
+-- what is written of what the judge has looked up
+pub gives_written : (j : JudgeState) (n : ℕ) (e : Entry) (lines : List ℕ) (told : Option Reasons) → ((s : Setup) (entries : List Entry) → HasJudged j s entries → AreReasonsOf s entries (verdict_of s entries) told) → ((r : Reasons) → told ≡ Some r → lines ≡ any_reason_lines n e r) →
+    GivesReasons HasJudged (λ (j : JudgeState). j.verdict) AreAnyLockReasons j n e lines
+gives_written j n e lines told reasons written s entries past k l judged bad at few =
+    let here : AreReasonsAt s entries k l told = subst (λ (v : Verdict AnyLockLaw). AreReasonsOf s entries v told) (sym judged.verdict ∙ bad) (reasons s entries judged) in
+    let same = one_place entries k here.entry e here.past past (record { later = here.later; splits = here.splits; number = here.number }) at in
+    (here.told, subst (λ (x : Entry). AreReasons s past x l here.told) same.0 (subst (λ (xs : Past). AreReasons s xs here.entry l here.told) same.1 here.are), written here.told here.is)

@@ -1,0 +1,52 @@
+//! A judge that reports its verdict alone.
+ghost use Rattle.judge.specs.Judgements.{TellsVerdict};
+
+use crate::hearers::{Hearer, Telling};
+use crate::record_judge::RecordJudge;
+use crate::verdicts::{verdict_line, verdict_status};
+use plain_store::Setup;
+use record::{Access, Mark};
+use std::alloc::{AllocError, Global};
+
+/// A judge whose verdict is reported without reasons.
+#[derive(Drop)]
+pub(crate) struct Plain<J> {
+    pub judge: J,
+}
+
+impl<J: RecordJudge> Hearer for Plain<J> {
+    ghost HasHeard = { λ plain s entries numbers. J.HasJudged plain.judge s entries };
+
+    ghost count = { λ plain. J.count plain.judge };
+
+    ghost Tells = { TellsVerdict J.Law.name J.IsVerdict };
+
+    fn begin(alloc: Global, setup: &Setup) -> Result<Plain<J>, AllocError> {
+        Ok(Plain {
+            judge: J::begin(alloc, setup)?,
+        })
+    }
+
+    #[inline]
+    fn take(
+        &mut self,
+        _alloc: Global,
+        _number: u64,
+        process: u8,
+        access: &Option<Access>,
+        marks: &[Mark],
+    ) -> Result<(), AllocError> {
+        self.judge.hear(process, access, marks);
+        Ok(())
+    }
+
+    fn tell(&self, alloc: Global) -> Result<Telling, AllocError> {
+        let judged = self.judge.judged();
+        Ok(Telling {
+            text: verdict_line(alloc, &judged)?.into_bytes(),
+            status: verdict_status(&judged.verdict),
+        })
+    }
+
+    ghost counts = { λ plain s entries numbers judged. J.counts plain.judge s entries judged };
+}

@@ -1,0 +1,136 @@
+//! The lines of the reasons of a bad verdict on a record of this project's lock.
+ghost use Rattle.std.specs.Prelude.{◌≡◌, ◌++◌, [], IfOk, OnOk, codes};
+ghost use Rattle.record.specs.declared.events.Event.TheVariants.{Step};
+ghost use Rattle.record.specs.{entry_of, refusal_text as text_of_refusal};
+ghost use Rattle.files.specs.{GivesText};
+ghost use Rattle.judge.specs.ReasonLines.{word_line};
+ghost use Rattle.judge.specs.Reasons.{Writes, event_or_step, is_crowded, may_line as line_of_may, may_lines, reason_lines, refusal_line, refused_line, without_twin};
+
+use crate::reason_lines::{push_bad, push_entry, push_stage, push_word};
+use auditor::{Auditor, event_in, tells_event};
+use plain_store::NestedTypes;
+use record::{Act, Entry, Event, Refusal, Stage};
+use std::alloc::{AllocError, Global};
+
+/// Writes the reasons of a bad entry, which is in line `number`. The auditor has observed the entries before it.
+pub(crate) fn push_reasons(
+    alloc: Global,
+    number: u64,
+    entry: &Entry,
+    auditor: &Auditor,
+    lines: &mut Vec<u8>,
+) -> Result<(), AllocError>
+    ensures { OnOk result (Writes auditor.now (λ s past. reason_lines s past number entry.now)
+        lines.old.items lines.new.items) }
+{
+    push_bad(alloc, number, entry, lines)?;
+    push_may(alloc, entry.process, auditor, lines)?;
+    push_refused(alloc, entry, auditor, lines)?;
+    push_stage(alloc, auditor.stage(entry.process), lines)
+}
+
+/// Writes what a Step of a process adds: with flick 0, and with flick 1 if that is another entry.
+fn push_may(
+    alloc: Global,
+    process: u8,
+    auditor: &Auditor,
+    lines: &mut Vec<u8>,
+) -> Result<(), AllocError>
+    ensures lines { OnOk result (Writes auditor.now (λ s past. may_lines s past process)
+        lines.old.items lines.new.items) }
+{
+    let with_0 = stepped_line(alloc, process, false, auditor)?;
+    let with_1 = stepped_line(alloc, process, true, auditor)?;
+    push_both(&with_0, &with_1, lines)
+}
+
+/// The line of what a Step of a process adds by this flick.
+fn stepped_line(
+    alloc: Global,
+    process: u8,
+    flick: bool,
+    auditor: &Auditor,
+) -> Result<Vec<u8>, AllocError>
+    ensures line { IfOk result (λ line. Writes auditor.now (λ s past. line_of_may (entry_of s past (Step process flick))) [] line.items) }
+{
+    may_line(alloc, &auditor.stepped(process, flick))
+}
+
+/// The line of an entry, if there is one.
+fn may_line(alloc: Global, entry: &Option<Entry>) -> Result<Vec<u8>, AllocError>
+    ensures { IfOk result (λ line. line.items ≡ line_of_may entry.now) }
+{
+    let _nested: NestedTypes = None;
+    let mut line = Vec::new(alloc);
+    if let Some(entry) = entry {
+        push_entry(alloc, "may", entry, &mut line)?;
+    }
+    Ok(line)
+}
+
+/// Writes a line and another one, unless they are the same.
+fn push_both(line: &[u8], other: &[u8], lines: &mut Vec<u8>) -> Result<(), AllocError>
+    ensures { OnOk result (lines.new.items ≡ lines.old.items ++ without_twin line.now other.now) }
+{
+    lines.extend_from_slice(line)?;
+    if line == other {
+        return Ok(());
+    }
+    lines.extend_from_slice(other)
+}
+
+/// Writes why an entry is refused, if it is: the event that its mark tells, or else a Step. The mark of such an event in
+/// company does not stand alone.
+fn push_refused(
+    alloc: Global,
+    entry: &Entry,
+    auditor: &Auditor,
+    lines: &mut Vec<u8>,
+) -> Result<(), AllocError>
+    ensures { OnOk result (Writes auditor.now (λ s past. refused_line s past entry.now)
+        lines.old.items lines.new.items) }
+{
+    if is_crowded(auditor.stage(entry.process), entry) {
+        return push_word(alloc, "refused", "not-alone", lines);
+    }
+    push_refusal(alloc, &auditor.refusal(&event_or_step(entry)), lines)
+}
+
+/// Whether the mark of an event that is no Step is in company, in an entry of a process that is there.
+fn is_crowded(stage: Option<Stage>, entry: &Entry) -> bool
+    ensures { result ≡ is_crowded stage entry.now }
+{
+    let Act { access, marks } = &entry.act;
+    stage.is_some() && event_in(entry.process, access, marks).is_none() && tells_event(marks)
+}
+
+/// The event that an entry tells, or else a Step.
+fn event_or_step(entry: &Entry) -> Event
+    ensures { result ≡ event_or_step entry.now }
+{
+    let Act { access, marks } = &entry.act;
+    event_in(entry.process, access, marks).unwrap_or(Event::Step(entry.process, false))
+}
+
+/// Writes a refusal, if there is one.
+fn push_refusal(
+    alloc: Global,
+    refusal: &Option<Refusal>,
+    lines: &mut Vec<u8>,
+) -> Result<(), AllocError>
+    ensures { OnOk result (lines.new.items ≡ lines.old.items ++ refusal_line refusal.now) }
+{
+    match refusal {
+        None => Ok(()),
+        Some(refusal) => {
+            let line = refusal_text(alloc, refusal)?;
+            lines.extend_from_slice(line.as_bytes())
+        }
+    }
+}
+
+fn refusal_text(alloc: Global, refusal: &Refusal) -> Result<String, AllocError>
+    ensures { GivesText result (word_line (codes "refused") (text_of_refusal refusal.now)) }
+{
+    format!(in alloc; "refused {refusal}\n")
+}

@@ -1,0 +1,121 @@
+//! The judge of records of this project's lock.
+ghost use Rattle.std.specs.Prelude.{◌≡◌};
+ghost use Rattle.auditor.specs.read_law.{entry_by};
+ghost use Rattle.auditor.specs.{IsVerdict as IsTheVerdict};
+ghost use Rattle.auditor.proofs.Unique.{one_verdict};
+ghost use Rattle.judge.specs.Judging.{BothHearOneMore, HasJudged as HasHeardAll, IsNextVerdict, StaysBefore, found as verdict_found};
+ghost use Rattle.judge.specs.Reasons.{AreReasons as AreTheReasons};
+ghost use Rattle.judge.specs.ThisLockVerdicts.{newest_is_bad, none_is_bad, stays_bad};
+
+use crate::reasons::push_reasons;
+use crate::record_judge::RecordJudge;
+use auditor::{Audited, Auditor, Law, Verdict, Watch};
+use plain_store::{NestedTypes, Setup};
+use record::{Access, Entry, Mark};
+use std::alloc::{AllocError, Global};
+use std::marker::Model;
+
+/// The judge of records of this project's lock. It keeps what a watch and an auditor keep, and the verdict so far.
+#[derive(Drop)]
+pub struct ThisLockJudge {
+    watch: Watch,
+    auditor: Auditor,
+    verdict: Verdict,
+    entries: u64,
+}
+
+impl Model for ThisLockJudge {
+    ghost use Rattle.judge.specs.Judging.{JudgeState};
+
+    ghost Value = { JudgeState };
+
+    ghost view = { λ j. record { watch = j.watch; auditor = j.auditor; verdict = j.verdict; entries = j.entries } };
+}
+
+impl ThisLockJudge {
+    /// Returns the verdict with one more entry, where that on the entries before it is good.
+    #[inline]
+    fn verdict_with(&mut self, process: u8, access: &Option<Access>, marks: &[Mark]) -> Verdict
+        ensures verdict { self.new.verdict ≡ self.old.verdict }
+        ensures entries { self.new.entries ≡ self.old.entries }
+        ensures heard { IsNextVerdict self.old (entry_by process access.now marks.now) result }
+        ensures goes_on { BothHearOneMore self.old (entry_by process access.now marks.now) result self.new }
+        ensures stays { StaysBefore self.old (entry_by process access.now marks.now) result self.new }
+    {
+        let is_safe = self.watch.hear(access);
+        let law = self.auditor.hear(process, access, marks);
+        found(self.entries, is_safe, law)
+    }
+}
+
+impl RecordJudge for ThisLockJudge {
+    type Law = Law;
+
+    ghost IsVerdict = { IsTheVerdict };
+
+    ghost AreReasons = { AreTheReasons };
+
+    ghost HasJudged = { HasHeardAll };
+
+    ghost verdict = { λ judge. judge.verdict };
+
+    ghost count = { λ judge. judge.entries };
+
+    fn begin(alloc: Global, setup: &Setup) -> Result<ThisLockJudge, AllocError> {
+        Ok(ThisLockJudge {
+            watch: Watch::new(alloc, setup)?,
+            auditor: Auditor::new(alloc, setup)?,
+            verdict: Verdict::Good,
+            entries: 0,
+        })
+    }
+
+    #[inline]
+    fn hear(&mut self, process: u8, access: &Option<Access>, marks: &[Mark]) {
+        if self.verdict.is_good() {
+            self.verdict = self.verdict_with(process, access, marks);
+        }
+        self.entries += 1;
+    }
+
+    fn judged(&self) -> Audited {
+        Audited {
+            verdict: self.verdict,
+            entries: self.entries,
+        }
+    }
+
+    #[inline]
+    fn is_good(&self) -> bool {
+        self.verdict.is_good()
+    }
+
+    fn reasons(&self, alloc: Global, number: u64, entry: &Entry) -> Result<Vec<u8>, AllocError> {
+        let _nested: NestedTypes = None;
+        let mut lines = Vec::new(alloc);
+        push_reasons(alloc, number, entry, &self.auditor, &mut lines)?;
+        Ok(lines)
+    }
+
+    ghost counts = { λ judge s entries judged. judged.count };
+
+    ghost finds = { λ judge s entries judged. judged.verdict };
+
+    ghost begins = { none_is_bad };
+
+    ghost one = { one_verdict };
+
+    ghost stays = { stays_bad };
+
+    ghost newest = { newest_is_bad };
+}
+
+/// The verdict with an entry, by what a watch and an auditor say of it.
+fn found(entry: u64, is_safe: bool, law: Option<Law>) -> Verdict
+    ensures { result ≡ verdict_found entry is_safe law }
+{
+    if !is_safe {
+        return Verdict::Bad(entry, Law::Safe);
+    }
+    Verdict::found(entry, law)
+}
