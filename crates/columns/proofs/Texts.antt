@@ -3,20 +3,8 @@ use Rattle.std.proofs.Common.{◌≡◌, ℕ, List, ◌++◌, codes, Result, Ok,
 use Rattle.std.specs.Fmt.{decimal}
 use Rattle.std.specs.Int.{from_bool}
 use Rattle.std.specs.declared.alloc.AllocError.{AllocError}
-use Rattle.record.specs.{Mark, Refusal, field_word, mark_text, refusal_text}
+use Rattle.record.specs.{field_word}
 use Rattle.columns.specs.{OverlappedRead, read_text, title_text}
-
-pub marked_is : (event p : ℕ) (mark : Mark) → decimal event ++ (codes " " ++ (decimal p ++ (codes " " ++ mark_text mark))) ≡ decimal event ++ codes " " ++ decimal p ++ codes " " ++ mark_text mark
-marked_is event p mark = simp append_assoc
-
-pub refused_is : (p : ℕ) (refusal : Refusal) → codes "- " ++ (decimal p ++ (codes " refused " ++ refusal_text refusal)) ≡ codes "- " ++ decimal p ++ codes " refused " ++ refusal_text refusal
-refused_is p refusal = simp append_assoc
-
-pub tired_is : (p : ℕ) → codes "- " ++ (decimal p ++ codes " turns") ≡ codes "- " ++ decimal p ++ codes " turns"
-tired_is p = simp append_assoc
-
-pub ended_is : (events taken refused : ℕ) → codes "end events " ++ (decimal events ++ (codes " taken " ++ (decimal taken ++ (codes " refused " ++ decimal refused)))) ≡ codes "end events " ++ decimal events ++ codes " taken " ++ decimal taken ++ codes " refused " ++ decimal refused
-ended_is events taken refused = simp append_assoc
 
 -- a text that was put together, and another one that is the same
 module _ {X : Type 0} (bytes : X → List ℕ) where

@@ -110,7 +110,7 @@ abbrev pub rows_told : Bool → Saying → List Wording
 rows_told in_lane (Marked p mark change) = rows_marked mark
 rows_told in_lane (Refused p refusal) = verb_and_rest (verb_refused in_lane p) (refusal_text refusal)
 rows_told in_lane (Tired p) = verb (codes "turns") ∷ []
-rows_told in_lane (Shown words) = rows_named (codes "show") words.items
+rows_told in_lane (Shown words) = rows_named (codes "show") (string_bytes words)
 rows_told in_lane (Judged p words) = rows_named (codes "judge") words.items
 rows_told in_lane (Ended events taken refused) = verb_and_rest (codes "end events " ++ decimal events) (counts_text taken refused)
 

@@ -1,34 +1,25 @@
 -- The lines of a run's text, as values.
-use Rattle.std.specs.Prelude.{ℕ, Bool, true, false, List, ◌++◌, codes, map, Option, None, Some, option_map}
-use Rattle.std.specs.Fmt.{decimal}
-use Rattle.record.specs.{Mark, Refusal, mark_text, refusal_text}
+use Rattle.std.specs.Prelude.{ℕ, Bool, true, false, List, ◌++◌, codes, map, string_bytes, Option, None, Some, option_map}
+use Rattle.record.specs.{Mark}
 use Rattle.record.specs.declared.marks.Mark.TheVariants.{Taken}
+use Rattle.run_lines.specs.{ended_text, marked_text, refused_text, shown_text, tired_text}
 use Rattle.columns.specs.declared.columns.Column.{Column}
 use Rattle.columns.specs.declared.told.TakenChange.{TakenChange}
 use Rattle.columns.specs.declared.told.RunLine.{RunLine}
 use Rattle.columns.specs.declared.told.Saying.{Saying}
 use Rattle.columns.specs.declared.told.Saying.TheVariants.{Marked, Refused, Tired, Shown, Judged, Ended}
 
--- what a line says of a mark, of a refusal, of a process that has made all its steps, and of the end
-abbrev pub marked_text : ℕ → ℕ → Mark → List ℕ
-marked_text at p mark = decimal at ++ codes " " ++ decimal p ++ codes " " ++ mark_text mark
-
-abbrev pub refused_text : ℕ → Refusal → List ℕ
-refused_text p refusal = codes "- " ++ decimal p ++ codes " refused " ++ refusal_text refusal
-
-abbrev pub tired_text : ℕ → List ℕ
-tired_text p = codes "- " ++ decimal p ++ codes " turns"
-
-abbrev pub ended_text : (events taken refused : ℕ) → List ℕ
-ended_text events taken refused = codes "end events " ++ decimal events ++ codes " taken " ++ decimal taken ++ codes " refused " ++ decimal refused
+-- what a judge tells
+abbrev pub judged_text : List ℕ → List ℕ
+judged_text words = codes "judge " ++ words
 
 -- what a line says, where so many events were accepted before it
 abbrev pub saying_text : ℕ → Saying → List ℕ
 saying_text at (Marked p mark change) = marked_text at p mark
 saying_text at (Refused p refusal) = refused_text p refusal
 saying_text at (Tired p) = tired_text p
-saying_text at (Shown words) = codes "show " ++ words.items
-saying_text at (Judged p words) = codes "judge " ++ words.items
+saying_text at (Shown words) = shown_text (string_bytes words)
+saying_text at (Judged p words) = judged_text words.items
 saying_text at (Ended events taken refused) = ended_text events taken refused
 
 -- a line, without its end

@@ -1,9 +1,10 @@
 //! A line of a run's text, as a value.
-ghost use Rattle.std.specs.Prelude.{◌≡◌, ◌++◌, IfOk, option_copied};
-ghost use Rattle.std.specs.String.{string_bytes};
-ghost use Rattle.columns.specs.Told.{change_told, ended_text, event_told, mark_told, marked_text, place_told, process_told, refused_text, tells_refusal, text_of, tired_text};
+ghost use Rattle.std.specs.Prelude.{◌≡◌, IfOk, option_copied};
+ghost use Rattle.run_lines.specs.{line_text};
+ghost use Rattle.columns.specs.Told.{change_told, event_told, judged_text, mark_told, place_told, process_told, tells_refusal, text_of};
 
 use record::{Mark, Refusal};
+use run_lines::ReplayLine;
 use std::alloc::{AllocError, Global};
 
 /// What a command changed that was taken.
@@ -32,7 +33,7 @@ pub enum Saying {
     /// The process has made all the steps of a `go`.
     Tired(u8),
     /// The newest store: the words behind `show`.
-    Shown(Vec<u8>),
+    Shown(String),
     /// What a judge tells of the entries so far, line by line, and the process in whose lane that stands.
     Judged {
         process: Option<u8>,
@@ -124,55 +125,54 @@ impl RunLine {
     pub fn text(&self, alloc: Global) -> Result<Vec<u8>, AllocError>
         ensures { IfOk result (λ text. text.items ≡ text_of self.now) }
     {
-        Ok(match &self.saying {
+        match &self.saying {
             Saying::Marked { process, mark, .. } => {
-                marked(alloc, self.at, *process, mark)?.into_bytes()
+                let line = ReplayLine::Marked {
+                    event: self.at,
+                    process: *process,
+                    mark,
+                };
+                printed(alloc, &line)
             }
-            Saying::Refused { process, refusal } => refused(alloc, *process, refusal)?.into_bytes(),
-            Saying::Tired(process) => tired(alloc, *process)?.into_bytes(),
-            Saying::Shown(words) => named(alloc, b"show ", words.as_slice())?,
-            Saying::Judged { words, .. } => named(alloc, b"judge ", words.as_slice())?,
+            Saying::Refused { process, refusal } => {
+                let line = ReplayLine::Refused {
+                    process: *process,
+                    refusal,
+                };
+                printed(alloc, &line)
+            }
+            Saying::Tired(process) => printed(alloc, &ReplayLine::Tired(*process)),
+            Saying::Shown(words) => printed(alloc, &ReplayLine::Shown(words.as_str())),
+            Saying::Judged { words, .. } => judged(alloc, words.as_slice()),
             Saying::Ended {
                 events,
                 taken,
                 refused,
-            } => ended(alloc, *events, *taken, *refused)?.into_bytes(),
-        })
+            } => {
+                let line = ReplayLine::Ended {
+                    events: *events,
+                    taken: *taken,
+                    refused: *refused,
+                };
+                printed(alloc, &line)
+            }
+        }
     }
 }
 
-#[tactic(auto, using(crate::proofs::Texts::marked_is))]
-fn marked(alloc: Global, event: u64, process: u8, mark: &Mark) -> Result<String, AllocError>
-    ensures { IfOk result (λ text. string_bytes text ≡ marked_text event process mark.now) }
+/// The line as `replay` prints it.
+fn printed(alloc: Global, line: &ReplayLine) -> Result<Vec<u8>, AllocError>
+    ensures { IfOk result (λ text. text.items ≡ line_text line.now) }
 {
-    format!(in alloc; "{event} {process} {mark}")
+    Ok(line.to_string(alloc)?.into_bytes())
 }
 
-#[tactic(auto, using(crate::proofs::Texts::refused_is))]
-fn refused(alloc: Global, process: u8, refusal: &Refusal) -> Result<String, AllocError>
-    ensures { IfOk result (λ text. string_bytes text ≡ refused_text process refusal.now) }
-{
-    format!(in alloc; "- {process} refused {refusal}")
-}
-
-#[tactic(auto, using(crate::proofs::Texts::tired_is))]
-fn tired(alloc: Global, process: u8) -> Result<String, AllocError>
-    ensures { IfOk result (λ text. string_bytes text ≡ tired_text process) }
-{
-    format!(in alloc; "- {process} turns")
-}
-
-fn named(alloc: Global, name: &[u8], words: &[u8]) -> Result<Vec<u8>, AllocError>
-    ensures { IfOk result (λ text. text.items ≡ name.now ++ words.now) }
+/// The line of what a judge tells.
+fn judged(alloc: Global, words: &[u8]) -> Result<Vec<u8>, AllocError>
+    ensures { IfOk result (λ text. text.items ≡ judged_text words.now) }
 {
     let mut text = Vec::new(alloc);
-    text.extend_from_slice(name)?;
+    text.extend_from_slice(b"judge ")?;
     text.extend_from_slice(words)?;
     Ok(text)
-}
-
-fn ended(alloc: Global, events: u64, taken: u64, refused: u64) -> Result<String, AllocError>
-    ensures { IfOk result (λ text. string_bytes text ≡ ended_text events taken refused) }
-{
-    format!(in alloc; "end events {events} taken {taken} refused {refused}")
 }

@@ -2,7 +2,7 @@
 use Rattle.std.proofs.Common.{◌≡◌, List, [], ◌∷◌, ◌++◌, reverse, Option, None, Some, refl, ap, sym, ◌∙◌, append-nil}
 use Rattle.std.proofs.lemmas.List.{reverse-append}
 use Rattle.plain_store.specs.{Setup}
-use Rattle.course.specs.«record».{Event, Refusal, Taken}
+use Rattle.course.specs.«record».{Event, Refusal}
 use Rattle.course.specs.«record».declared.events.Event.TheVariants.{Step}
 use Rattle.course.specs.{Happening, Happens, Lacks, Looks, Stepped, StepsOn, TellsOf, Tires, Told, Tries, accepted, entry_made, listed, past_after, told_unmarked, tried}
 use Rattle.engines.specs.{event_told}
@@ -26,8 +26,8 @@ listed_more s before Looks (told.Shown store) tells = append-nil (listed s befor
 listed_more s before this answer tells = absurd tells
 
 -- so it lists what is heard
-pub told_listed : (s : Setup) (before : List Happening) (this : Happening) (told : Told) (taken : List Taken) (events events' : List Event) → Happens s before this told taken → events' ≡ events ++ event_told told → events ≡ listed s before → events' ≡ listed s (this ∷ before)
-told_listed s before this told taken events events' h more are = more ∙ ap (λ l. l ++ event_told told) are ∙ listed_more s before this told h.tells
+pub told_listed : (s : Setup) (before : List Happening) (this : Happening) (told : Told) (events events' : List Event) → Happens s before this told → events' ≡ events ++ event_told told → events ≡ listed s before → events' ≡ listed s (this ∷ before)
+told_listed s before this told events events' h more are = more ∙ ap (λ l. l ++ event_told told) are ∙ listed_more s before this told h.tells
 
 pub step_listed : (s : Setup) (before : List Happening) (made : Stepped) (events events' : List Event) → StepsOn s before made → events' ≡ events ++ Step made.process made.flick ∷ [] → events ≡ listed s before → events' ≡ listed s (Tries (Step made.process made.flick) ∷ before)
 step_listed s before made events events' on more are = more ∙ ap (λ l. l ++ Step made.process made.flick ∷ []) are ∙ listed_more s before (Tries (Step made.process made.flick)) (told_unmarked made) (refl, on.adds, on.overlapped)

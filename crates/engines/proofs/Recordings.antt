@@ -5,7 +5,7 @@ use Rattle.std.specs.Io.KnownBytes.{Appends}
 use Rattle.scenario.specs.files.{Fault, WritesFront}
 use Rattle.plain_store.specs.{Setup}
 use Rattle.course.specs.«record».declared.events.Event.TheVariants.{Step}
-use Rattle.course.specs.«record».{Entry, Past, Taken}
+use Rattle.course.specs.«record».{Entry, Past}
 use Rattle.judge.specs.record_file.{entry_line, head_words, step_entry}
 use Rattle.scenario.specs.{Script, printed_line}
 use Rattle.course.specs.{Happening, Happens, Lacks, Looks, Stepped, StepsOn, TellsOf, Tires, Told, Tries, Writes, WritesPart, entry_made, happenings, past_after, run_record, told_unmarked, tried}
@@ -33,11 +33,11 @@ step_is : (s : Setup) (before : List Happening) (made : Stepped) → StepsOn s b
 step_is s before made on = entry_is s before (Tries (Step made.process made.flick)) (told_unmarked made) (refl, on.adds, on.overlapped)
 
 -- what is written of what is told
-pub entry_copied : (s : Setup) (before : List Happening) (this : Happening) (told : Told) (taken : List Taken) (a b : Option (List ℕ)) → Happens s before this told taken → Appends a b (entry_told told) → Writes (entries_text s before) (entries_text s (this ∷ before)) a b
-entry_copied s before this told taken a b h wrote = record { text = entry_told told; is = entry_is s before this told h.tells; taken = wrote }
+pub entry_copied : (s : Setup) (before : List Happening) (this : Happening) (told : Told) (a b : Option (List ℕ)) → Happens s before this told → Appends a b (entry_told told) → Writes (entries_text s before) (entries_text s (this ∷ before)) a b
+entry_copied s before this told a b h wrote = record { text = entry_told told; is = entry_is s before this told h.tells; taken = wrote }
 
-pub entry_cut : (s : Setup) (before : List Happening) (this : Happening) (told : Told) (taken : List Taken) (a b : Option (List ℕ)) → Happens s before this told taken → WritesFront a b (entry_told told) → WritesPart (entries_text s before) (entries_text s (this ∷ before)) a b
-entry_cut s before this told taken a b h front = record { text = entry_told told; is = entry_is s before this told h.tells; front = front }
+pub entry_cut : (s : Setup) (before : List Happening) (this : Happening) (told : Told) (a b : Option (List ℕ)) → Happens s before this told → WritesFront a b (entry_told told) → WritesPart (entries_text s before) (entries_text s (this ∷ before)) a b
+entry_cut s before this told a b h front = record { text = entry_told told; is = entry_is s before this told h.tells; front = front }
 
 pub step_copied : (s : Setup) (before : List Happening) (made : Stepped) (a b : Option (List ℕ)) → StepsOn s before made → Appends a b (entry_line (step_entry made.process made.access)) → Writes (entries_text s before) (entries_text s (Tries (Step made.process made.flick) ∷ before)) a b
 step_copied s before made a b on wrote = record { text = entry_line (step_entry made.process made.access); is = step_is s before made on; taken = wrote }

@@ -2,7 +2,6 @@
 use Rattle.std.proofs.Common.{◌≡◌, ℕ, List, [], ◌∷◌, ◌++◌, Option, ap, subst}
 use Rattle.std.specs.Io.KnownBytes.{Appends}
 use Rattle.plain_store.specs.{Setup}
-use Rattle.course.specs.«record».{Taken}
 use Rattle.scenario.specs.files.{WritesFront}
 use Rattle.scenario.specs.{Script}
 use Rattle.course.specs.{Happening, Happens, Summary, Told, end_line, happenings, replayed, summary_of, text_of, told_text}
@@ -11,11 +10,11 @@ use Rattle.course.proofs.Counting.{text_heard}
 use Rattle.course.proofs.Written.{all_written, appends_both, front_after, front_longer, part_written}
 
 -- its text
-pub told_written : (s : Setup) (before : List Happening) (this : Happening) (told : Told) (taken : List Taken) (had : Summary) (a b : Option (List ℕ)) → Happens s before this told taken → Appends a b (told_text had.events told) → Counts s before had → Writes (text_of s before) (text_of s (this ∷ before)) a b
-told_written s before this told taken had a b h wrote counts = record { text = told_text had.events told; is = text_heard s before this told taken had h counts; taken = wrote }
+pub told_written : (s : Setup) (before : List Happening) (this : Happening) (told : Told) (had : Summary) (a b : Option (List ℕ)) → Happens s before this told → Appends a b (told_text had.events told) → Counts s before had → Writes (text_of s before) (text_of s (this ∷ before)) a b
+told_written s before this told had a b h wrote counts = record { text = told_text had.events told; is = text_heard s before this told had h counts; taken = wrote }
 
-pub told_cut : (s : Setup) (before : List Happening) (this : Happening) (told : Told) (taken : List Taken) (had : Summary) (a b : Option (List ℕ)) → Happens s before this told taken → WritesFront a b (told_text had.events told) → Counts s before had → WritesPart (text_of s before) (text_of s (this ∷ before)) a b
-told_cut s before this told taken had a b h front counts = record { text = told_text had.events told; is = text_heard s before this told taken had h counts; front = front }
+pub told_cut : (s : Setup) (before : List Happening) (this : Happening) (told : Told) (had : Summary) (a b : Option (List ℕ)) → Happens s before this told → WritesFront a b (told_text had.events told) → Counts s before had → WritesPart (text_of s before) (text_of s (this ∷ before)) a b
+told_cut s before this told had a b h front counts = record { text = told_text had.events told; is = text_heard s before this told had h counts; front = front }
 
 -- a count that has just begun
 pub counts_none : (s : Setup) (summary : Summary) → summary ≡ record { events = 0; taken = 0; refused = 0 } → Counts s [] summary

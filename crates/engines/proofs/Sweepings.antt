@@ -3,7 +3,7 @@ use Rattle.std.proofs.Common.{◌≡◌, ℕ, zero, suc, Bool, List, [], ◌∷�
 use Rattle.std.proofs.lemmas.Grind.{flat_map-append}
 use Rattle.std.proofs.lemmas.List.{reverse-append}
 use Rattle.plain_store.specs.{Command, Setup}
-use Rattle.course.specs.«record».{Event, Refusal, Taken, past_of, refused}
+use Rattle.course.specs.«record».{Event, Refusal, past_of, refused}
 use Rattle.course.specs.«record».declared.events.Event.TheVariants.{Step}
 use Rattle.sweeper.specs.{Sweeper, SweepsOn, SweptBy}
 use Rattle.engines.specs.{SweepsRun, call_of, calls_in, event_told}
@@ -13,9 +13,9 @@ use Rattle.course.specs.declared.told.Told.TheVariants.{Accepted, Refused, Shown
 use Rattle.course.specs.{Happening, Happens, PassWithin, Told, Tries, accepted, listed, tried}
 
 -- what is told adds its call, if it is one
-pub told_calls : (s : Setup) (before : List Happening) (this : Happening) (told : Told) (taken : List Taken) (calls calls' : List (ℕ × Command)) → Happens s before this told taken →
+pub told_calls : (s : Setup) (before : List Happening) (this : Happening) (told : Told) (calls calls' : List (ℕ × Command)) → Happens s before this told →
     calls' ≡ calls ++ calls_in (event_told told) → calls ≡ calls_in (listed s before) → calls' ≡ calls_in (listed s (this ∷ before))
-told_calls s before this told taken calls calls' h more are =
+told_calls s before this told calls calls' h more are =
     more ∙ ap (λ l. l ++ calls_in (event_told told)) are
     ∙ sym (flat_map-append call_of (listed s before) (event_told told)) ∙ ap calls_in (listed_more s before this told h.tells)
 
@@ -50,8 +50,8 @@ swept_same s calls before this given sweeper same swept = record {
 }
 
 -- what is told is an event, or none
-pub told_event : (s : Setup) (before : List Happening) (this : Happening) (told : Told) (taken : List Taken) (made : Made) → told ≡ Accepted made → Happens s before this told taken → listed s before ++ made.event ∷ [] ≡ listed s (this ∷ before)
-told_event s before this told taken made is h = subst (λ t. listed s before ++ event_told t ≡ listed s (this ∷ before)) is (listed_more s before this told h.tells)
+pub told_event : (s : Setup) (before : List Happening) (this : Happening) (told : Told) (made : Made) → told ≡ Accepted made → Happens s before this told → listed s before ++ made.event ∷ [] ≡ listed s (this ∷ before)
+told_event s before this told made is h = subst (λ t. listed s before ++ event_told t ≡ listed s (this ∷ before)) is (listed_more s before this told h.tells)
 
 none_told : (told : Told) → ((made : Made) → told ≡ Accepted made → ⊥) → event_told told ≡ []
 none_told (Accepted made) none = absurd (none made refl)
@@ -59,5 +59,5 @@ none_told (Refused p refusal) none = refl
 none_told (Tired p) none = refl
 none_told (Shown store) none = refl
 
-pub told_nothing : (s : Setup) (before : List Happening) (this : Happening) (told : Told) (taken : List Taken) → ((made : Made) → told ≡ Accepted made → ⊥) → Happens s before this told taken → listed s before ++ [] ≡ listed s (this ∷ before)
-told_nothing s before this told taken none h = ap (λ l. listed s before ++ l) (sym (none_told told none)) ∙ listed_more s before this told h.tells
+pub told_nothing : (s : Setup) (before : List Happening) (this : Happening) (told : Told) → ((made : Made) → told ≡ Accepted made → ⊥) → Happens s before this told → listed s before ++ [] ≡ listed s (this ∷ before)
+told_nothing s before this told none h = ap (λ l. listed s before ++ l) (sym (none_told told none)) ∙ listed_more s before this told h.tells

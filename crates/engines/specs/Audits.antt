@@ -1,8 +1,9 @@
 -- What an audit of a scenario's run answers and writes.
 use Rattle.std.specs.Prelude.{◌≡◌, ℕ, List, length, Option, IfSome, Result, Ok}
 use Rattle.std.specs.Io.KnownBytes.{Appends}
-use Rattle.judge.specs.auditor.{IsVerdict, Verdict}
-use Rattle.judge.specs.auditor.declared.verdicts.Verdict.TheVariants.{Good}
+use Rattle.judge.specs.auditor.{IsVerdict, Law, Verdict}
+use Rattle.judge.specs.read_law.declared.verdicts.Verdict.TheVariants.{Good}
+use Rattle.judge.specs.read_law.{law_text}
 use Rattle.judge.specs.{status_of_verdict, verdict_line}
 use Rattle.scenario.specs.files.{LineFault, text_by}
 use Rattle.scenario.specs.{Script, scenario_of}
@@ -14,22 +15,22 @@ run_length said = length (run_record said)
 
 -- the text of the audit of a scenario's run: each entry of its record keeps each law
 abbrev pub audited : Script → List ℕ
-audited said = verdict_line (run_length said) Good
+audited said = verdict_line law_text (run_length said) Good
 
 -- the text of a file, or its fault
 abbrev pub audit_text : List ℕ → Result (List ℕ) LineFault
 audit_text = text_by scenario_of audited
 
 -- the verdict on the record of a scenario's run
-abbrev pub IsRunVerdict : Script → Verdict → Type 0
+abbrev pub IsRunVerdict : Script → Verdict Law → Type 0
 IsRunVerdict said = IsVerdict said.setup (run_record said)
 
 -- the verdict on the record of a scenario's run: its status is answered, and its line is written
 pub record TellsVerdict (said : Script) (status : ℕ) (old new : Option (List ℕ)) : Type 0 where
-  pub verdict : Verdict
+  pub verdict : Verdict Law
   pub is : IsRunVerdict said verdict
   pub answer : status ≡ status_of_verdict verdict
-  pub line : Appends old new (verdict_line (run_length said) verdict)
+  pub line : Appends old new (verdict_line law_text (run_length said) verdict)
 
 -- that of the whole input
 abbrev pub InputTellsVerdict : Option (List ℕ) → ℕ → Option (List ℕ) → Option (List ℕ) → Type 0

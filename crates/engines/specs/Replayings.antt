@@ -12,10 +12,6 @@ mark_lines number p = flat_map (mark_line number p)
 abbrev pub text_next : Summary → Told → List ℕ
 text_next summary told = told_text summary.events told
 
--- these three numbers
-abbrev pub numbers : (events taken refused : ℕ) → Summary
-numbers events taken refused = record { events = events; taken = taken; refused = refused }
-
 -- the numbers of a scenario's run
 abbrev pub IsRunSummary : Script → Summary → Type 0
 IsRunSummary said summary = summary ≡ summary_of said.setup (happenings said)

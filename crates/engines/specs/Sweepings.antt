@@ -4,8 +4,8 @@ use Rattle.std.specs.Io.KnownBytes.{Appends}
 use Rattle.plain_store.specs.{Command, Setup}
 use Rattle.course.specs.«record».{Event}
 use Rattle.course.specs.«record».declared.events.Event.TheVariants.{Call, Step, Fail, Withdraw, Restart}
-use Rattle.judge.specs.auditor.{Verdict}
-use Rattle.judge.specs.auditor.declared.verdicts.Verdict.TheVariants.{Good, Bad}
+use Rattle.judge.specs.auditor.{Law, Verdict}
+use Rattle.judge.specs.read_law.declared.verdicts.Verdict.TheVariants.{Good, Bad}
 use Rattle.sweeper.specs.{BadRun, IsSwept, Sweeper, Swept, SweptBy, all_good, cuts, swept_text}
 use Rattle.scenario.specs.files.{LineFault, text_by}
 use Rattle.scenario.specs.{Script, scenario_of}
@@ -54,7 +54,7 @@ abbrev pub sweep_text : List ℕ → Result (List ℕ) LineFault
 sweep_text = text_by scenario_of swept
 
 -- the verdict on the first bad run, or that there is none
-abbrev pub first_verdict : Option BadRun → Verdict
+abbrev pub first_verdict : Option BadRun → Verdict Law
 first_verdict None = Good
 first_verdict (Some bad) = Bad bad.entry bad.law
 

@@ -9,9 +9,7 @@ ghost use Rattle.engines.specs.Listings.{RecordsEvent, event_told};
 ghost use Rattle.engines.specs.RecordedRuns.{IsReadAgain};
 ghost use Rattle.course.specs.{accepted_events, listed};
 
-use course::{
-    Course, Entry, Event, Listener, Move, Record, Refusal, Stepped, Taken, Told, Until, World,
-};
+use course::{Course, Entry, Event, Listener, Move, Record, Refusal, Stepped, Told, Until, World};
 use plain_store::{NestedTypes, Setup};
 use scenario::{Fault, Scenario};
 use std::alloc::{AllocError, Global};
@@ -54,7 +52,7 @@ impl Listener for Lister {
 
     ghost Stops = { λ a s x y fault b. ⊤ };
 
-    fn hear(&mut self, told: &Told, _taken: &[Taken]) -> Result<(), Fault> {
+    fn hear(&mut self, told: &Told) -> Result<(), Fault> {
         Ok(list(told, &mut self.events)?)
     }
 

@@ -11,7 +11,7 @@ ghost use Rattle.engines.specs.RecordedRuns.{InputWritesRecord, RecordedRunsAreR
 ghost use Rattle.engines.specs.Recordings.{entries_longer, entries_text, entry_told, recorded, recording_text, step_line};
 ghost use Rattle.course.specs.{IsWriteFault, Took, TookPart, ended, failed_write, part_before, part_on, part_unheard, took_none, took_on};
 
-use course::{Course, Entry, Listener, Move, Stepped, Taken, Told, Until};
+use course::{Course, Entry, Listener, Move, Stepped, Told, Until};
 use judge::{StepLine, print_entry, print_setup};
 use scenario::{Fault, Scenario, Sink, Source, read_input, read_scenario, write_all};
 use std::alloc::{AllocError, Global};
@@ -108,7 +108,7 @@ impl<'a, W: Sink> Listener for Copier<'a, W> {
 
     ghost Stops = { λ a s x y fault b. (b.output.ghost_name ≡ a.output.ghost_name) × TookPart ⊤ (entries_text s x) (entries_text s y) (W.taken a.output.now) (W.taken b.output.now) (W.failures a.output.now) (W.failures b.output.now) fault };
 
-    fn hear(&mut self, told: &Told, _taken: &[Taken]) -> Result<(), Fault> {
+    fn hear(&mut self, told: &Told) -> Result<(), Fault> {
         write_entry(self.alloc, told, &mut self.room.text, self.output)?;
         self.room.events = self.room.events.saturating_add(accepted_by(told));
         Ok(())

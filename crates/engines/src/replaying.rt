@@ -97,7 +97,7 @@ impl<'a, W: Sink> Listener for Printer<'a, W> {
 
     ghost Stops = { λ a s x y fault b. (b.output.ghost_name ≡ a.output.ghost_name) × TookPart (Counts s x a.summary) (text_of s x) (text_of s y) (W.taken a.output.now) (W.taken b.output.now) (W.failures a.output.now) (W.failures b.output.now) fault };
 
-    fn hear(&mut self, told: &Told, _taken: &[Taken]) -> Result<(), Fault> {
+    fn hear(&mut self, told: &Told) -> Result<(), Fault> {
         tell(self.alloc, told, &mut self.summary, self.output)
     }
 

@@ -12,7 +12,7 @@ ghost use Rattle.sweeper.specs.{CanSweep, SweepsNone, SweepsOn, can_sweep_less};
 ghost use Rattle.engines.specs.Sweepings.{InputTellsSweep, IsRunSwept, SweepsRun, TellsSweep, accepted_calls, call_of, calls_in, run_swept, status_of_swept, sweep_text, swept, swept_lines as lines_of_swept};
 
 use crate::writing::write_line;
-use course::{Course, Event, Listener, Move, Stepped, Taken, Told, Until};
+use course::{Course, Event, Listener, Move, Stepped, Told, Until};
 use judge::{Verdict, status_of};
 use plain_store::{Command, NestedTypes};
 use scenario::{Fault, Scenario, Sink, Source, read_input, read_scenario};
@@ -162,7 +162,7 @@ impl Listener for Calls {
 
     ghost Stops = { λ a s x y fault b. ⊤ };
 
-    fn hear(&mut self, told: &Told, _taken: &[Taken]) -> Result<(), Fault> {
+    fn hear(&mut self, told: &Told) -> Result<(), Fault> {
         let is_event = matches!(told, Told::Accepted(_));
         self.events = self.events.saturating_add(u64::from(is_event));
         Ok(keep_told(told, &mut self.calls)?)
@@ -247,7 +247,7 @@ impl<'a, L: Onlooker> Listener for Along<'a, L> {
 
     ghost Stops = { λ a s x y fault b. ⊤ };
 
-    fn hear(&mut self, told: &Told, _taken: &[Taken]) -> Result<(), Fault> {
+    fn hear(&mut self, told: &Told) -> Result<(), Fault> {
         let _nested: NestedTypes = None;
         if let Told::Accepted(made) = told {
             self.go_on(&made.event);

@@ -1,12 +1,12 @@
 //! How what is told is written, a line at a time.
 ghost use Rattle.std.specs.Prelude.{◌≡◌, ◌+◌, ◌-◌, ◌^◌, ◌<◌, IfOk, IfErr, IsOk, OnOk, OnErr};
 ghost use Rattle.std.specs.String.{string_bytes};
-ghost use Rattle.engines.specs.Replayings.{mark_lines, numbers, text_next};
+ghost use Rattle.engines.specs.Replayings.{mark_lines, text_next};
 ghost use Rattle.engines.specs.Sinks.{Wrote, WroteFront, WroteLine, WroteLineFront};
-ghost use Rattle.scenario.specs.files.{GivesText};
-ghost use Rattle.course.specs.{IsWriteFault, counted, end_line as line_at_end, failed_write, mark_line as line_of_mark, told_text, turns_line as line_of_turns};
+ghost use Rattle.course.specs.run_lines.{line_text, with_end};
+ghost use Rattle.course.specs.{IsWriteFault, counted, end_line, failed_write, told_text};
 
-use course::{Mark, Summary, Told, newest_line, refusal_line};
+use course::{Mark, ReplayLine, Summary, Told, newest_words};
 use scenario::{Fault, Sink, write_all};
 use std::alloc::{AllocError, Global};
 
@@ -24,31 +24,59 @@ fn write_told<W: Sink>(alloc: Global, number: u64, told: &Told, output: &mut W) 
             write_marks(alloc, number, process, made.marks(alloc).as_slice(), output)
         }
         Told::Refused { process, refusal } => {
-            write_line(output, refusal_line(alloc, *process, refusal))
+            let process = *process;
+            write_run_line(alloc, &ReplayLine::Refused { process, refusal }, output)
         }
-        Told::Tired(process) => write_line(output, turns_line(alloc, *process)),
-        Told::Shown(store) => write_line(output, newest_line(alloc, store)),
+        Told::Tired(process) => write_run_line(alloc, &ReplayLine::Tired(*process), output),
+        Told::Shown(store) => {
+            let words = newest_words(alloc, store)?;
+            write_run_line(alloc, &ReplayLine::Shown(words.as_str()), output)
+        }
     }
 }
 
 /// Writes the marks of the event with this number, in their order, a line each.
 fn write_marks<W: Sink>(
     alloc: Global,
-    number: u64,
+    event: u64,
     process: u8,
     marks: &[Mark],
     output: &mut W,
 ) -> Result<(), Fault>
     requires { W.failures output.old < 2 ^ 64 - 1 }
-    ensures ok { Wrote W.taken result output.old output.new (mark_lines number process marks.now) }
-    ensures front { WroteFront W.taken output.old output.new (mark_lines number process marks.now) }
+    ensures ok { Wrote W.taken result output.old output.new (mark_lines event process marks.now) }
+    ensures front { WroteFront W.taken output.old output.new (mark_lines event process marks.now) }
     ensures fault { IfErr result IsWriteFault }
     ensures failures { W.failures output.new ≡ W.failures output.old + failed_write result }
 {
     for mark in marks {
-        write_line(output, mark_line(alloc, number, process, mark))?;
+        let line = ReplayLine::Marked {
+            event,
+            process,
+            mark,
+        };
+        write_run_line(alloc, &line, output)?;
     }
     Ok(())
+}
+
+/// Writes a line of the run, and its end.
+#[tactic(auto, using(course::proofs::Written::line_whole, course::proofs::Written::line_front))]
+fn write_run_line<W: Sink>(alloc: Global, line: &ReplayLine, output: &mut W) -> Result<(), Fault>
+    requires { W.failures output.old < 2 ^ 64 - 1 }
+    ensures ok { Wrote W.taken result output.old output.new (with_end (line_text line.now)) }
+    ensures front { WroteFront W.taken output.old output.new (with_end (line_text line.now)) }
+    ensures fault { IfErr result IsWriteFault }
+    ensures failures { W.failures output.new ≡ W.failures output.old + failed_write result }
+{
+    write_line(output, ended_line(alloc, line))
+}
+
+/// Returns the text of a line with its end.
+fn ended_line(alloc: Global, line: &ReplayLine) -> Result<String, AllocError>
+    ensures { IfOk result (λ text. string_bytes text ≡ with_end (line_text line.now)) }
+{
+    format!(in alloc; "{line}\n")
 }
 
 /// Writes a line, unless there was no memory for it.
@@ -68,49 +96,24 @@ pub(crate) fn write_line<W: Sink>(
     write_all(output, line.as_bytes())
 }
 
-#[tactic(auto, using(crate::proofs::Lines::mark_line_is))]
-fn mark_line(alloc: Global, number: u64, process: u8, mark: &Mark) -> Result<String, AllocError>
-    ensures { IfOk result (λ line. string_bytes line ≡ line_of_mark number process mark.now) }
-{
-    format!(in alloc; "{number} {process} {mark}\n")
-}
-
-#[tactic(auto, using(crate::proofs::Lines::turns_line_is))]
-fn turns_line(alloc: Global, process: u8) -> Result<String, AllocError>
-    ensures { IfOk result (λ line. string_bytes line ≡ line_of_turns process) }
-{
-    format!(in alloc; "- {process} turns\n")
-}
-
-/// The last line of a replay, with these numbers.
-#[tactic(auto, using(crate::proofs::Lines::end_line_is))]
-fn numbers_line(alloc: Global, events: u64, taken: u64, refused: u64) -> Result<String, AllocError>
-    ensures { GivesText result (line_at_end (numbers events taken refused)) }
-{
-    format!(in alloc; "end events {events} taken {taken} refused {refused}\n")
-}
-
-/// The last line of a replay.
-fn end_line(alloc: Global, summary: &Summary) -> Result<String, AllocError>
-    ensures { IfOk result (λ line. string_bytes line ≡ line_at_end summary.now) }
-{
-    numbers_line(alloc, summary.events, summary.taken, summary.refused)
-}
-
 /// Writes the last line of a replay.
-#[tactic(auto, using(course::proofs::Written::line_whole, course::proofs::Written::line_front))]
 pub(crate) fn write_end<W: Sink>(
     alloc: Global,
     summary: &Summary,
     output: &mut W,
 ) -> Result<(), Fault>
     requires { W.failures output.old < 2 ^ 64 - 1 }
-    ensures ok { Wrote W.taken result output.old output.new (line_at_end summary.now) }
-    ensures front { WroteFront W.taken output.old output.new (line_at_end summary.now) }
+    ensures ok { Wrote W.taken result output.old output.new (end_line summary.now) }
+    ensures front { WroteFront W.taken output.old output.new (end_line summary.now) }
     ensures fault { IfErr result IsWriteFault }
     ensures failures { W.failures output.new ≡ W.failures output.old + failed_write result }
 {
-    write_line(output, end_line(alloc, summary))
+    let line = ReplayLine::Ended {
+        events: summary.events,
+        taken: summary.taken,
+        refused: summary.refused,
+    };
+    write_run_line(alloc, &line, output)
 }
 
 /// Writes and counts what is told.

@@ -2,7 +2,7 @@ use Rattle.std.proofs.Common.{◌≡◌, ◌∙◌, [], length, subst, sym, refl
 use Rattle.plain_store.specs.{Setup}
 use Rattle.scenario.specs.{Script, script}
 use Rattle.course.specs.{Audits, run_at_start, run_record}
-use Rattle.judge.specs.auditor.{Verdict}
+use Rattle.judge.specs.auditor.{Law, Verdict}
 use Rattle.course.proofs.Listeners.{run_is_good, run_length}
 use Rattle.course.proofs.Played.{played_good}
 use Rattle.engines.specs.{IsRunVerdict}
@@ -20,7 +20,7 @@ returns g c =
     let (checked, given) = played_good plays in
     let good = c.verdict.ensures s _ audits in
     record {
-      verdict = subst (λ said. IsRunVerdict said c.verdict.result) same (subst (λ (v : Verdict). IsRunVerdict said v) (sym good) (run_is_good said checked given));
+      verdict = subst (λ said. IsRunVerdict said c.verdict.result) same (subst (λ (v : Verdict Law). IsRunVerdict said v) (sym good) (run_is_good said checked given));
       good = good;
       entries = subst (λ said. c.play_all.new.listener.listener.events ≡ length (run_record said)) same (counts.events ∙ sym (run_length said));
     }

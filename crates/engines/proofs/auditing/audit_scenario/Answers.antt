@@ -1,6 +1,7 @@
 use Rattle.std.proofs.Common.{◌≡◌, ap}
 use Rattle.std.specs.String.{string_bytes}
 use Rattle.scenario.specs.{script}
+use Rattle.judge.specs.read_law.{law_text}
 use Rattle.judge.specs.{verdict_line}
 use Rattle.course.proofs.Written.{front_all, line_front, line_whole, ok_along}
 use Rattle.engines.specs.{audited, run_length}
@@ -10,14 +11,14 @@ pub returns-in_err-write_line-clause-front : goal.returns-in_err-write_line-clau
 returns-in_err-write_line-clause-front g c =
     let text = audited (script c.args.scenario.now) in
     let told = c.in_ok-audited.ensures in
-    let is : verdict_line c.in_ok-audited.audited.entries c.in_ok-audited.audited.verdict ≡ text = λ i. verdict_line (told.entries i) (told.good i) in
+    let is : verdict_line law_text c.in_ok-audited.audited.entries c.in_ok-audited.audited.verdict ≡ text = λ i. verdict_line law_text (told.entries i) (told.good i) in
     line_front string_bytes (g.W.Sink.taken c.args.output.now) (g.W.Sink.taken c.write_line.new.output) c.verdict_line.result text (ok_along string_bytes c.verdict_line.result _ text c.verdict_line.ensures is) c.in_err-write_line.ensures.front c.in_err-write_line.ensures.none
 
 pub returns-clause-ok : goal.returns-clause-ok
 returns-clause-ok g c =
     let text = audited (script c.args.scenario.now) in
     let told = c.in_ok-audited.ensures in
-    let is : verdict_line c.in_ok-audited.audited.entries c.in_ok-audited.audited.verdict ≡ text = λ i. verdict_line (told.entries i) (told.good i) in
+    let is : verdict_line law_text c.in_ok-audited.audited.entries c.in_ok-audited.audited.verdict ≡ text = λ i. verdict_line law_text (told.entries i) (told.good i) in
     line_whole string_bytes (g.W.Sink.taken c.args.output.now) (g.W.Sink.taken c.write_line.new.output) c.verdict_line.result text (ok_along string_bytes c.verdict_line.result _ text c.verdict_line.ensures is) c.in_ok-write_line.ensures.made c.in_ok-write_line.ensures.ok
 
 pub returns-clause-front : goal.returns-clause-front
@@ -26,8 +27,8 @@ returns-clause-front g c = front_all (g.W.Sink.taken c.args.output.now) (g.W.Sin
 pub returns-clause-verdict : goal.returns-clause-verdict
 returns-clause-verdict g c =
     let verdict = c.in_ok-audited.audited.verdict in
-    let text = verdict_line (run_length (script c.args.scenario.now)) verdict in
-    let is : verdict_line c.in_ok-audited.audited.entries verdict ≡ text = ap (λ entries. verdict_line entries verdict) c.in_ok-audited.ensures.entries in
+    let text = verdict_line law_text (run_length (script c.args.scenario.now)) verdict in
+    let is : verdict_line law_text c.in_ok-audited.audited.entries verdict ≡ text = ap (λ entries. verdict_line law_text entries verdict) c.in_ok-audited.ensures.entries in
     record {
       verdict = verdict;
       is = c.in_ok-audited.ensures.verdict;

@@ -1,45 +1,43 @@
 use Rattle.std.proofs.Common.{ℕ, ◌+◌, ◌++◌, flat_map, take, drop, arith, ap, refl, sym, subst}
 use Rattle.std.proofs.lemmas.List.{take_all}
 use Rattle.std.specs.Io.KnownBytes.{Appends}
-use Rattle.std.specs.String.{string_bytes}
 use Rattle.scenario.specs.files.{WritesFront}
 use Rattle.course.specs.{mark_line}
-use Rattle.course.proofs.Written.{appends_both, appends_none, failed_same, front_after, front_all, front_longer, items_more, items_split, line_front, line_whole}
+use Rattle.course.proofs.Written.{appends_both, appends_none, failed_same, front_after, front_all, front_longer, items_more, items_split}
 use Rattle.engines.proofs.writing.write_marks.Goals as goal
 
 pub loop-mark-init : goal.loop-mark-init
 loop-mark-init g c = record { taken = appends_none (g.W.Sink.taken c.args.output.now); whole = refl }
 
-pub write_line-requires : goal.write_line-requires
-write_line-requires g c = rw c.loop-mark.invariant.whole c.requires
+pub write_run_line-requires : goal.write_run_line-requires
+write_run_line-requires g c = rw c.loop-mark.invariant.whole c.requires
 
-pub returns-in_err-write_line-clause-front : goal.returns-in_err-write_line-clause-front
-returns-in_err-write_line-clause-front g c =
-    let f = mark_line c.args.number c.args.process in
+pub returns-in_err-write_run_line-clause-front : goal.returns-in_err-write_run_line-clause-front
+returns-in_err-write_run_line-clause-front g c =
+    let f = mark_line c.args.event c.args.process in
     let marks = c.args.marks.now in
     let k : ℕ = c.loop-mark.mark-index in
-    subst (λ l. WritesFront (g.W.Sink.taken c.args.output.now) (g.W.Sink.taken c.write_line.new.output) l) (sym (items_split f marks k c.mark-item.result c.loop-mark-test.true c.mark-item.is))
+    subst (λ l. WritesFront (g.W.Sink.taken c.args.output.now) (g.W.Sink.taken c.write_run_line.new.output) l) (sym (items_split f marks k c.mark-item.result c.loop-mark-test.true c.mark-item.is))
     (front_after _ _ _ (flat_map f (take k marks)) (f c.mark-item.result ++ flat_map f (drop (k + 1) marks)) c.loop-mark.invariant.taken
-    (front_longer _ _ (f c.mark-item.result) (flat_map f (drop (k + 1) marks)) (line_front string_bytes _ _ c.mark_line.result (f c.mark-item.result) c.mark_line.ensures c.in_err-write_line.ensures.front c.in_err-write_line.ensures.none)))
+    (front_longer _ _ (f c.mark-item.result) (flat_map f (drop (k + 1) marks)) c.in_err-write_run_line.ensures.front))
 
-pub returns-in_err-write_line-clause-failures : goal.returns-in_err-write_line-clause-failures
-returns-in_err-write_line-clause-failures g c = omega (arith, c.in_err-write_line.ensures.failures, c.loop-mark.invariant.whole, failed_same c.from_residual.result c.in_err-write_line.field-0.0 c.from_residual.ensures.1)
+pub returns-in_err-write_run_line-clause-failures : goal.returns-in_err-write_run_line-clause-failures
+returns-in_err-write_run_line-clause-failures g c = omega (arith, c.in_err-write_run_line.ensures.failures, c.loop-mark.invariant.whole, failed_same c.from_residual.result c.in_err-write_run_line.field-0.0 c.from_residual.ensures.1)
 
 pub loop-mark-preserved : goal.loop-mark-preserved
 loop-mark-preserved g c =
-    let f = mark_line c.args.number c.args.process in
+    let f = mark_line c.args.event c.args.process in
     let marks = c.args.marks.now in
     let k : ℕ = c.loop-mark.mark-index in
     record {
-      taken = subst (λ l. Appends (g.W.Sink.taken c.args.output.now) (g.W.Sink.taken c.write_line.new.output) l) (sym (items_more f marks k c.mark-item.result c.loop-mark-test.true c.mark-item.is))
-          (appends_both _ _ _ (flat_map f (take k marks)) (f c.mark-item.result) c.loop-mark.invariant.taken
-          (line_whole string_bytes _ _ c.mark_line.result (f c.mark-item.result) c.mark_line.ensures c.in_ok-write_line.ensures.made c.in_ok-write_line.ensures.ok));
-      whole = omega (arith, c.in_ok-write_line.ensures.failures, c.loop-mark.invariant.whole);
+      taken = subst (λ l. Appends (g.W.Sink.taken c.args.output.now) (g.W.Sink.taken c.write_run_line.new.output) l) (sym (items_more f marks k c.mark-item.result c.loop-mark-test.true c.mark-item.is))
+          (appends_both _ _ _ (flat_map f (take k marks)) (f c.mark-item.result) c.loop-mark.invariant.taken c.in_ok-write_run_line.ensures.ok);
+      whole = omega (arith, c.in_ok-write_run_line.ensures.failures, c.loop-mark.invariant.whole);
     }
 
 pub returns-clause-front : goal.returns-clause-front
 returns-clause-front g c =
-    let f = mark_line c.args.number c.args.process in
+    let f = mark_line c.args.event c.args.process in
     let marks = c.args.marks.now in
     subst (λ l. WritesFront (g.W.Sink.taken c.args.output.now) (g.W.Sink.taken c.loop-mark.output) l) (ap (flat_map f) (take_all c.loop-mark.mark-index marks (omega (arith, c.loop-mark-test.false))))
     (front_all _ _ (flat_map f (take c.loop-mark.mark-index marks)) c.loop-mark.invariant.taken)

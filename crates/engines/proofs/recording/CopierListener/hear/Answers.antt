@@ -7,7 +7,7 @@ pub returns-clause-ok : goal.returns-clause-ok
 returns-clause-ok g c = λ s before this happens. (
   refl,
   record {
-    writes = λ _. entry_copied s before this c.args.told.now c.args._taken.now _ _ happens c.in_ok-write_entry.ensures.ok;
+    writes = λ _. entry_copied s before this c.args.told.now _ _ happens c.in_ok-write_entry.ensures.ok;
     whole = c.in_ok-write_entry.ensures.failures ∙ add-zero (g.W.Sink.failures c.args.self.now.output.now);
   },
 )
@@ -18,7 +18,7 @@ returns-in_err-write_entry-clause-cut g c =
     (λ s before this happens. (
       refl,
       record {
-        part = λ _. entry_cut s before this c.args.told.now c.args._taken.now _ _ happens c.in_err-write_entry.ensures.front;
+        part = λ _. entry_cut s before this c.args.told.now _ _ happens c.in_err-write_entry.ensures.front;
         is = c.in_err-write_entry.ensures.fault;
         fails_are = c.in_err-write_entry.ensures.failures;
       },

@@ -9,8 +9,8 @@ returns-clause-ok g c =
     let old = c.args.self.now in
     ok_both c.tell.result (g.W.Sink.failures old.output.now) (g.W.Sink.failures c.tell.new.output) (λ wrote counted whole s before this happens. (
       refl,
-      counts_heard s before this c.args.told.now c.args._taken.now old.summary c.tell.new.summary happens counted,
-      record { writes = told_written s before this c.args.told.now c.args._taken.now old.summary _ _ happens wrote; whole = whole },
+      counts_heard s before this c.args.told.now old.summary c.tell.new.summary happens counted,
+      record { writes = told_written s before this c.args.told.now old.summary _ _ happens wrote; whole = whole },
     )) c.tell.ensures.ok c.tell.ensures.count c.tell.ensures.failures
 
 pub returns-clause-cut : goal.returns-clause-cut
@@ -18,5 +18,5 @@ returns-clause-cut g c =
     let old = c.args.self.now in
     err_both c.tell.result _ (g.W.Sink.failures old.output.now) (g.W.Sink.failures c.tell.new.output) (λ fault is fails s before this happens. (
       refl,
-      record { part = told_cut s before this c.args.told.now c.args._taken.now old.summary _ _ happens c.tell.ensures.front; is = is; fails_are = fails },
+      record { part = told_cut s before this c.args.told.now old.summary _ _ happens c.tell.ensures.front; is = is; fails_are = fails },
     )) c.tell.ensures.fault c.tell.ensures.failures

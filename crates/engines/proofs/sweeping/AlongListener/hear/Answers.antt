@@ -3,8 +3,8 @@ use Rattle.engines.proofs.sweeping.AlongListener.hear.Goals as goal
 
 pub returns-in-Accepted-clause-ok : goal.returns-in-Accepted-clause-ok
 returns-in-Accepted-clause-ok g c = λ s before this happens calls swept.
-    swept_on s calls before this c.in-Accepted.made.event _ _ _ _ (told_event s before this c.args.told.now c.args._taken.now c.in-Accepted.made c.in-Accepted.is happens) c.go_on.ensures.calls c.go_on.ensures.swept swept
+    swept_on s calls before this c.in-Accepted.made.event _ _ _ _ (told_event s before this c.args.told.now c.in-Accepted.made c.in-Accepted.is happens) c.go_on.ensures.calls c.go_on.ensures.swept swept
 
 pub returns-in_default-clause-ok : goal.returns-in_default-clause-ok
 returns-in_default-clause-ok g c = λ s before this happens calls swept.
-    swept_same s calls before this _ _ (told_nothing s before this c.args.told.now c.args._taken.now c.in_default.not-Accepted happens) swept
+    swept_same s calls before this _ _ (told_nothing s before this c.args.told.now c.in_default.not-Accepted happens) swept
