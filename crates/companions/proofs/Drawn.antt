@@ -1,13 +1,16 @@
 -- Markup that is written piece by piece, and what a page holds back.
-use Rattle.std.proofs.Common.{◌≡◌, ℕ, true, List, [], ◌∷◌, ◌++◌, Option, Some, refl, ap, sym, subst, ◌∙◌, append-nil, append_assoc}
+use Rattle.std.proofs.Common.{◌≡◌, ℕ, true, List, [], ◌∷◌, ◌++◌, length, Option, Some, refl, ap, sym, subst, ◌∙◌, append-nil, append_assoc}
 use Rattle.std.specs.Io.KnownBytes.{Appends}
+use Rattle.plain_store.specs.{Setup}
+use Rattle.record.specs.{Entry, Mark, Past}
+use Rattle.picture.specs.declared.reads.Reads.{Reads as Mode}
 use Rattle.picture.specs.markup.{EndsAll, is_at_rest, lines_in, opens_in, tags_of}
 use Rattle.picture.proofs.markup.Lines.{lines_on, rests_on}
 use Rattle.picture.proofs.markup.Stacks.{opens_on}
 use Rattle.picture.specs.{GivesRest, GoesOn, Item, Plan, Reads, SeenPage, Tells, band_text, bands_told, full_told, heights_told, lines_of_band, page_of}
 use Rattle.picture.specs.columns.{OverlappedRead, RunLine, text_of}
-use Rattle.companions.specs.{Canvas, Draws, DrawsBands, DrawsLast, DrawsLines, DrawsOn, DrawsRest, Fills, Gives, GivesLine, GivesRead, IsAround, Kept, Overhears, Says, Writes, given, kept, kept_at_first, lines_given, says_of, texts_given, waiting}
-use Rattle.companions.proofs.Giving.{both_given, lines_append, text_of_saying, texts_append, waiting_append}
+use Rattle.companions.specs.{Canvas, Draws, DrawsBands, DrawsLast, DrawsLines, DrawsMarks, DrawsOn, DrawsRest, Fills, Gives, GivesLine, GivesRead, IsAfterMarks, IsAround, Kept, Overhears, Says, TakenStore, Writes, given, given_of, kept, kept_at_first, lines_given, marks_after, marks_back, overlapped_by, says_marks, says_of, texts_given, waiting}
+use Rattle.companions.proofs.Giving.{both_given, lines_append, marks_after_append, says_append, text_of_saying, texts_append, waiting_append, waiting_says}
 use Rattle.companions.proofs.Written.{appends_both, appends_none}
 
 -- markup at rest
@@ -142,6 +145,34 @@ draws_lines_both had has now a b c source at lines more first next = λ mode s p
       subst (λ l. DrawsOn (kept had) (kept now) a c l) (sym (lines_append mode source at reads lines more))
           (draws_on_both (kept had) (kept has) (kept now) a b c (lines_given mode source at reads lines) (lines_given mode source at (waiting lines reads) more) one.0 two.0),
       subst (λ l. Overhears mode s past l now.overlaps) (sym (waiting_append lines more reads)) two.1,
+    )
+
+-- marks of a process, and then others
+pub draws_no_marks : (canvas : Canvas) (store : TakenStore) (a : Option (List ℕ)) (source at p : ℕ) → DrawsMarks canvas canvas store store a a source at p []
+draws_no_marks canvas store a source at p = λ s before is. (draws_no_lines canvas a source at, is)
+
+pub draws_marks_both : (had has now : Canvas) (store stores last : TakenStore) (a b c : Option (List ℕ)) (source at p : ℕ) (marks more : List Mark) → DrawsMarks had has store stores a b source at p marks → DrawsMarks has now stores last b c source at p more → DrawsMarks had now store last a c source at p (marks ++ more)
+draws_marks_both had has now store stores last a b c source at p marks more first next = λ s before is.
+    let one = first s before is in
+    let two = next s (marks_after p marks before) one.1 in (
+      subst (DrawsLines had now a c source at) (sym (says_append s p before marks more))
+          (draws_lines_both had has now a b c source at (says_marks s p before marks) (says_marks s p (marks_after p marks before) more) one.0 two.0),
+      subst (λ l. IsAfterMarks s l last) (sym (marks_after_append p marks more before)) two.1,
+    )
+
+-- what an entry gives, once its marks are drawn: the number of the entries before it is known, and that its reads wait
+pub draws_entry : (mode : Mode) (s : Setup) (past : Past) (reads : List OverlappedRead) (e : Entry) (had heard has : Canvas) (store stores : TakenStore) (a b : Option (List ℕ)) (source at p : ℕ) (marks : List Mark) →
+    e.process ≡ p → e.marks ≡ marks → at ≡ length past → kept heard ≡ kept had → IsAfterMarks s (marks_back past) store → Overhears mode s (e ∷ past) (reads ++ overlapped_by s past e) heard.overlaps →
+    DrawsMarks heard has store stores a b source at p marks →
+    DrawsOn (kept had) (kept has) a b (given_of mode s source past reads e) × IsAfterMarks s (marks_back (e ∷ past)) stores × Overhears mode s (e ∷ past) (waiting e.marks (reads ++ overlapped_by s past e)) has.overlaps
+draws_entry mode s past reads e had heard has store stores a b source at p marks process are number same is waits drew =
+    let all : List OverlappedRead = reads ++ overlapped_by s past e in
+    let its = (subst (λ (l : List Mark). DrawsMarks heard has store stores a b source at e.process l) (sym are) (subst (λ (q : ℕ). DrawsMarks heard has store stores a b source at q marks) (sym process) drew)) s (marks_back past) is in
+    let drawn = its.0 mode s (e ∷ past) all waits in (
+      subst (λ (k : Kept). DrawsOn k (kept has) a b (given_of mode s source past reads e)) same
+          (subst (λ (n : ℕ). DrawsOn (kept heard) (kept has) a b (lines_given mode source n all (says_marks s e.process (marks_back past) e.marks))) number drawn.0),
+      its.1,
+      subst (λ (l : List OverlappedRead). Overhears mode s (e ∷ past) l has.overlaps) (waiting_says s e.process (marks_back past) e.marks all) drawn.1,
     )
 
 -- or the last ones

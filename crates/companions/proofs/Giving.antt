@@ -7,7 +7,9 @@ use Rattle.picture.specs.columns.{OverlappedRead, Saying, marks_said, saying_tex
 use Rattle.picture.specs.columns.declared.told.Saying.TheVariants.{Marked, Refused, Tired, Shown as ShowsStore, Judged, Ended}
 use Rattle.picture.specs.declared.reads.Reads.{Reads as Mode}
 use Rattle.picture.specs.declared.reads.Reads.TheVariants.{Hidden, Shown}
-use Rattle.companions.specs.{Gives, GivesLine, GivesRead, Says, given, lines_given, mark_given, marks_given, marks_says, says_of, says_text, shown_of, text_given, texts_given, waiting}
+use Rattle.plain_store.specs.{Setup}
+use Rattle.record.specs.{Mark}
+use Rattle.companions.specs.{Gives, GivesLine, GivesRead, Says, given, lines_given, mark_given, marks_after, marks_given, marks_says, says_marks, says_of, says_text, shown_of, text_given, texts_given, waiting}
 
 -- one more, by what is made of each
 pub map_next : {A : Type 0} {B : Type 0} (f : A → B) (xs : List A) (k : ℕ) (d : A) → k < length xs → map f (take (k + 1) xs) ≡ map f (take k xs) ++ f (get_or xs k d) ∷ []
@@ -26,10 +28,6 @@ waiting_none (line ∷ lines) = refl
 pub waiting_append : {A : Type 0} (lines more : List A) (reads : List OverlappedRead) → waiting (lines ++ more) reads ≡ waiting more (waiting lines reads)
 waiting_append [] more reads = refl
 waiting_append (line ∷ lines) more reads = sym (waiting_none more)
-
-pub waiting_map : {A : Type 0} {B : Type 0} (f : A → B) (xs : List A) (reads : List OverlappedRead) → waiting (map f xs) reads ≡ waiting xs reads
-waiting_map f [] reads = refl
-waiting_map f (x ∷ xs) reads = refl
 
 -- lines, and then more
 module _ (mode : Mode) (source at : ℕ) where
@@ -112,3 +110,23 @@ marks_of_lines mode source at reads (line ∷ lines) =
     each : (lines : List Says) → marks_given (map (GivesLine source at) lines) ≡ flat_map marks_says lines
     each [] = refl
     each (line ∷ lines) = ap (λ l. marks_says line ++ l) (each lines)
+
+-- What the marks of an entry say.
+
+pub marks_after_append : (p : ℕ) (marks more : List Mark) (before : List (ℕ × Mark)) → marks_after p (marks ++ more) before ≡ marks_after p more (marks_after p marks before)
+marks_after_append p [] more before = refl
+marks_after_append p (m ∷ marks) more before = marks_after_append p marks more ((p, m) ∷ before)
+
+pub says_append : (s : Setup) (p : ℕ) (before : List (ℕ × Mark)) (marks more : List Mark) → says_marks s p before (marks ++ more) ≡ says_marks s p before marks ++ says_marks s p (marks_after p marks before) more
+says_append s p before [] more = refl
+says_append s p before (m ∷ marks) more = ap (λ l. says_marks s p before (m ∷ []) ++ l) (says_append s p ((p, m) ∷ before) marks more)
+
+-- reads wait as long as there is no mark, and so no line
+pub waiting_says : (s : Setup) (p : ℕ) (before : List (ℕ × Mark)) (marks : List Mark) (reads : List OverlappedRead) → waiting (says_marks s p before marks) reads ≡ waiting marks reads
+waiting_says s p before [] reads = refl
+waiting_says s p before (m ∷ marks) reads = refl
+
+-- they say these marks
+pub marks_of_says : (s : Setup) (p : ℕ) (before : List (ℕ × Mark)) (marks : List Mark) → flat_map marks_says (says_marks s p before marks) ≡ map {B = ℕ × Mark} (λ (mark : Mark). (p, mark)) marks
+marks_of_says s p before [] = refl
+marks_of_says s p before (m ∷ marks) = ap (λ l. (p, m) ∷ l) (marks_of_says s p ((p, m) ∷ before) marks)

@@ -3,6 +3,8 @@ pub use Rattle.read_law.proofs as read_law
 -- What commands change, and how that is shown
 mod Changing
 pub mod Shown
+-- The one-thread store after marks
+pub mod TakenStores
 -- The reads that writes overlap
 pub mod Overhearing
 -- What is drawn, and written piece by piece

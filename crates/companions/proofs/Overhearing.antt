@@ -1,29 +1,28 @@
 -- What is heard of a record whose reads are shown or hidden.
-use Rattle.std.proofs.Common.{◌≡◌, ℕ, ◌<◌, ◌==◌, ◌&&◌, Bool, true, false, cond, get_or, List, [], ◌∷◌, ◌++◌, length, Option, None, Some, true≢false, refl, ap, sym, subst, ◌∙◌, append-nil, arith, inl, inr}
+use Rattle.std.proofs.Common.{◌≡◌, ℕ, ◌<◌, ◌==◌, ◌&&◌, Bool, true, false, cond, get_or, List, [], ◌∷◌, ◌++◌, length, Option, None, Some, IfSome, Ok, true≢false, refl, ap, sym, subst, ◌∙◌, append-nil, arith, inl, inr}
 use Rattle.std.proofs.lemmas.Bool.{cases_lt}
 use Rattle.std.proofs.lemmas.Bool.Decides.{nat_tests}
 use Rattle.record.specs.{Access, Entry, Past, begins_read, moves_of, same_bit}
 use Rattle.record.specs.safe_bit.{Move}
 use Rattle.record.specs.safe_bit.declared.Move.TheVariants.{BeginRead}
 use Rattle.plain_store.specs.declared.setups.Setup.{Setup as Given}
+use Rattle.plain_store.specs.{checked}
 use Rattle.plain_store.proofs.GoodSetups.{few-processes}
-use Rattle.read_law.specs.{HasHeard, ends_overlapped}
+use Rattle.read_law.specs.{HasHeard, WatchState, ends_overlapped}
 use Rattle.read_law.specs.laws.{IsThere}
 use Rattle.read_law.proofs.Hears.{heard_none}
 use Rattle.picture.specs.columns.{OverlappedRead}
 use Rattle.picture.specs.declared.reads.Reads.{Reads as Mode}
 use Rattle.picture.specs.declared.reads.Reads.TheVariants.{Hidden, Shown}
-use Rattle.companions.specs.{BegunRead, Hears, Overhears, OverlapsHeard, begun_with, ended_of, first_three, is_begin, is_there, overlapped_by, overlapped_with, read_begun, read_ended}
+use Rattle.companions.specs.{BegunRead, Hears, Overhears, OverlapsHeard, TellsEnd, TellsOver, Watches, begun_with, ended_of, first_three, is_begin, is_there, overlapped_by, overlapped_with, read_begun, read_ended}
 
 -- what has heard entries has heard one more
-pub hears_on : (s : Given) (past : Past) (reads : List OverlappedRead) (e : Entry) (old new : OverlapsHeard) → new.setup ≡ old.setup → new.watch.setup ≡ old.watch.setup →
-    HasHeard new.watch (e ∷ past) → ((p : ℕ) → p < 16 → get_or new.begun p None ≡ read_begun p (e ∷ past)) → length new.begun ≡ 16 →
+pub hears_on : (s : Given) (past : Past) (reads : List OverlappedRead) (e : Entry) (old new : OverlapsHeard) → new.setup ≡ old.setup →
+    ((p : ℕ) → p < 16 → get_or new.begun p None ≡ read_begun p (e ∷ past)) → length new.begun ≡ 16 →
     new.ended.items ≡ first_three (reads ++ overlapped_by s past e) → Hears s past reads old → Hears s (e ∷ past) (reads ++ overlapped_by s past e) new
-hears_on s past reads e old new setup watched heard begun room ended h = record {
+hears_on s past reads e old new setup begun room ended h = record {
   good = h.good;
   setup = setup ∙ h.setup;
-  watched = watched ∙ h.watched;
-  heard = heard;
   begun = begun;
   room = room;
   ended = ended;
@@ -34,8 +33,6 @@ pub hears_none : (s : Given) (past : Past) (reads : List OverlappedRead) (e : En
 hears_none s past reads e o none h = record {
   good = h.good;
   setup = h.setup;
-  watched = h.watched;
-  heard = heard_none o.watch past e none h.heard;
   begun = λ p below. h.begun p below ∙ sym (ap (λ (access : Option Access). begun_with p (length past) access (read_begun p past)) none);
   room = h.room;
   ended = h.ended ∙ ap first_three (sym (append-nil reads)) ∙ ap (λ (access : Option Access). first_three (reads ++ overlapped_with s past access)) (sym none);
@@ -109,17 +106,17 @@ not_there s a is there =
     let owner = there.owner in let reader = there.reader in let bit = there.bit in
     let yes : is_there s a ≡ true = grind (arith, nat_tests, owner, reader, bit) in true≢false (sym yes ∙ is)
 
--- what a watch answers tells which read is overlapped
-pub told_by : (s : Given) (past : Past) (a : Access) (over : Bool) → (IsThere s a → begins_read (moves_of a past) ≡ true → over ≡ ends_overlapped (moves_of a past) a.how) → ((IsThere s a → ⊥) → over ≡ false) →
+-- so it is known which read is overlapped
+told_by : (s : Given) (past : Past) (a : Access) (over : Bool) → TellsOver s past a over →
     cond over (ended_of s (length past) a (read_begun a.reader past)) [] ≡ overlapped_with s past (Some a)
-told_by s past a over there stray = by (is_there s a) refl (begins_read (moves_of a past)) refl
+told_by s past a over tells = by (is_there s a) refl (begins_read (moves_of a past)) refl
   where
     reads : List OverlappedRead
     reads = ended_of s (length past) a (read_begun a.reader past)
 
     by : (t : Bool) → is_there s a ≡ t → (b : Bool) → begins_read (moves_of a past) ≡ b → cond over reads [] ≡ cond (is_there s a && ends_overlapped (moves_of a past) a.how) reads []
-    by false is b begins = ap (λ c. cond c reads []) (stray (not_there s a is)) ∙ ap (λ t. cond (t && ends_overlapped (moves_of a past) a.how) reads []) (sym is)
-    by true is true begins = ap (λ c. cond c reads []) (there (there_is s a is) begins) ∙ ap (λ t. cond (t && ends_overlapped (moves_of a past) a.how) reads []) (sym is)
+    by false is b begins = ap (λ c. cond c reads []) (tells.stray (not_there s a is)) ∙ ap (λ t. cond (t && ends_overlapped (moves_of a past) a.how) reads []) (sym is)
+    by true is true begins = ap (λ c. cond c reads []) (tells.there (there_is s a is) begins) ∙ ap (λ t. cond (t && ends_overlapped (moves_of a past) a.how) reads []) (sym is)
     by true is false begins =
         let none : reads ≡ [] = ends_none s (length past) a past begins in
         both_none over reads none ∙ sym (both_none (is_there s a && ends_overlapped (moves_of a past) a.how) reads none)
@@ -147,10 +144,10 @@ module _ (s : Given) (past : Past) (reads : List OverlappedRead) (e : Entry) (a 
 -- Modes.
 
 -- where reads are shown
-pub overhears_on : (mode : Mode) (s : Given) (past then : Past) (reads more : List OverlappedRead) (old new : OverlapsHeard) → (Hears s past reads old → Hears s then more new) →
-    Overhears mode s past reads (Some old) → Overhears mode s then more (Some new)
-overhears_on Hidden s past then reads more old new on h = absurd h
-overhears_on Shown s past then reads more old new on h = on h
+pub overhears_on : (mode : Mode) (s : Given) (past then : Past) (reads more : List OverlappedRead) (access : Option Access) (over : Bool) (old new : OverlapsHeard) → (Hears s past reads old → IfSome access (λ a. TellsOver s past a over) → Hears s then more new) →
+    TellsEnd mode s past access over → Overhears mode s past reads (Some old) → Overhears mode s then more (Some new)
+overhears_on Hidden s past then reads more access over old new on tells h = absurd h
+overhears_on Shown s past then reads more access over old new on tells h = on h tells
 
 -- where they are hidden
 pub overhears_nothing : (mode : Mode) (s : Given) (past then : Past) (reads more : List OverlappedRead) → Overhears mode s past reads None → Overhears mode s then more None
@@ -158,15 +155,41 @@ overhears_nothing Hidden s past then reads more h = tt
 overhears_nothing Shown s past then reads more h = absurd h
 
 -- of what is kept
-pub told_at : (s : Given) (past : Past) (reads : List OverlappedRead) (o : OverlapsHeard) (a : Access) (n : ℕ) (over : Bool) → Hears s past reads o → n ≡ length past →
-    (IsThere o.watch.setup a → begins_read (moves_of a past) ≡ true → over ≡ ends_overlapped (moves_of a past) a.how) → ((IsThere o.watch.setup a → ⊥) → over ≡ false) →
+told_at : (s : Given) (past : Past) (reads : List OverlappedRead) (o : OverlapsHeard) (a : Access) (n : ℕ) (over : Bool) → Hears s past reads o → n ≡ length past → TellsOver s past a over →
     cond over (ended_of o.setup n a (get_or o.begun a.reader None)) [] ≡ overlapped_with s past (Some a)
-told_at s past reads o a n over h number there stray =
-    let there_s = subst (λ (t : Given). IsThere t a → begins_read (moves_of a past) ≡ true → over ≡ ends_overlapped (moves_of a past) a.how) h.watched there in
-    let stray_s = subst (λ (t : Given). (IsThere t a → ⊥) → over ≡ false) h.watched stray in
+told_at s past reads o a n over h number tells =
     (λ i. cond over (ended_of (h.setup i) (number i) a (get_or o.begun a.reader None)) []) ∙ elim (cases_lt a.reader 16) [
-      | inl below ↦ ap (λ b. cond over (ended_of s (length past) a b) []) (h.begun a.reader below) ∙ told_by s past a over there_s stray_s
+      | inl below ↦ ap (λ b. cond over (ended_of s (length past) a b) []) (h.begun a.reader below) ∙ told_by s past a over tells
       | inr out ↦
-          let no : over ≡ false = stray_s (λ is. let few = few-processes s h.good in let reader : a.reader < s.processes = is.reader in absurd (omega (arith, out, few, reader))) in
-          ap (λ c. cond c (ended_of s (length past) a (get_or o.begun a.reader None)) []) no ∙ ap (λ c. cond c (ended_of s (length past) a (read_begun a.reader past)) []) (sym no) ∙ told_by s past a over there_s stray_s
+          let no : over ≡ false = tells.stray (λ is. let few = few-processes s h.good in let reader : a.reader < s.processes = is.reader in absurd (omega (arith, out, few, reader))) in
+          ap (λ c. cond c (ended_of s (length past) a (get_or o.begun a.reader None)) []) no ∙ ap (λ c. cond c (ended_of s (length past) a (read_begun a.reader past)) []) (sym no) ∙ told_by s past a over tells
     ]
+
+pub told_ended : (s : Given) (past : Past) (reads : List OverlappedRead) (o : OverlapsHeard) (a : Access) (n : ℕ) (over : Bool) (ended : List OverlappedRead) → Hears s past reads o → n ≡ length past → TellsOver s past a over →
+    (checked o.setup ≡ Ok tt → ended ≡ cond over (ended_of o.setup n a (get_or o.begun a.reader None)) []) → ended ≡ overlapped_with s past (Some a)
+told_ended s past reads o a n over ended h number tells is = is (subst (λ (t : Given). checked t ≡ Ok tt) (sym h.setup) h.good) ∙ told_at s past reads o a n over h number tells
+
+-- A watch that goes along.
+
+-- where reads are shown, it tells which access ends an overlapped read
+pub watches_on : (mode : Mode) (s : Given) (past : Past) (e : Entry) (a : Access) (over : Bool) (old new : WatchState) → e.access ≡ Some a → new.setup ≡ old.setup → (HasHeard old past → HasHeard new (e ∷ past)) →
+    (HasHeard old past → IsThere old.setup a → begins_read (moves_of a past) ≡ true → over ≡ ends_overlapped (moves_of a past) a.how) → ((IsThere old.setup a → ⊥) → over ≡ false) →
+    Watches mode s past (Some old) → TellsEnd mode s past (Some a) over × Watches mode s (e ∷ past) (Some new)
+watches_on Hidden s past e a over old new is setup heard there stray watches = absurd watches
+watches_on Shown s past e a over old new is setup heard there stray watches = (
+  record {
+    there = subst (λ (t : Given). IsThere t a → begins_read (moves_of a past) ≡ true → over ≡ ends_overlapped (moves_of a past) a.how) watches.0 (there watches.1);
+    stray = subst (λ (t : Given). (IsThere t a → ⊥) → over ≡ false) watches.0 stray;
+  },
+  (setup ∙ watches.0, heard watches.1),
+)
+
+-- an entry without an access tells nothing
+pub watches_still : (mode : Mode) (s : Given) (past : Past) (e : Entry) (over : Bool) (watch : WatchState) → e.access ≡ None → Watches mode s past (Some watch) → TellsEnd mode s past None over × Watches mode s (e ∷ past) (Some watch)
+watches_still Hidden s past e over watch none watches = absurd watches
+watches_still Shown s past e over watch none watches = (tt, (watches.0, heard_none watch past e none watches.1))
+
+-- where reads are hidden, there is none
+pub watches_nothing : (mode : Mode) (s : Given) (past : Past) (e : Entry) (access : Option Access) (over : Bool) → Watches mode s past None → TellsEnd mode s past access over × Watches mode s (e ∷ past) None
+watches_nothing Hidden s past e access over watches = (tt, tt)
+watches_nothing Shown s past e access over watches = absurd watches

@@ -22,6 +22,10 @@ pub ok_then : {A E : Type 0} (r : Result A E) {P Q : Type 0} → (P → Q) → O
 ok_then (Ok done) then is = then is
 ok_then (Err e) then is = tt
 
+pub ok_then_all : {A E : Type 0} (r : Result A E) {P Q R S : Type 0} → (P → Q → R → S) → OnOk r P → OnOk r Q → OnOk r R → OnOk r S
+ok_then_all (Ok done) then p q s = then p q s
+ok_then_all (Err e) then p q s = tt
+
 -- a fault that is handed on counts as it did
 pub failed_same : {A : Type 0} (r : Result A Fault) (e : Fault) → IsErrAnd r (λ x. x ≡ e) → failed_write r ≡ failed_write {A = Unit {0}} (Err e)
 failed_same (Ok done) e same = absurd same

@@ -2,15 +2,17 @@
 use Rattle.std.specs.Prelude.{◌≡◌, ℕ, true, List, [], ◌++◌, Option}
 use Rattle.std.specs.Io.KnownBytes.{Appends}
 use Rattle.plain_store.specs.{Setup, opening_store}
-use Rattle.record.specs.{Past}
+use Rattle.record.specs.{Mark, Past}
 use Rattle.picture.specs.{Form, Item, Plan, SeenPage, bands_told, full_told, heights_told, held, page_of, seen_page}
 use Rattle.picture.specs.columns.{OverlappedRead}
 use Rattle.picture.specs.declared.reads.Reads.{Reads as Mode}
 use Rattle.picture.specs.markup.{EndsAll, is_at_rest, lines_in, tags_of}
-use Rattle.companions.specs.Items.{Gives, Says, given, lines_given, texts_given, waiting}
+use Rattle.companions.specs.Items.{Gives, Says, given, lines_given, marks_after, says_marks, texts_given, waiting}
 use Rattle.companions.specs.Overlaps.{Overhears}
 use Rattle.companions.specs.StoreChanges.{words_by}
+use Rattle.companions.specs.TakenStores.{IsAfterMarks}
 use Rattle.companions.specs.declared.canvas.Canvas.{Canvas}
+use Rattle.companions.specs.declared.taken_store.TakenStore.{TakenStore}
 
 -- what is known of a picture from the start
 abbrev pub plan_of : Form → Setup → Plan
@@ -73,6 +75,11 @@ abbrev pub DrawsLines : Canvas → Canvas → Option (List ℕ) → Option (List
 DrawsLines had has old new source at lines =
     (mode : Mode) (s : Setup) (past : Past) (reads : List OverlappedRead) → Overhears mode s past reads had.overlaps →
     DrawsOn (kept had) (kept has) old new (lines_given mode source at reads lines) × Overhears mode s past (waiting lines reads) has.overlaps
+
+-- so were the lines of a process's marks that come after other marks, and the store is the one after them
+abbrev pub DrawsMarks : Canvas → Canvas → TakenStore → TakenStore → Option (List ℕ) → Option (List ℕ) → (source at : ℕ) → ℕ → List Mark → Type 0
+DrawsMarks had has store stores old new source at p marks =
+    (s : Setup) (before : List (ℕ × Mark)) → IsAfterMarks s before store → DrawsLines had has old new source at (says_marks s p before marks) × IsAfterMarks s (marks_after p marks before) stores
 
 -- so were the last ones, and all that was held back
 abbrev pub DrawsLast : Canvas → Option (List ℕ) → Option (List ℕ) → (source at : ℕ) → List Says → ℕ → Type 0

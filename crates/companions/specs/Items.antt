@@ -1,13 +1,15 @@
 -- What a picture is told, item by item, as values: its lines, and the reads that writes overlapped.
-use Rattle.std.specs.Prelude.{ℕ, List, [], ◌∷◌, ◌++◌, codes, flat_map, map, Option, option_map}
-use Rattle.record.specs.{Mark, Refusal}
+use Rattle.std.specs.Prelude.{ℕ, List, [], ◌∷◌, ◌++◌, flat_map, length, map, string_bytes, Option, option_map}
+use Rattle.plain_store.specs.{Setup}
+use Rattle.record.specs.{Entry, Mark, Past, Refusal}
 use Rattle.picture.specs.{Item, Reads, Tells}
-use Rattle.picture.specs.columns.{OverlappedRead, Saying}
-use Rattle.picture.specs.columns.Told.{ended_text, marked_text, refused_text, tired_text}
+use Rattle.picture.specs.columns.{OverlappedRead, Saying, judged_text}
+use Rattle.picture.specs.columns.run_lines.{ended_text, marked_text, refused_text, shown_text, tired_text}
 use Rattle.picture.specs.columns.declared.told.Saying.TheVariants.{Marked, Refused, Tired, Shown, Judged, Ended}
 use Rattle.picture.specs.declared.reads.Reads.{Reads as Mode}
-use Rattle.companions.specs.Overlaps.{shown_of}
+use Rattle.companions.specs.Overlaps.{overlapped_by, shown_of}
 use Rattle.companions.specs.StoreChanges.{Changed, changed}
+use Rattle.companions.specs.TakenStores.{change_of}
 
 -- what a line says
 pub data Says : Type 0 where
@@ -27,7 +29,7 @@ abbrev pub says_of : Saying → Says
 says_of (Marked p mark change) = SaysMark p mark (option_map changed change)
 says_of (Refused p refusal) = SaysRefusal p refusal
 says_of (Tired p) = SaysTired p
-says_of (Shown words) = SaysStore words.items
+says_of (Shown words) = SaysStore (string_bytes words)
 says_of (Judged p words) = SaysJudged p words.items
 says_of (Ended events taken refused) = SaysEnd events taken refused
 
@@ -42,8 +44,8 @@ abbrev pub says_text : ℕ → Says → List ℕ
 says_text at (SaysMark p mark change) = marked_text at p mark
 says_text at (SaysRefusal p refusal) = refused_text p refusal
 says_text at (SaysTired p) = tired_text p
-says_text at (SaysStore words) = codes "show " ++ words
-says_text at (SaysJudged p line) = codes "judge " ++ line
+says_text at (SaysStore words) = shown_text words
+says_text at (SaysJudged p line) = judged_text line
 says_text at (SaysEnd events taken refused) = ended_text events taken refused
 
 -- the lines of what is given, without their ends
@@ -75,3 +77,24 @@ waiting (line ∷ lines) reads = []
 abbrev pub lines_given : Mode → ℕ → ℕ → List OverlappedRead → List Says → List Gives
 lines_given mode source at reads [] = []
 lines_given mode source at reads (line ∷ lines) = map GivesRead (shown_of mode reads) ++ map (GivesLine source at) (line ∷ lines)
+
+-- Entries, be they of a run or of a record.
+
+-- the marks after those of an entry of a process
+abbrev pub marks_after : ℕ → List Mark → List (ℕ × Mark) → List (ℕ × Mark)
+marks_after p [] before = before
+marks_after p (mark ∷ marks) before = marks_after p marks ((p, mark) ∷ before)
+
+-- the marks of all entries, the newest first
+abbrev pub marks_back : Past → List (ℕ × Mark)
+marks_back [] = []
+marks_back (e ∷ past) = marks_after e.process e.marks (marks_back past)
+
+-- what the lines of a process's marks say that come after other marks
+abbrev pub says_marks : Setup → ℕ → List (ℕ × Mark) → List Mark → List Says
+says_marks s p before [] = []
+says_marks s p before (mark ∷ marks) = SaysMark p mark (change_of s before p mark) ∷ says_marks s p ((p, mark) ∷ before) marks
+
+-- what an entry gives that is added to a past while these reads wait
+abbrev pub given_of : Mode → Setup → ℕ → Past → List OverlappedRead → Entry → List Gives
+given_of mode s source past reads e = lines_given mode source (length past) (reads ++ overlapped_by s past e) (says_marks s e.process (marks_back past) e.marks)

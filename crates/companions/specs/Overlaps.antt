@@ -1,10 +1,11 @@
--- The reads of a record that writes overlap.
-use Rattle.std.specs.Prelude.{◌≡◌, ◌<◌, ℕ, ◌==◌, Bool, true, false, ◌&&◌, nat_lt, cond, get_or, List, [], ◌∷◌, length, Option, None, Some, Ok}
+-- The reads of a run or of a record that writes overlap.
+use Rattle.std.specs.Prelude.{◌≡◌, ◌<◌, ℕ, ◌==◌, Bool, true, false, ◌&&◌, nat_lt, cond, get_or, List, [], ◌∷◌, length, Option, None, Some, IfSome, Ok}
 use Rattle.record.specs.safe_bit.{Move}
 use Rattle.record.specs.safe_bit.declared.Move.TheVariants.{BeginRead, EndRead}
-use Rattle.record.specs.{Access, Entry, Past, moves_of, same_bit, width}
+use Rattle.record.specs.{Access, Entry, Past, begins_read, moves_of, same_bit, width}
 use Rattle.plain_store.specs.{Setup, checked}
-use Rattle.read_law.specs.{HasHeard, ends_overlapped}
+use Rattle.read_law.specs.{HasHeard, WatchState, ends_overlapped}
+use Rattle.read_law.specs.laws.{IsThere}
 use Rattle.picture.specs.{held_in_64}
 use Rattle.picture.specs.columns.{OverlappedRead}
 use Rattle.picture.specs.declared.reads.Reads.{Reads as Mode}
@@ -74,12 +75,26 @@ abbrev pub shown_of : Mode → List OverlappedRead → List OverlappedRead
 shown_of Hidden reads = []
 shown_of Shown reads = first_three reads
 
+-- whether an access ends an overlapped read is told, if its bit is there and a read of it has begun
+pub record TellsOver (s : Setup) (past : Past) (a : Access) (over : Bool) : Type 0 where
+  pub there : IsThere s a → begins_read (moves_of a past) ≡ true → over ≡ ends_overlapped (moves_of a past) a.how
+  pub stray : (IsThere s a → ⊥) → over ≡ false
+
+-- so it is told of an entry by its access, if reads are shown
+abbrev pub TellsEnd : Mode → Setup → Past → Option Access → Bool → Type 0
+TellsEnd Hidden s past access over = Unit {0}
+TellsEnd Shown s past access over = IfSome access (λ a. TellsOver s past a over)
+
+-- a watch has heard these entries, if reads are shown
+abbrev pub Watches : Mode → Setup → Past → Option WatchState → Type 0
+Watches Hidden s past None = Unit {0}
+Watches Shown s past (Some watch) = (watch.setup ≡ s) × HasHeard watch past
+Watches _ s past watch = ⊥
+
 -- it has heard these entries, and keeps the reads that have ended since the last line, as far as they are shown
 pub record Hears (s : Setup) (past : Past) (reads : List OverlappedRead) (overlaps : OverlapsHeard) : Type 0 where
   pub good : checked s ≡ Ok tt
   pub setup : overlaps.setup ≡ s
-  pub watched : overlaps.watch.setup ≡ s
-  pub heard : HasHeard overlaps.watch past
   pub begun : (p : ℕ) → p < 16 → get_or overlaps.begun p None ≡ read_begun p past
   pub room : length overlaps.begun ≡ 16
   pub ended : overlaps.ended.items ≡ first_three reads

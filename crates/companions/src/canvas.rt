@@ -1,22 +1,24 @@
-//! A page whose bands are written as they are full, and what tells the overlapped reads that it shows.
+//! A page whose bands are written as they are full, with the overlapped reads that it shows.
 ghost use Rattle.std.specs.Prelude.{◌≡◌, ◌+◌, ◌-◌, ◌^◌, ◌<◌, List, [], ◌∷◌, ◌++◌, is_some, length, map, IfErr, IfOk, OnOk, Ok};
-ghost use Rattle.plain_store.specs.{checked, opening_store};
+ghost use Rattle.plain_store.specs.{checked};
 ghost use Rattle.plain_store.specs.declared.setups.Setup.{Setup as Given};
 ghost use Rattle.record.specs.{Entry, Past};
 ghost use Rattle.picture.specs.columns.declared.reads.OverlappedRead.{OverlappedRead as Ended};
 ghost use Rattle.picture.specs.declared.reads.Reads.{Reads as Mode};
-ghost use Rattle.companions.specs.Canvases.{DrawsLast, DrawsLines, DrawsOn, kept, kept_at_first, plan_of};
+ghost use Rattle.companions.specs.Canvases.{DrawsLast, DrawsLines, DrawsMarks, DrawsOn, kept, kept_at_first, plan_of};
 ghost use Rattle.companions.specs.Items.{GivesRead, says_of};
-ghost use Rattle.companions.specs.Overlaps.{Overhears, overlapped_by, shown_of};
+ghost use Rattle.companions.specs.Overlaps.{Overhears, TellsEnd, overlapped_by, shown_of};
+ghost use Rattle.companions.specs.TakenStores.{IsAfterMarks};
 ghost use Rattle.companions.specs.Writing.{IsWriteFault, failed_write};
 
 use crate::overlaps::{OverlapsHeard, take_ended};
 use crate::store_changes::words_by_pairs;
+use crate::taken_store::TakenStore;
 use crate::writing::{write_band, write_last};
 use files::{Fault, Sink};
-use picture::{Form, OverlappedRead, Page, Reads, RunLine};
-use plain_store::{Setup, Store};
-use record::Access;
+use picture::{Form, OverlappedRead, Page, Reads, RunLine, Saying};
+use plain_store::{NestedTypes, Setup};
+use record::{Access, Mark};
 use std::alloc::{AllocError, Global};
 
 /// The picture of a run or of a record, on its way.
@@ -24,25 +26,26 @@ use std::alloc::{AllocError, Global};
 pub struct Canvas {
     alloc: Global,
     page: Page,
-    /// What tells the reads that are overlapped, if they are shown.
+    /// The overlapped reads, if they are shown.
     overlaps: Option<OverlapsHeard>,
 }
 
 impl Canvas {
     /// Before the first line, where this is the opening store.
-    pub fn new<S: Store>(
+    pub fn new(
         alloc: Global,
         setup: &Setup,
-        store: &S,
+        store: &TakenStore,
         form: Form,
         reads: Reads,
     ) -> Result<Canvas, AllocError>
         requires { checked setup.now ≡ Ok tt }
-        ensures kept { S.contents store.now ≡ opening_store setup.now → IfOk result (λ canvas. kept canvas ≡ kept_at_first (plan_of form setup.now)) }
+        ensures kept { IsAfterMarks setup.now [] store.now →
+            IfOk result (λ canvas. kept canvas ≡ kept_at_first (plan_of form setup.now)) }
         ensures hears { IfOk result (λ canvas. Overhears reads setup.now [] [] canvas.overlaps) }
     {
         let overlaps = OverlapsHeard::new(alloc, setup, reads)?;
-        let opening = words_by_pairs(alloc, store)?;
+        let opening = words_by_pairs(alloc, &store.store)?;
         let page = Page::new(alloc, form, setup.processes, opening.as_slice())?;
         Ok(Canvas {
             alloc,
@@ -59,16 +62,78 @@ impl Canvas {
         self.overlaps.is_some()
     }
 
-    /// Hears an entry with this number by its access, if reads are shown; nothing is drawn.
+    /// Hears an entry with this number by its access, and whether that ends an overlapped read, if reads are shown; nothing is
+    /// drawn.
     #[inline(always)]
-    pub fn hear(&mut self, number: u64, access: Option<Access>) -> Result<(), AllocError>
+    pub fn hear(
+        &mut self,
+        number: u64,
+        access: Option<Access>,
+        overlapped: bool,
+    ) -> Result<(), AllocError>
         ensures kept { kept self.new ≡ kept self.old }
-        ensures hears { OnOk result ((mode : Mode) (s : Given) (past : Past) (reads : List Ended) (e : Entry) → e.access ≡ access → Overhears mode s past reads self.old.overlaps → number ≡ length past → Overhears mode s (e ∷ past) (reads ++ overlapped_by s past e) self.new.overlaps) }
+        ensures hears { OnOk result ((mode : Mode) (s : Given) (past : Past) (reads : List Ended) (e : Entry) →
+            e.access ≡ access → Overhears mode s past reads self.old.overlaps → number ≡ length past →
+            TellsEnd mode s past access overlapped →
+            Overhears mode s (e ∷ past) (reads ++ overlapped_by s past e) self.new.overlaps) }
     {
         match &mut self.overlaps {
-            Some(overlaps) => overlaps.hear(number, access),
+            Some(overlaps) => overlaps.hear(number, access, overlapped),
             None => Ok(()),
         }
+    }
+
+    /// Draws the marks of an entry of a process, in their order, with what their commands change in the store. The line
+    /// `source` of the list makes them, after `at` entries.
+    ///
+    /// # Errors
+    ///
+    /// Returns [`Fault::Write`] if a call of the sink fails, and [`Fault::Memory`] if memory is lacking.
+    pub fn draw_marks<W: Sink>(
+        &mut self,
+        store: &mut TakenStore,
+        source: u64,
+        at: u64,
+        process: u8,
+        marks: &[Mark],
+        output: &mut W,
+    ) -> Result<(), Fault>
+        requires { W.failures output.old < 2 ^ 64 - 1 }
+        ensures ok { OnOk result (DrawsMarks self.old self.new store.old store.new
+            (W.taken output.old) (W.taken output.new) source at process marks.now) }
+        ensures fault { IfErr result IsWriteFault }
+        ensures failures { W.failures output.new ≡ W.failures output.old + failed_write result }
+    {
+        for mark in marks {
+            self.draw_mark(store, source, at, process, mark, output)?;
+        }
+        Ok(())
+    }
+
+    /// Draws a mark of an entry.
+    fn draw_mark<W: Sink>(
+        &mut self,
+        store: &mut TakenStore,
+        source: u64,
+        at: u64,
+        process: u8,
+        mark: &Mark,
+        output: &mut W,
+    ) -> Result<(), Fault>
+        requires { W.failures output.old < 2 ^ 64 - 1 }
+        ensures ok { OnOk result (DrawsMarks self.old self.new store.old store.new
+            (W.taken output.old) (W.taken output.new) source at process (mark.now ∷ [])) }
+        ensures fault { IfErr result IsWriteFault }
+        ensures failures { W.failures output.new ≡ W.failures output.old + failed_write result }
+    {
+        let _nested: NestedTypes = None;
+        let change = store.mark(process, mark)?;
+        let saying = Saying::Marked {
+            process,
+            mark: *mark,
+            change,
+        };
+        self.draw(RunLine { source, at, saying }, output)
     }
 
     /// Draws a line, and before it the reads that were overlapped since the line before; writes each band that is full.

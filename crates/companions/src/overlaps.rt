@@ -1,4 +1,4 @@
-//! The reads of a record that writes overlap: a watch beside the record, which hears the access of each entry.
+//! The reads of a run or of a record that writes overlap, each with the entries with which it began and ended.
 ghost use Rattle.std.specs.Prelude.{◌≡◌, ◌<◌, ◌&&◌, ℕ, cond, [], ◌∷◌, ◌++◌, List, get_or, length, nat_lt, set, IfOk, IfSome, None, Ok, OnOk, Some};
 ghost use Rattle.std.specs.Option.{option_to_list};
 ghost use Rattle.record.specs.safe_bit.declared.Move.TheVariants.{EndRead};
@@ -7,11 +7,10 @@ ghost use Rattle.plain_store.specs.declared.setups.Setup.{Setup as Given};
 ghost use Rattle.record.specs.{Entry, Past, width};
 ghost use Rattle.picture.specs.columns.declared.reads.OverlappedRead.{OverlappedRead as Ended};
 ghost use Rattle.picture.specs.declared.reads.Reads.{Reads as Mode};
-ghost use Rattle.companions.specs.Overlaps.{Hears, Overhears, ended_of, first_three, overlapped_by, overlapped_with, read_begun, read_ended, shown_of};
+ghost use Rattle.companions.specs.Overlaps.{Hears, Overhears, TellsOver, ended_of, first_three, overlapped_by, read_begun, read_ended, shown_of};
 
 use picture::{OverlappedRead, Reads};
 use plain_store::{NestedTypes, Setup};
-use read_law::Watch;
 use record::{Access, Field, Move};
 use std::alloc::{AllocError, Global};
 
@@ -25,11 +24,10 @@ pub(crate) struct BegunRead {
     pub access: Access,
 }
 
-/// What tells which reads are overlapped.
+/// The reads that have begun, and the overlapped ones that have ended since the last line.
 #[derive(Drop)]
 pub(crate) struct OverlapsHeard {
     setup: Setup,
-    watch: Watch,
     /// The last read of each process that has begun.
     begun: [Option<BegunRead>; 16],
     /// The overlapped reads since the last line, of which so many are shown.
@@ -52,40 +50,44 @@ impl OverlapsHeard {
         }
         Ok(Some(OverlapsHeard {
             setup: *setup,
-            watch: Watch::new(alloc, setup)?,
             begun: [None; 16],
             ended: Vec::new(alloc),
         }))
     }
 
-    /// Hears an entry with this number by its access, if it has one. It is a function of its own, so that where no reads are
-    /// shown nothing is called.
+    /// Hears an entry with this number by its access, if it has one, and whether that ends an overlapped read. It is a function
+    /// of its own, so that where no reads are shown nothing is called.
     #[inline(never)]
-    pub fn hear(&mut self, number: u64, access: Option<Access>) -> Result<(), AllocError>
-        ensures { OnOk result ((s : Given) (past : Past) (reads : List Ended) (e : Entry) → e.access ≡ access → Hears s past reads self.old → number ≡ length past → Hears s (e ∷ past) (reads ++ overlapped_by s past e) self.new) }
+    pub fn hear(
+        &mut self,
+        number: u64,
+        access: Option<Access>,
+        overlapped: bool,
+    ) -> Result<(), AllocError>
+        ensures { OnOk result ((s : Given) (past : Past) (reads : List Ended) (e : Entry) →
+            e.access ≡ access → Hears s past reads self.old → number ≡ length past →
+            IfSome access (λ a. TellsOver s past a overlapped) →
+            Hears s (e ∷ past) (reads ++ overlapped_by s past e) self.new) }
     {
         let Some(access) = access else {
             return Ok(());
         };
-        self.keep(number, access)?;
-        self.watch.hear(&Some(access));
-        Ok(())
+        self.keep(number, access, overlapped)
     }
 
     /// Keeps that a read begins, and that an overlapped one ends.
-    fn keep(&mut self, number: u64, access: Access) -> Result<(), AllocError>
+    fn keep(&mut self, number: u64, access: Access, overlapped: bool) -> Result<(), AllocError>
         ensures setup { self.new.setup ≡ self.old.setup }
-        ensures watch { self.new.watch ≡ self.old.watch }
         ensures room { OnOk result (length self.old.begun ≡ 16 → length self.new.begun ≡ 16) }
         ensures begun { OnOk result ((s : Given) (past : Past) (reads : List Ended) (e : Entry) (p : ℕ) → e.access ≡ Some access → number ≡ length past → Hears s past reads self.old → p < 16 → get_or self.new.begun p None ≡ read_begun p (e ∷ past)) }
-        ensures ended { OnOk result ((s : Given) (past : Past) (reads : List Ended) (e : Entry) → e.access ≡ Some access → number ≡ length past → Hears s past reads self.old → self.new.ended.items ≡ first_three (reads ++ overlapped_by s past e)) }
+        ensures ended { OnOk result ((s : Given) (past : Past) (reads : List Ended) (e : Entry) → e.access ≡ Some access → number ≡ length past → Hears s past reads self.old → TellsOver s past access overlapped → self.new.ended.items ≡ first_three (reads ++ overlapped_by s past e)) }
     {
         match access.how {
             Move::BeginRead => {
                 self.begin(number, access);
                 Ok(())
             }
-            Move::EndRead(value) => match self.ended_by(number, &access, value) {
+            Move::EndRead(value) => match self.ended_by(overlapped, number, &access, value) {
                 Some(read) => self.add(read),
                 None => Ok(()),
             },
@@ -113,17 +115,8 @@ impl OverlapsHeard {
         }
     }
 
-    /// The overlapped read that an access ends with this value, if it ends one.
-    fn ended_by(&self, number: u64, access: &Access, value: bool) -> Option<OverlappedRead>
-        ensures reads { (s : Given) (past : Past) (reads : List Ended) → Hears s past reads self.now → number ≡ length past → access.now.how ≡ EndRead value → option_to_list result ≡ overlapped_with s past (Some access.now) }
-        ensures alone { IfSome result (λ read. read.more ≡ 0) }
-    {
-        let over = self.watch.overlaps(access);
-        self.ended_if(over, number, access, value)
-    }
-
     /// The read that an access ends with this value, if it is overlapped, and the last one of its process that has begun.
-    fn ended_if(
+    fn ended_by(
         &self,
         is_overlapped: bool,
         number: u64,
@@ -164,7 +157,6 @@ impl OverlapsHeard {
     /// Adds a read to those that are shown, or counts it.
     fn add(&mut self, read: OverlappedRead) -> Result<(), AllocError>
         ensures setup { self.new.setup ≡ self.old.setup }
-        ensures watch { self.new.watch ≡ self.old.watch }
         ensures begun { self.new.begun ≡ self.old.begun }
         ensures ended { OnOk result ((reads : List Ended) → self.old.ended.items ≡ first_three reads → read.more ≡ 0 → self.new.ended.items ≡ first_three (reads ++ read ∷ [])) }
     {

@@ -8,8 +8,8 @@ use picture::TakenChange;
 use plain_store::{Caller, Command, Name, NestedTypes, Store, Value};
 use std::alloc::{AllocError, Global};
 
-/// Applies a command of a caller; answers what it changed, if it changed something.
-pub fn apply<S: Store>(
+/// Applies a command of a caller, and returns what it changed, if it changed something.
+pub(crate) fn apply<S: Store>(
     alloc: Global,
     store: &mut S,
     command: &Command,

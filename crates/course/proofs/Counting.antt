@@ -2,7 +2,6 @@
 use Rattle.std.proofs.Common.{◌≡◌, ℕ, zero, suc, ◌+◌, List, ◌∷◌, ◌++◌, length, Some, refl, ap, sym, subst, ◌∙◌, arith, add-zero, append-nil}
 use Rattle.plain_store.specs.{Setup}
 use Rattle.record.specs.declared.events.Event.TheVariants.{Step}
-use Rattle.record.specs.{Taken}
 use Rattle.course.specs.{Happening, Happens, PassQuietly, Stepped, StepsOn, Summary, Told, Tries, counted, past_after, refusals, text_of, told_text}
 use Rattle.course.specs.Writing.{Counts}
 use Rattle.course.proofs.Tellings.{Quietly, counts_more, quiet_counts, told_is}
@@ -12,14 +11,14 @@ abbrev pub with_events : ℕ → Summary → Summary
 with_events n summary = record summary { events = summary.events + n }
 
 -- what is told is counted
-pub counts_heard : (s : Setup) (before : List Happening) (this : Happening) (told : Told) (taken : List Taken) (had has : Summary) → Happens s before this told taken → has ≡ counted told had → Counts s before had → Counts s (this ∷ before) has
-counts_heard s before this told taken had has h is counts =
+pub counts_heard : (s : Setup) (before : List Happening) (this : Happening) (told : Told) (had has : Summary) → Happens s before this told → has ≡ counted told had → Counts s before had → Counts s (this ∷ before) has
+counts_heard s before this told had has h is counts =
     let more = counts_more s before this told had h.tells counts.events counts.refused in
     subst (λ (n : Summary). Counts s (this ∷ before) n) (sym is) (record { events = more.0; refused = more.1 })
 
 -- and its text is that of what happens
-pub text_heard : (s : Setup) (before : List Happening) (this : Happening) (told : Told) (taken : List Taken) (had : Summary) → Happens s before this told taken → Counts s before had → text_of s (this ∷ before) ≡ text_of s before ++ told_text had.events told
-text_heard s before this told taken had h counts = ap (λ l. text_of s before ++ l) (sym (ap (λ n. told_text n told) counts.events ∙ told_is s (past_after s before) this told h.tells))
+pub text_heard : (s : Setup) (before : List Happening) (this : Happening) (told : Told) (had : Summary) → Happens s before this told → Counts s before had → text_of s (this ∷ before) ≡ text_of s before ++ told_text had.events told
+text_heard s before this told had h counts = ap (λ l. text_of s before ++ l) (sym (ap (λ n. told_text n told) counts.events ∙ told_is s (past_after s before) this told h.tells))
 
 -- events without a mark are counted, and have no text
 pub counts_passed : (s : Setup) (n : ℕ) (before after : List Happening) (summary : Summary) → PassQuietly s n before after → Counts s before summary → Counts s after (with_events n summary)

@@ -2,11 +2,11 @@
 use Rattle.std.proofs.Common.{◌≡◌, List, [], ◌∷◌, length, reverse, Option, None, Some, Ok, refl, ap, sym, subst, ◌∙◌}
 use Rattle.std.proofs.lemmas.List.{length-reverse, reverse-reverse}
 use Rattle.plain_store.specs.{Setup, checked}
-use Rattle.record.specs.{AreGiven, Entry, Event, Past, Refusal, Taken, entry_of, past_of, refused, with_event}
+use Rattle.record.specs.{AreGiven, Entry, Event, Past, Refusal, entry_of, past_of, refused, with_event}
 use Rattle.record.specs.declared.events.Event.TheVariants.{Step}
 use Rattle.world.proofs.WorldShows.{past-after}
 use Rattle.auditor.specs.{AllKeep, AuditorState, HasHeard, IsHeard, IsVerdict, KeepsAll, Law}
-use Rattle.auditor.specs.declared.verdicts.Verdict.TheVariants.{Good}
+use Rattle.auditor.specs.read_law.declared.verdicts.Verdict.TheVariants.{Good}
 use Rattle.auditor.proofs.Obeys.{obeys}
 use Rattle.auditor.proofs.Whole.{good_of}
 use Rattle.scenario.specs.{Script}
@@ -64,9 +64,9 @@ pub keeps_more : (s : Setup) (before : List Happening) (event : Event) (e : Entr
 keeps_more s before event e good given adds = (obeys s good (tried before) event e given adds, past-after s (tried before) event e adds)
 
 -- what is told is heard, if it is an entry
-pub told_audited : (s : Setup) (before : List Happening) (this : Happening) (made : Accepted) (answer : Told) (taken : List Taken) (old new : Audit) → answer ≡ told.Accepted made → Happens s before this answer taken →
+pub told_audited : (s : Setup) (before : List Happening) (this : Happening) (made : Accepted) (answer : Told) (old new : Audit) → answer ≡ told.Accepted made → Happens s before this answer →
     ((s : Setup) (past : Past) → KeepsAll s past (entry_made made) → Audits s past old → Audits s (entry_made made ∷ past) new) → Audits s (past_after s before) old → Audits s (past_after s (this ∷ before)) new
-told_audited s before this made answer taken old new is h heard audits = by this (subst (λ answer. TellsOf s (past_after s before) this answer) is h.tells) h.given
+told_audited s before this made answer old new is h heard audits = by this (subst (λ answer. TellsOf s (past_after s before) this answer) is h.tells) h.given
   where
     by : (this : Happening) → TellsOf s (past_after s before) this (told.Accepted made) → AreGiven s (tried (this ∷ before)) → Audits s (past_after s (this ∷ before)) new
     by (Tries event) tells given =
@@ -77,8 +77,8 @@ told_audited s before this made answer taken old new is h heard audits = by this
     by Looks tells given = absurd tells
 
 -- and nothing is added to the past by what is no entry
-pub other_audited : (s : Setup) (before : List Happening) (this : Happening) (answer : Told) (taken : List Taken) (old : Audit) → ((made : Accepted) → answer ≡ told.Accepted made → ⊥) → Happens s before this answer taken → Audits s (past_after s before) old → Audits s (past_after s (this ∷ before)) old
-other_audited s before this answer taken old other h audits = by this answer other h.tells
+pub other_audited : (s : Setup) (before : List Happening) (this : Happening) (answer : Told) (old : Audit) → ((made : Accepted) → answer ≡ told.Accepted made → ⊥) → Happens s before this answer → Audits s (past_after s before) old → Audits s (past_after s (this ∷ before)) old
+other_audited s before this answer old other h audits = by this answer other h.tells
   where
     by : (this : Happening) (answer : Told) → ((made : Accepted) → answer ≡ told.Accepted made → ⊥) → TellsOf s (past_after s before) this answer → Audits s (past_after s (this ∷ before)) old
     by (Tries event) (told.Accepted made) other tells = absurd (other made refl)

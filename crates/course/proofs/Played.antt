@@ -1,7 +1,7 @@
 -- A line that is being played: what was heard of it, and what is left.
 use Rattle.std.proofs.Common.{◌≡◌, inl, inr, ℕ, ◌+◌, ◌-◌, ◌<◌, ◌≤◌, List, [], ◌∷◌, ◌++◌, length, map, Option, None, Some, Result, Ok, Err, IfErr, IfOk, IsErrAnd, refl, ap, sym, subst, ◌∙◌, arith}
 use Rattle.plain_store.specs.{Setup, checked}
-use Rattle.record.specs.{AreGiven, Event, Taken, history}
+use Rattle.record.specs.{AreGiven, Event}
 use Rattle.scenario.specs.{Line}
 use Rattle.scenario.specs.files.{Fault}
 use Rattle.course.specs.{ComesAlong, ComesTo, CourseState, Follows, Happening, Happens, Plays, Run, Summary, Tells, TellsOf, Told, Tries, Turn, counted, events_in, events_told, part_of_line, past_after, past_in, refusals, rest_of, room_wanted, run_after, tried, turn_of, turns_in, turns_made}
@@ -18,23 +18,19 @@ pub good_of : (s : Setup) (course : CourseState) (run : Run) → course.world.se
 good_of s course run setup follows = subst (λ s. (checked s ≡ Ok tt) × AreGiven s (tried run.happened)) setup (follows.shows.good, follows.shows.given)
 
 -- the turn that tells: this happens
-record Tells1 (s : Setup) (line : Line) (left : ℕ) (now : Run) (answer : Told) (taken : List Taken) : Type 0 where
+record Tells1 (s : Setup) (line : Line) (left : ℕ) (now : Run) (answer : Told) : Type 0 where
   this : Happening
   same : (turn_of s line left now).run.happened ≡ this ∷ now.happened
-  happens : Happens s now.happened this answer taken
+  happens : Happens s now.happened this answer
 
--- what was taken, by what a course answers
-abbrev pub AnswersTaken : CourseState → List Taken → Type 0
-AnswersTaken course taken = (run : Run) → Follows course run → taken ≡ history course.world.setup (past_in course.world.setup run)
-
-tells_one : (s : Setup) (line : Line) (left : ℕ) (now : Run) (answer : Told) (course : CourseState) (taken : List Taken) → Tells s (past_in s now) (turn_of s line left now).this (Some answer) → Follows course (turn_of s line left now).run → course.world.setup ≡ s →
-    AnswersTaken course taken → Tells1 s line left now answer taken
-tells_one s line left now answer course taken tells follows setup are = by (turned s line left now)
+tells_one : (s : Setup) (line : Line) (left : ℕ) (now : Run) (answer : Told) (course : CourseState) → Tells s (past_in s now) (turn_of s line left now).this (Some answer) → Follows course (turn_of s line left now).run → course.world.setup ≡ s →
+    Tells1 s line left now answer
+tells_one s line left now answer course tells follows setup = by (turned s line left now)
   where
     t : Turn
     t = turn_of s line left now
 
-    by : Turned t now.happened → Tells1 s line left now answer taken
+    by : Turned t now.happened → Tells1 s line left now answer
     by (Nothing none ended same) = absurd (told_none s (past_in s now) t.this answer none tells)
     by (One this some same) =
         let both = good_of s course t.run setup follows in
@@ -46,7 +42,6 @@ tells_one s line left now answer course taken tells follows setup are = by (turn
             given = subst (λ l. AreGiven s (tried l)) same both.1;
             tells = (told_one s (past_in s now) t.this this answer some tells).0;
             marked = (told_one s (past_in s now) t.this this answer some tells).1;
-            taken_are = are t.run follows ∙ ap (λ s. history s (past_in s t.run)) setup ∙ ap (λ l. history s (past_after s l)) same;
           };
         }
 
@@ -140,12 +135,12 @@ module _ {L : Type 0} (Hears : L → Setup → List Happening → List Happening
       heard_to answer c = hears_on was is is' s start.happened u.now.happened c.now.happened u.hears c.hears
 
       -- a turn more, which is heard
-      pub played_on : (is'' : L) (answer : Told) (taken : List Taken) → Comes (Some answer) → AnswersTaken course' taken →
-          ((s : Setup) (before : List Happening) (this : Happening) → Happens s before this answer taken → Hears is' s before (this ∷ before) is'') → Played Hears s line floor start was course' (made + (course.left - before) + events_told answer) is''
-      played_on is'' answer taken comes are heard =
+      pub played_on : (is'' : L) (answer : Told) → Comes (Some answer) →
+          ((s : Setup) (before : List Happening) (this : Happening) → Happens s before this answer → Hears is' s before (this ∷ before) is'') → Played Hears s line floor start was course' (made + (course.left - before) + events_told answer) is''
+      played_on is'' answer comes heard =
           let here = comes_now (Some answer) comes in
           let c = here.1 in
-          let one = tells_one s line before c.now answer course' taken c.tells c.follows c.setup are in
+          let one = tells_one s line before c.now answer course' c.tells c.follows c.setup in
           let t : Turn = turn_of s line before c.now in
           let told : events_in s t.run ≡ events_in s c.now + events_told answer = ap (λ h. length (past_after s h)) one.same ∙ told_events s c.now.happened one.this answer one.happens.tells in
           let quiet = quiet_events (Some answer) c in
@@ -192,11 +187,11 @@ module _ {L : Type 0} (Hears : L → Setup → List Happening → List Happening
 
       module _ (Stops : L → Setup → List Happening → List Happening → Fault → L → Type 0) (stops_on : (a b c : L) (s : Setup) (x y z : List Happening) (fault : Fault) → Hears a s x y b → Stops b s y z fault c → Stops a s x z fault c) (fault : Fault) where
         -- a fault as a turn is heard
-        pub played_cut : (is'' : L) (answer : Told) (taken : List Taken) → ((a b : L) (s : Setup) (x y more : List Happening) (fault : Fault) → Stops a s x y fault b → Stops a s x (more ++ y) fault b) → Comes (Some answer) → AnswersTaken course' taken →
-            ((s : Setup) (before : List Happening) (this : Happening) → Happens s before this answer taken → Stops is' s before (this ∷ before) fault is'') → Stops was s start.happened (run_after s line start).happened fault is''
-        played_cut is'' answer taken stops_before comes are cut =
+        pub played_cut : (is'' : L) (answer : Told) → ((a b : L) (s : Setup) (x y more : List Happening) (fault : Fault) → Stops a s x y fault b → Stops a s x (more ++ y) fault b) → Comes (Some answer) →
+            ((s : Setup) (before : List Happening) (this : Happening) → Happens s before this answer → Stops is' s before (this ∷ before) fault is'') → Stops was s start.happened (run_after s line start).happened fault is''
+        played_cut is'' answer stops_before comes cut =
             let c = (comes_now (Some answer) comes).1 in
-            let one = tells_one s line before c.now answer course' taken c.tells c.follows c.setup are in
+            let one = tells_one s line before c.now answer course' c.tells c.follows c.setup in
             let t : Turn = turn_of s line before c.now in
             let more : Grows t.run.happened (rest_of s line t.left t.run).happened = rest_grows s line t.left t.run in
             let all : (run_after s line start).happened ≡ more.more ++ (one.this ∷ c.now.happened) = ap (λ (r : Run). r.happened) (sym (rest_after (Some answer) c)) ∙ more.is ∙ ap (λ l. more.more ++ l) one.same in

@@ -1,22 +1,22 @@
 -- The text of what is told is the text of what happens.
 use Rattle.std.proofs.Common.{◌≡◌, ℕ, ◌+◌, List, [], ◌∷◌, length, Option, None, Some, ap, sym, ◌∙◌, arith, add-zero}
 use Rattle.plain_store.specs.{Setup}
-use Rattle.record.specs.{Entry, Event, Past, Refusal, added, entry_of, past_of, process_of, refusal_line, refused}
-use Rattle.course.specs.{Happening, IsQuiet, Lacks, Looks, Summary, TellsOf, Tires, Told, Tries, counted, entry_made, entry_text, past_after, refusals, refusals_at, store_text, text_at, told_text, tried}
+use Rattle.record.specs.{Entry, Event, Past, Refusal, added, entry_of, past_of, process_of, refused}
+use Rattle.course.specs.{Happening, IsQuiet, Lacks, Looks, Summary, TellsOf, Tires, Told, Tries, counted, entry_made, entry_text, past_after, refusals, refusals_at, refused_line, store_text, text_at, told_text, tried}
 use Rattle.course.specs.declared.told.Told.TheVariants as told
 use Rattle.course.proofs.Refusals.{entry_added, entry_by, none_added, not_refused}
 
 -- an event that is accepted
 accepted_text : (s : Setup) (past : Past) (event : Event) (e : Entry) → entry_of s past event ≡ Some e → entry_text (length past) e ≡ text_at s past (Tries event)
 accepted_text s past event e is =
-    sym (ap (λ (o : Option Refusal). elim o as (λ _. List ℕ) [ Some refusal ↦ refusal_line (process_of event) refusal | None ↦ elim (added s past event) [ None ↦ [] | Some e ↦ entry_text (length past) e ] ]) (not_refused s past event e is)
+    sym (ap (λ (o : Option Refusal). elim o as (λ _. List ℕ) [ Some refusal ↦ refused_line (process_of event) refusal | None ↦ elim (added s past event) [ None ↦ [] | Some e ↦ entry_text (length past) e ] ]) (not_refused s past event e is)
     ∙ ap (λ (o : Option Entry). elim o as (λ _. List ℕ) [ None ↦ [] | Some e ↦ entry_text (length past) e ]) (entry_added s past event e is))
 
 -- an event that is refused
-refused_text : (s : Setup) (past : Past) (event : Event) (p : ℕ) (r : Refusal) → p ≡ process_of event → refused s past event ≡ Some r → refusal_line p r ≡ text_at s past (Tries event)
+refused_text : (s : Setup) (past : Past) (event : Event) (p : ℕ) (r : Refusal) → p ≡ process_of event → refused s past event ≡ Some r → refused_line p r ≡ text_at s past (Tries event)
 refused_text s past event p r whose is =
-    ap (λ p. refusal_line p r) whose
-    ∙ sym (ap (λ (o : Option Refusal). elim o as (λ _. List ℕ) [ Some refusal ↦ refusal_line (process_of event) refusal | None ↦ elim (added s past event) [ None ↦ [] | Some e ↦ entry_text (length past) e ] ]) is)
+    ap (λ p. refused_line p r) whose
+    ∙ sym (ap (λ (o : Option Refusal). elim o as (λ _. List ℕ) [ Some refusal ↦ refused_line (process_of event) refusal | None ↦ elim (added s past event) [ None ↦ [] | Some e ↦ entry_text (length past) e ] ]) is)
 
 -- what is told
 pub told_is : (s : Setup) (past : Past) (this : Happening) (answer : Told) → TellsOf s past this answer → told_text (length past) answer ≡ text_at s past this
@@ -25,7 +25,7 @@ told_is s past (Tries event) (told.Accepted made) tells =
 told_is s past (Tries event) (told.Refused p r) tells = refused_text s past event p r tells.0 tells.1
 told_is s past (Tries event) (told.Tired p) tells = absurd tells
 told_is s past (Tries event) (told.Shown store) tells = absurd tells
-told_is s past (Lacks p) (told.Refused q r) tells = λ i. refusal_line (tells.0 i) (tells.1 i)
+told_is s past (Lacks p) (told.Refused q r) tells = λ i. refused_line (tells.0 i) (tells.1 i)
 told_is s past (Lacks p) (told.Accepted made) tells = absurd tells
 told_is s past (Lacks p) (told.Tired q) tells = absurd tells
 told_is s past (Lacks p) (told.Shown store) tells = absurd tells

@@ -4,6 +4,7 @@ pub use Rattle.world.specs.process as process
 pub use Rattle.world.specs as world
 pub use Rattle.record.specs as «record»
 pub use Rattle.auditor.specs.read_law as read_law
+pub use Rattle.run_lines.specs as run_lines
 pub mod Counts
 pub mod Courses
 pub mod Growing
@@ -35,7 +36,7 @@ pub use Steppers.{IsAlone, IsAway, left_told, turns_drawn}
 pub use Summaries.{CanCount, can_count_less, counted, summary_of}
 pub use Takings.{Took, TookPart, part_before, part_on, part_unheard, took_none, took_on}
 pub use Telling.{AddsMarks, IsMarked, Tells, TellsOf, entry_made, events_told, is_step, marks_made, told_step, told_text, told_unmarked}
-pub use Texts.{end_line, entry_text, mark_line, newest_store, newest_words, replay_text, replayed, store_text, text_at, text_of, turns_line}
+pub use Texts.{end_line, entry_text, mark_line, newest_store, newest_words, refused_line, replay_text, replayed, store_text, text_at, text_of}
 pub use Turns.{Turn, ends, go_rest, go_turn, happens, made_turn, next_turn, on_turn, once, part_of_line, rest_of, step_turn, turn_of, turns_in, turns_made, wander_turn}
 pub use Writing.{IsWriteFault, Writes, WritesPart, failed_write}
 pub use declared.told.Accepted.{Accepted}

@@ -1,7 +1,7 @@
 -- Who hears a run: what is told to it, and what it has heard once a line has made its turns.
 use Rattle.std.specs.Prelude.{◌≡◌, ◌⊎◌, ◌+◌, ◌<◌, ℕ, zero, suc, Bool, if◌then◌else◌, List, [], ◌∷◌, Option, None, Some, Ok}
 use Rattle.plain_store.specs.{Setup, checked}
-use Rattle.record.specs.{Access, AreGiven, Event, Past, Taken, entry_of, history, moves_of, past_of}
+use Rattle.record.specs.{Access, AreGiven, Event, Past, entry_of, moves_of, past_of}
 use Rattle.record.specs.declared.events.Event.TheVariants.{Step}
 use Rattle.record.specs.safe_bit.{Move}
 use Rattle.scenario.specs.{Line}
@@ -20,13 +20,12 @@ use Rattle.course.specs.Turns.{rest_of, turn_of}
 use Rattle.course.specs.declared.told.Stepped.{Stepped}
 use Rattle.course.specs.declared.told.Told.{Told}
 
--- this happens in the run of a setup, and is told so; these commands are taken then
-pub record Happens (s : Setup) (before : List Happening) (this : Happening) (told : Told) (taken : List Taken) : Type 0 where
+-- this happens in the run of a setup, and is told so
+pub record Happens (s : Setup) (before : List Happening) (this : Happening) (told : Told) : Type 0 where
   pub good : checked s ≡ Ok tt
   pub given : AreGiven s (tried (this ∷ before))
   pub tells : TellsOf s (past_after s before) this told
   pub marked : IsMarked told
-  pub taken_are : taken ≡ history s (past_after s (this ∷ before))
 
 -- a Step is made that has no mark. How much of a number was read before it is told, unless it is within a number access
 pub record StepsOn (s : Setup) (before : List Happening) (made : Stepped) : Type 0 where
@@ -74,9 +73,9 @@ abbrev pub room_wanted : Option Told → ℕ → ℕ
 room_wanted None left = left
 room_wanted (Some told) left = left + 1
 
--- what is told of a turn is heard, once these commands are taken
-abbrev pub HearsTold : {L : Type 0} → (L → Setup → List Happening → List Happening → L → Type 0) → Told → List Taken → L → L → Type 0
-HearsTold Hears told taken was is = (s : Setup) (before : List Happening) (this : Happening) → Happens s before this told taken → Hears was s before (this ∷ before) is
+-- what is told of a turn is heard
+abbrev pub HearsTold : {L : Type 0} → (L → Setup → List Happening → List Happening → L → Type 0) → Told → L → L → Type 0
+HearsTold Hears told was is = (s : Setup) (before : List Happening) (this : Happening) → Happens s before this told → Hears was s before (this ∷ before) is
 
 -- a Step without a mark is heard
 abbrev pub HearsUnmarked : {L : Type 0} → (L → Setup → List Happening → List Happening → L → Type 0) → Stepped → L → L → Type 0

@@ -1,9 +1,10 @@
 -- What a turn tells of what happens, and its text.
 use Rattle.std.specs.Prelude.{◌≡◌, ℕ, Bool, true, false, List, [], flat_map, map, Option, None, Some, Result, Ok, Err}
-use Rattle.record.specs.{Access, Entry, Event, Mark, Past, Refusal, entry_of, placed, process_of, refusal_line, refused}
+use Rattle.record.specs.{Access, Entry, Event, Mark, Past, Refusal, entry_of, placed, process_of, refused}
 use Rattle.plain_store.specs.{Setup}
 use Rattle.record.specs.declared.events.Event.TheVariants as event
 use Rattle.record.specs.declared.refusals.Refusal.TheVariants.{NoProcess}
+use Rattle.run_lines.specs.{tired_text, with_end}
 use Rattle.world.specs.process.{marks_of}
 use Rattle.world.specs.process.declared.told.Effect.TheVariants.{Steps}
 use Rattle.world.specs.process.declared.told.StepTold.{StepTold as Leads}
@@ -11,7 +12,7 @@ use Rattle.world.specs.process.declared.told.StepTold.TheVariants as step
 use Rattle.world.specs.process.registers.{AccessMade}
 use Rattle.world.specs.{ends_overlapped_read}
 use Rattle.course.specs.Happenings.{Happening, Tries, Lacks, Tires, Looks}
-use Rattle.course.specs.Texts.{mark_line, newest_store, store_text, turns_line}
+use Rattle.course.specs.Texts.{mark_line, newest_store, refused_line, store_text}
 use Rattle.course.specs.declared.told.Accepted.{Accepted}
 use Rattle.course.specs.declared.told.Stepped.{Stepped}
 use Rattle.course.specs.declared.told.Told.{Told}
@@ -57,8 +58,8 @@ Tells s past _ _ = ⊥
 -- the text of what is told, where so many events were accepted before
 abbrev pub told_text : ℕ → Told → List ℕ
 told_text number (told.Accepted made) = flat_map (mark_line number (process_of made.event)) (marks_made made)
-told_text number (told.Refused p refusal) = refusal_line p refusal
-told_text number (told.Tired p) = turns_line p
+told_text number (told.Refused p refusal) = refused_line p refusal
+told_text number (told.Tired p) = with_end (tired_text p)
 told_text number (told.Shown store) = store_text store
 
 -- what a Step of a process tells, made or refused, with its flick, the place of a command that it takes, and what it leads to

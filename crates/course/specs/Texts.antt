@@ -1,9 +1,9 @@
 -- The text of a run.
 use Rattle.std.specs.Prelude.{ℕ, cond, List, [], ◌∷◌, ◌++◌, codes, flat_map, length, Option, None, Some, Result}
-use Rattle.std.specs.Fmt.{decimal}
 use Rattle.plain_store.specs.{Contents, Setup, store_words}
-use Rattle.record.specs.{Entry, Event, Mark, Past, added, history, is_somebody_inside, mark_text, process_of, refusal_line, refused, store_after}
+use Rattle.record.specs.{Entry, Event, Mark, Past, Refusal, added, history, is_somebody_inside, process_of, refused, store_after}
 use Rattle.record.specs.declared.refusals.Refusal.TheVariants.{NoProcess}
+use Rattle.run_lines.specs.{ended_text, marked_text, refused_text, shown_text, tired_text, with_end}
 use Rattle.scenario.specs.files.{LineFault, text_by}
 use Rattle.scenario.specs.{Script, scenario_of}
 use Rattle.course.specs.Happenings.{Happening, Tries, Lacks, Tires, Looks, past_after}
@@ -13,11 +13,11 @@ use Rattle.course.specs.declared.summaries.Summary.{Summary}
 
 -- a mark of the event with this number, of this process
 abbrev pub mark_line : ℕ → ℕ → Mark → List ℕ
-mark_line number p mark = decimal number ++ codes " " ++ decimal p ++ codes " " ++ mark_text mark ++ codes "\n"
+mark_line number p mark = with_end (marked_text number p mark)
 
--- a process has made all the Steps of a `go`
-abbrev pub turns_line : ℕ → List ℕ
-turns_line p = codes "- " ++ decimal p ++ codes " turns\n"
+-- an event of a process is refused
+abbrev pub refused_line : ℕ → Refusal → List ℕ
+refused_line p refusal = with_end (refused_text p refusal)
 
 -- the marks of the entry with this number, in their order
 abbrev pub entry_text : ℕ → Entry → List ℕ
@@ -26,7 +26,7 @@ entry_text number e = flat_map (mark_line number e.process) e.marks
 -- an event against the past before it: the marks that it adds, or why it is refused
 abbrev pub event_text : Setup → Past → Event → List ℕ
 event_text s past event = elim (refused s past event) [
-  | Some refusal ↦ refusal_line (process_of event) refusal
+  | Some refusal ↦ refused_line (process_of event) refusal
   | None ↦ elim (added s past event) [ None ↦ [] | Some e ↦ entry_text (length past) e ]
 ]
 
@@ -41,13 +41,13 @@ newest_words (Some store) = store_words store.pairs
 
 -- the same on one line
 abbrev pub store_text : Option Contents → List ℕ
-store_text store = codes "show " ++ newest_words store ++ codes "\n"
+store_text store = with_end (shown_text (newest_words store))
 
 -- what happens, against the past before it
 abbrev pub text_at : Setup → Past → Happening → List ℕ
 text_at s past (Tries event) = event_text s past event
-text_at s past (Lacks p) = refusal_line p NoProcess
-text_at s past (Tires p) = turns_line p
+text_at s past (Lacks p) = refused_line p NoProcess
+text_at s past (Tires p) = with_end (tired_text p)
 text_at s past Looks = store_text (newest_store s past)
 
 -- all that has happened
@@ -57,7 +57,7 @@ text_of s (this ∷ before) = text_of s before ++ text_at s (past_after s before
 
 -- the last line
 abbrev pub end_line : Summary → List ℕ
-end_line summary = codes "end events " ++ decimal summary.events ++ codes " taken " ++ decimal summary.taken ++ codes " refused " ++ decimal summary.refused ++ codes "\n"
+end_line summary = with_end (ended_text summary.events summary.taken summary.refused)
 
 -- the text of a scenario's run
 abbrev pub replayed : Script → List ℕ

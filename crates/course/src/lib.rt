@@ -8,7 +8,7 @@
 
 mod judging;
 mod listening;
-mod store_line;
+mod newest;
 mod summaries;
 mod told;
 mod turns;
@@ -17,8 +17,9 @@ mod until;
 pub use auditor::Watch;
 pub use judging::{Audit, Overheard};
 pub use listening::Listener;
+pub use newest::newest_words;
 pub use record::{Access, Entry, Event, Mark, Move, Record, Refusal, Taken, refusal_line};
-pub use store_line::{newest_line, newest_words};
+pub use run_lines::ReplayLine;
 pub use summaries::Summary;
 pub use told::{Accepted, Stepped, Told};
 pub use turns::Course;

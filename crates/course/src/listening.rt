@@ -8,7 +8,7 @@ ghost use Rattle.course.specs.Happenings.{Happening, Tries};
 ghost use Rattle.course.specs.Listening.{HearsPassing, HearsTold, HearsUnmarked, StopsBy, TakesRoom};
 
 use crate::told::{Stepped, Told};
-use record::{Move, Taken};
+use record::Move;
 use scenario::Fault;
 
 /// Who hears a run. Two relations say what it has heard between two moments: of what happened in a run of a setup,
@@ -33,13 +33,13 @@ pub trait Listener {
     /// It has heard a front of this, and then came a fault.
     ghost Stops: { Self → Setup → List Happening → List Happening → WhyEnded → Self → Type 0 };
 
-    /// Hears what a turn tells, once these commands are taken.
-    fn hear(&mut self, told: &Told, taken: &[Taken]) -> Result<(), Fault>
+    /// Hears what a turn tells.
+    fn hear(&mut self, told: &Told) -> Result<(), Fault>
         requires { HasRoom self.old 1 }
-        ensures ok { OnOk result (HearsTold Hears told.now taken.now self.old self.new) }
+        ensures ok { OnOk result (HearsTold Hears told.now self.old self.new) }
         ensures room { OnOk result (TakesRoom HasRoom self.old 1 self.new) }
         ensures cut { IfErr result (λ fault.
-            HearsTold (StopsBy Stops fault) told.now taken.now self.old self.new) };
+            HearsTold (StopsBy Stops fault) told.now self.old self.new) };
 
     /// Hears a Step without a mark.
     fn step(&mut self, made: Stepped) -> Result<(), Fault>

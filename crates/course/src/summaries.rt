@@ -5,7 +5,7 @@ ghost use Rattle.course.specs.Writing.{Counts};
 
 use crate::listening::Listener;
 use crate::told::{Stepped, Told};
-use record::{Move, Taken};
+use record::Move;
 use scenario::{DONE, Ending, Fault};
 
 /// The three numbers that a replay ends with.
@@ -74,7 +74,7 @@ impl Listener for Summary {
     ghost Stops = { λ a s x y fault b. fault ≡ Memory };
 
     #[tactic(auto, using(crate::proofs::Counting::counts_heard))]
-    fn hear(&mut self, told: &Told, _taken: &[Taken]) -> Result<(), Fault> {
+    fn hear(&mut self, told: &Told) -> Result<(), Fault> {
         self.count(told);
         Ok(())
     }

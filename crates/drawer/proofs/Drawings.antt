@@ -1,10 +1,10 @@
 -- A run that goes on from line to line while it is drawn.
 use Rattle.std.proofs.Common.{◌≡◌, ℕ, suc, ◌+◌, ◌-◌, List, [], ◌∷◌, ◌++◌, length, Option, None, refl, ap, sym, subst, ◌∙◌, append-nil, append_assoc, arith}
-use Rattle.plain_store.specs.{Contents, Setup}
+use Rattle.plain_store.specs.{Setup}
 use Rattle.scenario.specs.{Line}
 use Rattle.companions.specs.picture.{Plan}
 use Rattle.companions.specs.picture.declared.reads.Reads.{Reads as Mode}
-use Rattle.companions.specs.{Canvas, DrawsBands, DrawsLast, DrawsOn, Gives, Kept, kept, kept_at_first, lines_given}
+use Rattle.companions.specs.{Canvas, DrawsBands, DrawsLast, DrawsOn, Gives, Kept, TakenStore, kept, kept_at_first, lines_given}
 use Rattle.companions.proofs.Drawn.{draws_bands, draws_on_both, draws_on_none}
 use Rattle.course.specs.{CourseState, Follows, Happening, Run, Summary, past_after, run_after, run_at_start, runs, summary_of, text_of}
 use Rattle.course.specs.Writing.{Counts}
@@ -12,7 +12,7 @@ use Rattle.course.proofs.Onwards.{Onward}
 use Rattle.drawer.specs.{Advances, Drawing, DrawsLine, HasDrawn, Recalls, first_line, given_at_end, given_by, given_from, given_last, reads_since, says_end}
 
 -- from the start of a run on, between two lines, of which the last one has this number in the printed scenario
-pub record Drawn (plan : Plan) (mode : Mode) (s : Setup) (lines rest : List Line) (source : ℕ) (course : CourseState) (summary : Summary) (store : Contents) (canvas : Canvas) (old new : Option (List ℕ)) : Type 0 where
+pub record Drawn (plan : Plan) (mode : Mode) (s : Setup) (lines rest : List Line) (source : ℕ) (course : CourseState) (summary : Summary) (store : TakenStore) (canvas : Canvas) (old new : Option (List ℕ)) : Type 0 where
   pub gives : List Gives
   pub draws : DrawsOn (kept_at_first plan) (kept canvas) old new gives
   pub onward : Onward s lines rest course summary None None
@@ -21,7 +21,7 @@ pub record Drawn (plan : Plan) (mode : Mode) (s : Setup) (lines rest : List Line
   pub recalls : Recalls mode s onward.now.happened store canvas
 
 -- at the start
-pub drawn_start : (plan : Plan) (mode : Mode) (s : Setup) (lines : List Line) (source : ℕ) (course : CourseState) (summary : Summary) (store : Contents) (canvas : Canvas) (a : Option (List ℕ)) → course.world.setup ≡ s → Follows course run_at_start → summary ≡ record { events = 0; taken = 0; refused = 0 } →
+pub drawn_start : (plan : Plan) (mode : Mode) (s : Setup) (lines : List Line) (source : ℕ) (course : CourseState) (summary : Summary) (store : TakenStore) (canvas : Canvas) (a : Option (List ℕ)) → course.world.setup ≡ s → Follows course run_at_start → summary ≡ record { events = 0; taken = 0; refused = 0 } →
     kept canvas ≡ kept_at_first plan → source + 1 ≡ first_line s → Recalls mode s [] store canvas → Drawn plan mode s lines lines source course summary store canvas a a
 drawn_start plan mode s lines source course summary store canvas a setup follows none first begins recalls = record {
   gives = [];
@@ -43,12 +43,12 @@ drawn_start plan mode s lines source course summary store canvas a setup follows
 
 -- a line more
 pub drawn_on : (plan : Plan) (mode : Mode) (s : Setup) (lines rest : List Line) (line : Line) (source : ℕ) (course course' : CourseState) (drawing drawings : Drawing) (a b c : Option (List ℕ)) →
-    Drawn plan mode s lines (line ∷ rest) source course drawing.summary drawing.changes.store drawing.canvas a b → DrawsLine line course course' drawing drawings b c → drawings.source ≡ source + 1 →
-    Drawn plan mode s lines rest (source + 1) course' drawings.summary drawings.changes.store drawings.canvas a c
+    Drawn plan mode s lines (line ∷ rest) source course drawing.summary drawing.store drawing.canvas a b → DrawsLine line course course' drawing drawings b c → drawings.source ≡ source + 1 →
+    Drawn plan mode s lines rest (source + 1) course' drawings.summary drawings.store drawings.canvas a c
 drawn_on plan mode s lines rest line source course course' drawing drawings a b c d draws here =
     let u = d.onward in
     let after : Run = run_after s line u.now in
-    let family : Setup → Type 0 = λ s. Counts s u.now.happened drawing.summary → Recalls mode s u.now.happened drawing.changes.store drawing.canvas → Advances mode s u.now (run_after s line u.now) course' drawing drawings b c in
+    let family : Setup → Type 0 = λ s. Counts s u.now.happened drawing.summary → Recalls mode s u.now.happened drawing.store drawing.canvas → Advances mode s u.now (run_after s line u.now) course' drawing drawings b c in
     let more : Advances mode s u.now after course' drawing drawings b c = subst family u.setup (draws mode u.now u.follows) u.counts d.recalls in
     let h : HasDrawn mode s u.now.happened (kept drawing.canvas) b after.happened drawings c = more.drawn in
     let long : length after.happened - length u.now.happened ≡ h.more = omega (arith, h.long) in
@@ -65,7 +65,7 @@ drawn_on plan mode s lines rest line source course course' drawing drawings a b 
     }
 
 -- the whole run, once the last line and what was held back are drawn
-pub drawn_end : (plan : Plan) (mode : Mode) (s : Setup) (lines : List Line) (source : ℕ) (course : CourseState) (summary last : Summary) (store : Contents) (canvas : Canvas) (a b c : Option (List ℕ)) (height : ℕ) → Drawn plan mode s lines [] source course summary store canvas a b →
+pub drawn_end : (plan : Plan) (mode : Mode) (s : Setup) (lines : List Line) (source : ℕ) (course : CourseState) (summary last : Summary) (store : TakenStore) (canvas : Canvas) (a b c : Option (List ℕ)) (height : ℕ) → Drawn plan mode s lines [] source course summary store canvas a b →
     last ≡ summary_of s (runs s lines run_at_start).happened → DrawsLast canvas b c (source + 1) last.events (says_end last ∷ []) height →
     DrawsBands plan a c (given_by mode s (first_line s) lines run_at_start ++ given_at_end mode s (first_line s + length lines) (runs s lines run_at_start).happened) height
 drawn_end plan mode s lines source course summary last store canvas a b c height d numbers ends =

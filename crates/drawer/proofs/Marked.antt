@@ -1,30 +1,31 @@
 -- What a drawing has drawn once more has happened.
 use Rattle.std.proofs.Common.{◌≡◌, ◌+◌, ℕ, zero, suc, false, List, [], ◌∷◌, ◌++◌, length, Option, None, Some, is_some, refl, ap, sym, subst, ◌∙◌, append-nil, arith, true≢false}
-use Rattle.plain_store.specs.{Contents, Setup}
-use Rattle.record.specs.{Entry, Event, Past, Taken, history, process_of, refused, store_after}
+use Rattle.plain_store.specs.{Setup}
+use Rattle.record.specs.{Entry, Event, Past, process_of, refused}
 use Rattle.record.specs.declared.events.Event.TheVariants.{Step}
 use Rattle.companions.specs.picture.columns.{OverlappedRead}
 use Rattle.companions.specs.picture.declared.reads.Reads.{Reads as Mode}
-use Rattle.companions.specs.{Canvas, DrawsOn, Kept, Overhears, OverlapsHeard, kept, lines_given, overlapped_by, waiting}
+use Rattle.companions.specs.{Canvas, DrawsOn, IsAfterMarks, Kept, Overhears, OverlapsHeard, TakenStore, TellsEnd, kept, lines_given, marks_back, overlapped_by, waiting}
 use Rattle.companions.proofs.Drawn.{draws_on_both, draws_on_none}
 use Rattle.companions.proofs.Overhearing.{overhears_nothing}
 use Rattle.course.specs.{Happening, Happens, IsQuiet, PassQuietly, Stepped, StepsOn, Summary, Told, Tries, counted, past_after}
 use Rattle.course.specs.Writing.{Counts}
 use Rattle.course.proofs.Counting.{counts_heard, counts_passed, with_events}
 use Rattle.drawer.specs.{Drawing, DrawsThis, HasDrawn, Recalls, given_at, given_last, reads_since, said_of_event}
+use Rattle.drawer.proofs.OverlapsTold.{stepped_tells}
 
--- an event without a mark gives nothing, and takes no command
+-- an event without a mark gives nothing
 quiet_gives : (mode : Mode) (s : Setup) (n : ℕ) (before : List Happening) (this : Happening) → IsQuiet s (past_after s before) (Some this) → given_at mode s n before this ≡ []
 quiet_gives mode s n before (Tries event) adds =
     ap (λ (o : Option Entry). lines_given mode n (length (past_after s before)) (reads_since s before ++ elim o as (λ _. List OverlappedRead) [ None ↦ [] | Some e ↦ overlapped_by s (past_after s before) e ])
     (said_of_event s (past_after s before) (process_of event) (refused s (past_after s before) event) o)) adds.1
 quiet_gives mode s n before this adds = absurd adds
 
-quiet_takes : (s : Setup) (before : List Happening) (this : Happening) → IsQuiet s (past_after s before) (Some this) → history s (past_after s (this ∷ before)) ≡ history s (past_after s before)
-quiet_takes s before (Tries event) adds = ap (λ (o : Option Entry). history s (elim o as (λ _. Past) [ None ↦ past_after s before | Some e ↦ e ∷ past_after s before ])) adds.1
-quiet_takes s before this adds = absurd adds
+quiet_marks : (s : Setup) (before : List Happening) (this : Happening) → IsQuiet s (past_after s before) (Some this) → marks_back (past_after s (this ∷ before)) ≡ marks_back (past_after s before)
+quiet_marks s before (Tries event) adds = ap (λ (o : Option Entry). marks_back (elim o as (λ _. Past) [ None ↦ past_after s before | Some e ↦ e ∷ past_after s before ])) adds.1
+quiet_marks s before this adds = absurd adds
 
--- So many of them: nothing more is given, and no command was taken.
+-- So many of them: nothing more is given.
 long_passed : (s : Setup) (n : ℕ) (before after : List Happening) → PassQuietly s n before after → length after ≡ n + length before
 long_passed s zero before after same = let is : length after ≡ length before = ap (λ (l : List Happening). length l) same in omega (arith, is)
 long_passed s (suc n) before after (this, quiet, more) = let is : length after ≡ n + suc (length before) = long_passed s n (this ∷ before) after more in omega (arith, is)
@@ -41,16 +42,16 @@ still_waits : (mode : Mode) (s : Setup) (past then : Past) (reads more : List Ov
 still_waits mode s past then reads more None none waits = overhears_nothing mode s past then reads more waits
 still_waits mode s past then reads more (Some overlaps) none waits = absurd (true≢false none)
 
-pub recalls_passed : (mode : Mode) (s : Setup) (n : ℕ) (before after : List Happening) (store : Contents) (canvas : Canvas) → is_some canvas.overlaps ≡ false → PassQuietly s n before after → Recalls mode s before store canvas → Recalls mode s after store canvas
+pub recalls_passed : (mode : Mode) (s : Setup) (n : ℕ) (before after : List Happening) (store : TakenStore) (canvas : Canvas) → is_some canvas.overlaps ≡ false → PassQuietly s n before after → Recalls mode s before store canvas → Recalls mode s after store canvas
 recalls_passed mode s zero before after store canvas none same recalls = subst (λ (l : List Happening). Recalls mode s l store canvas) (sym same) recalls
 recalls_passed mode s (suc n) before after store canvas none (this, quiet, more) recalls = recalls_passed mode s n (this ∷ before) after store canvas none more (record {
-  store_is = recalls.store_is ∙ ap (store_after s) (sym (quiet_takes s before this quiet));
+  store_is = subst (λ l. IsAfterMarks s l store) (sym (quiet_marks s before this quiet)) recalls.store_is;
   waits = still_waits mode s (past_after s before) (past_after s (this ∷ before)) (reads_since s before) (reads_since s (this ∷ before)) canvas.overlaps none recalls.waits;
 })
 
 -- a Step without a mark that is heard by its access
-pub recalls_stepped : (mode : Mode) (s : Setup) (before : List Happening) (made : Stepped) (store : Contents) (canvas heard : Canvas) (events : ℕ) → StepsOn s before made → events ≡ length (past_after s before) →
-    ((mode : Mode) (s : Setup) (past : Past) (reads : List OverlappedRead) (e : Entry) → e.access ≡ Some made.access → Overhears mode s past reads canvas.overlaps → events ≡ length past → Overhears mode s (e ∷ past) (reads ++ overlapped_by s past e) heard.overlaps) →
+pub recalls_stepped : (mode : Mode) (s : Setup) (before : List Happening) (made : Stepped) (store : TakenStore) (canvas heard : Canvas) (events : ℕ) → StepsOn s before made → events ≡ length (past_after s before) →
+    ((mode : Mode) (s : Setup) (past : Past) (reads : List OverlappedRead) (e : Entry) → e.access ≡ Some made.access → Overhears mode s past reads canvas.overlaps → events ≡ length past → TellsEnd mode s past (Some made.access) made.overlapped → Overhears mode s (e ∷ past) (reads ++ overlapped_by s past e) heard.overlaps) →
     Recalls mode s before store canvas → Recalls mode s (Tries (Step made.process made.flick) ∷ before) store heard
 recalls_stepped mode s before made store canvas heard events on number hears recalls =
     let event : Event = Step made.process made.flick in
@@ -60,21 +61,21 @@ recalls_stepped mode s before made store canvas heard events on number hears rec
     let since : reads_since s (Tries event ∷ before) ≡ reads_since s before ++ overlapped_by s past e =
     ap (λ (o : Option Entry). waiting (said_of_event s past (process_of event) (refused s past event) o) (reads_since s before ++ elim o as (λ _. List OverlappedRead) [ None ↦ [] | Some e ↦ overlapped_by s past e ])) on.adds in
     record {
-      store_is = recalls.store_is ∙ ap (store_after s) (sym (quiet_takes s before (Tries event) (Some made.access, on.adds)));
+      store_is = subst (λ l. IsAfterMarks s l store) (sym (quiet_marks s before (Tries event) (Some made.access, on.adds))) recalls.store_is;
       waits = subst (λ (l : List OverlappedRead). Overhears mode s (past_after s (Tries event ∷ before)) l heard.overlaps) (sym since)
           (subst (λ (p : Past). Overhears mode s p (reads_since s before ++ overlapped_by s past e) heard.overlaps) (sym here)
-          (hears mode s past (reads_since s before) e refl recalls.waits number));
+          (hears mode s past (reads_since s before) e refl recalls.waits number (stepped_tells mode s before made on)));
     }
 
 -- A run that is being drawn.
 
 -- from here on
-pub drawn_from : (mode : Mode) (s : Setup) (now : List Happening) (drawing : Drawing) (taken : Option (List ℕ)) → Counts s now drawing.summary → Recalls mode s now drawing.changes.store drawing.canvas → HasDrawn mode s now (kept drawing.canvas) taken now drawing taken
+pub drawn_from : (mode : Mode) (s : Setup) (now : List Happening) (drawing : Drawing) (taken : Option (List ℕ)) → Counts s now drawing.summary → Recalls mode s now drawing.store drawing.canvas → HasDrawn mode s now (kept drawing.canvas) taken now drawing taken
 drawn_from mode s now drawing taken counts recalls = record { counts = counts; recalls = recalls; more = 0; long = omega arith; draws = draws_on_none (kept drawing.canvas) taken }
 
 -- so many events without a mark
 pub quiet_drawn : (mode : Mode) (s : Setup) (start : List Happening) (had : Kept) (old : Option (List ℕ)) (n : ℕ) (before after : List Happening) (drawing drawings : Drawing) (new : Option (List ℕ)) → PassQuietly s n before after →
-    drawings.summary ≡ with_events n drawing.summary → kept drawings.canvas ≡ kept drawing.canvas → drawings.source ≡ drawing.source → Recalls mode s after drawings.changes.store drawings.canvas →
+    drawings.summary ≡ with_events n drawing.summary → kept drawings.canvas ≡ kept drawing.canvas → drawings.source ≡ drawing.source → Recalls mode s after drawings.store drawings.canvas →
     HasDrawn mode s start had old before drawing new → HasDrawn mode s start had old after drawings new
 quiet_drawn mode s start had old n before after drawing drawings new passes summary same source recalls d =
     let long : length after ≡ n + length before = long_passed s n before after passes in
@@ -88,11 +89,11 @@ quiet_drawn mode s start had old n before after drawing drawings new passes summ
     }
 
 -- what is told
-pub told_drawn : (mode : Mode) (s : Setup) (start : List Happening) (had : Kept) (old : Option (List ℕ)) (before : List Happening) (this : Happening) (answer : Told) (taken : List Taken) (drawing drawings : Drawing) (mid new : Option (List ℕ)) → Happens s before this answer taken →
-    DrawsThis mode s drawing.source before this drawing.canvas drawings.canvas mid new drawings.changes.store → drawings.summary ≡ counted answer drawing.summary → drawings.source ≡ drawing.source →
+pub told_drawn : (mode : Mode) (s : Setup) (start : List Happening) (had : Kept) (old : Option (List ℕ)) (before : List Happening) (this : Happening) (answer : Told) (drawing drawings : Drawing) (mid new : Option (List ℕ)) → Happens s before this answer →
+    DrawsThis mode s drawing.source before this drawing.canvas drawings.canvas mid new drawings.store → drawings.summary ≡ counted answer drawing.summary → drawings.source ≡ drawing.source →
     HasDrawn mode s start had old before drawing mid → HasDrawn mode s start had old (this ∷ before) drawings new
-told_drawn mode s start had old before this answer taken drawing drawings mid new h drew summary source d = record {
-  counts = counts_heard s before this answer taken drawing.summary drawings.summary h summary d.counts;
+told_drawn mode s start had old before this answer drawing drawings mid new h drew summary source d = record {
+  counts = counts_heard s before this answer drawing.summary drawings.summary h summary d.counts;
   recalls = drew.1;
   more = suc d.more;
   long = let long = d.long in omega (arith, long);

@@ -1,19 +1,20 @@
 -- The lines and the marks of what a run gives: the text of the run, and the marks of its record.
-use Rattle.std.proofs.Common.{◌≡◌, ℕ, suc, ◌+◌, ◌-◌, List, [], ◌∷◌, ◌++◌, codes, flat_map, length, map, Option, None, Some, refl, ap, sym, ◌∙◌, append-nil, append_assoc, arith}
+use Rattle.std.proofs.Common.{◌≡◌, ℕ, suc, ◌+◌, ◌-◌, List, [], ◌∷◌, ◌++◌, flat_map, length, map, Option, None, Some, refl, ap, sym, ◌∙◌, append-nil, append_assoc, arith}
 use Rattle.std.proofs.lemmas.Grind.{flat_map-append}
 use Rattle.std.proofs.lemmas.List.{length-append}
 use Rattle.plain_store.specs.{Setup}
-use Rattle.record.specs.{Entry, Mark, Past, Refusal, Taken, added, history, process_of, refusal_line, refused}
+use Rattle.record.specs.{Entry, Mark, Past, Refusal, added, process_of, refused}
 use Rattle.record.specs.declared.refusals.Refusal.TheVariants.{NoProcess}
 use Rattle.scenario.specs.{Line, Script}
-use Rattle.course.specs.{Happening, Lacks, Looks, Run, Summary, Tires, Tries, end_line, entry_text, happenings, mark_line, past_after, replayed, run_after, run_at_start, runs, summary_of, text_at, text_of}
+use Rattle.course.specs.{Happening, Lacks, Looks, Run, Tires, Tries, end_line, entry_text, happenings, mark_line, newest_store, past_after, refused_line, replayed, run_after, run_at_start, runs, store_text, summary_of, text_at, text_of}
+use Rattle.course.specs.run_lines.{tired_text, with_end}
 use Rattle.course.proofs.Grows.{Grows, line_grows}
 use Rattle.companions.specs.picture.{Item, Reads, Tells, sayings}
 use Rattle.companions.specs.picture.columns.{marks_in, marks_said}
 use Rattle.companions.specs.picture.declared.reads.Reads.{Reads as Mode}
-use Rattle.companions.specs.{Gives, GivesLine, GivesRead, SaysRefusal, given, marks_given, marks_says, says_of, says_text, texts_given}
-use Rattle.companions.proofs.Giving.{marks_append, marks_of_items, marks_of_lines, text_of_saying, texts_append, texts_of_lines}
-use Rattle.drawer.specs.{ended_lines, first_line, given_at, given_at_end, given_by, given_from, given_last, lines_told, read_at, reads_since, run_given, said_at, said_of_event, says_end, says_mark}
+use Rattle.companions.specs.{Gives, GivesLine, GivesRead, given, marks_back, marks_given, marks_says, says_marks, says_of, says_text, texts_given}
+use Rattle.companions.proofs.Giving.{marks_append, marks_of_items, marks_of_lines, marks_of_says, text_of_saying, texts_append, texts_of_lines}
+use Rattle.drawer.specs.{ended_lines, first_line, given_at, given_at_end, given_by, given_from, given_last, lines_told, read_at, reads_since, run_given, said_at, said_of_event, says_end}
 
 -- What is read off what is given, piece by piece.
 module _ {A : Type 0} (of : List Gives → List A) (none : of [] ≡ []) (both : (gives more : List Gives) → of (gives ++ more) ≡ of gives ++ of more) (mode : Mode) (s : Setup) (so_far : List Happening → List A)
@@ -46,39 +47,33 @@ module _ {A : Type 0} (of : List Gives → List A) (none : of [] ≡ []) (both :
 -- The lines.
 
 ended_append : (xs ys : List (List ℕ)) → ended_lines (xs ++ ys) ≡ ended_lines xs ++ ended_lines ys
-ended_append xs ys = flat_map-append (λ (line : List ℕ). line ++ codes "\n") xs ys
+ended_append xs ys = flat_map-append with_end xs ys
 
 text_both : (gives more : List Gives) → ended_lines (texts_given (gives ++ more)) ≡ ended_lines (texts_given gives) ++ ended_lines (texts_given more)
 text_both gives more = ap ended_lines (texts_append gives more) ∙ ended_append (texts_given gives) (texts_given more)
 
 -- of marks
-text_of_marks : (s : Setup) (taken : List Taken) (n p : ℕ) (marks : List Mark) → ended_lines (map (says_text n) (map (says_mark s taken p) marks)) ≡ flat_map (mark_line n p) marks
-text_of_marks s taken n p [] = refl
-text_of_marks s taken n p (m ∷ marks) = let rest = text_of_marks s taken n p marks in rw rest (simp append_assoc refl)
+text_of_marks : (s : Setup) (n p : ℕ) (before : List (ℕ × Mark)) (marks : List Mark) → ended_lines (map (says_text n) (says_marks s p before marks)) ≡ flat_map (mark_line n p) marks
+text_of_marks s n p before [] = refl
+text_of_marks s n p before (m ∷ marks) = ap (λ l. mark_line n p m ++ l) (text_of_marks s n p ((p, m) ∷ before) marks)
 
 -- of what happens
-text_of_refusal : (n p : ℕ) (r : Refusal) → ended_lines (map (says_text n) (SaysRefusal p r ∷ [])) ≡ refusal_line p r
-text_of_refusal n p r = simp append_assoc refl
-
 text_of_event : (s : Setup) (past : Past) (p n : ℕ) (o : Option Refusal) (e : Option Entry) →
     ended_lines (map (says_text n) (said_of_event s past p o (elim o as (λ _. Option Entry) [ Some r ↦ None | None ↦ e ])))
-    ≡ elim o as (λ _. List ℕ) [ Some r ↦ refusal_line p r | None ↦ elim e as (λ _. List ℕ) [ None ↦ [] | Some e ↦ entry_text n e ] ]
-text_of_event s past p n (Some r) e = text_of_refusal n p r
+    ≡ elim o as (λ _. List ℕ) [ Some r ↦ refused_line p r | None ↦ elim e as (λ _. List ℕ) [ None ↦ [] | Some e ↦ entry_text n e ] ]
+text_of_event s past p n (Some r) e = append-nil (refused_line p r)
 text_of_event s past p n None None = refl
-text_of_event s past p n None (Some e) = text_of_marks s (history s (e ∷ past)) n e.process e.marks
+text_of_event s past p n None (Some e) = text_of_marks s n e.process (marks_back past) e.marks
 
 text_said : (s : Setup) (before : List Happening) (this : Happening) → ended_lines (map (says_text (length (past_after s before))) (said_at s before this)) ≡ text_at s (past_after s before) this
 text_said s before (Tries event) = let past : Past = past_after s before in text_of_event s past (process_of event) (length past) (refused s past event) (added s past event)
-text_said s before (Lacks p) = text_of_refusal (length (past_after s before)) p NoProcess
-text_said s before (Tires p) = simp append_assoc refl
-text_said s before Looks = simp append_assoc refl
+text_said s before (Lacks p) = append-nil (refused_line p NoProcess)
+text_said s before (Tires p) = append-nil (with_end (tired_text p))
+text_said s before Looks = append-nil (store_text (newest_store s (past_after s before)))
 
 text_at_is : (mode : Mode) (s : Setup) (n : ℕ) (before : List Happening) (this : Happening) → text_of s (this ∷ before) ≡ text_of s before ++ ended_lines (texts_given (given_at mode s n before this))
 text_at_is mode s n before this =
     ap (λ l. text_of s before ++ l) (sym (text_said s before this) ∙ sym (ap ended_lines (texts_of_lines mode n (length (past_after s before)) (reads_since s before ++ read_at s before this) (said_at s before this))))
-
-text_of_end : (n : ℕ) (summary : Summary) → ended_lines (map (says_text n) (says_end summary ∷ [])) ≡ end_line summary
-text_of_end n summary = simp append_assoc refl
 
 -- of a whole run
 pub text_of_run : (mode : Mode) (said : Script) → ended_lines (texts_given (run_given mode said)) ≡ replayed said
@@ -87,7 +82,7 @@ text_of_run mode said =
     let all : List Happening = happenings said in
     text_both (given_by mode s (first_line s) said.lines run_at_start) (given_at_end mode s (first_line s + length said.lines) all)
     ∙ (λ i. sym (of_lines (λ gives. ended_lines (texts_given gives)) refl text_both mode s (text_of s) (text_at_is mode s) (first_line s) said.lines run_at_start) i
-    ++ (ap ended_lines (texts_of_lines mode (first_line s + length said.lines) (length (past_after s all)) (reads_since s all) (says_end (summary_of s all) ∷ [])) ∙ text_of_end (length (past_after s all)) (summary_of s all)) i)
+    ++ (ap ended_lines (texts_of_lines mode (first_line s + length said.lines) (length (past_after s all)) (reads_since s all) (says_end (summary_of s all) ∷ [])) ∙ append-nil (end_line (summary_of s all))) i)
 
 -- the lines among items
 texts_of_items : (items : List Item) → lines_told items ≡ texts_given (given items)
@@ -101,12 +96,8 @@ lines_of_run mode said items are = ap ended_lines (texts_of_items items ∙ ap t
 
 -- The marks.
 
-marks_of_marks : (s : Setup) (taken : List Taken) (p : ℕ) (marks : List Mark) → map {B = ℕ × Mark} (λ (mark : Mark). (p, mark)) marks ≡ flat_map marks_says (map (says_mark s taken p) marks)
-marks_of_marks s taken p [] = refl
-marks_of_marks s taken p (m ∷ marks) = ap (λ l. (p, m) ∷ l) (marks_of_marks s taken p marks)
-
 marks_of_event : (s : Setup) (past : Past) (p : ℕ) (o : Option Refusal) (e : Option Entry) → marks_in (elim e as (λ _. Past) [ None ↦ past | Some e ↦ e ∷ past ]) ≡ marks_in past ++ flat_map marks_says (said_of_event s past p o e)
-marks_of_event s past p o (Some e) = ap (λ l. marks_in past ++ l) (marks_of_marks s (history s (e ∷ past)) e.process e.marks)
+marks_of_event s past p o (Some e) = ap (λ l. marks_in past ++ l) (sym (marks_of_says s e.process (marks_back past) e.marks))
 marks_of_event s past p (Some r) None = sym (append-nil (marks_in past))
 marks_of_event s past p None None = sym (append-nil (marks_in past))
 

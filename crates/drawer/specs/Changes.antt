@@ -1,9 +1,9 @@
--- What the commands taken change in the store.
-use Rattle.std.specs.Prelude.{◌≡◌, ℕ, suc, List, length, slice_get, take, Option, None, Some}
-use Rattle.plain_store.specs.{Contents, Setup, after}
-use Rattle.record.specs.{Mark, Taken, store_after}
+-- What the commands of a history change in the store: so say the lines of a run's marks, which know no history.
+use Rattle.std.specs.Prelude.{◌≡◌, ℕ, ◌∷◌, List, map, slice_get, take, Option, None, Some, Ok}
+use Rattle.plain_store.specs.{Contents, Setup, after, checked}
+use Rattle.record.specs.{Entry, Event, Mark, Taken, entry_of, history, past_of, store_after}
 use Rattle.record.specs.declared.marks.Mark.TheVariants as mark
-use Rattle.companions.specs.{Changed, change_by}
+use Rattle.companions.specs.{Changed, Says, SaysMark, change_by, marks_back, says_marks, store_by}
 
 -- the store after a command taken
 abbrev pub after_taken : Contents → Taken → Contents
@@ -18,16 +18,19 @@ abbrev pub change_at : Setup → List Taken → ℕ → Option Changed
 change_at s taken k = elim (slice_get taken k) [ None ↦ None | Some t ↦ change_taken (store_after s (take k taken)) t ]
 
 -- what the command of a mark changes, if one is taken
-abbrev pub change_of : Setup → List Taken → Mark → Option Changed
-change_of s taken (mark.Taken k r) = change_at s taken k
-change_of s taken _ = None
+abbrev pub change_in : Setup → List Taken → Mark → Option Changed
+change_in s taken (mark.Taken k r) = change_at s taken k
+change_in s taken _ = None
 
--- how many commands a mark takes
-abbrev pub takes : Mark → ℕ
-takes (mark.Taken k r) = 1
-takes _ = 0
+-- what a mark says, by the history with its command
+abbrev pub says_mark : Setup → List Taken → ℕ → Mark → Says
+says_mark s taken p mark = SaysMark p mark (change_in s taken mark)
 
--- where a mark takes a command, it is the last of the history, and so many were taken before it
-abbrev pub IsNext : ℕ → List Taken → Mark → Type 0
-IsNext n taken (mark.Taken k r) = (k ≡ n) × (suc n ≡ length taken)
-IsNext n taken _ = Unit {0}
+-- The lines of the marks of each entry of a run say what the commands of the history change that they take.
+abbrev pub LinesSayTheHistory : Type 0
+LinesSayTheHistory = (s : Setup) → checked s ≡ Ok tt → (events : List Event) (event : Event) (e : Entry) → entry_of s (past_of s events) event ≡ Some e →
+    says_marks s e.process (marks_back (past_of s events)) e.marks ≡ map (says_mark s (history s (e ∷ past_of s events)) e.process) e.marks
+
+-- The store after the marks of a run is the one after its history.
+abbrev pub StoreIsTheHistorys : Type 0
+StoreIsTheHistorys = (s : Setup) → checked s ≡ Ok tt → (events : List Event) → store_by s (marks_back (past_of s events)) ≡ store_after s (history s (past_of s events))

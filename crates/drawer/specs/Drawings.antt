@@ -1,8 +1,7 @@
 -- What was written of a run's picture, and what is read back of it.
 use Rattle.std.specs.Prelude.{◌≡◌, ◌<◌, ℕ, List, [], ◌∷◌, ◌+◌, flat_map, length, Option, Some, IfSome, Result, Ok, Err}
 use Rattle.std.specs.Io.KnownBytes.{IsAtEnd}
-use Rattle.plain_store.specs.{Contents, Setup}
-use Rattle.record.specs.{Mark, Taken, history, store_after}
+use Rattle.plain_store.specs.{Setup}
 use Rattle.files.specs.Engines.{Ran, Streams}
 use Rattle.files.specs.{Fault}
 use Rattle.files.specs.declared.faults.Fault.TheVariants as fault
@@ -11,10 +10,9 @@ use Rattle.companions.specs.picture.markup.{lines_in, opens_in}
 use Rattle.companions.specs.picture.{Form, Item, heights_told, sayings}
 use Rattle.companions.specs.picture.columns.{marks_in, marks_said}
 use Rattle.companions.specs.picture.declared.reads.Reads.{Reads as Mode}
-use Rattle.companions.specs.{Canvas, DrawsBands, DrawsOn, Kept, Overhears, Writes, given, kept, plan_of}
+use Rattle.companions.specs.{Canvas, DrawsBands, DrawsOn, IsAfterMarks, Kept, Overhears, TakenStore, Writes, given, kept, marks_back, plan_of}
 use Rattle.course.specs.{CourseState, Follows, Happening, Happens, Run, Told, happenings, past_after, replay_text, replayed, run_after}
 use Rattle.course.specs.Writing.{Counts}
-use Rattle.drawer.specs.Changes.{IsNext, takes}
 use Rattle.drawer.specs.Items.{given_at, given_last, reads_since, run_given}
 use Rattle.drawer.specs.Pictures.{ended_lines, lines_told, picture_of}
 use Rattle.drawer.specs.declared.drawing.Drawing.{Drawing}
@@ -48,40 +46,30 @@ pub record DrawsFramed (reads : Mode) (form : Form) (head ending : List ℕ) (sa
   pub bands : DrawsBands (plan_of form said.setup) begun drawn (run_given reads said) height
   pub last : Writes drawn new ending
 
--- a drawing stands where this has happened: its store is the one-thread store after the history, and the overlapped reads that wait are those since the last line
-pub record Recalls (mode : Mode) (s : Setup) (happened : List Happening) (store : Contents) (canvas : Canvas) : Type 0 where
-  pub store_is : store ≡ store_after s (history s (past_after s happened))
+-- a drawing comes after what has happened: its store is the one after the marks so far, and the overlapped reads that wait are those since the last line
+pub record Recalls (mode : Mode) (s : Setup) (happened : List Happening) (store : TakenStore) (canvas : Canvas) : Type 0 where
+  pub store_is : IsAfterMarks s (marks_back (past_after s happened)) store
   pub waits : Overhears mode s (past_after s happened) (reads_since s happened) canvas.overlaps
 
--- what a turn tells is to be drawn, where so many events were accepted before it, and these commands are taken
-pub record IsToDraw (mode : Mode) (s : Setup) (taken : List Taken) (events : ℕ) (store : Contents) (canvas : Canvas) (before : List Happening) (this : Happening) (answer : Told) : Type 0 where
-  pub happens : Happens s before this answer taken
+-- what a turn tells is to be drawn, where so many events were accepted before it
+pub record IsToDraw (mode : Mode) (s : Setup) (events : ℕ) (store : TakenStore) (canvas : Canvas) (before : List Happening) (this : Happening) (answer : Told) : Type 0 where
+  pub happens : Happens s before this answer
   pub number : events ≡ length (past_after s before)
   pub recalls : Recalls mode s before store canvas
 
 -- what happened was drawn, made by this line of the printed scenario, and the drawing stands behind it
-abbrev pub DrawsThis : (mode : Mode) (s : Setup) (source : ℕ) (before : List Happening) (this : Happening) (had has : Canvas) (old new : Option (List ℕ)) (store : Contents) → Type 0
+abbrev pub DrawsThis : (mode : Mode) (s : Setup) (source : ℕ) (before : List Happening) (this : Happening) (had has : Canvas) (old new : Option (List ℕ)) (store : TakenStore) → Type 0
 DrawsThis mode s source before this had has old new store = DrawsOn (kept had) (kept has) old new (given_at mode s source before this) × Recalls mode s (this ∷ before) store has
 
 -- so was what a turn tells, wherever it is to be drawn
-abbrev pub DrawsTold : Drawing → Drawing → Told → List Taken → Option (List ℕ) → Option (List ℕ) → Type 0
-DrawsTold had has answer taken old new =
-    (mode : Mode) (s : Setup) (before : List Happening) (this : Happening) → IsToDraw mode s taken had.summary.events had.changes.store had.canvas before this answer → DrawsThis mode s had.source before this had.canvas has.canvas old new has.changes.store
-
--- where marks take a command, it is the last of the history, and so many were taken before it
-abbrev pub AreNext : ℕ → List Taken → List Mark → Type 0
-AreNext n taken [] = Unit {0}
-AreNext n taken (mark ∷ marks) = IsNext n taken mark × AreNext (n + takes mark) taken marks
-
--- how many commands marks take
-abbrev pub all_take : List Mark → ℕ
-all_take [] = 0
-all_take (mark ∷ marks) = takes mark + all_take marks
+abbrev pub DrawsTold : Drawing → Drawing → Told → Option (List ℕ) → Option (List ℕ) → Type 0
+DrawsTold had has answer old new =
+    (mode : Mode) (s : Setup) (before : List Happening) (this : Happening) → IsToDraw mode s had.summary.events had.store had.canvas before this answer → DrawsThis mode s had.source before this had.canvas has.canvas old new has.store
 
 -- a run that went on from `start`, where a page kept so much and so much was written: all that it has told since is drawn
 pub record HasDrawn (mode : Mode) (s : Setup) (start : List Happening) (had : Kept) (old : Option (List ℕ)) (now : List Happening) (drawing : Drawing) (new : Option (List ℕ)) : Type 0 where
   pub counts : Counts s now drawing.summary
-  pub recalls : Recalls mode s now drawing.changes.store drawing.canvas
+  pub recalls : Recalls mode s now drawing.store drawing.canvas
   pub more : ℕ
   pub long : length now ≡ more + length start
   pub draws : DrawsOn had (kept drawing.canvas) old new (given_last mode s drawing.source more now)
@@ -100,7 +88,7 @@ pub record Advances (mode : Mode) (s : Setup) (before after : Run) (course : Cou
 -- a line of a scenario has made all its turns, whatever has happened before
 abbrev pub DrawsLine : Line → CourseState → CourseState → Drawing → Drawing → Option (List ℕ) → Option (List ℕ) → Type 0
 DrawsLine line old new drawing drawings taken then =
-    (mode : Mode) (run : Run) → Follows old run → Counts old.world.setup run.happened drawing.summary → Recalls mode old.world.setup run.happened drawing.changes.store drawing.canvas →
+    (mode : Mode) (run : Run) → Follows old run → Counts old.world.setup run.happened drawing.summary → Recalls mode old.world.setup run.happened drawing.store drawing.canvas →
     Advances mode old.world.setup run (run_after old.world.setup line run) new drawing drawings taken then
 
 -- How `draw` ends: where it ends well, what was written is a picture of the whole run; after a fault of the input nothing was written.

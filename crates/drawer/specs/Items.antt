@@ -1,23 +1,18 @@
 -- What a run gives its picture, item by item: its lines, and the reads that writes overlapped.
 use Rattle.std.specs.Prelude.{ℕ, zero, suc, ◌+◌, ◌-◌, List, [], ◌∷◌, ◌++◌, length, map, Option, None, Some}
 use Rattle.plain_store.specs.{Setup}
-use Rattle.record.specs.{Entry, Mark, Past, Refusal, Taken, entry_of, history, process_of, refused}
+use Rattle.record.specs.{Entry, Past, Refusal, entry_of, process_of, refused}
 use Rattle.record.specs.declared.refusals.Refusal.TheVariants.{NoProcess}
 use Rattle.scenario.specs.{Script, open_words, setup_words}
 use Rattle.scenario.specs.declared.lines.Line.{Line as ScenarioLine}
 use Rattle.course.specs.{Happening, Lacks, Looks, Run, Summary, Tires, Tries, happenings, newest_store, newest_words, past_after, run_after, run_at_start, summary_of}
 use Rattle.companions.specs.picture.columns.{OverlappedRead}
 use Rattle.companions.specs.picture.declared.reads.Reads.{Reads as Mode}
-use Rattle.companions.specs.{Gives, Says, SaysEnd, SaysMark, SaysRefusal, SaysStore, SaysTired, lines_given, overlapped_by, waiting}
-use Rattle.drawer.specs.Changes.{change_of}
-
--- what a mark says, by the history with its command
-abbrev pub says_mark : Setup → List Taken → ℕ → Mark → Says
-says_mark s taken p mark = SaysMark p mark (change_of s taken mark)
+use Rattle.companions.specs.{Gives, Says, SaysEnd, SaysRefusal, SaysStore, SaysTired, lines_given, marks_back, overlapped_by, says_marks, waiting}
 
 -- what is said of what happens, against what has happened before: the marks of the entry that an event adds, or why it adds none
 abbrev pub said_of_event : Setup → Past → ℕ → Option Refusal → Option Entry → List Says
-said_of_event s past p refusal (Some e) = map (says_mark s (history s (e ∷ past)) e.process) e.marks
+said_of_event s past p refusal (Some e) = says_marks s e.process (marks_back past) e.marks
 said_of_event s past p (Some refusal) None = SaysRefusal p refusal ∷ []
 said_of_event s past p None None = []
 

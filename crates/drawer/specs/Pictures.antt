@@ -1,8 +1,9 @@
 -- What a run's picture is told, and what is written of it.
-use Rattle.std.specs.Prelude.{ℕ, List, [], ◌∷◌, ◌++◌, codes, flat_map}
+use Rattle.std.specs.Prelude.{ℕ, List, [], ◌∷◌, ◌++◌, flat_map}
 use Rattle.plain_store.specs.{opening_store}
 use Rattle.scenario.specs.{Script}
 use Rattle.companions.specs.picture.{Form, Item, Reads, Tells, bands_told, page_back, page_front, picture_back, picture_front}
+use Rattle.companions.specs.picture.columns.run_lines.{with_end}
 use Rattle.companions.specs.picture.columns.{text_of}
 use Rattle.companions.specs.picture.declared.page.Form.TheVariants as form
 use Rattle.companions.specs.picture.declared.reads.Reads.{Reads as Mode}
@@ -21,4 +22,4 @@ picture_of reads (form.Picture top) file said height items = (picture_front said
 
 -- lines, each with its end
 abbrev pub ended_lines : List (List ℕ) → List ℕ
-ended_lines = flat_map (λ line. line ++ codes "\n")
+ended_lines = flat_map with_end

@@ -1,26 +1,21 @@
 //! A run told line by line to a picture, whose bands are written as they are full.
-ghost use Rattle.std.specs.Prelude.{◌≡◌, ◌+◌, ◌-◌, ◌^◌, ◌<◌, ℕ, [], ◌∷◌, length, map, take, IfErr, IfOk, Ok, OnOk};
+ghost use Rattle.std.specs.Prelude.{◌≡◌, ◌+◌, ◌-◌, ◌^◌, ◌<◌, [], ◌∷◌, length, IfErr, IfOk, Ok, OnOk};
 ghost use Rattle.plain_store.specs.{checked};
-ghost use Rattle.plain_store.specs.declared.setups.Setup.{Setup as Given};
-ghost use Rattle.record.specs.{store_after};
 ghost use Rattle.companions.specs.picture.declared.reads.Reads.{Reads as Mode};
 ghost use Rattle.companions.specs.picture.{Plan};
-ghost use Rattle.companions.specs.{DrawsBands, DrawsLast, DrawsLines, IsWriteFault, failed_write, kept, kept_at_first, plan_of};
+ghost use Rattle.companions.specs.{DrawsBands, DrawsLast, IsWriteFault, failed_write, kept, kept_at_first, plan_of};
 ghost use Rattle.scenario.specs.{script};
 ghost use Rattle.course.specs.{Follows, counted, happenings, run_at_start, summary_of};
-ghost use Rattle.drawer.specs.Changes.{IsNext, takes};
-ghost use Rattle.drawer.specs.Drawings.{AreNext, DrawsTold, Recalls, all_take};
-ghost use Rattle.drawer.specs.Items.{run_given, says_end, says_mark};
+ghost use Rattle.drawer.specs.Drawings.{DrawsTold, Recalls};
+ghost use Rattle.drawer.specs.Items.{run_given, says_end};
 
 mod listening;
 
-use crate::changes::Changes;
-use companions::{Canvas, Form, Reads, RunLine, Saying};
-use course::{Course, Summary, Taken, Told, newest_words};
+use companions::{Canvas, Form, Reads, RunLine, Saying, TakenStore};
+use course::{Course, Summary, Told, newest_words};
 use files::progress::{LinePlace, Onlooker};
 use listening::draw_line;
 use plain_store::{NestedTypes, Setup};
-use record::Mark;
 use scenario::{Fault, Scenario, Sink};
 use std::alloc::Global;
 
@@ -28,7 +23,7 @@ use std::alloc::Global;
 #[derive(Drop)]
 pub(crate) struct Drawing {
     alloc: Global,
-    changes: Changes,
+    store: TakenStore,
     canvas: Canvas,
     summary: Summary,
     /// The number of the line of the printed scenario.
@@ -74,11 +69,11 @@ fn draw_lines<W: Sink, L: Onlooker>(
     requires writes { W.failures output.old < 2 ^ 64 - 1 }
     ensures ok { IfOk result (λ answer. (plan : Plan) (mode : Mode)
         → kept drawing.old.canvas ≡ kept_at_first plan
-        → Recalls mode scenario.now.setup [] drawing.old.changes.store drawing.old.canvas
+        → Recalls mode scenario.now.setup [] drawing.old.store drawing.old.canvas
         → DrawsBands plan (W.taken output.old) (W.taken output.new) (run_given mode (script scenario.now)) answer.1) }
     ensures summary { IfOk result (λ answer. (plan : Plan) (mode : Mode)
         → kept drawing.old.canvas ≡ kept_at_first plan
-        → Recalls mode scenario.now.setup [] drawing.old.changes.store drawing.old.canvas
+        → Recalls mode scenario.now.setup [] drawing.old.store drawing.old.canvas
         → answer.0 ≡ summary_of scenario.now.setup (happenings (script scenario.now))) }
     ensures fault { IfErr result IsWriteFault }
     ensures failures { W.failures output.new ≡ W.failures output.old + failed_write result }
@@ -101,51 +96,41 @@ impl Drawing {
         ensures summary { IfOk result (λ drawing. drawing.summary ≡ record { events = 0; taken = 0; refused = 0 }) }
         ensures first { IfOk result (λ drawing. kept drawing.canvas ≡ kept_at_first (plan_of form setup.now)) }
         ensures source { IfOk result (λ drawing. drawing.source ≡ length setup.now.opening + 5) }
-        ensures recalls { IfOk result (λ drawing. Recalls reads setup.now [] drawing.changes.store drawing.canvas) }
+        ensures recalls { IfOk result (λ drawing. Recalls reads setup.now [] drawing.store drawing.canvas) }
         ensures fault { IfErr result IsWriteFault }
         ensures failures { failed_write result ≡ 0 }
     {
-        let changes = Changes::new(alloc, setup)?;
-        let canvas = Canvas::new(alloc, setup, &changes.store, form, reads)?;
+        let store = TakenStore::new(alloc, setup)?;
+        let canvas = Canvas::new(alloc, setup, &store, form, reads)?;
         Ok(Drawing {
             alloc,
-            changes,
+            store,
             canvas,
             summary: Summary::new(),
             source: setup.opening.len() as u64 + HEADINGS,
         })
     }
 
-    /// Draws and counts what a turn tells, once these commands are taken.
-    pub fn tell<W: Sink>(
-        &mut self,
-        told: &Told,
-        taken: &[Taken],
-        output: &mut W,
-    ) -> Result<(), Fault>
+    /// Draws and counts what a turn tells.
+    pub fn tell<W: Sink>(&mut self, told: &Told, output: &mut W) -> Result<(), Fault>
         requires writes { W.failures output.old < 2 ^ 64 - 1 }
         requires events { self.old.summary.events < 2 ^ 64 - 1 }
         requires refused { self.old.summary.refused < 2 ^ 64 - 1 }
-        ensures ok { OnOk result (DrawsTold self.old self.new told.now taken.now (W.taken output.old) (W.taken output.new)) }
+        ensures ok { OnOk result (DrawsTold self.old self.new told.now (W.taken output.old) (W.taken output.new)) }
         ensures source { self.new.source ≡ self.old.source }
         ensures count { OnOk result (self.new.summary ≡ counted told.now self.old.summary) }
         ensures fault { IfErr result IsWriteFault }
         ensures failures { W.failures output.new ≡ W.failures output.old + failed_write result }
     {
-        self.draw_told(told, taken, output)?;
+        self.draw_told(told, output)?;
         self.summary.count(told);
         Ok(())
     }
 
     /// Draws what a turn tells.
-    fn draw_told<W: Sink>(
-        &mut self,
-        told: &Told,
-        taken: &[Taken],
-        output: &mut W,
-    ) -> Result<(), Fault>
+    fn draw_told<W: Sink>(&mut self, told: &Told, output: &mut W) -> Result<(), Fault>
         requires { W.failures output.old < 2 ^ 64 - 1 }
-        ensures ok { OnOk result (DrawsTold self.old self.new told.now taken.now (W.taken output.old) (W.taken output.new)) }
+        ensures ok { OnOk result (DrawsTold self.old self.new told.now (W.taken output.old) (W.taken output.new)) }
         ensures source { self.new.source ≡ self.old.source }
         ensures summary { self.new.summary ≡ self.old.summary }
         ensures fault { IfErr result IsWriteFault }
@@ -154,9 +139,18 @@ impl Drawing {
         let _nested: NestedTypes = None;
         match told {
             Told::Accepted(made) => {
-                self.canvas.hear(self.summary.events, made.access)?;
+                let at = self.summary.events;
+                self.canvas.hear(at, made.access, made.overlapped)?;
                 let process = made.event.process();
-                self.draw_marks(process, made.marks(self.alloc).as_slice(), taken, output)
+                let marks = made.marks(self.alloc);
+                self.canvas.draw_marks(
+                    &mut self.store,
+                    self.source,
+                    at,
+                    process,
+                    marks.as_slice(),
+                    output,
+                )
             }
             Told::Refused { process, refusal } => {
                 let line = self.line(Saying::Refused {
@@ -171,7 +165,7 @@ impl Drawing {
             }
             Told::Shown(store) => {
                 let words = newest_words(self.alloc, store)?;
-                let line = self.line(Saying::Shown(words.into_bytes()));
+                let line = self.line(Saying::Shown(words));
                 self.canvas.draw(line, output)
             }
         }
@@ -186,52 +180,6 @@ impl Drawing {
             at: self.summary.events,
             saying,
         }
-    }
-
-    /// Draws the marks of an event, in their order.
-    fn draw_marks<W: Sink>(
-        &mut self,
-        process: u8,
-        marks: &[Mark],
-        taken: &[Taken],
-        output: &mut W,
-    ) -> Result<(), Fault>
-        requires { W.failures output.old < 2 ^ 64 - 1 }
-        ensures ok { OnOk result ((s : Given) (n : ℕ) → self.old.changes.store ≡ store_after s (take n taken.now) → AreNext n taken.now marks.now → DrawsLines self.old.canvas self.new.canvas (W.taken output.old) (W.taken output.new) self.old.source self.old.summary.events (map (says_mark s taken.now process) marks.now) × (self.new.changes.store ≡ store_after s (take (n + all_take marks.now) taken.now))) }
-        ensures source { self.new.source ≡ self.old.source }
-        ensures summary { self.new.summary ≡ self.old.summary }
-        ensures fault { IfErr result IsWriteFault }
-        ensures failures { W.failures output.new ≡ W.failures output.old + failed_write result }
-    {
-        for mark in marks {
-            self.draw_mark(process, mark, taken, output)?;
-        }
-        Ok(())
-    }
-
-    /// Draws a mark of an event.
-    fn draw_mark<W: Sink>(
-        &mut self,
-        process: u8,
-        mark: &Mark,
-        taken: &[Taken],
-        output: &mut W,
-    ) -> Result<(), Fault>
-        requires { W.failures output.old < 2 ^ 64 - 1 }
-        ensures ok { OnOk result ((s : Given) (n : ℕ) → self.old.changes.store ≡ store_after s (take n taken.now) → IsNext n taken.now mark.now → DrawsLines self.old.canvas self.new.canvas (W.taken output.old) (W.taken output.new) self.old.source self.old.summary.events (says_mark s taken.now process mark.now ∷ []) × (self.new.changes.store ≡ store_after s (take (n + takes mark.now) taken.now))) }
-        ensures source { self.new.source ≡ self.old.source }
-        ensures summary { self.new.summary ≡ self.old.summary }
-        ensures fault { IfErr result IsWriteFault }
-        ensures failures { W.failures output.new ≡ W.failures output.old + failed_write result }
-    {
-        let _nested: NestedTypes = None;
-        let change = self.changes.made_by(mark, taken)?;
-        let line = self.line(Saying::Marked {
-            process,
-            mark: *mark,
-            change,
-        });
-        self.canvas.draw(line, output)
     }
 
     /// Draws the last line, and writes what is held back; answers the heights of the bands.

@@ -1,5 +1,6 @@
 //! What the lines of a run tell of its record. Each law is a function with nothing to do, whose contract is the law.
 ghost use Rattle.drawer.specs.Chains.{ChainIsTheHistory};
+ghost use Rattle.drawer.specs.Changes.{LinesSayTheHistory, StoreIsTheHistorys};
 ghost use Rattle.drawer.specs.InLine.{WhoEntersIsFirst, WhoIsInsideIsDrawnFirst, WhoIsInsideIsFirst};
 ghost use Rattle.drawer.specs.Insides.{OneIsInside};
 
@@ -8,6 +9,13 @@ use companions::stages_are_the_records;
 /// Where lines say the marks of a record, the k-th knot is the k-th command of the history.
 pub fn chain_is_the_history()
     ensures { ChainIsTheHistory }
+{}
+
+/// The line of each mark of a run says what its command changes in the one-thread store after the commands that the history
+/// has before it. The store that goes along with the marks is the one after the history.
+pub fn changes_are_the_historys()
+    ensures lines { LinesSayTheHistory }
+    ensures store { StoreIsTheHistorys }
 {}
 
 /// Where lines say the marks of a record, at most one process is inside by the stages that they tell. So of the bars that

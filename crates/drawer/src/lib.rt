@@ -8,7 +8,6 @@
 //! ```
 #![tactic(auto)]
 
-mod changes;
 mod drawing;
 mod engines;
 mod laws_of_pictures;
@@ -17,4 +16,6 @@ mod nowhere;
 pub use companions::Reads;
 pub use engines::{draw, draw_svg};
 pub use files::progress;
-pub use laws_of_pictures::{chain_is_the_history, one_is_inside, who_enters_is_first_in_line};
+pub use laws_of_pictures::{
+    chain_is_the_history, changes_are_the_historys, one_is_inside, who_enters_is_first_in_line,
+};

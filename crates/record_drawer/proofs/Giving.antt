@@ -4,41 +4,28 @@ use Rattle.plain_store.specs.{Setup}
 use Rattle.record.specs.{Mark, Past}
 use Rattle.record_file.specs.{Said}
 use Rattle.companions.specs.picture.{Item, sayings}
-use Rattle.companions.specs.picture.columns.{OverlappedRead, marks_in, marks_said}
+use Rattle.companions.specs.picture.columns.run_lines.{marked_text}
+use Rattle.companions.specs.picture.columns.{judged_text, marks_in, marks_said}
 use Rattle.companions.specs.picture.declared.reads.Reads.{Reads as Mode}
-use Rattle.companions.specs.{Says, SaysEnd, given, marks_given, marks_says, overlapped_by, says_text, texts_given, waiting}
-use Rattle.companions.proofs.Giving.{marks_append, marks_of_items, marks_of_lines, texts_append, texts_of_lines}
-use Rattle.record_drawer.specs.{bad_process, behind, given_at_end, given_by, given_of, judged_line, lines_of_past, mark_line, marks_back, reads_since, record_gives, record_lines, say_judged, says_judged, says_marks, source_of, taken_by, told_lines}
-
--- marks, and then more
-pub behind_append : (p : ℕ) (marks more : List Mark) (before : List (ℕ × Mark)) → behind p (marks ++ more) before ≡ behind p more (behind p marks before)
-behind_append p [] more before = refl
-behind_append p (m ∷ marks) more before = behind_append p marks more ((p, m) ∷ before)
-
-pub says_append : (s : Setup) (p : ℕ) (before : List (ℕ × Mark)) (marks more : List Mark) → says_marks s p before (marks ++ more) ≡ says_marks s p before marks ++ says_marks s p (behind p marks before) more
-says_append s p before [] more = refl
-says_append s p before (m ∷ marks) more = ap (λ l. says_marks s p before (m ∷ []) ++ l) (says_append s p ((p, m) ∷ before) marks more)
-
--- reads wait as long as there is no mark, and so no line
-pub waiting_says : (s : Setup) (p : ℕ) (before : List (ℕ × Mark)) (marks : List Mark) (reads : List OverlappedRead) → waiting (says_marks s p before marks) reads ≡ waiting marks reads
-waiting_says s p before [] reads = refl
-waiting_says s p before (m ∷ marks) reads = refl
+use Rattle.companions.specs.{Says, SaysEnd, given, given_of, marks_back, marks_given, marks_says, overlapped_by, says_marks, says_text, taken_by, texts_given}
+use Rattle.companions.proofs.Giving.{marks_append, marks_of_items, marks_of_lines, marks_of_says, texts_append, texts_of_lines}
+use Rattle.record_drawer.specs.{bad_process, given_at_end, given_by, lines_of_past, reads_since, record_gives, record_lines, say_judged, says_judged, source_of, told_lines}
 
 -- The lines of what it gives.
 
-texts_of_marks : (s : Setup) (at p : ℕ) (before : List (ℕ × Mark)) (marks : List Mark) → map (says_text at) (says_marks s p before marks) ≡ map (mark_line at p) marks
+texts_of_marks : (s : Setup) (at p : ℕ) (before : List (ℕ × Mark)) (marks : List Mark) → map (says_text at) (says_marks s p before marks) ≡ map (marked_text at p) marks
 texts_of_marks s at p before [] = refl
-texts_of_marks s at p before (m ∷ marks) = ap (λ l. mark_line at p m ∷ l) (texts_of_marks s at p ((p, m) ∷ before) marks)
+texts_of_marks s at p before (m ∷ marks) = ap (λ l. marked_text at p m ∷ l) (texts_of_marks s at p ((p, m) ∷ before) marks)
 
 texts_of_past : (mode : Mode) (s : Setup) (n : ℕ) (past : Past) → texts_given (given_by mode s n past) ≡ lines_of_past past
 texts_of_past mode s n [] = refl
 texts_of_past mode s n (e ∷ past) =
-    texts_append (given_by mode s n past) (given_of mode s n past e)
+    texts_append (given_by mode s n past) (given_of mode s n past (reads_since s past) e)
     ∙ (λ i. texts_of_past mode s n past i ++ (texts_of_lines mode n (length past) (reads_since s past ++ overlapped_by s past e) (says_marks s e.process (marks_back past) e.marks) ∙ texts_of_marks s (length past) e.process (marks_back past) e.marks) i)
 
-texts_of_told : (at : ℕ) (bad : Option ℕ) (lines : List (List ℕ)) (last : Says) → map (says_text at) (say_judged bad lines ++ last ∷ []) ≡ map judged_line lines ++ says_text at last ∷ []
+texts_of_told : (at : ℕ) (bad : Option ℕ) (lines : List (List ℕ)) (last : Says) → map (says_text at) (say_judged bad lines ++ last ∷ []) ≡ map judged_text lines ++ says_text at last ∷ []
 texts_of_told at bad [] last = refl
-texts_of_told at bad (line ∷ lines) last = ap (λ l. judged_line line ∷ l) (texts_of_told at bad lines last)
+texts_of_told at bad (line ∷ lines) last = ap (λ l. judged_text line ∷ l) (texts_of_told at bad lines last)
 
 pub texts_of_record : (mode : Mode) (said : Said) (told : List ℕ) → texts_given (record_gives mode said told) ≡ record_lines said told
 texts_of_record mode said told =
@@ -50,15 +37,11 @@ texts_of_record mode said told =
 
 -- The marks.
 
-marks_of_marks : (s : Setup) (p : ℕ) (before : List (ℕ × Mark)) (marks : List Mark) → flat_map marks_says (says_marks s p before marks) ≡ map {B = ℕ × Mark} (λ (mark : Mark). (p, mark)) marks
-marks_of_marks s p before [] = refl
-marks_of_marks s p before (m ∷ marks) = ap (λ l. (p, m) ∷ l) (marks_of_marks s p ((p, m) ∷ before) marks)
-
 marks_of_past : (mode : Mode) (s : Setup) (n : ℕ) (past : Past) → marks_given (given_by mode s n past) ≡ marks_in past
 marks_of_past mode s n [] = refl
 marks_of_past mode s n (e ∷ past) =
-    marks_append (given_by mode s n past) (given_of mode s n past e)
-    ∙ (λ i. marks_of_past mode s n past i ++ (marks_of_lines mode n (length past) (reads_since s past ++ overlapped_by s past e) (says_marks s e.process (marks_back past) e.marks) ∙ marks_of_marks s e.process (marks_back past) e.marks) i)
+    marks_append (given_by mode s n past) (given_of mode s n past (reads_since s past) e)
+    ∙ (λ i. marks_of_past mode s n past i ++ (marks_of_lines mode n (length past) (reads_since s past ++ overlapped_by s past e) (says_marks s e.process (marks_back past) e.marks) ∙ marks_of_says s e.process (marks_back past) e.marks) i)
 
 marks_of_told : (bad : Option ℕ) (lines : List (List ℕ)) (entries taken : ℕ) → flat_map marks_says (say_judged bad lines ++ SaysEnd entries taken 0 ∷ []) ≡ []
 marks_of_told bad [] entries taken = refl

@@ -1,30 +1,45 @@
 -- A drawing hears an entry.
-use Rattle.std.proofs.Common.{◌≡◌, ◌+◌, ◌-◌, ℕ, List, ◌∷◌, ◌++◌, length, Option, sym, subst, arith}
+use Rattle.std.proofs.Common.{◌≡◌, ◌+◌, ◌-◌, ℕ, false, List, ◌∷◌, ◌++◌, is_some, length, Option, None, Some, true≢false, subst, sym, ◌∙◌, arith}
 use Rattle.plain_store.specs.{Setup}
 use Rattle.record.specs.{Entry, Mark, Past}
-use Rattle.companions.specs.picture.columns.{OverlappedRead}
 use Rattle.companions.specs.picture.declared.reads.Reads.{Reads as Mode}
-use Rattle.companions.specs.{Canvas, DrawsLines, DrawsOn, Kept, Overhears, kept, lines_given, overlapped_by}
-use Rattle.record_drawer.proofs.Giving.{waiting_says}
-use Rattle.record_drawer.specs.{HasTold, Recalls, RecordDrawing, behind, given_of, marks_back, reads_since, says_marks}
+use Rattle.companions.specs.picture.declared.reads.Reads.TheVariants.{Hidden, Shown}
+use Rattle.companions.specs.{DrawsMarks, DrawsOn, IsAfterMarks, Overhears, OverlapsHeard, TakenStore, Watches, given_of, kept, marks_back, overlapped_by}
+use Rattle.companions.specs.read_law.{WatchState}
+use Rattle.companions.proofs.Drawn.{draws_entry}
+use Rattle.record_drawer.specs.{HasHeardAccess, Recalls, RecordDrawing, reads_since}
 
--- these marks of an entry were drawn, once its access was heard
-abbrev pub DrawsMarks : (heard : Canvas) (d d' : RecordDrawing) (a b : Option (List ℕ)) → ℕ → List Mark → Setup → Past → Type 0
-DrawsMarks heard d d' a b p marks s past = DrawsLines heard d'.canvas a b (d.last - 1) d.entries (says_marks s p (marks_back past) marks) × HasTold s (behind p marks (marks_back past)) d'.changes d'.taken
+-- where no reads are shown, nothing is heard
+pub heard_hidden : (mode : Mode) (s : Setup) (past : Past) (e : Entry) (d : RecordDrawing) → is_some d.canvas.overlaps ≡ false → Recalls mode s past d → HasHeardAccess mode s past e d
+heard_hidden mode s past e d hidden recalls = record {
+  watches = still_watches mode d.canvas.overlaps d.watch.watch hidden recalls.waits recalls.watches;
+  waits = still_waits mode d.canvas.overlaps hidden recalls.waits;
+}
+  where
+    still_watches : (mode : Mode) (overlaps : Option OverlapsHeard) (watch : Option WatchState) → is_some overlaps ≡ false → Overhears mode s past (reads_since s past) overlaps → Watches mode s past watch → Watches mode s (e ∷ past) watch
+    still_watches Hidden None None hidden waits watches = tt
+    still_watches Hidden None (Some watch) hidden waits watches = absurd watches
+    still_watches Shown None watch hidden waits watches = absurd waits
+    still_watches mode (Some overlaps) watch hidden waits watches = absurd (true≢false hidden)
 
--- so the drawing goes on
-pub entry_heard : (mode : Mode) (s : Setup) (past : Past) (e : Entry) (d d' : RecordDrawing) (heard : Canvas) (a b : Option (List ℕ)) (p : ℕ) (marks : List Mark) → e.process ≡ p → e.marks ≡ marks → Recalls mode s past d →
-    kept heard ≡ kept d.canvas → Overhears mode s (e ∷ past) (reads_since s past ++ overlapped_by s past e) heard.overlaps → DrawsMarks heard d d' a b p marks s past → d'.entries ≡ d.entries + 1 →
-    DrawsOn (kept d.canvas) (kept d'.canvas) a b (given_of mode s (d.last - 1) past e) × Recalls mode s (e ∷ past) d'
-entry_heard mode s past e d d' heard a b p marks process are recalls same waits drew entries =
-    let reads : List OverlappedRead = reads_since s past ++ overlapped_by s past e in
-    let its : DrawsMarks heard d d' a b e.process e.marks s past = subst (λ (l : List Mark). DrawsMarks heard d d' a b e.process l s past) (sym are) (subst (λ (q : ℕ). DrawsMarks heard d d' a b q marks s past) (sym process) drew) in
-    let drawn = its.0 mode s (e ∷ past) reads waits in (
-      subst (λ (k : Kept). DrawsOn k (kept d'.canvas) a b (given_of mode s (d.last - 1) past e)) same
-          (subst (λ (n : ℕ). DrawsOn (kept heard) (kept d'.canvas) a b (lines_given mode (d.last - 1) n reads (says_marks s e.process (marks_back past) e.marks))) recalls.entries drawn.0),
+    still_waits : (mode : Mode) (overlaps : Option OverlapsHeard) → is_some overlaps ≡ false → Overhears mode s past (reads_since s past) overlaps → Overhears mode s (e ∷ past) (reads_since s past ++ overlapped_by s past e) overlaps
+    still_waits Hidden None hidden waits = tt
+    still_waits Shown None hidden waits = absurd waits
+    still_waits mode (Some overlaps) hidden waits = absurd (true≢false hidden)
+
+-- an entry was heard and drawn
+pub entry_heard : (mode : Mode) (s : Setup) (past : Past) (e : Entry) (d heard d' : RecordDrawing) (a b : Option (List ℕ)) (source at p : ℕ) (marks : List Mark) → e.process ≡ p → e.marks ≡ marks → Recalls mode s past d →
+    kept heard.canvas ≡ kept d.canvas → HasHeardAccess mode s past e heard → heard.store ≡ d.store → d'.watch.watch ≡ heard.watch.watch →
+    source ≡ d.last - 1 → at ≡ d.entries → DrawsMarks heard.canvas d'.canvas heard.store d'.store a b source at p marks → d'.entries ≡ d.entries + 1 →
+    DrawsOn (kept d.canvas) (kept d'.canvas) a b (given_of mode s (d.last - 1) past (reads_since s past) e) × Recalls mode s (e ∷ past) d'
+entry_heard mode s past e d heard d' a b source at p marks process are recalls same has store watch line number drew entries =
+    let drawn = draws_entry mode s past (reads_since s past) e d.canvas heard.canvas d'.canvas heard.store d'.store a b source at p marks process are (number ∙ recalls.entries) same
+    (subst (λ (t : TakenStore). IsAfterMarks s (marks_back past) t) (sym store) recalls.store) has.waits drew in (
+      subst (λ (n : ℕ). DrawsOn (kept d.canvas) (kept d'.canvas) a b (given_of mode s n past (reads_since s past) e)) line drawn.0,
       record {
         entries = let n : d.entries ≡ length past = recalls.entries in omega (arith, entries, n);
-        told = its.1;
-        waits = subst (λ (l : List OverlappedRead). Overhears mode s (e ∷ past) l d'.canvas.overlaps) (waiting_says s e.process (marks_back past) e.marks reads) drawn.1;
+        store = drawn.1;
+        watches = subst (λ (w : Option WatchState). Watches mode s (e ∷ past) w) (sym watch) has.watches;
+        waits = drawn.2;
       },
     )

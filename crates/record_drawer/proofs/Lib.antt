@@ -4,13 +4,9 @@ pub use Rattle.record_file.proofs as record_file
 pub use Rattle.companions.proofs.read_law as read_law
 -- What items are told
 mod Giving
-mod Takings
 mod Hearing
 mod JudgedLines
 mod Lanes
--- A source that was looked at, and what files it tells of
-pub mod Opening
-mod FilesTaken
 -- A file, line by line
 mod Lines
 mod Sheeted

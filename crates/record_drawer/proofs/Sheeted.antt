@@ -7,8 +7,8 @@ use Rattle.companions.specs.picture.{Form, page_front, page_names}
 use Rattle.companions.specs.picture.declared.page.Form.TheVariants as form
 use Rattle.companions.specs.picture.declared.reads.Reads.{Reads as Mode}
 use Rattle.companions.specs.picture.markup.{lines_in, opens_in}
-use Rattle.companions.specs.{DrawsLast, DrawsOn, DrawsRest, Kept, SaysEnd, Writes, kept, kept_at_first, lines_given, plan_of}
-use Rattle.record_drawer.specs.{DrawsAt, DrawsPast, EndsAt, Heads, IsDrawn, Recalls, RecordDrawing, given_at_end, given_by, given_of, listed, reads_since, says_judged, source_of}
+use Rattle.companions.specs.{DrawsLast, DrawsOn, DrawsRest, Kept, SaysEnd, Writes, given_of, kept, kept_at_first, lines_given, plan_of}
+use Rattle.record_drawer.specs.{DrawsAt, DrawsPast, EndsAt, Heads, IsDrawn, Recalls, RecordDrawing, given_at_end, given_by, listed, reads_since, says_judged, source_of}
 use Rattle.companions.proofs.Drawn.{draws_bands, draws_on_both, draws_on_none}
 
 module _ (reads : Mode) (form : Form) (s : Setup) where
@@ -17,14 +17,14 @@ module _ (reads : Mode) (form : Form) (s : Setup) where
   source d is = omega (arith, is)
 
   -- one entry more
-  pub drawn_entry : (past : Past) (e : Entry) (d d' : RecordDrawing) (old mid new : Option (List ℕ)) → IsDrawn reads form s past d old mid → DrawsOn (kept d.canvas) (kept d'.canvas) mid new (given_of reads s (d.last - 1) past e) × Recalls reads s (e ∷ past) d' → d'.last ≡ d.last → IsDrawn reads form s (e ∷ past) d' old new
+  pub drawn_entry : (past : Past) (e : Entry) (d d' : RecordDrawing) (old mid new : Option (List ℕ)) → IsDrawn reads form s past d old mid → DrawsOn (kept d.canvas) (kept d'.canvas) mid new (given_of reads s (d.last - 1) past (reads_since s past) e) × Recalls reads s (e ∷ past) d' → d'.last ≡ d.last → IsDrawn reads form s (e ∷ past) d' old new
   drawn_entry past e d d' old mid new drawn on last = record {
     last = last ∙ drawn.last;
     recalls = on.1;
     mid = drawn.mid;
     heads = drawn.heads;
-    draws = draws_on_both (kept_at_first (plan_of form s)) (kept d.canvas) (kept d'.canvas) drawn.mid mid new (given_by reads s (source_of s) past) (given_of reads s (source_of s) past e) drawn.draws
-        (subst (λ n. DrawsOn (kept d.canvas) (kept d'.canvas) mid new (given_of reads s n past e)) (source d drawn.last) on.0);
+    draws = draws_on_both (kept_at_first (plan_of form s)) (kept d.canvas) (kept d'.canvas) drawn.mid mid new (given_by reads s (source_of s) past) (given_of reads s (source_of s) past (reads_since s past) e) drawn.draws
+        (subst (λ n. DrawsOn (kept d.canvas) (kept d'.canvas) mid new (given_of reads s n past (reads_since s past) e)) (source d drawn.last) on.0);
   }
 
   -- one without a mark, of which nothing is drawn
@@ -54,7 +54,7 @@ module _ (reads : Mode) (form : Form) (s : Setup) where
   drawn_begun (Some d) d' past old mid new none drawn begun = absurd (true≢false none)
 
   -- all
-  pub drawn_end : (past : Past) (d : RecordDrawing) (told : List ℕ) (old mid new : Option (List ℕ)) (height : ℕ) → IsDrawn reads form s past d old mid → DrawsLast d.canvas mid new d.last d.entries (says_judged told ++ SaysEnd d.entries d.taken 0 ∷ []) height → EndsAt reads form s past told height old new
+  pub drawn_end : (past : Past) (d : RecordDrawing) (told : List ℕ) (old mid new : Option (List ℕ)) (height : ℕ) → IsDrawn reads form s past d old mid → DrawsLast d.canvas mid new d.last d.entries (says_judged told ++ SaysEnd d.entries d.store.taken 0 ∷ []) height → EndsAt reads form s past told height old new
   drawn_end past d told old mid new height drawn rest = record {
     mid = drawn.mid;
     heads = drawn.heads;
@@ -62,8 +62,8 @@ module _ (reads : Mode) (form : Form) (s : Setup) where
         (subst (λ gives. DrawsRest (kept d.canvas) mid new gives height) same (rest reads s past (reads_since s past) drawn.recalls.waits));
   }
     where
-      same : lines_given reads d.last d.entries (reads_since s past) (says_judged told ++ SaysEnd d.entries d.taken 0 ∷ []) ≡ given_at_end reads s (source_of s) past told
-      same = λ i. lines_given reads (drawn.last i) (drawn.recalls.entries i) (reads_since s past) (says_judged told ++ SaysEnd (drawn.recalls.entries i) (drawn.recalls.told.taken_is i) 0 ∷ [])
+      same : lines_given reads d.last d.entries (reads_since s past) (says_judged told ++ SaysEnd d.entries d.store.taken 0 ∷ []) ≡ given_at_end reads s (source_of s) past told
+      same = λ i. lines_given reads (drawn.last i) (drawn.recalls.entries i) (reads_since s past) (says_judged told ++ SaysEnd (drawn.recalls.entries i) (drawn.recalls.store.taken i) 0 ∷ [])
 
 -- a page's front
 pub heads_page : (reads : Mode) (s : Setup) (old new : Option (List ℕ)) (head : List ℕ) → head ≡ page_front s (listed s) reads → lines_in head ≡ [] → opens_in head (Some []) ≡ Some page_names → Writes old new head → Heads reads form.Page s old new

@@ -2,10 +2,11 @@
 use Rattle.std.specs.Prelude.{ℕ, Result}
 use Rattle.files.specs.Engines.{Streams}
 use Rattle.files.specs.{Fault}
-use Rattle.judge.specs.Judgements.{TellsReasons}
-use Rattle.judge.specs.KeepingLaws.{KeepsLaws}
-use Rattle.judge.specs.AnyExplanations.{AnyTellsReasons}
-use Rattle.judge.specs.AnyKeepingLaws.{AnyKeepsLaws}
+use Rattle.judge.specs.auditor.{IsVerdict}
+use Rattle.judge.specs.any_lock.{IsVerdict as IsAnyLockVerdict, law_text as any_lock_law}
+use Rattle.judge.specs.read_law.declared.verdicts.Verdict.TheVariants.{Good}
+use Rattle.judge.specs.read_law.{law_text}
+use Rattle.judge.specs.{AreAnyLockReasons, AreReasons, TellsReasons}
 use Rattle.companions.specs.picture.{Form}
 use Rattle.companions.specs.picture.declared.reads.Reads.{Reads as Mode}
 use Rattle.record_drawer.specs.Sheets.{DrewJudged}
@@ -14,5 +15,5 @@ use Rattle.record_drawer.specs.declared.engines.JudgedBy.TheVariants.{ThisLock, 
 
 -- How drawing a record ends that is judged by this judge: each has laws that entries keep, and tells a verdict with its reasons.
 abbrev pub DrewJudgedBy : JudgedBy → Mode → Form → Result ℕ Fault → Streams → Streams → Type 0
-DrewJudgedBy ThisLock = DrewJudged KeepsLaws TellsReasons
-DrewJudgedBy AnyLock = DrewJudged AnyKeepsLaws AnyTellsReasons
+DrewJudgedBy ThisLock = DrewJudged (λ s entries. IsVerdict s entries Good) (TellsReasons law_text IsVerdict AreReasons)
+DrewJudgedBy AnyLock = DrewJudged (λ s entries. IsAnyLockVerdict s entries Good) (TellsReasons any_lock_law IsAnyLockVerdict AreAnyLockReasons)

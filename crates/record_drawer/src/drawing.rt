@@ -1,20 +1,17 @@
 //! The entries of a record told line by line to a picture, whose bands are written as they are full.
-ghost use Rattle.std.specs.Prelude.{◌≡◌, ◌+◌, ◌-◌, ◌^◌, ◌<◌, ℕ, List, [], ◌∷◌, ◌++◌, is_some, not, IfErr, IfOk, Ok, OnOk};
+ghost use Rattle.std.specs.Prelude.{◌≡◌, ◌+◌, ◌-◌, ◌^◌, ◌<◌, ℕ, [], ◌∷◌, ◌++◌, is_some, not, IfErr, IfOk, Ok, OnOk};
 ghost use Rattle.plain_store.specs.{checked};
 ghost use Rattle.plain_store.specs.declared.setups.Setup.{Setup as Given};
 ghost use Rattle.record.specs.{Entry as Noted, Past};
-ghost use Rattle.record.specs.declared.marks.Mark.{Mark as Told};
 ghost use Rattle.record_file.specs.{step_entry};
 ghost use Rattle.companions.specs.picture.declared.reads.Reads.{Reads as Mode};
-ghost use Rattle.companions.specs.picture.columns.{places_marked};
-ghost use Rattle.companions.specs.{DrawsLast, DrawsLines, DrawsOn, IsWriteFault, SaysEnd, SaysJudged, failed_write, kept, kept_at_first, plan_of, says_of};
-ghost use Rattle.record_drawer.specs.Drawings.{HasTold, Recalls};
-ghost use Rattle.record_drawer.specs.Items.{behind, given_of, says_judged, says_marks, source_of};
+ghost use Rattle.companions.specs.{DrawsLast, DrawsLines, DrawsOn, IsWriteFault, SaysEnd, SaysJudged, failed_write, given_of, kept, kept_at_first, plan_of, says_of};
+ghost use Rattle.record_drawer.specs.Drawings.{HasHeardAccess, Recalls};
+ghost use Rattle.record_drawer.specs.Items.{reads_since, says_judged, source_of};
 
-use crate::changes::RecordedChanges;
 use crate::judged::{bad_process, lane_of};
 use bstr::ByteSlice;
-use companions::{Canvas, Form, Reads, RunLine, Saying};
+use companions::{Canvas, Form, ReadWatch, Reads, RunLine, Saying, TakenStore};
 use files::{Fault, Sink};
 use plain_store::{NestedTypes, Setup};
 use record::{Access, Entry, Mark};
@@ -25,10 +22,10 @@ use std::alloc::{AllocError, Global};
 pub(crate) struct RecordDrawing {
     alloc: Global,
     canvas: Canvas,
-    changes: RecordedChanges,
-    /// How many entries were heard, and how many commands they take.
+    watch: ReadWatch,
+    store: TakenStore,
+    /// How many entries were heard.
     entries: u64,
-    taken: u64,
     /// The line of the page's list that stands for the end; the one before it stands for the entries.
     last: u64,
 }
@@ -52,14 +49,15 @@ impl RecordDrawing {
         ensures fault { IfErr result IsWriteFault }
         ensures failures { failed_write result ≡ 0 }
     {
-        let changes = RecordedChanges::new(alloc, setup)?;
-        let canvas = Canvas::new(alloc, setup, &changes.store, form, reads)?;
+        let store = TakenStore::new(alloc, setup)?;
+        let watch = ReadWatch::new(alloc, setup, reads)?;
+        let canvas = Canvas::new(alloc, setup, &store, form, reads)?;
         Ok(RecordDrawing {
             alloc,
             canvas,
-            changes,
+            watch,
+            store,
             entries: 0,
-            taken: 0,
             last: setup.opening.len() as u64 + HEADINGS + 2,
         })
     }
@@ -76,7 +74,7 @@ impl RecordDrawing {
     pub fn hear<W: Sink>(&mut self, entry: &Entry, output: &mut W) -> Result<(), Fault>
         requires writes { W.failures output.old < 2 ^ 64 - 1 }
         requires few { self.old.entries < 2 ^ 64 - 1 }
-        ensures ok { OnOk result ((mode : Mode) (s : Given) (past : Past) → Recalls mode s past self.old → DrawsOn (kept self.old.canvas) (kept self.new.canvas) (W.taken output.old) (W.taken output.new) (given_of mode s (self.old.last - 1) past entry.now) × Recalls mode s (entry.now ∷ past) self.new) }
+        ensures ok { OnOk result ((mode : Mode) (s : Given) (past : Past) → Recalls mode s past self.old → DrawsOn (kept self.old.canvas) (kept self.new.canvas) (W.taken output.old) (W.taken output.new) (given_of mode s (self.old.last - 1) past (reads_since s past) entry.now) × Recalls mode s (entry.now ∷ past) self.new) }
         ensures last { self.new.last ≡ self.old.last }
         ensures entries { OnOk result (self.new.entries ≡ self.old.entries + 1) }
         ensures fault { IfErr result IsWriteFault }
@@ -95,17 +93,42 @@ impl RecordDrawing {
     ) -> Result<(), Fault>
         requires writes { W.failures output.old < 2 ^ 64 - 1 }
         requires few { self.old.entries < 2 ^ 64 - 1 }
-        ensures ok { OnOk result ((mode : Mode) (s : Given) (past : Past) (e : Noted) → e.process ≡ process → e.access ≡ access → e.marks ≡ marks.now → Recalls mode s past self.old → DrawsOn (kept self.old.canvas) (kept self.new.canvas) (W.taken output.old) (W.taken output.new) (given_of mode s (self.old.last - 1) past e) × Recalls mode s (e ∷ past) self.new) }
+        ensures ok { OnOk result ((mode : Mode) (s : Given) (past : Past) (e : Noted) → e.process ≡ process → e.access ≡ access → e.marks ≡ marks.now → Recalls mode s past self.old → DrawsOn (kept self.old.canvas) (kept self.new.canvas) (W.taken output.old) (W.taken output.new) (given_of mode s (self.old.last - 1) past (reads_since s past) e) × Recalls mode s (e ∷ past) self.new) }
         ensures last { self.new.last ≡ self.old.last }
         ensures entries { OnOk result (self.new.entries ≡ self.old.entries + 1) }
         ensures fault { IfErr result IsWriteFault }
         ensures failures { W.failures output.new ≡ W.failures output.old + failed_write result }
     {
         let _nested: NestedTypes = None;
-        self.canvas.hear(self.entries, access)?;
-        self.draw_marks(process, marks, output)?;
+        self.hear_access(access)?;
+        let source = self.last.saturating_sub(1);
+        self.canvas.draw_marks(
+            &mut self.store,
+            source,
+            self.entries,
+            process,
+            marks,
+            output,
+        )?;
         self.entries += 1;
         Ok(())
+    }
+
+    /// Hears the access of the next entry, if reads are shown.
+    #[inline(always)]
+    fn hear_access(&mut self, access: Option<Access>) -> Result<(), AllocError>
+        ensures kept { kept self.new.canvas ≡ kept self.old.canvas }
+        ensures heard { OnOk result ((mode : Mode) (s : Given) (past : Past) (e : Noted) → e.access ≡ access →
+            Recalls mode s past self.old → HasHeardAccess mode s past e self.new) }
+        ensures store { self.new.store ≡ self.old.store }
+        ensures last { self.new.last ≡ self.old.last }
+        ensures entries { self.new.entries ≡ self.old.entries }
+    {
+        if !self.canvas.shows_reads() {
+            return Ok(());
+        }
+        let overlapped = self.watch.hear(access);
+        self.canvas.hear(self.entries, access, overlapped)
     }
 
     /// The next entry, if it is one of this access and no mark: nothing is drawn of it.
@@ -117,59 +140,15 @@ impl RecordDrawing {
         ensures last { self.new.last ≡ self.old.last }
         ensures entries { OnOk result (self.new.entries ≡ self.old.entries + 1) }
     {
-        self.canvas.hear(self.entries, Some(access))?;
+        self.hear_access(Some(access))?;
         self.entries += 1;
         Ok(())
-    }
-
-    /// Draws marks of a process, in their order.
-    fn draw_marks<W: Sink>(
-        &mut self,
-        process: u8,
-        marks: &[Mark],
-        output: &mut W,
-    ) -> Result<(), Fault>
-        requires { W.failures output.old < 2 ^ 64 - 1 }
-        ensures ok { OnOk result ((s : Given) (before : List (ℕ × Told)) → HasTold s before self.old.changes self.old.taken → DrawsLines self.old.canvas self.new.canvas (W.taken output.old) (W.taken output.new) (self.old.last - 1) self.old.entries (says_marks s process before marks.now) × HasTold s (behind process marks.now before) self.new.changes self.new.taken) }
-        ensures last { self.new.last ≡ self.old.last }
-        ensures entries { self.new.entries ≡ self.old.entries }
-        ensures fault { IfErr result IsWriteFault }
-        ensures failures { W.failures output.new ≡ W.failures output.old + failed_write result }
-    {
-        for mark in marks {
-            self.draw_mark(process, mark, output)?;
-        }
-        Ok(())
-    }
-
-    /// Draws a mark of a process.
-    fn draw_mark<W: Sink>(&mut self, process: u8, mark: &Mark, output: &mut W) -> Result<(), Fault>
-        requires { W.failures output.old < 2 ^ 64 - 1 }
-        ensures ok { OnOk result ((s : Given) (before : List (ℕ × Told)) → HasTold s before self.old.changes self.old.taken → DrawsLines self.old.canvas self.new.canvas (W.taken output.old) (W.taken output.new) (self.old.last - 1) self.old.entries (says_marks s process before (mark.now ∷ [])) × HasTold s ((process, mark.now) ∷ before) self.new.changes self.new.taken) }
-        ensures last { self.new.last ≡ self.old.last }
-        ensures entries { self.new.entries ≡ self.old.entries }
-        ensures fault { IfErr result IsWriteFault }
-        ensures failures { W.failures output.new ≡ W.failures output.old + failed_write result }
-    {
-        let _nested: NestedTypes = None;
-        let change = self.changes.made_by(process, mark)?;
-        self.taken = taken_with(self.taken, mark);
-        let line = RunLine {
-            source: self.last.saturating_sub(1),
-            at: self.entries,
-            saying: Saying::Marked {
-                process,
-                mark: *mark,
-                change,
-            },
-        };
-        self.canvas.draw(line, output)
     }
 
     /// Draws what a judge tells and the last line, and writes what is held back; answers the heights of the bands.
     pub fn end<W: Sink>(&mut self, told: &[u8], output: &mut W) -> Result<u64, Fault>
         requires { W.failures output.old < 2 ^ 64 - 1 }
-        ensures ok { IfOk result (DrawsLast self.old.canvas (W.taken output.old) (W.taken output.new) self.old.last self.old.entries (says_judged told.now ++ SaysEnd self.old.entries self.old.taken 0 ∷ [])) }
+        ensures ok { IfOk result (DrawsLast self.old.canvas (W.taken output.old) (W.taken output.new) self.old.last self.old.entries (says_judged told.now ++ SaysEnd self.old.entries self.old.store.taken 0 ∷ [])) }
         ensures fault { IfErr result IsWriteFault }
         ensures failures { W.failures output.new ≡ W.failures output.old + failed_write result }
     {
@@ -177,7 +156,7 @@ impl RecordDrawing {
         draw_judged(self.alloc, &mut self.canvas, source, at, told, output)?;
         let saying = Saying::Ended {
             events: at,
-            taken: self.taken,
+            taken: self.store.taken(),
             refused: 0,
         };
         self.canvas.end(RunLine { source, at, saying }, output)
@@ -213,14 +192,4 @@ fn judged_saying(alloc: Global, process: Option<u8>, line: &[u8]) -> Result<Sayi
     let mut words = Vec::new(alloc);
     words.extend_from_slice(line)?;
     Ok(Saying::Judged { process, words })
-}
-
-/// How many commands are taken after a mark.
-fn taken_with(taken: u64, mark: &Mark) -> u64
-    ensures { result ≡ places_marked taken mark.now }
-{
-    match mark {
-        Mark::Taken(..) => taken.saturating_add(1),
-        _ => taken,
-    }
 }

@@ -19,7 +19,7 @@ use crate::sheet::{DrawnEntry, Sheet};
 use companions::{FIRST_BAND, Form, Reads, around_picture, end_of_page, write_markup};
 use files::source_lines::Lines;
 use files::{Fault, FaultKind, Sink, Source, write_all};
-use judge::{Explaining, ExplainingAnyLock, Judging, Telling, Trial};
+use judge::{Explaining, Judge, Judging, Telling, ThisLockJudge, Trial};
 use std::alloc::{AllocError, Global};
 
 /// Which judge hears a record while it is drawn: the one of this project's lock, or the one of any lock.
@@ -67,8 +67,10 @@ pub fn draw_judged_record<R: Source, W: Sink>(
         (streams ⟦<R as Source>⟧ ⟦<W as Sink>⟧ input.new output.new) }
 {
     match by {
-        JudgedBy::ThisLock => judged_page::<Explaining, R, W>(alloc, reads, input, output),
-        JudgedBy::AnyLock => judged_page::<ExplainingAnyLock, R, W>(alloc, reads, input, output),
+        JudgedBy::ThisLock => judged_page::<Explaining<ThisLockJudge>, R, W>(
+            alloc, reads, input, output,
+        ),
+        JudgedBy::AnyLock => judged_page::<Explaining<Judge>, R, W>(alloc, reads, input, output),
     }
 }
 
@@ -138,8 +140,10 @@ pub fn draw_judged_record_svg<R: Source, W: Sink>(
         (streams ⟦<R as Source>⟧ ⟦<W as Sink>⟧ input.new output.new) }
 {
     match by {
-        JudgedBy::ThisLock => judged_picture::<Explaining, R, W>(alloc, reads, input, output),
-        JudgedBy::AnyLock => judged_picture::<ExplainingAnyLock, R, W>(alloc, reads, input, output),
+        JudgedBy::ThisLock => judged_picture::<Explaining<ThisLockJudge>, R, W>(
+            alloc, reads, input, output,
+        ),
+        JudgedBy::AnyLock => judged_picture::<Explaining<Judge>, R, W>(alloc, reads, input, output),
     }
 }
 

@@ -7,17 +7,12 @@
 //! ```
 #![tactic(auto)]
 
-mod changes;
 mod drawing;
 mod engines;
 mod held;
 mod judged;
-mod opened;
 mod sheet;
-mod taken_files;
 
 pub use engines::{
     JudgedBy, draw_judged_record, draw_judged_record_svg, draw_record, draw_record_svg,
 };
-pub use opened::Opened;
-pub use taken_files::{records_are_taken_for_records, scenarios_are_not_taken_for_records};

@@ -132,7 +132,7 @@ impl Course {
                 return Ok(made);
             };
             made += told.events();
-            listener.hear(&told, self.history())?;
+            listener.hear(&told)?;
         }
         Ok(made)
     }

@@ -6,7 +6,7 @@ ghost use Rattle.course.specs.{CanCount, can_count_less};
 ghost use Rattle.drawer.specs.Drawings.{DrawsLine, GoesOnDrawing};
 
 use super::Drawing;
-use course::{Course, Listener, Stepped, Taken, Told};
+use course::{Course, Listener, Stepped, Told};
 use record::Move;
 use scenario::{Fault, Line, Sink};
 
@@ -55,13 +55,15 @@ impl<'a, W: Sink> Listener for Drawer<'a, W> {
 
     ghost Stops = { λ a s x y fault b. (b.output.ghost_name ≡ a.output.ghost_name) × IsWriteFault fault × (W.failures b.output.now ≡ W.failures a.output.now + failed_write {A = Unit {0}} (Err fault)) };
 
-    fn hear(&mut self, told: &Told, taken: &[Taken]) -> Result<(), Fault> {
-        self.drawing.tell(told, taken, self.output)
+    fn hear(&mut self, told: &Told) -> Result<(), Fault> {
+        self.drawing.tell(told, self.output)
     }
 
     fn step(&mut self, made: Stepped) -> Result<(), Fault> {
         let number = self.drawing.summary.events;
-        self.drawing.canvas.hear(number, Some(made.access))?;
+        self.drawing
+            .canvas
+            .hear(number, Some(made.access), made.overlapped)?;
         self.drawing.summary.events += 1;
         Ok(())
     }

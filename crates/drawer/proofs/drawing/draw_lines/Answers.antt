@@ -31,7 +31,7 @@ loop-line-init g c =
     let d : Drawing = c.args.drawing.now in
     let s : Setup = c.args.scenario.now.setup in
     record {
-      drawn = λ (plan : Plan) (mode : Mode) first recalls. drawn_start plan mode s c.args.scenario.now.lines.items d.source c.args.course.now d.summary d.changes.store d.canvas (g.W.Sink.taken c.args.output.now)
+      drawn = λ (plan : Plan) (mode : Mode) first recalls. drawn_start plan mode s c.args.scenario.now.lines.items d.source c.args.course.now d.summary d.store d.canvas (g.W.Sink.taken c.args.output.now)
           c.requires.setup c.requires.follows c.requires.summary first (number_of_first s d.source c.requires.source) recalls;
       source = omega (arith, c.requires.source);
       whole = refl;
@@ -52,9 +52,9 @@ loop-line-preserved g c =
     let b = g.W.Sink.taken c.loop-line.output in
     let d = g.W.Sink.taken c.draw_line.new.output in
     record {
-      drawn = λ (plan : Plan) (mode : Mode) first recalls. subst (λ n. Drawn plan mode s lines (drop (k + 1) lines) n c.draw_line.new.course now.summary now.changes.store now.canvas a d) (sym c.in_ok-draw_line.ensures.source)
+      drawn = λ (plan : Plan) (mode : Mode) first recalls. subst (λ n. Drawn plan mode s lines (drop (k + 1) lines) n c.draw_line.new.course now.summary now.store now.canvas a d) (sym c.in_ok-draw_line.ensures.source)
           (drawn_on plan mode s lines (drop (k + 1) lines) here mid.source c.loop-line.course c.draw_line.new.course (record mid { source = mid.source + 1 }) now a b d
-          (subst (λ (rest : List Line). Drawn plan mode s lines rest mid.source c.loop-line.course mid.summary mid.changes.store mid.canvas a b) next (c.loop-line.invariant.drawn plan mode first recalls))
+          (subst (λ (rest : List Line). Drawn plan mode s lines rest mid.source c.loop-line.course mid.summary mid.store mid.canvas a b) next (c.loop-line.invariant.drawn plan mode first recalls))
           c.in_ok-draw_line.ensures.ok c.in_ok-draw_line.ensures.source);
       source = omega (arith, c.in_ok-draw_line.ensures.source, c.loop-line.invariant.source);
       whole = omega (arith, c.in_ok-draw_line.ensures.failures, c.loop-line.invariant.whole);
@@ -73,9 +73,9 @@ returns-clause-ok g c = λ (plan : Plan) (mode : Mode) first recalls.
     let mid : Drawing = c.loop-line.drawing in
     let a = g.W.Sink.taken c.args.output.now in
     let b = g.W.Sink.taken c.loop-line.output in
-    let d : Drawn plan mode s lines [] mid.source c.loop-line.course mid.summary mid.changes.store mid.canvas a b =
-    subst (λ (rest : List Line). Drawn plan mode s lines rest mid.source c.loop-line.course mid.summary mid.changes.store mid.canvas a b) (drop_all c.loop-line.line-index lines (omega arith)) (c.loop-line.invariant.drawn plan mode first recalls) in
-    drawn_end plan mode s lines mid.source c.loop-line.course mid.summary (record mid.summary { taken = c.taken-drawing.result }) mid.changes.store mid.canvas a b (g.W.Sink.taken c.end.new.output) c.in_ok-height.height d
+    let d : Drawn plan mode s lines [] mid.source c.loop-line.course mid.summary mid.store mid.canvas a b =
+    subst (λ (rest : List Line). Drawn plan mode s lines rest mid.source c.loop-line.course mid.summary mid.store mid.canvas a b) (drop_all c.loop-line.line-index lines (omega arith)) (c.loop-line.invariant.drawn plan mode first recalls) in
+    drawn_end plan mode s lines mid.source c.loop-line.course mid.summary (record mid.summary { taken = c.taken-drawing.result }) mid.store mid.canvas a b (g.W.Sink.taken c.end.new.output) c.in_ok-height.height d
     (onward_numbers s lines c.loop-line.course mid.summary c.taken-drawing.result None None d.onward c.taken-drawing.ensures) c.in_ok-height.ensures.ok
 
 pub returns-clause-summary : goal.returns-clause-summary
@@ -85,8 +85,8 @@ returns-clause-summary g c = λ (plan : Plan) (mode : Mode) first recalls.
     let mid : Drawing = c.loop-line.drawing in
     let a = g.W.Sink.taken c.args.output.now in
     let b = g.W.Sink.taken c.loop-line.output in
-    let d : Drawn plan mode s lines [] mid.source c.loop-line.course mid.summary mid.changes.store mid.canvas a b =
-    subst (λ (rest : List Line). Drawn plan mode s lines rest mid.source c.loop-line.course mid.summary mid.changes.store mid.canvas a b) (drop_all c.loop-line.line-index lines (omega arith)) (c.loop-line.invariant.drawn plan mode first recalls) in
+    let d : Drawn plan mode s lines [] mid.source c.loop-line.course mid.summary mid.store mid.canvas a b =
+    subst (λ (rest : List Line). Drawn plan mode s lines rest mid.source c.loop-line.course mid.summary mid.store mid.canvas a b) (drop_all c.loop-line.line-index lines (omega arith)) (c.loop-line.invariant.drawn plan mode first recalls) in
     c.in_ok-height.ensures.summary ∙ onward_numbers s lines c.loop-line.course mid.summary c.taken-drawing.result None None d.onward c.taken-drawing.ensures
 
 pub returns-in_err-draw_line-clause-failures : goal.returns-in_err-draw_line-clause-failures

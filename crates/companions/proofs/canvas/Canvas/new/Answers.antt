@@ -5,7 +5,7 @@ use Rattle.companions.specs.{words_by}
 use Rattle.companions.proofs.canvas.Canvas.new.Goals as goal
 
 pub returns-clause-kept : goal.returns-clause-kept
-returns-clause-kept g c = λ opening.
+returns-clause-kept c = λ is.
     let page = c.in_ok-page.ensures in
-    let words = c.as_slice.ensures.value ∙ c.in_ok-opening.ensures ∙ ap (λ (store : Contents). words_by store.pairs) opening in
+    let words = c.as_slice.ensures.value ∙ c.in_ok-opening.ensures ∙ ap (λ (store : Contents). words_by store.pairs) is.store in
     λ i. record { lines = page.lines i; page = (page.page ∙ ap (λ (words : List ℕ). page_of (record { form = c.args.form; processes = c.args.setup.now.processes; opening = words }) []) words) i }

@@ -1,15 +1,19 @@
-use Rattle.std.proofs.Common.{◌≡◌, Some, subst, sym, ap, ◌∙◌}
-use Rattle.read_law.specs.{HasHeard, WatchState}
+use Rattle.std.proofs.Common.{◌≡◌, Option, Some, IfSome, subst, ◌∙◌}
+use Rattle.record.specs.{Access}
+use Rattle.companions.specs.{TellsOver}
 use Rattle.companions.proofs.Overhearing.{hears_none, hears_on}
+use Rattle.companions.proofs.Written.{ok_then_all}
 use Rattle.companions.proofs.overlaps.OverlapsHeard.hear.Goals as goal
 
 pub returns-in_default : goal.returns-in_default
-returns-in_default c = λ s past reads e is h number. hears_none s past reads e _ (is ∙ c.in_default.is) h
+returns-in_default c = λ s past reads e is h number tells. hears_none s past reads e _ (is ∙ c.in_default.is) h
 
 pub returns : goal.returns
-returns c = λ s past reads e is h number.
+returns c =
+    let kept = c.keep.ensures in
+    ok_then_all c.keep.result
+    (λ room begun ended s past reads e is h number tells.
     let some : e.access ≡ Some c.in-Some.access = is ∙ c.in-Some.is in
-    let same = c.keep.ensures.watch in
-    hears_on s past reads e _ _ c.keep.ensures.setup (c.hear.ensures.setup ∙ ap (λ (w : WatchState). w.setup) same)
-    (c.hear.ensures.heard past e some (subst (λ (w : WatchState). HasHeard w past) (sym same) h.heard))
-    (λ p below. c.in_ok-keep.ensures.begun s past reads e p some number h below) (c.in_ok-keep.ensures.room h.room) (c.in_ok-keep.ensures.ended s past reads e some number h) h
+    let over : TellsOver s past c.in-Some.access c.args.overlapped = subst (λ (o : Option Access). IfSome o (λ a. TellsOver s past a c.args.overlapped)) c.in-Some.is tells in
+    hears_on s past reads e _ _ kept.setup (λ p below. begun s past reads e p some number h below) (room h.room) (ended s past reads e some number h over) h)
+    kept.room kept.begun kept.ended

@@ -16,9 +16,7 @@ pub returns : goal.returns
 returns c = hears_first c.args.reads c.args.setup.now _ (sym c.eq.ensures ∙ c.if-eq.false) (record {
   good = c.requires;
   setup = refl;
-  watched = c.in_ok-new.ensures.setup;
-  heard = c.in_ok-new.ensures.heard;
   begun = λ p below. get_or-replicate 16 p None None below;
   room = refl;
-  ended = c.new-2.ensures.items;
+  ended = c.new.ensures.items;
 })

@@ -59,7 +59,7 @@ turns-preserved g c =
     record {
       played = λ run follows. subst (λ n. Played g.L.Listener.Hears c.args.self.now.world.setup c.args.line.now c.floor_below-floor.result run c.args.listener.now c.next.new.self n c.hear.new.self) made
           (played_on g.L.Listener.Hears c.args.self.now.world.setup c.args.line.now c.floor_below-floor.result run c.args.listener.now c.turns.listener c.turns.self c.turns.made c.turns.invariant.left (c.turns.invariant.played run follows) laws.hears_on c.next.new.listener c.next.new.self c.next.new.before
-          c.hear.new.self c.in-Some.told c.history.result.now comes c.history.ensures c.in_ok-hear.ensures.ok);
+          c.hear.new.self c.in-Some.told comes c.in_ok-hear.ensures.ok);
       left = omega (arith, less, c.in_ok-told.ensures.fewer, c.turns.invariant.left);
       count = omega (arith, less, here, c.in_ok-told.ensures.fewer, c.events-made.ensures.one, c.turns.invariant.count);
       room = λ more has. c.in_ok-hear.ensures.room (more + c.next.new.self.left)
@@ -74,7 +74,7 @@ returns-in_err-hear-clause-cut g c =
     let comes = subst (λ (o : Option Told). (run : Run) → Follows c.turns.self run → ComesAlong g.L.Listener.Hears c.turns.self.world.setup c.args.line.now c.turns.self.left run c.turns.listener c.next.new.listener c.floor_below-floor.result c.next.new.before o c.next.new.self) c.in-Some.is c.in_ok-told.ensures.ok in
     on_fault c.from_residual-in_err-hear.result c.in_err-hear.field-0.0 (λ fault. (run : Run) → Follows c.args.self.now run → g.L.Listener.Stops c.args.listener.now s run.happened (run_after s l run).happened fault c.hear.new.self) c.from_residual-in_err-hear.ensures.1
     (λ run follows. played_cut g.L.Listener.Hears s l c.floor_below-floor.result run c.args.listener.now c.turns.listener c.turns.self c.turns.made c.turns.invariant.left (c.turns.invariant.played run follows) laws.hears_on c.next.new.listener c.next.new.self c.next.new.before
-    g.L.Listener.Stops laws.stops_on c.in_err-hear.field-0.0 c.hear.new.self c.in-Some.told c.history.result.now laws.stops_before comes c.history.ensures c.in_err-hear.ensures.cut)
+    g.L.Listener.Stops laws.stops_on c.in_err-hear.field-0.0 c.hear.new.self c.in-Some.told laws.stops_before comes c.in_err-hear.ensures.cut)
 
 pub returns-in_err-told-clause-cut : goal.returns-in_err-told-clause-cut
 returns-in_err-told-clause-cut g c =

@@ -10,7 +10,8 @@ returns-in_ok-hear-in-Accepted-clause-ok g c =
     let self = c.args.self.now in
     let made = c.in-Accepted.made in
     ok_then c.draw_marks.result
-    (λ drew. subst (λ (t : Told). DrawsTold self c.draw_marks.new.self t c.args.taken.now (g.W.Sink.taken c.args.output.now) (g.W.Sink.taken c.draw_marks.new.output)) (sym c.in-Accepted.is)
-    (λ mode s before this d. made_drawn mode s c.args.taken.now self.source self.summary.events self.changes.store c.draw_marks.new.self.changes.store self.canvas c.hear.new.self c.draw_marks.new.self.canvas before this made c.process-process.result c.as_slice-in-Accepted.result.now
-    (g.W.Sink.taken c.args.output.now) (g.W.Sink.taken c.draw_marks.new.output) d c.process-process.ensures (c.as_slice-in-Accepted.ensures ∙ c.marks.ensures) c.hear.ensures.kept (λ mode s past reads. c.in_ok-hear-in-Accepted.ensures.hears mode s past reads (entry_made made) refl) drew))
+    (λ drew. subst (λ (t : Told). DrawsTold self (record self { canvas = c.draw_marks.new.self; store = c.draw_marks.new.store }) t (g.W.Sink.taken c.args.output.now) (g.W.Sink.taken c.draw_marks.new.output)) (sym c.in-Accepted.is)
+    (λ mode s before this d. made_drawn mode s self.source self.summary.events self.store c.draw_marks.new.store self.canvas c.hear.new.self c.draw_marks.new.self before this made c.process-process.result c.as_slice.result.now
+    (g.W.Sink.taken c.args.output.now) (g.W.Sink.taken c.draw_marks.new.output) d (sym c.process-process.ensures) (sym (c.as_slice.ensures ∙ c.marks-marks.ensures)) c.hear.ensures.kept
+    (λ mode s past reads. c.in_ok-hear-in-Accepted.ensures.hears mode s past reads (entry_made made) refl) drew))
     c.draw_marks.ensures.ok

@@ -9,15 +9,14 @@ pub returns-clause-ok : goal.returns-clause-ok
 returns-clause-ok g c =
     let old = c.args.self.now in
     let told = c.args.told.now in
-    let taken = c.args.taken.now in
     ok_whole c.tell.result (g.W.Sink.failures old.output.now) (g.W.Sink.failures c.tell.new.output) (λ both whole s before this happens. (
       refl,
       refl,
       c.tell.ensures.source,
       whole,
       λ mode start had from d.
-          let draws : IsToDraw mode s taken old.drawing.now.summary.events old.drawing.now.changes.store old.drawing.now.canvas before this told = record { happens = happens; number = d.counts.events; recalls = d.recalls } in
-          told_drawn mode s start had from before this told taken old.drawing.now c.tell.new.self _ _ happens (both.0 mode s before this draws) both.1 c.tell.ensures.source d,
+          let draws : IsToDraw mode s old.drawing.now.summary.events old.drawing.now.store old.drawing.now.canvas before this told = record { happens = happens; number = d.counts.events; recalls = d.recalls } in
+          told_drawn mode s start had from before this told old.drawing.now c.tell.new.self _ _ happens (both.0 mode s before this draws) both.1 c.tell.ensures.source d,
     )) (ok_with c.tell.result _ _ c.tell.ensures.ok c.tell.ensures.count) c.tell.ensures.failures
 
 pub returns-clause-cut : goal.returns-clause-cut

@@ -13,5 +13,5 @@ returns-clause-ok g c = λ none s before after newest is passed.
       refl,
       refl,
       λ mode start had from d. quiet_drawn mode s start had from c.args.steps before after drawing _ _ passes (ap (λ n. with_events n drawing.summary) c.from.ensures) refl refl
-          (recalls_passed mode s c.args.steps before after drawing.changes.store drawing.canvas none passes d.recalls) d,
+          (recalls_passed mode s c.args.steps before after drawing.store drawing.canvas none passes d.recalls) d,
     )

@@ -18,7 +18,7 @@ returns-clause-ok g c = λ s before on.
       refl,
       refl,
       λ mode start had from d. quiet_drawn mode s start had from 1 before after drawing _ _ (step_passes s before made on) refl c.hear.ensures.kept refl
-          (recalls_stepped mode s before made drawing.changes.store drawing.canvas c.hear.new.self drawing.summary.events on d.counts.events c.in_ok-hear.ensures.hears d.recalls) d,
+          (recalls_stepped mode s before made drawing.store drawing.canvas c.hear.new.self drawing.summary.events on d.counts.events c.in_ok-hear.ensures.hears d.recalls) d,
     )
 
 pub returns-in_err-hear-clause-cut : goal.returns-in_err-hear-clause-cut

@@ -1,0 +1,18 @@
+//! The newest store of a run, in words.
+ghost use Rattle.std.specs.Prelude.{◌≡◌, IfOk};
+ghost use Rattle.std.specs.String.{string_bytes};
+ghost use Rattle.course.specs.Texts.{newest_words as words_of};
+
+use plain_store::store_words;
+use std::alloc::{AllocError, Global};
+use world::Image;
+
+/// The newest store in words, or `busy`, if somebody is inside.
+pub fn newest_words(alloc: Global, store: &Option<Image>) -> Result<String, AllocError>
+    ensures { IfOk result (λ words. string_bytes words ≡ words_of store.now) }
+{
+    match store {
+        None => String::from_str(alloc, "busy"),
+        Some(store) => store_words(alloc, store),
+    }
+}
