@@ -171,7 +171,11 @@ The columns are the process, the number of its call, and the command; the events
 its marks, the first and the last event of its doorway, and the place of its command;
 how many reads and writes of bits the process began, and how many of its reads were
 overlapped; how many events it waited, and for which process last; and its answer. A
-field without a value is empty. The lines of a scenario: bakerystore help replay
+field without a value is empty.
+FILE may also be a record, good or bad, of any lock; its first word decides. Its table
+follows the last line of the file, and reports no process that a call waited for.
+The lines of a scenario: bakerystore help replay
+The lines of a record: docs/RECORDS.md
 
   $ printf 'bakery 1\ncall 0 read a\nstep 0 3\n' | bakerystore calls - | cut -d, -f 1-6
   process,call,command,called,doorway,door_end

@@ -25,7 +25,7 @@ pub enum Engine {
     Record,
     /// The state after the first events of a scenario's run.
     State,
-    /// What became of each call of a scenario's run.
+    /// What became of each call of a scenario's run, or of a record.
     Calls,
     /// The verdict on the record that a record file says.
     Judge,
@@ -146,7 +146,7 @@ pub const COMMANDS: [(&str, Engine, Intake, &[&str], &str, &str); 12] = [
         Engine::Calls,
         Intake::Whole,
         &[],
-        "prints a table of the calls of a run (CSV)",
+        "prints a table of the calls of a run or a record (CSV)",
         "examples/torn-commit.bakery",
     ),
     (

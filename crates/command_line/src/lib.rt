@@ -17,6 +17,7 @@ mod words;
 pub use causes::{NotedReader, NotedWriter, reason_of};
 pub use commands::{CommandEntry, Engine, Intake};
 pub use files::{Fault, FromRead, IntoWrite, LineFault, Sink, Source, exit_status};
+pub use first_word::{FirstWord, Opened};
 pub use fronts::FrontSink;
 pub use notices::{Notice, USAGE_STATUS, shown_word};
 pub use pages::HelpPage;
