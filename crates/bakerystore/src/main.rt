@@ -4,9 +4,10 @@
 ghost use Rattle.std.specs.Prelude.{◌≡◌, ◌-◌, ◌<◌, ◌^◌, IfOk};
 
 use command_line::{
-    Engine, Fault, FromRead, FrontSink, Intake, IntoWrite, Invocation, LineFault, NotedReader,
-    NotedWriter, Output, Request, Sink, Source, Terminals, USAGE_STATUS, Uninterrupted,
-    WatchedInput, Watcher, all_words, exit_status, read_words, reason_of, shown_word,
+    Engine, Fault, FirstWord, FromRead, FrontSink, Intake, IntoWrite, Invocation, LineFault,
+    NotedReader, NotedWriter, Opened, Output, Request, Sink, Source, Terminals, USAGE_STATUS,
+    Uninterrupted, WatchedInput, Watcher, all_words, exit_status, read_words, reason_of,
+    shown_word,
 };
 use drawer::progress::Onlooker;
 use drawer::{Reads, draw, draw_svg};
@@ -15,9 +16,11 @@ use engines::{
 };
 use race::{RunFault, run_fault_status, run_race};
 use record_drawer::{
-    JudgedBy, Opened, draw_judged_record, draw_judged_record_svg, draw_record, draw_record_svg,
+    JudgedBy, draw_judged_record, draw_judged_record_svg, draw_record, draw_record_svg,
 };
-use run_state::{FileKind, KeptFile, KeptInput, events_said, explanation, run_calls, run_state};
+use run_state::{
+    FileKind, KeptFile, KeptInput, events_said, explanation, list_record, run_calls, run_state,
+};
 use std::alloc::Global;
 use std::cell::Cell;
 use std::env::Env;
@@ -192,7 +195,7 @@ fn run_between<
     requires { ⟦<Opened<R> as Source>⟧.failures source < 2 ^ 64 - 1 }
 {
     let wanted = Wanted {
-        is_record: wanted.is_record | source.is_record,
+        is_record: wanted.is_record | (source.first_word == FirstWord::Record),
         ..wanted
     };
     let has_place = !terminals.output || wanted.engine == Engine::Sweep;
@@ -269,13 +272,14 @@ struct Wanted {
     at: u64,
 }
 
-/// Opens a source: an engine that draws takes scenarios and records, and the file tells which it is.
+/// Opens a source. The engines of `calls`, `draw` and `draw-svg` take scenarios and records, and the file's first word decides
+/// which it is.
 fn opened<R: Source + Drop>(alloc: Global, engine: Engine, source: R) -> Result<Opened<R>, Fault>
     requires { R.failures source < 2 ^ 64 - 1 }
     ensures { IfOk result (λ opened. ⟦<Opened<R> as Source>⟧.failures opened ≡ R.failures source) }
 {
     match engine {
-        Engine::Draw | Engine::DrawSvg => Opened::new(alloc, source),
+        Engine::Calls | Engine::Draw | Engine::DrawSvg => Opened::new(alloc, source),
         _ => Ok(Opened::unseen(alloc, source)),
     }
 }
@@ -335,6 +339,7 @@ fn run_engine<T: AllocGlobal + Threads + Wait + Sync, R: Source, W: Sink, L: Onl
         Engine::Sweep => run_sweep(alloc, input, output, onlooker),
         Engine::Record => exit_status(run_record(alloc, input, output, onlooker)),
         Engine::State => exit_status(run_state(alloc, wanted.at, input, output, onlooker)),
+        Engine::Calls if wanted.is_record => list_record(alloc, input, output),
         Engine::Calls => exit_status(run_calls(alloc, input, output, onlooker)),
         Engine::Judge if wanted.any_lock => judge_any_lock(alloc, input, output, wanted.why),
         Engine::Judge => run_judge(alloc, input, output, wanted.why),

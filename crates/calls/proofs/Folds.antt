@@ -1,4 +1,4 @@
--- What marks make of what is kept, field by field.
+-- How marks change the state of a process, field by field.
 use Rattle.std.proofs.Common.{◌≡◌, ℕ, Bool, true, false, ◌||◌, List, [], ◌∷◌, Option, None, Some, fold, is_some, refl, sym, ap, ◌∙◌}
 use Rattle.std.specs.List.{list_any}
 use Rattle.record.specs.{Mark, called_in, first_of, is_called, is_entered, is_failed, is_waiting}
@@ -76,7 +76,7 @@ pub answer-on : (n : ℕ) (k : Marked) (m : Mark) → (with_mark n k m).answer �
 answer-on n k (mark.Answered a) = refl
 answer-on n k _ = refl
 
--- what marks make of all that is kept
+-- how marks change the whole state
 abbrev pub with_marks : ℕ → CallStanding → List Mark → CallStanding
 with_marks n k ms = record { calling = fold goes_on_after k.calling ms; last = record k.last { marks = fold (with_mark n) k.last.marks ms } }
 

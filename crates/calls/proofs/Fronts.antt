@@ -1,8 +1,8 @@
--- What is written of a line, for functions here to cite.
+-- The part of a line that is written, for functions here to cite.
 use Rattle.std.proofs.Common.{◌≡◌, ℕ, List, Option}
 use Rattle.scenario.specs.files.{WritesFront}
 use Rattle.course.proofs.Written.{front_none as none_is_front}
 
--- nothing is a front of every text
+-- the empty text is a prefix of every text
 pub front_none : (a b : Option (List ℕ)) (text : List ℕ) → b ≡ a → WritesFront a b text
 front_none a b text same = none_is_front a b text same

@@ -1,4 +1,4 @@
--- What a table keeps goes on with an entry.
+-- How an entry changes the state of a table.
 use Rattle.std.proofs.Common.{◌≡◌, ◌≢◌, ℕ, zero, suc, ◌+◌, ◌-◌, ◌^◌, ◌<◌, ◌≤◌, not, ◌&&◌, cond, List, [], ◌∷◌, Option, None, Some, length, map, ◌++◌, slice_get, slice_set, refl, sym, ap, ◌∙◌, subst, arith, add-one, inl, inr, ne_eqb, length-set}
 use Rattle.std.proofs.lemmas.Bool.{cases_eq, cases_lt}
 use Rattle.std.proofs.lemmas.Option.{slice_get-get_or, slice_get_past, slice_get_within}
@@ -36,7 +36,7 @@ at_rest-there n p below =
     slice_get-get_or (map at_rest (range_with_len 0 n)) p (at_rest p) (subst (λ m. p < m) (sym (length-map-range_with_len at_rest 0 n)) below)
     ∙ ap Some (get_or-map-range_with_len at_rest 0 n p p (at_rest p) below same)
 
--- what there is no entry of has room for one more
+-- counts of no entry have room for one more
 pub has_room : (s : Setup) (p : ℕ) (past : Past) (k : CallStanding) → k ≡ standing s p past → length past < 2 ^ 64 - 1 → (k.last.call < 2 ^ 64 - 1) × AreFew k.last.accesses
 has_room s p past k is few =
     subst (λ (k : CallStanding). (k.last.call < 2 ^ 64 - 1) × AreFew k.last.accesses) (sym is) (
@@ -83,7 +83,7 @@ pub ended_is : (s : Setup) (past : Past) (e : Entry) (before then : CallStanding
     cond (before.calling && not then.calling) (Some then.last) None ≡ ended_call s past e
 ended_is s past e before then was now = λ i. cond ((was i).calling && not (now i).calling) (Some (now i).last) None
 
--- What a table makes of an entry, whatever it has heard before.
+-- How an entry changes a table after any past.
 abbrev pub Hears : TableState → TableState → ℕ → EntryKnown → Option Access → List Mark → Option Called → Type 0
 Hears old new q known access marks ended =
     (past : Past) (e : Entry) → e.process ≡ q → e.access ≡ access → e.marks ≡ marks → HasHeard old past → ComesInTurn old.setup past e known → HasHeard new (e ∷ past) × (ended ≡ ended_call old.setup past e)
@@ -104,7 +104,7 @@ hears_entry old new q known access marks ended setup count few goes past e p a m
     let made : HasHeard new (e0 ∷ past) × (ended ≡ ended_call s past e0) = (subst (λ (t : TableState). HasHeard t (e0 ∷ past)) (sym same) all.0, g.is ∙ ended_is s past e0 before g.then refl all.2) in
     subst (λ (e : Entry). HasHeard new (e ∷ past) × (ended ≡ ended_call s past e)) (sym whole) made
 
--- And of entries that pass by, many at once.
+-- How entries that pass by, many at once, change a table.
 
 has_room_for : (s : Setup) (p : ℕ) (past : Past) (n : ℕ) (how : Move) (overlapped : ℕ) → length past + n < 2 ^ 64 → overlapped ≤ n → HaveRoom (standing s p past).last.accesses (reads_begun n how) (writes_begun n how) overlapped
 has_room_for s p past n how overlapped room few =
@@ -139,7 +139,7 @@ hears_passing t p (suc m) newest overlapped past after then some below room by n
           ∙ ap Some (sym (all.others q (ne_eqb p q (λ h. apart (sym h)))))
     ]
 
--- What a table makes of entries that pass by, so many of which begin a read or a write, whatever it has heard before.
+-- How entries that pass by change a table after any past, by how many of them begin a read or a write.
 pub hears_by : (old new : TableState) (p n : ℕ) (how : Move) (reads writes overlapped : ℕ) → 0 < n → old.entries + n < 2 ^ 64 → reads ≡ reads_begun n how → writes ≡ writes_begun n how → new.setup ≡ old.setup → new.entries ≡ old.entries + n →
     ((before : CallStanding) → slice_get old.standings p ≡ Some before → GoesBy old p reads writes overlapped before new.standings) →
     (past after : Past) (newest : Access) → newest.how ≡ how → Passes old.setup p n newest overlapped past after → p < old.setup.processes → HasNotFailed p past → HasHeard old past → HasHeard new after

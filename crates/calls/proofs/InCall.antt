@@ -23,7 +23,7 @@ number-called p test e past h called = rw (eq-eqb e.process p h, called, number_
 pub number-other : (p : ℕ) (test : Entry → Bool) (e : Entry) (past : Past) → (e.process == p) ≡ false → number_in_call p test (e ∷ past) ≡ number_in_call p test past
 number-other p test e past h = rw (h, number_in_call) refl
 
--- What a call's entries make.
+-- Folds over a call's entries.
 
 pub over-mine : {A : Type 0} (p : ℕ) (start : A) (with : Past → Entry → A → A) (e : Entry) (past : Past) → e.process ≡ p → has is_called e ≡ false →
     over_call p start with (e ∷ past) ≡ with past e (over_call p start with past)

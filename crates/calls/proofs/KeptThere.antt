@@ -1,9 +1,9 @@
--- What is read at a process's place is what is kept of it.
+-- The state at a process's index is that of the process.
 use Rattle.std.proofs.Common.{◌≡◌, ℕ, List, Some, get_or, slice_get, sym, ◌∙◌}
 use Rattle.std.proofs.lemmas.Option.{slice_get-get_or, slice_get_within}
 use Rattle.calls.specs.{CallStanding, TableState}
 
--- what stands at an index, looked up in two ways
+-- the item at an index, looked up in two ways
 given_at : (xs : List CallStanding) (i : ℕ) (x k : CallStanding) → slice_get xs i ≡ Some k → get_or xs i x ≡ k
 given_at xs i x k is = let both : Some (get_or xs i x) ≡ Some k = sym (slice_get-get_or xs i x (slice_get_within xs i k is)) ∙ is in cc
 

@@ -8,6 +8,7 @@ pub mod InCall
 pub mod Steps
 pub mod Passing
 pub mod Heard
+pub mod ListSteps
 pub mod KeptThere
 pub mod Unfailed
 pub mod Ranges
@@ -15,3 +16,9 @@ pub mod Fronts
 pub mod Tabling
 pub mod UnmarkedSteps
 pub mod TabledSteps
+-- A record, entry by entry
+mod Overlapped
+mod Listed
+-- Records that are good for any lock
+mod Ends
+mod AsRuns

@@ -1,4 +1,4 @@
--- What loops write of a list, and a line part by part.
+-- The part of a list that a loop has written, and a line part by part.
 use Rattle.std.proofs.Common.{◌≡◌, ℕ, ◌+◌, ◌<◌, ◌≤◌, Result, Ok, Err, OnOk, List, ◌++◌, codes, length, get_or, drop, flat_map, sym, ap, ◌∙◌, append-nil, append_assoc}
 use Rattle.std.proofs.lemmas.List.{at_drop_all, at_drop_more}
 

@@ -1,4 +1,4 @@
--- What is kept with one access more.
+-- The state of a call with one access more.
 use Rattle.std.proofs.Common.{◌≡◌, ℕ, Bool, true, false, ◌&&◌, not, cond, Option, None, Some, is_none, is_some, refl, ap, ◌∙◌}
 use Rattle.plain_store.specs.{Setup}
 use Rattle.record.specs.{Access}

@@ -1,4 +1,4 @@
--- What is kept of a process goes on with many entries at once.
+-- How many entries at once change the state of a process.
 use Rattle.std.proofs.Common.{◌≡◌, ℕ, zero, suc, ◌+◌, ◌≤◌, ◌==◌, Bool, true, false, ◌&&◌, cond, ◌∷◌, Option, None, Some, is_none, length, refl, sym, ap, subst, ◌∙◌, arith}
 use Rattle.plain_store.specs.{Setup}
 use Rattle.record.specs.safe_bit.{Move}
@@ -14,7 +14,7 @@ first-again : (o : Option ℕ) (a b : ℕ) → first_of (first_of o (Some a)) (S
 first-again (Some x) a b = refl
 first-again None a b = refl
 
--- So many begin.
+-- How many of them begin.
 
 -- with one more, after another
 begun-more : (n : ℕ) (before how : Move) (k m : ℕ) → follows before how ≡ true →
@@ -63,7 +63,7 @@ more-few : (b : Bool) (n m : ℕ) → n ≤ m → more_if b n ≤ suc m
 more-few true n m few = omega (arith, few)
 more-few false n m few = omega (arith, few)
 
--- What is kept after so many, the first of them of the entry with this number, of which the newest makes this move.
+-- The counts after a number of accesses, of which the first has this number and the newest makes this move.
 
 abbrev pub passed_by : ℕ → ℕ → Move → ℕ → CallStanding → CallStanding
 passed_by number n how overlapped k = passed number (reads_begun n how) (writes_begun n how) overlapped k
@@ -83,7 +83,7 @@ writes_few n (BeginWrite v) = omega arith
 writes_few n EndWrite = omega arith
 writes_few n (Settle v) = omega arith
 
--- those of a read begin no write
+-- the accesses of a read begin no write
 pub reads_alone : (n : ℕ) (how : Move) → of_read how ≡ true → writes_begun n how ≡ 0
 reads_alone n BeginRead is = refl
 reads_alone n (EndRead v) is = refl
@@ -99,7 +99,7 @@ others_alone n how is = ap (λ b. cond b (begun_among n (is_read how)) 0) is
 accesses_by : (x y : Accesses) → x.doorway ≡ y.doorway → x.reads ≡ y.reads → x.writes ≡ y.writes → x.overlapped ≡ y.overlapped → x.waited_for ≡ y.waited_for → x ≡ y
 accesses_by x y a b c d e = λ i. record { doorway = a i; reads = b i; writes = c i; overlapped = d i; waited_for = e i }
 
--- what is kept, with these accesses
+-- the state with these accesses
 abbrev with_accesses : CallStanding → Accesses → CallStanding
 with_accesses k x = record k { last = record k.last { accesses = x } }
 
@@ -113,7 +113,7 @@ module _ (s : Setup) (p : ℕ) (a : Access) (past : Past) where
   abbrev after_one : CallStanding → CallStanding
   after_one k = with_accesses k (with_access s p (length past) known k.last.marks a k.last.accesses)
 
-  -- of a process that has not failed they are its own
+  -- a process that has not failed makes them itself
   itself : (test : Move → Bool) (k : CallStanding) → k.last.marks.failed ≡ None → (n : ℕ) → more_if (test a.how && is_none k.last.marks.failed) n ≡ more_if (test a.how && true) n
   itself test k none n = ap (λ (o : Option ℕ). more_if (test a.how && is_none o) n) none
 
@@ -141,9 +141,9 @@ module _ (s : Setup) (p : ℕ) (a : Access) (past : Past) where
       (begins first none mid.doorway ∙ first-again was.doorway number (length past)) (itself is_read first none mid.reads ∙ (begun-more n before a.how was.reads was.writes follow).0) (itself is_write first none mid.writes ∙ (begun-more n before a.how was.reads was.writes follow).1)
       (more-again known.overlapped was.overlapped count ∙ ap (λ n. was.overlapped + n) (sym is)) refl)
 
--- So many.
+-- Many entries.
 
--- what is kept of p after them, how many entries there are then, and that no more reads ended than there were accesses
+-- the state of p after them, the number of entries then, and a bound: no more reads ended than there were accesses
 pub record HasPassed (s : Setup) (p n : ℕ) (newest : Access) (overlapped : ℕ) (past after : Past) : Type 0 where
   pub standing_is : standing s p after ≡ passed_by (length past) n newest.how overlapped (standing s p past)
   pub long : length after ≡ length past + n

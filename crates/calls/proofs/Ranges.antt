@@ -21,7 +21,7 @@ lines_more f k =
     ap (flat_map f) (range_more k) ∙ flat_map-append f (range_with_len 0 k) (k ∷ [])
     ∙ ap (λ l. flat_map f (range_with_len 0 k) ++ l) (append-nil (f k))
 
--- those up to one are a front of all
+-- the lines of the first k are a prefix of those of all
 pub lines_front : (f : ℕ → List ℕ) (k n : ℕ) → (more : List ℕ) × (flat_map f (range_with_len 0 (k + n)) ≡ flat_map f (range_with_len 0 k) ++ more)
 lines_front f k zero = let same : k + 0 ≡ k = omega arith in ([], ap (λ n. flat_map f (range_with_len 0 n)) same ∙ sym (append-nil (flat_map f (range_with_len 0 k))))
 lines_front f k (suc n) =

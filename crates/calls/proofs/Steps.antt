@@ -1,4 +1,4 @@
--- What is kept of a process is what looking back finds: it goes on with an entry as the look-backs do.
+-- The state of a process is what the look-backs find: an entry changes both in the same way.
 use Rattle.std.proofs.Common.{◌≡◌, ℕ, suc, ◌==◌, Bool, true, false, ◌&&◌, cond, ◌∷◌, Option, None, Some, fold, is_none, is_some, length, refl, sym, ap, ◌∙◌, eq-eqb, add-one}
 use Rattle.plain_store.specs.{Answer, Command, Setup}
 use Rattle.record.specs.{Access, Entry, Mark, Past, called_in, calls_in, has, is_called, is_entered, is_failed, is_waiting, last_command, moves_of, number_in_call, own, width}
@@ -21,7 +21,7 @@ number-on p test get e past h none on is =
     ∙ ap (λ found. fold (λ found m. first_if (test m) (length past) found) found e.marks) (sym is)
     ∙ sym (fold-field get (λ found m. first_if (test m) (length past) found) (length past) on (marked p past) e.marks)
 
--- what marks tell
+-- a column from marks
 given-on : {A : Type 0} (p : ℕ) (after : Option A → Mark → Option A) (get : Marked → Option A) (e : Entry) (past : Past) → e.process ≡ p → has is_called e ≡ false →
     ((k : Marked) (m : Mark) → get (with_mark (length past) k m) ≡ after (get k) m) → get (marked p past) ≡ over_call p None (λ before e found. fold after found e.marks) past →
     over_call p None (λ before e found. fold after found e.marks) (e ∷ past) ≡ get (fold (with_mark (length past)) (marked p past) e.marks)
@@ -108,7 +108,7 @@ waiting s p before e newest = elim e.access as (λ _. Option ℕ) [
   | Some a ↦ cond (is_unmarked e.marks && tells_waiting s p (ticket_in_call p before) (number_in_call p (has ends_waiting) before) a (number_after a.bit a.how (number_read (doing s p before)))) (Some a.owner) newest
 ]
 
--- whether it tells that it waits depends on a number only where that was read whole
+-- whether an access shows that it waits depends on a number only where the whole number was read
 waits-same : (s : Setup) (p : ℕ) (ticket wait_end : Option ℕ) (a : Access) (n m : ℕ) → (ends_number (width s a.field) a.bit a.how ≡ true → n ≡ m) →
     tells_waiting s p ticket wait_end a (number_after a.bit a.how n) ≡ tells_waiting s p ticket wait_end a (number_after a.bit a.how m)
 waits-same s p None wait_end a n m same = refl
@@ -121,7 +121,7 @@ waits-same s p (Some t) wait_end a n m same = by (ends_number (width s a.field) 
     by true is same = ap (λ k. test k (ends_number (width s a.field) a.bit a.how)) (same is)
     by false is same = ap (test n) is ∙ sym (ap (test m) is)
 
--- where no number ends, nobody is waited for
+-- an access that ends no number shows no process that is waited for
 waits-none : (s : Setup) (p : ℕ) (ticket wait_end : Option ℕ) (a : Access) (n : ℕ) → ends_number (width s a.field) a.bit a.how ≡ false → tells_waiting s p ticket wait_end a n ≡ false
 waits-none s p None wait_end a n is = refl
 waits-none s p (Some t) wait_end a n is = ap (λ b. is_none wait_end && (b && holds_up p t a.owner a.field n)) is ∙ never (is_none wait_end)
@@ -130,7 +130,7 @@ waits-none s p (Some t) wait_end a n is = ap (λ b. is_none wait_end && (b && ho
     never true = refl
     never false = refl
 
--- what is told of the number is enough
+-- the number that is reported suffices
 waits-told : (s : Setup) (p : ℕ) (ticket wait_end : Option ℕ) (past : Past) (e : Entry) (a : Access) (read : Option ℕ) → e.process ≡ p → TellsRead s past e a read →
     waits_by s p ticket wait_end a read ≡ (is_unmarked e.marks && tells_waiting s p ticket wait_end a (number_after a.bit a.how (number_read (doing s p past))))
 waits-told s p ticket wait_end past e a None h tells = by (is_unmarked e.marks) tells
@@ -195,7 +195,7 @@ accesses-other s p e past h =
     let waited = over-other {A = Option ℕ} p None (waiting s p) e past h in
     λ i. record { doorway = first-other p (accesses_itself p) e past h i; reads = reads i; writes = writes i; overlapped = overlapped i; waited_for = waited i }
 
--- All that is kept.
+-- The whole state.
 
 standing_by : (k m : CallStanding) → k.calling ≡ m.calling → k.last.process ≡ m.last.process → k.last.call ≡ m.last.call → k.last.command ≡ m.last.command → k.last.called ≡ m.last.called →
     k.last.accesses ≡ m.last.accesses → k.last.marks ≡ m.last.marks → k ≡ m
@@ -279,7 +279,7 @@ standing-heard s e past known turn = go (called_in e.marks) refl
     go None is = standing-mine s p e past refl is known turn
     go (Some c) is = standing-called s p e past c refl is
 
--- of each entry this can be known
+-- these facts exist for each entry
 pub known_of : (s : Setup) (past : Past) (e : Entry) → (known : EntryKnown) × IsKnown s past e known
 known_of s past e = by (is_unmarked e.marks) refl
   where

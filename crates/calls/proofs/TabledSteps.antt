@@ -1,4 +1,4 @@
--- A table of calls hears Steps without a mark, one by one or many at once.
+-- A table of calls observes Steps without a mark, one by one or many at once.
 use Rattle.std.proofs.Common.{◌≡◌, ◌+◌, ◌<◌, ℕ, zero, suc, Bool, true, false, if◌then◌else◌, List, [], ◌∷◌, ◌++◌, length, Option, None, Some, refl, ap, sym, subst, ◌∙◌, append-nil, arith}
 use Rattle.plain_store.specs.{Setup}
 use Rattle.record.specs.{Access, Entry, Past, entry_of, width}
@@ -51,7 +51,7 @@ step_tabled s before made old new on hears kept t =
 pub step_lines : (s : Setup) (before : List Happening) (made : Stepped) → StepsOn s before made → lines_after s (Tries (Step made.process made.flick) ∷ before) ≡ lines_after s before
 step_lines s before made on = unmarked_lines s before made.process made.flick (Some made.access) on.adds
 
--- So many within a number access.
+-- Many Steps within a register access.
 
 pub pass_lines : (s : Setup) (p n : ℕ) (before after : List Happening) → PassWithin s p n before after → lines_after s after ≡ lines_after s before
 pass_lines s p zero before after same = ap (lines_after s) same
@@ -71,7 +71,7 @@ access_made s before p flick w = by w.quiet.0 w.quiet.1
     by None adds = absurd (let is = (step_is s (is_good s w.good) (tried before) p flick (record { process = p; access = None; marks = [] }) adds).access in cc)
     by (Some a) adds = (a, adds)
 
--- what they are to a table, and the newest of them
+-- how a table sees them, and the newest of them
 record Passed (s : Setup) (p n : ℕ) (x y : List Happening) : Type 0 where
   newest : Access
   before : List Happening

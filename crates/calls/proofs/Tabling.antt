@@ -3,7 +3,7 @@ use Rattle.std.proofs.Common.{◌≡◌, ◌+◌, ◌&&◌, ℕ, Bool, true, fal
 use Rattle.std.specs.Io.KnownBytes.{Appends}
 use Rattle.scenario.specs.files.{Fault, WritesFront}
 use Rattle.plain_store.specs.{Setup}
-use Rattle.record.specs.{Access, Entry, Event, Mark, Past, Taken, entry_of, past_of, process_of, width}
+use Rattle.record.specs.{Access, Entry, Event, Mark, Past, entry_of, past_of, process_of, width}
 use Rattle.scenario.specs.{Script}
 use Rattle.calls.specs.{ComesInTurn, HasHeard, TableState, called, ended_call, ended_lines, ends_number, header, is_calling, is_unmarked, open_lines}
 use Rattle.course.specs.{Accepted, Happening, Happens, IsMarked, IsWriteFault, Lacks, Looks, TellsOf, Tires, Told, Tries, Writes, WritesPart, entry_made, failed_write, happenings, past_after, tried}
@@ -20,7 +20,7 @@ some_marks : (marks : List Mark) → (marks ≡ [] → ⊥) → is_unmarked mark
 some_marks [] some = absurd (some refl)
 some_marks (m ∷ marks) some = refl
 
--- an entry with marks that is told comes in its turn
+-- an entry with marks that is reported comes in its turn
 entry_in_turn : (s : Setup) (events : List Event) (event : Event) (made : Accepted) → made.event ≡ event → entry_of s (past_of s events) event ≡ Some (entry_made made) → made.overlapped ≡ ends_overlapped_read (past_of s events) (entry_made made) →
     IsMarked (told.Accepted made) → ComesInTurn s (past_of s events) (entry_made made) (known_told made)
 entry_in_turn s events event made same is overlapped marked = record {
@@ -28,13 +28,13 @@ entry_in_turn s events event made same is overlapped marked = record {
   tells = record { overlapped = overlapped; read = λ a some. ap (λ b. b && ends_number (width s a.field) a.bit a.how) (some_marks (entry_made made).marks marked) };
 }
 
--- What is told.
+-- The report of a turn.
 
 -- the past with an entry that is added
 pub event_added : (s : Setup) (before : List Happening) (event : Event) (e : Entry) → entry_of s (past_after s before) event ≡ Some e → past_after s (Tries event ∷ before) ≡ e ∷ past_after s before
 event_added s before event e adds = ap (λ (o : Option Entry). elim o as (λ _. Past) [ None ↦ past_after s before | Some e ↦ e ∷ past_after s before ]) adds
 
--- the past with what is told is the past after what happens
+-- the past with the reported entry is the past after what happens
 pub past_told : (s : Setup) (before : List Happening) (this : Happening) (answer : Told) → TellsOf s (past_after s before) this answer → past_after s (this ∷ before) ≡ past_with (past_after s before) answer
 past_told s before (Tries event) (told.Accepted made) tells = event_added s before event (entry_made made) tells.1
 past_told s before (Tries event) (told.Refused p r) tells = past_kept s (tried before) event r tells.1
@@ -53,7 +53,7 @@ past_told s before Looks (told.Accepted made) tells = absurd tells
 past_told s before Looks (told.Refused q r) tells = absurd tells
 past_told s before Looks (told.Tired q) tells = absurd tells
 
--- and an entry that is told comes in its turn
+-- and an entry that is reported comes in its turn
 pub in_turn : (s : Setup) (before : List Happening) (this : Happening) (answer : Told) → TellsOf s (past_after s before) this answer → IsMarked answer → IsInTurn s (past_after s before) answer
 in_turn s before (Tries event) (told.Accepted made) tells marked = entry_in_turn s (tried before) event made tells.0 tells.1 tells.2 marked
 in_turn s before (Tries event) (told.Refused p r) tells marked = tt
@@ -72,39 +72,39 @@ in_turn s before Looks (told.Refused q r) tells marked = tt
 in_turn s before Looks (told.Tired q) tells marked = tt
 in_turn s before Looks (told.Shown store) tells marked = tt
 
--- the lines of the calls that have ended, with what is told
+-- the lines of the calls that have ended, with the reported entry
 lines_told : (s : Setup) (past : Past) (answer : Told) → ended_lines s (past_with past answer) ≡ ended_lines s past ++ told_line s past answer
 lines_told s past (told.Accepted made) = refl
 lines_told s past (told.Refused p r) = sym (append-nil (ended_lines s past))
 lines_told s past (told.Tired p) = sym (append-nil (ended_lines s past))
 lines_told s past (told.Shown store) = sym (append-nil (ended_lines s past))
 
--- what the table hears, and what is written of it
-told_heard : (s : Setup) (before : List Happening) (this : Happening) (answer : Told) (taken : List Taken) (old new : TableState) (a b : Option (List ℕ)) → Happens s before this answer taken → Tells answer old new a b → HasTabled s before old →
+-- the entries that the table observes, and the lines that are written
+told_heard : (s : Setup) (before : List Happening) (this : Happening) (answer : Told) (old new : TableState) (a b : Option (List ℕ)) → Happens s before this answer → Tells answer old new a b → HasTabled s before old →
     HasHeard new (past_with (past_after s before) answer) × Appends a b (told_line s (past_after s before) answer)
-told_heard s before this answer taken old new a b h tells t =
+told_heard s before this answer old new a b h tells t =
     let past : Past = past_after s before in
     subst (λ (s : Setup). HasHeard new (past_with past answer) × Appends a b (told_line s past answer)) t.setup
     (tells past t.heard (subst (λ (s : Setup). IsInTurn s past answer) (sym t.setup) (in_turn s before this answer h.tells h.marked)))
 
-pub told_tabled : (s : Setup) (before : List Happening) (this : Happening) (answer : Told) (taken : List Taken) (old new : TableState) (a b : Option (List ℕ)) → Happens s before this answer taken → Tells answer old new a b → new.setup ≡ old.setup →
+pub told_tabled : (s : Setup) (before : List Happening) (this : Happening) (answer : Told) (old new : TableState) (a b : Option (List ℕ)) → Happens s before this answer → Tells answer old new a b → new.setup ≡ old.setup →
     HasTabled s before old → HasTabled s (this ∷ before) new
-told_tabled s before this answer taken old new a b h tells kept t = record {
+told_tabled s before this answer old new a b h tells kept t = record {
   setup = kept ∙ t.setup;
-  heard = subst (HasHeard new) (sym (past_told s before this answer h.tells)) (told_heard s before this answer taken old new a b h tells t).0;
+  heard = subst (HasHeard new) (sym (past_told s before this answer h.tells)) (told_heard s before this answer old new a b h tells t).0;
 }
 
-pub told_written : (s : Setup) (before : List Happening) (this : Happening) (answer : Told) (taken : List Taken) (old new : TableState) (a b : Option (List ℕ)) → Happens s before this answer taken → Tells answer old new a b → HasTabled s before old →
+pub told_written : (s : Setup) (before : List Happening) (this : Happening) (answer : Told) (old new : TableState) (a b : Option (List ℕ)) → Happens s before this answer → Tells answer old new a b → HasTabled s before old →
     Writes (lines_after s before) (lines_after s (this ∷ before)) a b
-told_written s before this answer taken old new a b h tells t = record {
+told_written s before this answer old new a b h tells t = record {
   text = told_line s (past_after s before) answer;
   is = ap (ended_lines s) (past_told s before this answer h.tells) ∙ lines_told s (past_after s before) answer;
-  taken = (told_heard s before this answer taken old new a b h tells t).1;
+  taken = (told_heard s before this answer old new a b h tells t).1;
 }
 
-pub told_cut : (s : Setup) (before : List Happening) (this : Happening) (answer : Told) (taken : List Taken) (old : TableState) (a b : Option (List ℕ)) → Happens s before this answer taken → CutsTold answer old a b → HasTabled s before old →
+pub told_cut : (s : Setup) (before : List Happening) (this : Happening) (answer : Told) (old : TableState) (a b : Option (List ℕ)) → Happens s before this answer → CutsTold answer old a b → HasTabled s before old →
     WritesPart (lines_after s before) (lines_after s (this ∷ before)) a b
-told_cut s before this answer taken old a b h cuts t =
+told_cut s before this answer old a b h cuts t =
     let past : Past = past_after s before in
     record {
       text = told_line s past answer;
@@ -134,7 +134,7 @@ err_all {A} (Err f) R m n then p is e = err_both {A = A} (Err f) R m n (λ f is 
 pub nothing_tabled : (s : Setup) (table : TableState) → table.setup ≡ s → HasHeard table [] → HasTabled s [] table
 nothing_tabled s table kept heard = record { setup = kept; heard = heard }
 
--- at the end: what the table has heard, and the lines of the calls that have ended
+-- at the end: the entries that the table has observed, and the lines of the calls that have ended
 pub all_tabled : {was said : Script} {table table' : TableState} {a b b' : Option (List ℕ)} → was ≡ said → table' ≡ table → b' ≡ b → HasTabled was.setup (happenings was) table → Writes [] (lines_after was.setup (happenings was)) a b →
     HasTabled said.setup (happenings said) table' × Writes [] (lines_after said.setup (happenings said)) a b'
 all_tabled {was} {said} {table} {table'} {a} {b} {b'} same is taken has writes = (
@@ -142,7 +142,7 @@ all_tabled {was} {said} {table} {table'} {a} {b} {b'} same is taken has writes =
   subst (λ o. Writes [] (lines_after said.setup (happenings said)) a o) (sym taken) (subst (λ (said : Script). Writes [] (lines_after said.setup (happenings said)) a b) same writes),
 )
 
--- once the lines of the calls that go on are written, or a front of them
+-- once the lines of the open calls are written, or a prefix of them
 pub table_written : (said : Script) (a b c d : Option (List ℕ)) → Appends a b header → Writes [] (lines_after said.setup (happenings said)) b c → Appends c d (open_lines said.setup (past_after said.setup (happenings said))) → Appends a d (tabled said)
 table_written said a b c d head w ends =
     let text : List ℕ = lines_after said.setup (happenings said) in

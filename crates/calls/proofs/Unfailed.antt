@@ -1,4 +1,4 @@
--- A process that is within a number access has not failed in its call.
+-- A process that is within a register access has not failed in its call.
 use Rattle.std.proofs.Common.{◌≡◌, ◌<◌, ◌==◌, ℕ, Bool, true, false, cond, List, [], ◌∷◌, length, Option, None, Some, refl, ap, sym, ◌∙◌, arith}
 use Rattle.std.specs.List.{list_any}
 use Rattle.plain_store.specs.{Command, Setup}
@@ -46,7 +46,7 @@ some_called (Settled v ∷ marks) c is = some_called marks c is
 some_called (Down ∷ marks) c is = some_called marks c is
 some_called (Restarted ∷ marks) c is = some_called marks c is
 
--- Who runs its call.
+-- A process that runs its call.
 
 abbrev pub runs_call : Doing → Bool
 runs_call Rests = false

@@ -1,4 +1,4 @@
--- A Step without a mark: its process is there, and within a number access it ends none.
+-- A Step without a mark: its process exists, and within a register access it does not end the access.
 use Rattle.std.proofs.Common.{◌≡◌, ◌+◌, ◌<◌, Bool, true, false, List, [], ℕ, Some, Ok, refl, eqb-true}
 use Rattle.plain_store.specs.{Setup, checked}
 use Rattle.record.specs.safe_bit.{Move}
@@ -24,13 +24,13 @@ pub not_so : (b : Bool) → (b ≡ true → ⊥) → b ≡ false
 not_so true never = absurd (never refl)
 not_so false never = refl
 
--- it is not made within a number access
+-- it is not made within a register access
 pub inside_never : (s : Setup) → checked s ≡ Ok tt → (events : List Event) (p : ℕ) (flick : Bool) (a : Access) → entry_of s (past_of s events) (Step p flick) ≡ Some (record { process = p; access = Some a; marks = [] }) →
     0 < left_at (process_after s (past_of s events) p) → ends_number (width s a.field) a.bit a.how ≡ true → ⊥
 inside_never s good events p flick a adds some ends =
     let r = ends_read (width s a.field) a.bit a.how ends in
     inside-number s (is_good s good) events p flick r.0 (record { process = p; access = Some a; marks = [] }) a adds refl some r.1 r.2
 
--- its process is there
+-- its process exists
 pub steps_below : (s : Setup) (before : List Happening) (made : Stepped) → StepsOn s before made → made.process < s.processes
 steps_below s before made on = process_there s (tried before) (Step made.process made.flick) (record { process = made.process; access = Some made.access; marks = [] }) refl on.adds

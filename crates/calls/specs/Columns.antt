@@ -1,4 +1,4 @@
--- What became of a call: each number is found by looking back over a past.
+-- The columns of a call. Each number is found by looking back over a past.
 use Rattle.std.specs.Prelude.{ℕ, ◌+◌, ◌==◌, nat_lt, Bool, true, false, ◌&&◌, List, [], ◌∷◌, length, fold, cond, Option, None, Some, is_none, is_some, bit_or, ◌^◌}
 use Rattle.record.specs.safe_bit.{Move}
 use Rattle.record.specs.safe_bit.declared.Move.TheVariants.{BeginWrite, BeginRead, EndRead}
@@ -70,7 +70,7 @@ called_at p (e ∷ past) = elim (e.process == p) [
 abbrev pub more_if : Bool → ℕ → ℕ
 more_if b n = cond b (n + 1) n
 
--- what p's entries since its last call make of a start, one after the other, each with the past before it
+-- p's entries since its last call are folded over a start, oldest first, each with the past before it
 abbrev pub over_call : {A : Type 0} → ℕ → A → (Past → Entry → A → A) → Past → A
 over_call p start with [] = start
 over_call p start with (e ∷ past) = elim (e.process == p) [
@@ -90,9 +90,9 @@ first_if b number found = cond b (first_of found (Some number)) found
 abbrev pub first_in_call : ℕ → (Past → Entry → Bool) → Past → Option ℕ
 first_in_call p test past = over_call p None (λ before e first. first_if (test before e) (length before) first) past
 
--- What marks tell, the first of each.
+-- Columns from marks, by the first mark of each kind.
 
--- the place of a command that is taken
+-- the position of a command that is taken
 abbrev pub place_after : Option ℕ → Mark → Option ℕ
 place_after found (Taken k r) = first_of found (Some k)
 place_after found _ = found
@@ -112,7 +112,7 @@ abbrev pub answer_after : Option Answer → Mark → Option Answer
 answer_after found (Answered a) = first_answer found a
 answer_after found _ = found
 
--- those of the marks of p's last call
+-- the position, the ticket and the answer in the marks of p's last call
 abbrev pub place_in_call : ℕ → Past → Option ℕ
 place_in_call p past = over_call p None (λ before e found. fold place_after found e.marks) past
 
@@ -122,7 +122,7 @@ ticket_in_call p past = over_call p None (λ before e found. fold ticket_after f
 abbrev pub answer_in_call : ℕ → Past → Option Answer
 answer_in_call p past = over_call p None (λ before e found. fold answer_after found e.marks) past
 
--- what the marks of p's last call tell; the number of an entry is how many there were before it
+-- the columns from the marks of p's last call; the number of an entry is the number of entries before it
 abbrev pub marked : ℕ → Past → Marked
 marked p past = record {
   door_end = doorway_end p past;
@@ -138,7 +138,7 @@ marked p past = record {
   answer = answer_in_call p past;
 }
 
--- What accesses tell.
+-- Columns from accesses.
 
 -- an entry has an access
 abbrev pub has_access : Entry → Bool
@@ -171,12 +171,12 @@ makes_itself p test before e = elim e.access [ None ↦ false | Some a ↦ test 
 abbrev pub with_bit : ℕ → Bool → ℕ → ℕ
 with_bit k v n = cond (k == 0) (cond v 1 0) (cond (v && nat_lt k 64) (bit_or n (2 ^ k)) n)
 
--- the same after a move on this bit
+-- the number that is read, after a move on this bit
 abbrev pub number_after : ℕ → Move → ℕ → ℕ
 number_after k (EndRead v) n = with_bit k v n
 number_after k _ n = n
 
--- a move on this bit ends the read of a number of so many bits
+-- a move on this bit ends the read of a number of `width` bits
 abbrev pub ends_number : ℕ → ℕ → Move → Bool
 ends_number width k (EndRead v) = k + 1 == width
 ends_number width k _ = false
@@ -187,7 +187,7 @@ holds_up p ticket q Choosing n = n == 1
 holds_up p ticket q Ticket n = nat_lt 0 n && is_below n q ticket p
 holds_up p ticket q _ n = false
 
--- p waits with this ticket, and an access, with which it has read this number, tells that it waits for the register's owner
+-- p waits with this ticket, and the number that it has read with this access holds it up, so it waits for the register's owner
 abbrev pub tells_waiting : Setup → ℕ → Option ℕ → Option ℕ → Access → ℕ → Bool
 tells_waiting s p None wait_end a n = false
 tells_waiting s p (Some ticket) wait_end a n = is_none wait_end && (ends_number (width s a.field) a.bit a.how && holds_up p ticket a.owner a.field n)
@@ -197,14 +197,14 @@ abbrev pub is_unmarked : List Mark → Bool
 is_unmarked [] = true
 is_unmarked (m ∷ marks) = false
 
--- the newest of those for whom p waited in its last call, by the numbers that it read. An entry with marks leads on: with it p does not wait for the owner
+-- the process for which p waited last in its last call, by the numbers that it read. An entry with marks leads on: with it p does not wait for the owner
 abbrev pub waited_for : Setup → ℕ → Past → Option ℕ
 waited_for s p past = over_call p None (λ before e newest. elim e.access [
   | None ↦ newest
   | Some a ↦ cond (is_unmarked e.marks && tells_waiting s p (ticket_in_call p before) (number_in_call p (has ends_waiting) before) a (number_after a.bit a.how (number_read (doing s p before)))) (Some a.owner) newest
 ]) past
 
--- what the accesses of p's last call tell
+-- the columns from the accesses of p's last call
 abbrev pub accesses : Setup → ℕ → Past → Accesses
 accesses s p past = record {
   doorway = first_in_call p (accesses_itself p) past;

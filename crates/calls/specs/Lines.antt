@@ -16,7 +16,7 @@ is_special b = (b == 44) || (b == 34)
 abbrev pub doubled : ℕ → List ℕ
 doubled b = cond (b == 34) (34 ∷ 34 ∷ []) (b ∷ [])
 
--- a text as a field: where a comma or a quote is in it, it stands in quotes, and its own are doubled
+-- a text as a field: one that contains a comma or a quote is enclosed in quotes, and its own quotes are doubled
 abbrev pub field : List ℕ → List ℕ
 field text = cond (list_any is_special text) (34 ∷ (flat_map doubled text ++ 34 ∷ [])) text
 
@@ -25,7 +25,7 @@ abbrev pub number_text : Option ℕ → List ℕ
 number_text None = []
 number_text (Some n) = decimal n
 
--- the same behind a comma
+-- a number or nothing, after a comma
 abbrev pub number_field : Option ℕ → List ℕ
 number_field n = 44 ∷ number_text n
 
@@ -34,16 +34,16 @@ abbrev pub answer_field : Option Answer → List ℕ
 answer_field None = []
 answer_field (Some a) = field (answer_text a)
 
--- the first of two numbers that is there
+-- the first of two numbers that exists
 abbrev pub number_or : Option ℕ → ℕ → ℕ
 number_or None n = n
 number_or (Some k) n = k
 
--- how many events there were behind a call's `wait`, up to the one with which its waiting ended, or up to the newest
+-- the number of events after a call's `wait`, up to the one that ended its waiting, or up to the newest
 abbrev pub waited : ℕ → Marked → Option ℕ
 waited newest m = elim m.door_end [ None ↦ None | Some wait ↦ Some (number_or m.wait_end newest - wait) ]
 
--- the numbers of a call that stand between its command and its answer
+-- the numbers of a call that follow its command and precede its answer
 abbrev pub numbers : ℕ → Called → List (Option ℕ)
 numbers newest c =
     Some c.called
@@ -63,7 +63,7 @@ numbers newest c =
     ∷ c.accesses.waited_for
     ∷ []
 
--- what stands before them, and the line of a call, where the newest event has this number
+-- the fields before them, and the line of a call, where the newest event has this number
 abbrev pub call_head : Called → List ℕ
 call_head c = decimal c.process ++ codes "," ++ decimal c.call ++ codes "," ++ field (command_text c.command)
 
@@ -87,7 +87,7 @@ abbrev pub ended_lines : Setup → Past → List ℕ
 ended_lines s [] = []
 ended_lines s (e ∷ past) = ended_lines s past ++ line_of (length past) (ended_call s past e)
 
--- the lines of those that have not, by process
+-- the lines of the calls that have not ended, by process
 abbrev pub open_lines : Setup → Past → List ℕ
 open_lines s past = flat_map (λ p. line_of (length past - 1) (open_call s p past)) (processes s)
 

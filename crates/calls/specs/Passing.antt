@@ -1,4 +1,4 @@
--- Entries within a number access, many at once: their accesses begin and end in turns, and are of one kind.
+-- Many entries at once within a register access: their accesses begin and end in turns, and are of one kind.
 use Rattle.std.specs.Prelude.{◌≡◌, ℕ, zero, suc, ◌+◌, ◌/◌, ◌<◌, ◌^◌, Bool, true, false, ◌||◌, if◌then◌else◌, [], ◌∷◌, cond, Some, None}
 use Rattle.plain_store.specs.{Setup}
 use Rattle.record.specs.safe_bit.{Move}
@@ -14,7 +14,7 @@ abbrev pub is_write_end : Move → Bool
 is_write_end EndWrite = true
 is_write_end _ = false
 
--- within a number access the second move comes after the first
+-- within a register access the second move comes after the first
 abbrev pub follows : Move → Move → Bool
 follows BeginRead how = is_read_end how
 follows (EndRead v) how = is_read how
@@ -26,7 +26,7 @@ follows (Settle v) how = false
 abbrev pub quiet_entry : ℕ → Access → Entry
 quiet_entry p a = record { process = p; access = Some a; marks = [] }
 
--- from one past to another so many entries of p were made within a number access, the newest with this access; so many end a read that a write overlapped
+-- from one past to another p added a number of entries within a register access, the newest with this access; `overlapped` of them end an overlapped read
 abbrev pub Passes : Setup → ℕ → ℕ → Access → ℕ → Past → Past → Type 0
 Passes s p zero newest overlapped past after = (after ≡ past) × (overlapped ≡ 0)
 Passes s p (suc n) newest overlapped past after =
@@ -34,7 +34,7 @@ Passes s p (suc n) newest overlapped past after =
     × (ends_number (width s newest.field) newest.bit newest.how ≡ false) × (after ≡ quiet_entry p newest ∷ mid)
     × (overlapped ≡ more_if (ends_overlapped_read mid (quiet_entry p newest)) count)
 
--- of so many accesses that begin and end in turns, of which the newest begins or not, so many begin
+-- how many of `steps` accesses begin, where begins and ends alternate; `begins` is whether the newest begins
 abbrev pub begun_among : ℕ → Bool → ℕ
 begun_among steps begins = (steps + (if begins then 1 else 0)) / 2
 
@@ -45,18 +45,18 @@ of_read how = is_read how || is_read_end how
 abbrev pub of_write : Move → Bool
 of_write how = is_write how || is_write_end how
 
--- of so many, of which the newest makes this move, so many begin a read, and so many a write
+-- how many of `steps` accesses begin a read or a write, where the newest makes this move
 abbrev pub reads_begun : ℕ → Move → ℕ
 reads_begun steps how = cond (of_read how) (begun_among steps (is_read how)) 0
 
 abbrev pub writes_begun : ℕ → Move → ℕ
 writes_begun steps how = cond (of_write how) (begun_among steps (is_write how)) 0
 
--- with so many more reads and writes, the first of them of the entry with this number, and of which so many reads were overlapped
+-- `reads` reads and `writes` writes more, the first of them with the entry of this number; `overlapped` reads were overlapped
 abbrev pub with_passed : ℕ → ℕ → ℕ → ℕ → Accesses → Accesses
 with_passed number reads writes overlapped k = record k { doorway = first_of k.doorway (Some number); reads = k.reads + reads; writes = k.writes + writes; overlapped = k.overlapped + overlapped }
 
--- the same of what is kept
+-- the state of a process with these accesses
 abbrev pub passed : ℕ → ℕ → ℕ → ℕ → CallStanding → CallStanding
 passed number reads writes overlapped k = record k { last = record k.last { accesses = with_passed number reads writes overlapped k.last.accesses } }
 
@@ -64,7 +64,7 @@ passed number reads writes overlapped k = record k { last = record k.last { acce
 abbrev pub HasNotFailed : ℕ → Past → Type 0
 HasNotFailed p past = number_in_call p (has is_failed) past ≡ None
 
--- each count has room for so many more
+-- each count has room for these accesses
 pub record HaveRoom (k : Accesses) (reads writes overlapped : ℕ) : Type 0 where
   pub reads_fit : k.reads + reads < 2 ^ 64
   pub writes_fit : k.writes + writes < 2 ^ 64

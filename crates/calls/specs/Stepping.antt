@@ -1,4 +1,4 @@
--- How what is kept of a process goes on with an entry.
+-- How an entry changes the state of a process.
 use Rattle.std.specs.Prelude.{ℕ, ◌+◌, ◌-◌, ◌^◌, ◌<◌, Bool, true, false, ◌&&◌, List, fold, cond, Option, None, Some, is_none}
 use Rattle.plain_store.specs.{Command, Setup}
 use Rattle.plain_store.specs.declared.Command.TheVariants.{Ask}
@@ -10,7 +10,7 @@ use Rattle.calls.specs.declared.called.Marked.{Marked}
 use Rattle.calls.specs.declared.standing.CallStanding.{CallStanding}
 use Rattle.calls.specs.Columns.{answer_after, called, first_if, goes_on_after, is_calling, is_read, is_write, more_if, number_after, tells_waiting}
 
--- what is kept of p
+-- the state of p
 abbrev pub standing : Setup → ℕ → Past → CallStanding
 standing s p past = record { calling = is_calling p past; last = called s p past }
 
@@ -33,12 +33,12 @@ begun number c k = record {
   last = record { process = k.last.process; call = k.last.call + 1; command = c; called = number; accesses = no_accesses; marks = no_marks };
 }
 
--- an access tells that p waits for the register's owner, by how much of a number was read before it, if that is told
+-- an access shows that p waits for the register's owner, by the number that was read before it, if that is reported
 abbrev pub waits_by : Setup → ℕ → Option ℕ → Option ℕ → Access → Option ℕ → Bool
 waits_by s p ticket wait_end a None = false
 waits_by s p ticket wait_end a (Some n) = tells_waiting s p ticket wait_end a (number_after a.bit a.how n)
 
--- with an access of the entry with this number, of which this is known
+-- with the access of the entry with this number, about which these facts are known
 abbrev pub with_access : Setup → ℕ → ℕ → EntryKnown → Marked → Access → Accesses → Accesses
 with_access s p number known m a k = record {
   doorway = first_if (is_none m.failed) number k.doorway;
@@ -62,7 +62,7 @@ with_mark number k mark.Down = k
 with_mark number k mark.Withdrew = record k { withdrew = first_of k.withdrew (Some number); wait_end = first_of k.wait_end (Some number) }
 with_mark number k mark.Restarted = k
 
--- the same of what is kept
+-- the state of a process with such a mark
 abbrev pub marked_on : ℕ → CallStanding → Mark → CallStanding
 marked_on number k m = record { calling = goes_on_after k.calling m; last = record k.last { marks = with_mark number k.last.marks m } }
 
@@ -74,12 +74,12 @@ marked_all number = fold (marked_on number)
 abbrev pub accessed : Setup → ℕ → EntryKnown → Access → CallStanding → CallStanding
 accessed s number known a k = record k { last = record k.last { accesses = with_access s k.last.process number known k.last.marks a k.last.accesses } }
 
--- the same, if there is one
+-- with an access, if there is one
 abbrev pub accessed_by : Setup → ℕ → EntryKnown → Option Access → CallStanding → CallStanding
 accessed_by s number known None k = k
 accessed_by s number known (Some a) k = accessed s number known a k
 
--- with an entry of this number: its call, or else its access and its marks
+-- with an entry of this number: the call that it begins, or otherwise its access and its marks
 abbrev pub heard : Setup → ℕ → EntryKnown → Option Access → List Mark → CallStanding → CallStanding
 heard s number known access marks k = elim (called_in marks) [
   | Some c ↦ begun number c k

@@ -1,4 +1,4 @@
--- The table of the calls of a scenario's run, and what is written of it as the run goes on.
+-- The table of the calls of a scenario's run, and the part of it that is written as the run continues.
 use Rattle.std.specs.Prelude.{◌≡◌, ◌+◌, ◌^◌, ◌<◌, ◌≤◌, ℕ, List, [], ◌∷◌, ◌++◌, Option, None, Some, Result, length, refl}
 use Rattle.std.proofs.Common.{ap, sym, ◌∙◌, arith, append-nil, append_assoc}
 use Rattle.std.specs.Io.KnownBytes.{Appends}
@@ -20,7 +20,7 @@ tabled said = table_text said.setup (past_after said.setup (happenings said))
 abbrev pub calls_text : List ℕ → Result (List ℕ) LineFault
 calls_text = text_by scenario_of tabled
 
--- the past with the entry that is told, if one is
+-- the past with the entry that is reported, if one is
 abbrev pub past_with : Past → Told → Past
 past_with past (told.Accepted made) = entry_made made ∷ past
 past_with past (told.Refused p refusal) = past
@@ -34,31 +34,31 @@ told_line s past (told.Refused p refusal) = []
 told_line s past (told.Tired p) = []
 told_line s past (told.Shown store) = []
 
--- what is known of an entry that is told: since it has marks, nothing is told of a number
+-- the facts about a reported entry; it has marks, so the number that it read is left out
 abbrev pub known_told : Accepted → EntryKnown
 known_told made = record { overlapped = made.overlapped; read = None }
 
--- what is known of a Step without a mark
+-- the facts about a Step without a mark
 abbrev pub known_step : Stepped → EntryKnown
 known_step made = record { overlapped = made.overlapped; read = made.number }
 
--- the entry that is told, if one is, may come next
+-- the entry that is reported, if one is, may come next
 abbrev pub IsInTurn : Setup → Past → Told → Type 0
 IsInTurn s past (told.Accepted made) = ComesInTurn s past (entry_made made) (known_told made)
 IsInTurn s past (told.Refused p refusal) = Unit {0}
 IsInTurn s past (told.Tired p) = Unit {0}
 IsInTurn s past (told.Shown store) = Unit {0}
 
--- a table has heard what is told, whatever has happened before, and the line of the call that ended was written
+-- a table has observed what is reported, after any past, and the line of the call that ended was written
 abbrev pub Tells : Told → TableState → TableState → Option (List ℕ) → Option (List ℕ) → Type 0
 Tells answer old new taken then =
     (past : Past) → HasHeard old past → IsInTurn old.setup past answer → HasHeard new (past_with past answer) × Appends taken then (told_line old.setup past answer)
 
--- or a front of that line
+-- a prefix of that line was written
 abbrev pub CutsTold : Told → TableState → Option (List ℕ) → Option (List ℕ) → Type 0
 CutsTold answer old taken then = (past : Past) → HasHeard old past → IsInTurn old.setup past answer → WritesFront taken then (told_line old.setup past answer)
 
--- a table of these calls has heard all that has happened
+-- a table with this setup has observed all that has happened
 pub record HasTabled (s : Setup) (happened : List Happening) (table : TableState) : Type 0 where
   pub setup : table.setup ≡ s
   pub heard : HasHeard table (past_after s happened)
@@ -85,6 +85,6 @@ lines_longer s before (this ∷ more) =
     let v = one_longer s (more ++ before) this in
     (u.0 ++ v.0, v.1 ∙ ap (λ l. l ++ v.0) u.1 ∙ append_assoc (lines_after s before) u.0 v.0)
 
--- where there is room for so many entries, there is for fewer
+-- where there is room for some entries, there is room for fewer
 pub fewer : (n k more : ℕ) → k ≤ more → n + more < 2 ^ 64 → n + k < 2 ^ 64
 fewer n k more less room = omega (arith, less, room)

@@ -1,4 +1,4 @@
-//! What an access tells of the call that makes it: what it begins or ends, and the number that is read.
+//! Facts about an access of a call: whether it begins or ends a read or a write, and which number it has read.
 ghost use Rattle.std.specs.Prelude.{◌≡◌, ◌+◌, ◌-◌, ◌^◌, ◌<◌, ◌&&◌, Some, Ok};
 ghost use Rattle.plain_store.specs.{checked};
 ghost use Rattle.record.specs.{is_below as below, width};
@@ -10,7 +10,7 @@ use crate::called::Marked;
 use plain_store::Setup;
 use record::{Access, Field, Move, width_of};
 
-/// One more, if a test holds.
+/// Returns `count`, plus one if the test holds.
 #[inline]
 pub(crate) fn more_if(count: u64, test: bool) -> u64
     ensures { count < 2 ^ 64 - 1 → result ≡ one_more_if test count }
@@ -18,7 +18,7 @@ pub(crate) fn more_if(count: u64, test: bool) -> u64
     if test { count.saturating_add(1) } else { count }
 }
 
-/// Whether a move begins a read.
+/// Returns whether a move begins a read.
 #[inline]
 pub(crate) fn is_read(how: Move) -> bool
     ensures { result ≡ begins_read how }
@@ -26,7 +26,7 @@ pub(crate) fn is_read(how: Move) -> bool
     matches!(how, Move::BeginRead)
 }
 
-/// Whether a move begins a write.
+/// Returns whether a move begins a write.
 #[inline]
 pub(crate) fn is_write(how: Move) -> bool
     ensures { result ≡ begins_write how }
@@ -34,7 +34,7 @@ pub(crate) fn is_write(how: Move) -> bool
     matches!(how, Move::BeginWrite(_))
 }
 
-/// Whether a move is one of a read.
+/// Returns whether a move begins or ends a read.
 #[inline(always)]
 pub(crate) fn is_of_read(how: Move) -> bool
     ensures { result ≡ of_read how }
@@ -42,7 +42,7 @@ pub(crate) fn is_of_read(how: Move) -> bool
     matches!(how, Move::BeginRead | Move::EndRead(_))
 }
 
-/// Of so many accesses that begin and end in turns, and of which the newest makes this move, so many begin a read.
+/// Returns how many of `steps` accesses begin a read, where begins and ends alternate and the last makes the move `newest`.
 #[inline(always)]
 pub(crate) fn reads_among(steps: u32, newest: Move) -> u64
     ensures { result ≡ reads_begun steps newest }
@@ -54,7 +54,7 @@ pub(crate) fn reads_among(steps: u32, newest: Move) -> u64
     }
 }
 
-/// So many begin a write.
+/// Returns how many of `steps` such accesses begin a write.
 #[inline(always)]
 pub(crate) fn writes_among(steps: u32, newest: Move) -> u64
     ensures { result ≡ writes_begun steps newest }
@@ -66,7 +66,7 @@ pub(crate) fn writes_among(steps: u32, newest: Move) -> u64
     }
 }
 
-/// The number that is read, once an access is made.
+/// Returns the number as far as it is read once an access is made; `number` was read before it.
 #[inline]
 pub fn number_after(access: &Access, number: u64) -> u64
     ensures { result ≡ after access.now.bit access.now.how number }
@@ -77,7 +77,7 @@ pub fn number_after(access: &Access, number: u64) -> u64
     }
 }
 
-/// The number with one more bit.
+/// Returns a number with one more bit. Bit 0 begins a new number.
 #[inline]
 fn with_bit(bit: u16, value: bool, number: u64) -> u64
     ensures { result ≡ bit_with bit value number }
@@ -91,8 +91,8 @@ fn with_bit(bit: u16, value: bool, number: u64) -> u64
     }
 }
 
-/// Whether an access tells that its process waits for the register's owner, by how much of a number was read before it, if that
-/// is told.
+/// Returns whether an access shows that its process waits for the register's owner. `read` is the number as far as it was read
+/// before, if that was reported.
 #[inline(always)]
 pub(crate) fn waits_by(
     setup: &Setup,
@@ -113,8 +113,7 @@ pub(crate) fn waits_by(
     }
 }
 
-/// Whether a process waits, and an access, with which it has read this number, tells that it waits for the register's
-/// owner.
+/// Returns whether a process that has read `number` with this access waits for the register's owner.
 #[inline]
 fn tells_waiting(setup: &Setup, process: u8, marks: &Marked, access: &Access, number: u64) -> bool
     requires { checked setup.now ≡ Ok tt }
@@ -128,7 +127,7 @@ fn tells_waiting(setup: &Setup, process: u8, marks: &Marked, access: &Access, nu
         && holds_up(process, ticket, access.owner, access.field, number)
 }
 
-/// Whether a number that was read of a register of this owner holds up a process with this ticket.
+/// Returns whether a number that was read from a register of `owner` holds up a process with this ticket.
 pub fn holds_up(process: u8, ticket: u32, owner: u8, field: Field, number: u64) -> bool
     ensures { result ≡ holds process ticket owner field number }
 {
@@ -139,7 +138,7 @@ pub fn holds_up(process: u8, ticket: u32, owner: u8, field: Field, number: u64) 
     }
 }
 
-/// Whether an access ends the read of a number.
+/// Returns whether an access is the last one of the read of a register.
 #[inline]
 pub fn ends_number(setup: &Setup, access: &Access) -> bool
     requires { checked setup.now ≡ Ok tt }
@@ -152,7 +151,7 @@ pub fn ends_number(setup: &Setup, access: &Access) -> bool
     }
 }
 
-/// Whether one ticket, with its process, is below another.
+/// Returns whether one ticket, with its process, is below another.
 fn is_below(ticket: u64, process: u8, other: u64, other_process: u8) -> bool
     ensures { result ≡ below ticket process other other_process }
 {

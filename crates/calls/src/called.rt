@@ -1,42 +1,42 @@
-//! What became of a call.
+//! A call of a process, with what its accesses and its marks show.
 use plain_store::{Answer, Command};
 
-/// What the accesses of a call tell. Events are told by their numbers, from 0.
+/// The counts and events of the accesses of a call. Events are numbered from 0.
 #[derive(Clone, Copy)]
 pub struct Accesses {
-    /// The event of the first access that the process makes itself, and not its memory unit: its doorway begins there.
+    /// The event of the first access that the process makes itself, and not its memory unit. Its doorway begins with it.
     pub doorway: Option<u64>,
-    /// How many reads of bits the process has begun itself, and not its memory unit.
+    /// The number of reads of bits that the process has begun itself, and not its memory unit.
     pub reads: u64,
-    /// How many writes.
+    /// The number of writes of bits that it has begun itself.
     pub writes: u64,
-    /// How many of its reads that have ended were overlapped by a write.
+    /// The number of its reads that have ended and were overlapped by a write.
     pub overlapped: u64,
-    /// For whom it waited last.
+    /// The process for which it waited last.
     pub waited_for: Option<u8>,
 }
 
-/// What is known of an entry beside its access and its marks.
+/// Facts about an entry that its access and its marks do not show.
 #[derive(Clone, Copy)]
 pub struct EntryKnown {
     /// Whether it ends a read that a write overlapped.
     pub overlapped: bool,
-    /// How much of a number was read before it. It need not be told of an entry with marks, or of one that ends the read of
-    /// no number.
+    /// The number that was read before it, as far as it was read. It may be omitted for an entry with marks, and for one that
+    /// does not end the read of a register.
     pub read: Option<u32>,
 }
 
-/// What the marks of a call tell, those of a memory unit too. Events are told by their numbers, from 0.
+/// The events and values of the marks of a call, including those of its memory unit. Events are numbered from 0.
 #[derive(Clone, Copy)]
 pub struct Marked {
-    /// Its doorway is finished: it waits.
+    /// The event that ends its doorway, after which it waits.
     pub door_end: Option<u64>,
     pub entered: Option<u64>,
-    /// Its waiting ends: it enters, withdraws or fails.
+    /// The event that ends its waiting: it enters, withdraws or fails.
     pub wait_end: Option<u64>,
-    /// Its command is taken.
+    /// The event with which its command is taken.
     pub taken: Option<u64>,
-    /// The place of its command in the history.
+    /// The position of its command in the history, from 0.
     pub place: Option<u64>,
     pub left: Option<u64>,
     pub answered: Option<u64>,
@@ -47,11 +47,11 @@ pub struct Marked {
     pub answer: Option<Answer>,
 }
 
-/// A call of a process, and what has become of it so far.
+/// A call of a process, with its accesses and marks so far.
 #[derive(Clone, Copy)]
 pub struct Called {
     pub process: u8,
-    /// Which of its calls it is, from 1.
+    /// Its number among the calls of its process, from 1.
     pub call: u64,
     pub command: Command,
     /// The event with which it began.

@@ -1,4 +1,4 @@
-//! The engine `calls`: a line for each call of a scenario's run, written as it ends; at the end the calls that go on.
+//! The engine `calls`: it writes a line for each call of a scenario's run as the call ends, and finally those of the open calls.
 ghost use Rattle.std.specs.Prelude.{◌≡◌, ◌+◌, ◌-◌, ◌^◌, ◌<◌, length, IfErr, IfOk, OnOk};
 ghost use Rattle.std.specs.Io.KnownBytes.{Appends};
 ghost use Rattle.record.specs.{Past};
@@ -19,9 +19,15 @@ use scenario::progress::Onlooker;
 use scenario::{Fault, Scenario, Sink, Source, read_input, read_scenario, write_all};
 use std::alloc::Global;
 
-/// Reads a whole scenario file, and then writes the table of the calls of its run, as they end: a line of comma-separated
-/// values for each. However it ends, at most `INPUT_LIMIT` bytes are taken from the front of the input.
-/// An onlooker hears how far it is: `Nobody`, where nobody is to know.
+/// Reads a whole scenario file, and then writes the table of the calls of its run: a line of comma-separated values for each
+/// call, as it ends. It takes at most `INPUT_LIMIT` bytes from the start of the input, even if it fails. It reports its
+/// progress to the onlooker; `Nobody` ignores the reports.
+///
+/// # Errors
+///
+/// Returns [`Fault::Read`] or [`Fault::Memory`] if the file cannot be read, and [`Fault::Line`] for its first fault; nothing is
+/// written then. Returns [`Fault::Memory`] or [`Fault::Write`] if an allocation or the output fails later; a prefix of the
+/// table is written then.
 pub fn run_calls<R: Source, W: Sink, L: Onlooker>(
     alloc: Global,
     input: &mut R,
@@ -40,7 +46,7 @@ pub fn run_calls<R: Source, W: Sink, L: Onlooker>(
     table_scenario(alloc, &scenario, output, onlooker)
 }
 
-/// Writes the table of the calls of the run of a file's scenario.
+/// Writes the table of the calls of a scenario's run.
 fn table_scenario<W: Sink, L: Onlooker>(
     alloc: Global,
     scenario: &Scenario,
@@ -76,7 +82,7 @@ fn write_header<W: Sink>(output: &mut W) -> Result<(), Fault>
     write_all(output, HEADER.as_bytes())
 }
 
-/// Writes the lines of the calls that go on, by process.
+/// Writes the lines of the calls that have not ended, by process.
 fn write_open<W: Sink>(
     alloc: Global,
     setup: &Setup,
@@ -96,7 +102,7 @@ fn write_open<W: Sink>(
     Ok(())
 }
 
-/// Writes the line of the call of a process, if it goes on.
+/// Writes the line of the call of a process, if it has not ended.
 fn write_open_call<W: Sink>(
     alloc: Global,
     table: &CallTable,

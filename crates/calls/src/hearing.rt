@@ -1,4 +1,4 @@
-//! A listener that tables the calls of a run: the line of each call that ends is written before the next event.
+//! A listener that tabulates the calls of a run. It writes the line of each call that ends before the next event is made.
 ghost use Rattle.std.specs.Prelude.{◌≡◌, ◌+◌, ◌-◌, ◌^◌, ◌<◌, ◌∷◌, [], IfErr, OnErr, OnOk, Some, length, refl, false};
 ghost use Rattle.std.proofs.Common.{◌∙◌};
 ghost use Rattle.std.specs.Io.KnownBytes.{Appends};
@@ -12,12 +12,12 @@ ghost use Rattle.calls.specs.Tables.{CutsTold, HasTabled, Tells, fewer, known_st
 use crate::called::{Called, EntryKnown};
 use crate::printed::print_call;
 use crate::table::CallTable;
-use course::{Listener, Stepped, Taken, Told};
+use course::{Listener, Stepped, Told};
 use record::{Access, Mark, Move};
 use scenario::{Fault, Sink, write_all};
 use std::alloc::Global;
 
-/// Tables the calls of a run as it hears them.
+/// Tabulates the calls of a run as it observes its entries.
 #[derive(Drop)]
 pub(crate) struct Tabler<'a, W: Sink> {
     pub alloc: Global,
@@ -43,7 +43,7 @@ impl<'a, W: Sink> Listener for Tabler<'a, W> {
 
     ghost Stops = { λ a s x y fault b. (b.output.ghost_name ≡ a.output.ghost_name) × TookPart (HasTabled s x a.table.now) (lines_after s x) (lines_after s y) (W.taken a.output.now) (W.taken b.output.now) (W.failures a.output.now) (W.failures b.output.now) fault };
 
-    fn hear(&mut self, told: &Told, _taken: &[Taken]) -> Result<(), Fault> {
+    fn hear(&mut self, told: &Told) -> Result<(), Fault> {
         hear_told(self.alloc, told, self.table, self.output)
     }
 
@@ -71,7 +71,7 @@ impl<'a, W: Sink> Listener for Tabler<'a, W> {
     ghost stops_on = { λ a b c s x y z fault p q. (q.0 ∙ p.0, part_on {P = HasTabled s x a.table.now} {Q = HasTabled s y b.table.now} p.2 p.3 q.1) };
 }
 
-/// Hears a Step without a mark.
+/// Observes a Step without a mark.
 #[inline(never)]
 fn hear_step(made: &Stepped, table: &mut CallTable)
     requires { table.old.entries < 2 ^ 64 - 1 }
@@ -86,7 +86,7 @@ fn hear_step(made: &Stepped, table: &mut CallTable)
     let _none = table.hear(made.process, &known, &Some(made.access), &[]);
 }
 
-/// Hears what a turn tells.
+/// Observes what a turn reports, and writes the line of the call that ends with it, if one does.
 fn hear_told<W: Sink>(
     alloc: Global,
     told: &Told,
@@ -126,7 +126,8 @@ fn hear_told<W: Sink>(
     }
 }
 
-/// Hears an event: who made it, what is known of it, its access and its marks.
+/// Observes an entry of `process` with this access and these marks, and writes the line of the call that ends with it, if one
+/// does.
 fn hear<W: Sink>(
     alloc: Global,
     process: u8,
@@ -151,7 +152,7 @@ fn hear<W: Sink>(
     write_if(alloc, &ended, newest, output)
 }
 
-/// Writes the line of a call, if there is one, where the newest event has this number.
+/// Writes the line of a call, if there is one; `newest` is the number of the newest event.
 pub(crate) fn write_if<W: Sink>(
     alloc: Global,
     called: &Option<Called>,
@@ -170,7 +171,7 @@ pub(crate) fn write_if<W: Sink>(
     }
 }
 
-/// Writes the line of a call, unless there was no memory for it.
+/// Writes the line of a call. If an allocation fails, nothing is written.
 #[tactic(auto, using(crate::proofs::Fronts::front_none))]
 fn write_call<W: Sink>(
     alloc: Global,

@@ -1,13 +1,17 @@
-//! The calls of a run: a table hears the entries one by one, and gives of each call that ends what became of it. Each number
-//! is found by looking back over the entries; the table keeps the last call of each process. The engine `calls` makes the run of
-//! a scenario, and writes what became of each of its calls.
+//! The calls of a run. A table observes the entries one by one, or many at once, and returns each call that ends, with its
+//! counts and events. The definitions find each of these numbers by looking back over the entries; the table stores only the
+//! last call of each process. The engine `calls` runs a scenario and writes a line for each of its calls.
 #![tactic(auto)]
 
 mod accesses;
 mod called;
 mod calling;
 mod hearing;
+mod laws_of_tables;
+mod listing;
+mod overlaps;
 mod printed;
+mod record_table;
 mod standing;
 mod table;
 
@@ -15,6 +19,8 @@ pub use accesses::{ends_number, holds_up, number_after};
 pub use called::{Accesses, Called, EntryKnown, Marked};
 pub use calling::run_calls;
 pub use course;
+pub use laws_of_tables::records_list_as_runs;
+pub use listing::list_record;
 pub use printed::{HEADER, print_call};
 pub use scenario;
 pub use standing::{CallStanding, called_in, first_if};

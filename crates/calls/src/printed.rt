@@ -1,4 +1,4 @@
-//! How calls are printed: as lines of comma-separated values.
+//! Calls as lines of comma-separated values.
 ghost use Rattle.std.specs.Prelude.{◌≡◌, ◌++◌, ◌∷◌, ◌||◌, cond, codes, flat_map, IfOk, OnOk};
 ghost use Rattle.std.specs.List.{list_any};
 ghost use Rattle.std.specs.String.{string_bytes};
@@ -15,8 +15,11 @@ use std::fmt;
 pub const HEADER: &str =
     "process,call,command,called,doorway,door_end,entered,taken,place,left,answered,failed,withdrew,reads,writes,overlapped,waited,waited_for,answer\n";
 
-/// Prints the line of a call behind what is there, where the newest event has this number. The one fault is want of
-/// memory.
+/// Appends the line of a call; `newest` is the number of the newest event.
+///
+/// # Errors
+///
+/// Fails only if an allocation fails.
 pub fn print_call(
     alloc: Global,
     called: &Called,
@@ -32,7 +35,7 @@ pub fn print_call(
     Ok(line.push(b'\n')?)
 }
 
-/// The process, the number and the command of a call.
+/// Appends the process, the number and the command of a call.
 fn push_head(alloc: Global, line: &mut Vec<u8>, called: &Called) -> Result<(), AllocError>
     ensures { OnOk result (line.new.items ≡ line.old.items ++ call_head called.now) }
 {
@@ -41,28 +44,28 @@ fn push_head(alloc: Global, line: &mut Vec<u8>, called: &Called) -> Result<(), A
     push_shown(line, command_shown(alloc, &called.command)?)
 }
 
-/// The process and the number of a call.
+/// Returns the process and the number of a call, each followed by a comma.
 fn head(alloc: Global, process: u8, call: u64) -> Result<String, AllocError>
     ensures { IfOk result (λ text. string_bytes text ≡ decimal process ++ (codes "," ++ (decimal call ++ codes ","))) }
 {
     format!(in alloc; "{process},{call},")
 }
 
-/// A command.
+/// Returns a command as text.
 fn command_shown(alloc: Global, command: &Command) -> Result<String, AllocError>
     ensures { IfOk result (λ text. string_bytes text ≡ command_text command.now) }
 {
     format!(in alloc; "{command}")
 }
 
-/// An answer.
+/// Returns an answer as text.
 fn answer_shown(alloc: Global, answer: &Answer) -> Result<String, AllocError>
     ensures { IfOk result (λ text. string_bytes text ≡ answer_text answer.now) }
 {
     format!(in alloc; "{answer}")
 }
 
-/// The numbers of a call that stand between its command and its answer.
+/// Returns the numbers of a call that follow its command and precede its answer.
 fn numbers(called: &Called, newest: u64) -> [Option<u64>; 15]
     ensures { result ≡ numbers_of newest called.now }
 {
@@ -90,7 +93,7 @@ fn numbers(called: &Called, newest: u64) -> [Option<u64>; 15]
     ]
 }
 
-/// A process, as a number.
+/// Returns a process as a number.
 fn number_of(process: Option<u8>) -> Option<u64>
     ensures { result ≡ process }
 {
@@ -100,7 +103,7 @@ fn number_of(process: Option<u8>) -> Option<u64>
     }
 }
 
-/// How many events there were behind the `wait` of a call, up to the one with which its waiting ended, or up to the newest.
+/// Returns the number of events after the `wait` of a call, up to the one that ended its waiting, or up to the newest.
 fn waited(marks: &Marked, newest: u64) -> Option<u64>
     ensures { result ≡ waited_by newest marks.now }
 {
@@ -112,7 +115,7 @@ fn waited(marks: &Marked, newest: u64) -> Option<u64>
     Some(end.saturating_sub(wait))
 }
 
-/// Numbers, each behind a comma.
+/// Appends numbers, each after a comma.
 fn push_numbers(
     alloc: Global,
     line: &mut Vec<u8>,
@@ -126,7 +129,7 @@ fn push_numbers(
     Ok(())
 }
 
-/// A number or nothing, behind a comma.
+/// Appends a comma, and a number if there is one.
 fn push_number(alloc: Global, line: &mut Vec<u8>, number: Option<u64>) -> Result<(), AllocError>
     ensures { OnOk result (line.new.items ≡ line.old.items ++ number_field number) }
 {
@@ -137,14 +140,14 @@ fn push_number(alloc: Global, line: &mut Vec<u8>, number: Option<u64>) -> Result
     }
 }
 
-/// A text, which is dropped here, so that its caller has none to drop.
+/// Appends a text, and drops it here, so that the caller has none to drop.
 fn push_text(line: &mut Vec<u8>, text: String) -> Result<(), AllocError>
     ensures { OnOk result (line.new.items ≡ line.old.items ++ string_bytes text) }
 {
     line.extend_from_slice(text.as_bytes())
 }
 
-/// An answer as a field or nothing, behind a comma.
+/// Appends a comma, and an answer as a field if there is one.
 fn push_answer(alloc: Global, line: &mut Vec<u8>, answer: &Option<Answer>) -> Result<(), AllocError>
     ensures { OnOk result (line.new.items ≡ line.old.items ++ 44 ∷ answer_field answer.now) }
 {
@@ -155,14 +158,14 @@ fn push_answer(alloc: Global, line: &mut Vec<u8>, answer: &Option<Answer>) -> Re
     }
 }
 
-/// A text as a field, which is dropped here.
+/// Appends a text as a field, and drops it here.
 fn push_shown(line: &mut Vec<u8>, text: String) -> Result<(), AllocError>
     ensures { OnOk result (line.new.items ≡ line.old.items ++ field (string_bytes text)) }
 {
     push_field(line, text.as_bytes())
 }
 
-/// A text as a field: where a comma or a quote is in it, it stands in quotes, and its own are doubled.
+/// Appends a text as a field. If it contains a comma or a quote, it is enclosed in quotes, and its own quotes are doubled.
 fn push_field(line: &mut Vec<u8>, text: &[u8]) -> Result<(), AllocError>
     ensures { OnOk result (line.new.items ≡ line.old.items ++ field text.now) }
 {
@@ -174,14 +177,14 @@ fn push_field(line: &mut Vec<u8>, text: &[u8]) -> Result<(), AllocError>
     Ok(line.push(b'"')?)
 }
 
-/// Whether a comma or a quote is in a text.
+/// Returns whether a text contains a comma or a quote.
 fn has_special(text: &[u8]) -> bool
     ensures { result ≡ list_any special text.now }
 {
     text.iter().any(|byte| *byte == b',' || *byte == b'"')
 }
 
-/// A text whose quotes are doubled.
+/// Appends a text with its quotes doubled.
 fn push_doubled(line: &mut Vec<u8>, text: &[u8]) -> Result<(), AllocError>
     ensures { OnOk result (line.new.items ≡ line.old.items ++ flat_map doubled text.now) }
 {
@@ -191,7 +194,7 @@ fn push_doubled(line: &mut Vec<u8>, text: &[u8]) -> Result<(), AllocError>
     Ok(())
 }
 
-/// A byte of such a text.
+/// Appends a byte, twice if it is a quote.
 #[tactic(auto, using(std::proofs::lemmas::Bool::Decides::nat_tests))]
 fn push_byte(line: &mut Vec<u8>, byte: u8) -> Result<(), AllocError>
     ensures { OnOk result (line.new.items ≡ line.old.items ++ doubled byte) }

@@ -1,4 +1,4 @@
-//! What is kept of a process, entry by entry.
+//! The state of a process, which each of its entries changes.
 ghost use Rattle.std.specs.Prelude.{◌≡◌, ◌-◌, ◌^◌, ◌<◌, ◌&&◌, not, cond, None, Some, Ok};
 ghost use Rattle.plain_store.specs.{checked};
 ghost use Rattle.record.specs.{called_in as command_in, first_of as first};
@@ -11,7 +11,7 @@ use crate::called::{Accesses, Called, EntryKnown, Marked};
 use plain_store::{Command, NestedTypes, Setup};
 use record::{Access, Field, Mark};
 
-/// What is kept of a process: its last call, and whether that goes on.
+/// The state of a process: its last call, and whether that call is open.
 #[derive(Clone, Copy)]
 pub struct CallStanding {
     pub calling: bool,
@@ -19,7 +19,7 @@ pub struct CallStanding {
 }
 
 impl CallStanding {
-    /// Of a process without an entry.
+    /// Creates the state of a process without an entry.
     pub fn at_rest(process: u8) -> CallStanding
         ensures { result ≡ at_rest process }
     {
@@ -36,7 +36,7 @@ impl CallStanding {
         }
     }
 
-    /// One more entry, with this number, of which this is known. The call that ends with it, if one does.
+    /// Observes one more entry, with this number, and returns the call that ends with it, if one does.
     #[inline(always)]
     pub fn hear(
         &mut self,
@@ -59,7 +59,7 @@ impl CallStanding {
         }
     }
 
-    /// The same without an answer.
+    /// Observes one more entry, with this number.
     #[inline(always)]
     fn go_on(
         &mut self,
@@ -83,7 +83,7 @@ impl CallStanding {
         self.mark_all(number, marks);
     }
 
-    /// A call begins, with the entry of this number.
+    /// Begins a call, with the entry of this number.
     pub fn begin(&mut self, number: u64, command: &Command)
         ensures { self.old.last.call < 2 ^ 64 - 1 → self.new ≡ begun number command.now self.old }
     {
@@ -98,7 +98,7 @@ impl CallStanding {
         };
     }
 
-    /// An access of the entry with this number, of which this is known.
+    /// Adds the access of the entry with this number.
     #[inline]
     fn access(&mut self, setup: &Setup, number: u64, known: &EntryKnown, access: &Access)
         requires { checked setup.now ≡ Ok tt }
@@ -111,8 +111,8 @@ impl CallStanding {
             .note(setup, process, number, known, marks, access);
     }
 
-    /// So many more reads and writes of a process that has not failed in its call, the first of them of the entry with this
-    /// number; so many reads ended that a write overlapped.
+    /// Adds `reads` reads and `writes` writes that a process has begun. The entry with this number is the first of them;
+    /// `overlapped` reads that ended were overlapped. The process has not failed in its call.
     #[inline(always)]
     pub fn pass(&mut self, number: u64, reads: u64, writes: u64, overlapped: u32)
         ensures { HaveRoom self.old.last.accesses reads writes overlapped → self.new ≡ passed number reads writes overlapped self.old }
@@ -120,7 +120,7 @@ impl CallStanding {
         self.last.accesses.pass(number, reads, writes, overlapped);
     }
 
-    /// The marks of the entry with this number.
+    /// Adds the marks of the entry with this number.
     #[inline]
     pub fn mark_all(&mut self, number: u64, marks: &[Mark])
         ensures { self.new ≡ marked_all number self.old marks.now }
@@ -131,7 +131,7 @@ impl CallStanding {
         }
     }
 
-    /// A mark of the entry with this number.
+    /// Adds a mark of the entry with this number, and closes the call if the mark ends it.
     fn mark(&mut self, number: u64, mark: &Mark)
         ensures { self.new ≡ marked_on number self.old mark.now }
     {
@@ -144,7 +144,7 @@ impl CallStanding {
 }
 
 impl Accesses {
-    /// Of no access.
+    /// Creates the counts of a call without an access.
     fn none() -> Accesses
         ensures { result ≡ no_accesses }
     {
@@ -157,7 +157,7 @@ impl Accesses {
         }
     }
 
-    /// Adds the access of the entry with this number, which the process makes or its memory unit.
+    /// Adds the access of the entry with this number, which the process or its memory unit makes.
     #[inline]
     fn note(
         &mut self,
@@ -183,7 +183,7 @@ impl Accesses {
 }
 
 impl Accesses {
-    /// So many more of a process that has not failed, the first of them of the entry with this number.
+    /// Adds `reads` reads and `writes` writes of a process that has not failed. The entry with this number is the first of them.
     #[inline(always)]
     fn pass(&mut self, number: u64, reads: u64, writes: u64, overlapped: u32)
         ensures { HaveRoom self.old reads writes overlapped → self.new ≡ with_passed number reads writes overlapped self.old }
@@ -198,7 +198,7 @@ impl Accesses {
 }
 
 impl Marked {
-    /// Of no mark.
+    /// Creates the state of a call without a mark.
     fn none() -> Marked
         ensures { result ≡ no_marks }
     {
@@ -217,7 +217,7 @@ impl Marked {
         }
     }
 
-    /// One more mark, of the entry with this number.
+    /// Adds a mark of the entry with this number.
     fn note(&mut self, number: u64, mark: &Mark)
         ensures { self.new ≡ with_mark number self.old mark.now }
     {
@@ -257,7 +257,7 @@ impl Marked {
     }
 }
 
-/// The first of two numbers, of which there may be none before.
+/// Returns the number before, or, if there is none, this one.
 #[inline]
 fn first_of(before: Option<u64>, number: u64) -> Option<u64>
     ensures { result ≡ first before (Some number) }
@@ -280,7 +280,7 @@ pub fn first_if(before: Option<u64>, test: bool, number: u64) -> Option<u64>
     }
 }
 
-/// The command with which marks begin a call, if they do.
+/// Returns the command with which marks begin a call, if they begin one.
 #[inline]
 pub fn called_in(marks: &[Mark]) -> Option<Command>
     ensures { result ≡ command_in marks.now }

@@ -1,10 +1,11 @@
-ghost use Rattle.std.specs.Prelude.{◌≡◌, ◌+◌, ◌-◌, ◌^◌, ◌<◌, ◌∷◌, [], IfOk, Ok, Some, None, slice_get};
+ghost use Rattle.std.specs.Prelude.{◌≡◌, ◌+◌, ◌-◌, ◌^◌, ◌<◌, ◌≤◌, ◌∷◌, [], IfOk, Ok, Some, None, cond, is_some, slice_get};
 ghost use Rattle.plain_store.specs.{checked};
-ghost use Rattle.record.specs.{Entry as Noted, Past, calls_in, own};
+ghost use Rattle.record.specs.{Entry as Noted, Past, called_in as command_in, calls_in, own};
 ghost use Rattle.record.specs.declared.access.Access.{Access as AccessMade};
 ghost use Rattle.calls.specs.declared.standing.CallStanding.{CallStanding as Stood};
 ghost use Rattle.calls.specs.Passing.{HasNotFailed, Passes};
 ghost use Rattle.calls.specs.Hearing.{ComesInTurn, GoesBy, GoesOn, HasHeard, ended_call, open_call};
+ghost use Rattle.calls.specs.Recorded.{HasListed, Lists, call_kept, entry_with, open_recorded};
 
 use crate::accesses::{is_of_read, reads_among, writes_among};
 use crate::called::{Accesses, Called, EntryKnown, Marked};
@@ -14,8 +15,8 @@ use record::{Access, Mark, Move};
 use std::alloc::{AllocError, Global};
 use std::marker::Model;
 
-/// The calls of a run, whose entries it takes one at a time. It keeps the last call of each process: so it needs the same
-/// memory however long the run is, and however many calls it has.
+/// The calls of a run, whose entries it observes one by one, or many at once. It stores only the last call of each process, so
+/// its memory does not grow with the run.
 #[derive(Drop)]
 pub struct CallTable {
     setup: Setup,
@@ -35,7 +36,11 @@ impl Model for CallTable {
 }
 
 impl CallTable {
-    /// Before the first entry. The one fault is want of memory; no later call takes any.
+    /// Creates a table before the first entry.
+    ///
+    /// # Errors
+    ///
+    /// Fails only if an allocation fails. Observing entries does not allocate.
     pub fn new(alloc: Global, setup: &Setup) -> Result<CallTable, AllocError>
         requires { checked setup.now ≡ Ok tt }
         ensures setup { IfOk result (λ table. table.setup ≡ setup.now) }
@@ -54,8 +59,8 @@ impl CallTable {
         })
     }
 
-    /// One more entry of a run, of which this is known: the call that ends with it, if one does. It is built into its caller,
-    /// so that of an entry without a mark no call is looked for.
+    /// Observes one more entry of a run, and returns the call that ends with it, if one does. It is inlined, so that no call is
+    /// looked for if the caller's entry has no mark.
     #[inline(always)]
     pub fn hear(
         &mut self,
@@ -73,8 +78,8 @@ impl CallTable {
         self.go_on(process, known, access, marks)
     }
 
-    /// So many more entries of a process within a number access, without a mark: the newest makes this move, and so many end
-    /// a read that a write overlapped. The process has not failed in its call.
+    /// Observes `steps` unmarked entries of `process` within one register access. The last makes the move `newest`;
+    /// `overlapped` of them end an overlapped read. The process has not failed in its call.
     #[inline(always)]
     pub fn pass(&mut self, process: u8, steps: u32, newest: Move, overlapped: u32)
         requires some { 0 < steps }
@@ -83,7 +88,7 @@ impl CallTable {
         ensures count { self.new.entries ≡ self.old.entries + steps }
         ensures heard { (past after : Past) (access : AccessMade) → access.how ≡ newest → Passes self.old.setup process steps access overlapped past after → process < self.old.setup.processes → HasNotFailed process past → HasHeard self.old past → HasHeard self.new after }
     {
-        // Asked first of all: where its caller knows what was made, a compiler keeps one of the two ways there.
+        // This test comes first: where the caller's move is known, the compiler keeps only one of the two calls.
         if is_of_read(newest) {
             self.pass_on(process, steps, reads_among(steps, newest), 0, overlapped);
         } else {
@@ -91,7 +96,7 @@ impl CallTable {
         }
     }
 
-    /// The same, by what is kept of their process: so many of them begin a read, and so many a write.
+    /// Adds `steps` such entries to the state of their process: `reads` of them begin a read, and `writes` a write.
     #[inline(always)]
     fn pass_on(&mut self, process: u8, steps: u32, reads: u64, writes: u64, overlapped: u32)
         requires { self.old.entries + steps < 2 ^ 64 }
@@ -109,7 +114,7 @@ impl CallTable {
         self.standings[place].pass(number, reads, writes, overlapped);
     }
 
-    /// The same, by what is kept of its process.
+    /// Adds one more entry to the state of its process, and returns the call that ends with it, if one does.
     #[inline(always)]
     fn go_on(
         &mut self,
@@ -122,6 +127,7 @@ impl CallTable {
         ensures setup { self.new.setup ≡ self.old.setup }
         ensures count { self.new.entries ≡ self.old.entries + 1 }
         ensures goes { (before : Stood) → slice_get self.old.standings process ≡ Some before → GoesOn self.old process known.now access.now marks.now before result self.new.standings }
+        ensures stray { self.old.setup.processes ≤ process → (result ≡ None) × (self.new.standings ≡ self.old.standings) }
     {
         let _nested: NestedTypes = None;
         let number = self.entries;
@@ -133,21 +139,21 @@ impl CallTable {
         self.standings[place].hear(&self.setup, number, known, access, marks)
     }
 
-    /// How many entries there were.
+    /// Returns the number of entries.
     pub fn entries(&self) -> u64
         ensures { result ≡ self.now.entries }
     {
         self.entries
     }
 
-    /// The number of the newest entry; 0, if there is none.
+    /// Returns the number of the newest entry, or 0 if there is none.
     pub fn newest(&self) -> u64
         ensures { result ≡ self.now.entries - 1 }
     {
         self.entries.saturating_sub(1)
     }
 
-    /// How many calls a process has made.
+    /// Returns the number of calls that a process has made.
     pub fn calls(&self, process: u8) -> u64
         requires { process < self.now.setup.processes }
         ensures { (past : Past) → HasHeard self.now past → result ≡ calls_in (own process past) }
@@ -155,12 +161,82 @@ impl CallTable {
         self.standings[usize::from(process)].last.call
     }
 
-    /// The call of a process, if it has not ended.
+    /// Returns the call of a process, if it has not ended.
     pub fn open_call(&self, process: u8) -> Option<Called>
         requires { process < self.now.setup.processes }
         ensures { (past : Past) → HasHeard self.now past → result ≡ open_call self.now.setup process past }
     {
         let standing = &self.standings[usize::from(process)];
+        if standing.calling {
+            Some(standing.last)
+        } else {
+            None
+        }
+    }
+}
+
+impl CallTable {
+    /// Adds an entry of a record, of any lock, good or bad. `overlapped` is whether it ends a read that a write overlapped.
+    /// Returns the call that ends with it, if one does: an open call also ends when its process calls again. An entry of a
+    /// process that does not exist is counted, and nothing else.
+    #[inline(always)]
+    pub(crate) fn list(
+        &mut self,
+        process: u8,
+        overlapped: bool,
+        access: &Option<Access>,
+        marks: &[Mark],
+    ) -> Option<Called>
+        requires { self.old.entries < 2 ^ 64 - 1 }
+        ensures setup { self.new.setup ≡ self.old.setup }
+        ensures count { self.new.entries ≡ self.old.entries + 1 }
+        ensures lists { Lists self.old self.new overlapped
+            (entry_with process access.now marks.now) result }
+    {
+        let replaced = self.replaced(process, marks);
+        let known = EntryKnown {
+            overlapped,
+            read: None,
+        };
+        let ended = self.go_on(process, &known, access, marks);
+        if replaced.is_some() { replaced } else { ended }
+    }
+
+    /// Returns the number of processes.
+    pub(crate) fn processes(&self) -> u8
+        ensures { result ≡ self.now.setup.processes }
+    {
+        self.setup.processes
+    }
+
+    /// Returns the open call of a process that exists.
+    pub(crate) fn open_listed(&self, process: u8) -> Option<Called>
+        requires { process < self.now.setup.processes }
+        ensures { (past : Past) → HasListed self.now past →
+            result ≡ open_recorded self.now.setup process past }
+    {
+        self.call_kept(process)
+    }
+
+    /// Returns the open call of a process, if these marks begin another one.
+    #[inline(always)]
+    fn replaced(&self, process: u8, marks: &[Mark]) -> Option<Called>
+        ensures call { result ≡ cond (is_some (command_in marks.now))
+            (call_kept (slice_get self.now.standings process)) None }
+        ensures stray { self.now.setup.processes ≤ process → result ≡ None }
+    {
+        if called_in(marks).is_none() {
+            return None;
+        }
+        self.call_kept(process)
+    }
+
+    /// Returns the open call of a process.
+    fn call_kept(&self, process: u8) -> Option<Called>
+        ensures call { result ≡ call_kept (slice_get self.now.standings process) }
+        ensures stray { self.now.setup.processes ≤ process → result ≡ None }
+    {
+        let standing = self.standings.get(usize::from(process))?;
         if standing.calling {
             Some(standing.last)
         } else {

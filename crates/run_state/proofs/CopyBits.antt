@@ -35,7 +35,7 @@ any-map : {A B : Type 0} (p : B → Bool) (f : A → B) (xs : List A) → list_a
 any-map p f [] = refl
 any-map p f (x ∷ xs) = ap (λ b. p (f x) || b) (any-map p f xs)
 
--- what a core gives in each of its pasts, by the setup that it was made for
+-- a fact about each past of a core, by the setup that it was made for
 pub in_past : {A : Type 0} (c : CoreState) (s : Setup) (given : A) (f : Setup → Past → A) → c.setup ≡ s → InEachCorePast c (λ t past. given ≡ f t past) → (past : Past) → CoreShows c past → given ≡ f s past
 in_past c s given f same each past u = each u.taken u.events u.shows ∙ (λ i. f (same i) (u.is i))
 
@@ -57,7 +57,7 @@ most_bits s good Image1 = omega (arith, few-slots s good, few-callers s good)
 
 -- Openings.
 
--- all registers but the first image of process 0 open at 0
+-- all registers except the first image of process 0 are initially 0
 opening-none : (s : Setup) (owner : ℕ) (field : Field) → (owner ≡ 0 → field ≡ Image0 → ⊥) → opening_bits s owner field ≡ []
 opening-none s zero Choosing other = refl
 opening-none s zero Ticket other = refl

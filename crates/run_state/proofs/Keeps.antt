@@ -1,4 +1,4 @@
--- What is kept of a process is what looking back finds: it goes on with an entry as the look-backs do.
+-- The state of a process is what the look-backs find: an entry changes both in the same way.
 use Rattle.std.proofs.Common.{◌≡◌, ℕ, zero, suc, ◌+◌, ◌-◌, ◌^◌, ◌<◌, ◌==◌, Bool, true, false, cond, List, [], ◌∷◌, ◌++◌, Option, None, Some, length, map, refl, sym, ap, subst, ◌∙◌, eq-eqb, arith, add-one, inl, inr, ne_eqb, slice_get, slice_set}
 use Rattle.std.proofs.lemmas.Bool.{cases_eq}
 use Rattle.std.proofs.lemmas.List.FromFn.{get_or-map-range_with_len, length-map-range_with_len, map-range_with_len_more}
@@ -32,14 +32,14 @@ nothing_there n p below =
 kept_by : (k m : ProcessKept) → k.standing ≡ m.standing → k.failed ≡ m.failed → k.read ≡ m.read → k ≡ m
 kept_by k m a b c = λ i. record { standing = a i; failed = b i; read = c i }
 
--- of another process
+-- the entry of another process
 pub kept_other : (s : Setup) (p : ℕ) (e : Entry) (past : Past) → (e.process == p) ≡ false → kept s p (e ∷ past) ≡ kept s p past
 kept_other s p e past h =
     kept_by (kept s p (e ∷ past)) (kept s p past) (ap without_accesses (standing-other s p e past h))
     (ap (λ b. cond b (cond (has is_failed e) (length past) (failed_at p past)) (failed_at p past)) h)
     (ap (λ b. cond b (read_after s (number_read (doing s p past)) e (read_last s p past)) (read_last s p past)) h)
 
--- what an access leaves of a call
+-- how an access changes a call
 opened_by : (s : Setup) (number : ℕ) (known : EntryKnown) (o : Option Access) (k : CallStanding) → without_accesses (accessed_by s number known o k) ≡ opened_if (is_some o) number (without_accesses k)
 opened_by s number known None k = refl
 opened_by s number known (Some a) k = refl
@@ -89,9 +89,9 @@ quiet_entry p a = record { process = p; access = Some a; marks = [] }
 read_told : (s : Setup) (a : Access) (n m : ℕ) (found : Option FinishedRead) → (ends_number (width s a.field) a.bit a.how ≡ true → n ≡ m) → read_with s a n found ≡ read_with s a m found
 read_told s a n m found same = by (ends_number (width s a.field) a.bit a.how) same
   where
-    by : (b : Bool) → (b ≡ true → n ≡ m) → cond b (Some (let r : FinishedRead = record { owner = a.owner; field = a.field; number = number_after a.bit a.how n } in r)) found
-        ≡ cond b (Some (let r : FinishedRead = record { owner = a.owner; field = a.field; number = number_after a.bit a.how m } in r)) found
-    by true same = ap (λ n. Some (let r : FinishedRead = record { owner = a.owner; field = a.field; number = number_after a.bit a.how n } in r)) (same refl)
+    by : (b : Bool) → (b ≡ true → n ≡ m) → cond b (Some (let r : FinishedRead = record { access = a; before = n } in r)) found
+        ≡ cond b (Some (let r : FinishedRead = record { access = a; before = m } in r)) found
+    by true same = ap (λ n. Some (let r : FinishedRead = record { access = a; before = n } in r)) (same refl)
     by false same = refl
 
 pub kept_on : (s : Setup) (p : ℕ) (a : Access) (past : Past) (n : ℕ) → (ends_number (width s a.field) a.bit a.how ≡ true → n ≡ number_read (doing s p past)) → kept s p (quiet_entry p a ∷ past) ≡ kept_stepped s (length past) a n (kept s p past)
@@ -117,16 +117,16 @@ passed_on s p a past none known =
     kept_on s p a past n (λ ends. refl)
     ∙ kept_by (kept_stepped s (length past) a n k) k
     (ap (λ (o : Option ℕ). let then : CallStanding = record k.standing { last = record k.standing.last { accesses = record k.standing.last.accesses { doorway = o } } } in then) first)
-    refl (ap (λ b. cond b (Some (let r : FinishedRead = record { owner = a.owner; field = a.field; number = number_after a.bit a.how n } in r)) k.read) none)
+    refl (ap (λ b. cond b (Some (let r : FinishedRead = record { access = a; before = n } in r)) k.read) none)
 
--- of any process
+-- for any process
 passed_any : (s : Setup) (p : ℕ) (a : Access) (past : Past) → ends_number (width s a.field) a.bit a.how ≡ false → has_accessed s p past ≡ true → (q : ℕ) → kept s q (quiet_entry p a ∷ past) ≡ kept s q past
 passed_any s p a past none known q = elim (cases_eq p q) [
   | inl same ↦ subst (λ q. kept s q (quiet_entry p a ∷ past) ≡ kept s q past) same (passed_on s p a past none known)
   | inr apart ↦ kept_other s q (quiet_entry p a) past (ne_eqb p q apart)
 ]
 
--- so many of them
+-- many of them
 pub passed_all : (s : Setup) (p n : ℕ) (past after : Past) → Passes s p n past after → (length after ≡ length past + n) × ((q : ℕ) → kept s q after ≡ kept s q past)
 passed_all s p zero past after same = (ap length same ∙ (let none : length past ≡ length past + 0 = omega arith in none), (λ q. ap (kept s q) same))
 passed_all s p (suc n) past after (a, none, known, more) =
@@ -149,11 +149,11 @@ all_heard s list now past after p here were is others q below = elim (cases_eq q
 
 -- The whole state.
 
--- with another of one process, and so many entries
+-- with another state of one process, and this number of entries
 abbrev pub state_with : SnapshotState → ℕ → ProcessKept → ℕ → SnapshotState
 state_with t p k entries = record { setup = t.setup; kept = slice_set t.kept p k; entries = entries }
 
--- of a process that is there what is kept is found
+-- the state of an existing process is found
 pub kept_found : (t : SnapshotState) (past : Past) (p : ℕ) (k : ProcessKept) → HasHeard t past → p < t.setup.processes → k ≡ slice_index_or t.kept p k → k ≡ kept t.setup p past
 kept_found t past p k h below found = found ∙ get_or_from_slice_get {X = ProcessKept} t.kept p (kept t.setup p past) k (h.kept p below)
 
@@ -188,7 +188,7 @@ step_heard t p a read before now found goes past e mine o m tells below h =
     one_heard t p past e now mine h below
     (goes ∙ (λ i. kept_stepped t.setup (h.entries i) a read (was i)) ∙ sym (kept_on t.setup p a past read tells) ∙ sym (ap (λ (e : Entry). kept t.setup p (e ∷ past)) is))
 
--- within a number access
+-- within a register access
 pub pass_heard : (t : SnapshotState) (p n : ℕ) (past after : Past) → Passes t.setup p n past after → HasHeard t past → HasHeard (record t { entries = t.entries + n }) after
 pass_heard t p n past after passes h =
     let all = passed_all t.setup p n past after passes in

@@ -13,7 +13,7 @@ use Rattle.run_state.specs.{EventsAreMade, IsMade, first_of, made_line, makes_ev
 
 -- The events of a run.
 
--- what happens only adds to the past
+-- each happening only adds to the past
 one_longer : (s : Setup) (before : List Happening) (this : Happening) → (es : Past) × (past_after s (this ∷ before) ≡ es ++ past_after s before)
 one_longer s before (Tries event) = by (entry_of s (past_after s before) event)
   where
@@ -38,7 +38,7 @@ run_longer s now whole more is =
     let all : past_in s whole ≡ m.0 ++ past_in s now = ap (past_after s) is ∙ m.1 in
     (m.0, all, ap (λ (p : Past). length p) all ∙ length-append m.0 (past_in s now))
 
--- the front of a whole run has its first events
+-- a prefix of a whole run has its first events
 pub front_is : (s : Setup) (n : ℕ) (now whole : Run) → IsFront s n run_at_start now whole → past_in s now ≡ first_of n (past_in s whole)
 front_is s n now whole u = elim u.ends [
   | inr same ↦
@@ -134,7 +134,7 @@ module _ (lines : List Line) (s : Setup) (run : Run) (made : LineMade) (u : IsLi
       ap (making_line numbers s (events_in s run) run_at_start) u.is ∙ made_at numbers s (events_in s run) run_at_start u.before u.line u.after u.fewer u.enough
       ∙ (λ i. made_line (slice_index numbers (place i)) (events_in s run - had i) u.line)
 
--- the line that made the newest event is there
+-- the line that made the newest event exists
 pub lines_within : (lines : List Line) (s : Setup) (run : Run) (newest : Option LineMade) → MadeNewest s lines run_at_start run newest → IfSome newest (λ made. made.line < length lines)
 lines_within lines s run None u = tt
 lines_within lines s run (Some made) u = line_within lines s run made u

@@ -1,4 +1,4 @@
--- Of the accesses of a call only the first one is told.
+-- The state has only the first access of a call.
 use Rattle.std.proofs.Common.{◌≡◌, ℕ, Bool, true, false, cond, List, Option, Some, None, refl}
 use Rattle.plain_store.specs.{Setup}
 use Rattle.record.specs.{Past, Stage, Taken}

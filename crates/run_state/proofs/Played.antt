@@ -37,7 +37,7 @@ module _ (said : Script) (n : ℕ) (course : CourseState) (was observer : StateO
   pub core_setup : core.setup ≡ observer.snapshot.setup
   core_setup = setup_is ∙ sym now_seen.setup
 
-  -- the snapshot has heard what the course shows
+  -- the snapshot has observed the past of the course
   stands : (taken : List Taken) → taken ≡ history course.world.setup (past_in course.world.setup p.now) → Stands observer.snapshot core taken past
   stands taken are = record {
     heard = now_seen.heard;

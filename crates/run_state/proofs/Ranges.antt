@@ -22,7 +22,7 @@ any_behind f (y ∷ ys) x = by (f y) (any_behind f ys x)
 pub any_next : (f : ℕ → Bool) (k : ℕ) → list_any f (range_with_len 0 (k + 1)) ≡ list_any f (range_with_len 0 k) || f k
 any_next f k = ap (list_any f) (range_more k) ∙ any_behind f (range_with_len 0 k) k
 
--- what is made of each
+-- a list of one item for each
 pub map_next : {A : Type 0} (f : ℕ → A) (k : ℕ) → map f (range_with_len 0 (k + 1)) ≡ map f (range_with_len 0 k) ++ f k ∷ []
 map_next f k = let here : 0 + k ≡ k = omega arith in map-range_with_len_more f 0 k k here
 
@@ -49,7 +49,7 @@ words_more text f g k =
     ∙ ap (λ l. text ++ l) (flat_map-append f (map g (range_with_len 0 k)) (g k ∷ []) ∙ ap (λ l. flat_map f (map g (range_with_len 0 k)) ++ l) (append-nil (f (g k))))
     ∙ sym (append_assoc text (flat_map f (map g (range_with_len 0 k))) (f (g k)))
 
--- the same once the word of one more is written
+-- the readers so far, once the word of one more is written
 pub words_written : (text : List ℕ) (f : ℕ → List ℕ) (g : ℕ → ℕ) (k : ℕ) (now next word : List ℕ) → now ≡ text ++ flat_map f (map g (range_with_len 0 k)) → word ≡ f (g k) → next ≡ now ++ word → next ≡ text ++ flat_map f (map g (range_with_len 0 (k + 1)))
 words_written text f g k now next word so_far is wrote = wrote ∙ (λ i. so_far i ++ is i) ∙ sym (words_more text f g k)
 

@@ -41,7 +41,7 @@ number-read bytes w narrow room are =
     sym (number-low w (little_endian (take 8 bytes)))
     ∙ ap number_of_bits (sym (bits-bytes (take 8 bytes) w (first-bytes bytes 8 room are)) ∙ range_same (bit_in bytes) (bit_in (take 8 bytes)) w false (λ k below. bit_in-take bytes 8 k (omega arith)))
 
--- Bytes with zeros behind them.
+-- Bytes with zeros after them.
 
 zeros : (n i : ℕ) → get_or (replicate n (let none : ℕ = 0 in none)) i 0 ≡ 0
 zeros zero i = refl

@@ -1,7 +1,7 @@
--- What a run reports is observed.
+-- An observer observes each report of a run.
 use Rattle.std.proofs.Common.{◌≡◌, ◌+◌, ◌<◌, Bool, true, false, List, [], ◌∷◌, ℕ, zero, suc, Option, None, Some, refl, ap, sym, subst, ◌∙◌, arith}
 use Rattle.plain_store.specs.{Setup}
-use Rattle.record.specs.{Access, Entry, Past, Taken, entry_of, width}
+use Rattle.record.specs.{Access, Entry, Past, entry_of, width}
 use Rattle.record.specs.declared.events.Event.TheVariants.{Step}
 use Rattle.record.proofs.Width.{is_good}
 use Rattle.calls.proofs.course_proofs.laws.Steps.{step_is}
@@ -15,14 +15,14 @@ use Rattle.calls.proofs.UnmarkedSteps.{inside_never, not_so}
 use Rattle.calls.specs.course.{Happening, Happens, PassWithin, Stepped, StepsOn, StepsWithin, Told, Tries, past_after, told_unmarked, tried}
 use Rattle.calls.proofs.Tabling.{in_turn, past_told}
 
--- what a turn tells
-pub told_seen : (s : Setup) (before : List Happening) (this : Happening) (answer : Told) (taken : List Taken) (old new : StateObserver) → Happens s before this answer taken → HearsTold answer old new → HasSeen s (past_after s before) old → HasSeen s (past_after s (this ∷ before)) new
-told_seen s before this answer taken old new h heard seen =
+-- the report of a turn
+pub told_seen : (s : Setup) (before : List Happening) (this : Happening) (answer : Told) (old new : StateObserver) → Happens s before this answer → HearsTold answer old new → HasSeen s (past_after s before) old → HasSeen s (past_after s (this ∷ before)) new
+told_seen s before this answer old new h heard seen =
     subst (λ past. HasSeen s past new) (sym (past_told s before this answer h.tells)) (heard s (past_after s before) (in_turn s before this answer h.tells h.marked) h.marked seen)
 
 -- A Step without a mark.
 
--- of one within a number access nothing is told, and it ends none
+-- a Step within a register access is reported without a number, and ends no access
 pub tells_number : (s : Setup) (before : List Happening) (made : Stepped) (n : ℕ) → ((m : ℕ) → made.number ≡ Some m → n ≡ m) → StepsOn s before made → TellsNumber s (past_after s before) made.process made.access n
 tells_number s before made n same on = λ ends. by made.number refl ends
   where
@@ -33,7 +33,7 @@ tells_number s before made n same on = λ ends. by made.number refl ends
 pub step_past : (s : Setup) (before : List Happening) (made : Stepped) → StepsOn s before made → past_after s (Tries (Step made.process made.flick) ∷ before) ≡ record { process = made.process; access = Some made.access; marks = [] } ∷ past_after s before
 step_past s before made on = past_told s before (Tries (Step made.process made.flick)) (told_unmarked made) (refl, on.adds, on.overlapped)
 
--- Steps within a number access.
+-- Steps within a register access.
 
 pass_one : (s : Setup) (p n : ℕ) (flick : Bool) (before after : List Happening) → StepsWithin s before p flick → Passes s p n (past_after s (Tries (Step p flick) ∷ before)) (past_after s after) → Passes s p (suc n) (past_after s before) (past_after s after)
 pass_one s p n flick before after w more = by w.quiet.0 w.quiet.1

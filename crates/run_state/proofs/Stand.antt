@@ -1,4 +1,4 @@
--- What a world shows that a snapshot has heard.
+-- Facts about a world whose past a snapshot has observed.
 use Rattle.std.proofs.Common.{◌≡◌, ◌<◌, ℕ, nat_lt, Bool, true, false, cond, List, Option, None, Some, refl, ap, sym, subst, ◌∙◌, arith}
 use Rattle.std.proofs.lemmas.Bool.Decides.{nat_tests}
 use Rattle.std.specs.Prelude.{OnOk, Result, Ok, Err}
@@ -21,7 +21,7 @@ pub taken_is : (t : SnapshotState) (c : CoreState) (taken : List Taken) (past : 
 taken_is t c taken past u =
     ap (λ (w : WorldState). w.history) u.shows.shown ∙ ap (λ (s : Setup). history s (past_of s u.events)) u.setup ∙ ap (history t.setup) (past_is t c taken past u)
 
--- the stage of a process that there is
+-- the stage of an existing process
 pub stage_is : (t : SnapshotState) (c : CoreState) (taken : List Taken) (past : Past) (p : ℕ) → p < t.setup.processes → (u : Stands t c taken past) → stage_in c.setup (past_of c.setup u.events) p ≡ Some (stage p past)
 stage_is t c taken past p there u =
     let within : nat_lt p t.setup.processes ≡ true = grind (arith, nat_tests) in
@@ -32,12 +32,12 @@ stage_is t c taken past p there u =
 pub core_shows : (t : SnapshotState) (c : CoreState) (taken : List Taken) (past : Past) → Stands t c taken past → CoreShows c past
 core_shows t c taken past u = record { taken = taken; events = u.events; shows = u.shows; is = sym u.is_past }
 
--- what follows, where there was memory
+-- a consequence, where no allocation failed
 pub ok_then : {A E : Type 0} (r : Result A E) {P Q : Type 0} → (P → Q) → OnOk r P → OnOk r Q
 ok_then (Ok a) then p = then p
 ok_then (Err e) then p = tt
 
--- What the lines of a process are of.
+-- The past and the core of a process's lines.
 
 pub core_of : (l : ProcessLines) (past : Past) → AreOf l past → CoreShows l.core.now past
 core_of l past u = record { taken = l.history.now; events = u.events; shows = u.shows; is = u.is }
@@ -49,7 +49,7 @@ history_is l past g u = ap (λ (w : WorldState). w.history) u.shows.shown ∙ (�
 pub events_of : (l : ProcessLines) (past : Past) → AreGiven l → (u : AreOf l past) → past_of l.setup.now u.events ≡ past
 events_of l past g u = ap (λ (s : Setup). past_of s u.events) (sym g.core) ∙ u.is
 
--- the next access is of a register that there is
+-- the next access is of an existing register
 pub next_there : (l : ProcessLines) (past : Past) (a : Access) → AreGiven l → AreOf l past → ComesNext l.setup.now past l.process a → IsThere l.setup.now a
 next_there l past a g u next = go (entry_of s (past_of s u.events) (Step l.process false)) refl (subst (λ q. ComesNext s q l.process a) (sym (events_of l past g u)) next)
   where
@@ -60,6 +60,6 @@ next_there l past a g u next = go (entry_of s (past_of s u.events) (Step l.proce
     go None is some = absurd (cc)
     go (Some e) is some = access_there s (is_good s g.good) u.events (Step l.process false) e is a some
 
--- what the core knows of the process
+-- the core's state of the process
 pub place_is : (l : ProcessLines) (past : Past) (q : ProcessState) → AreGiven l → AreOf l past → InEachCorePast l.core.now (λ s past. q ≡ process_after s past l.process) → q ≡ process_after l.setup.now past l.process
 place_is l past q g u is = is l.history.now u.events u.shows ∙ (λ i. process_after (g.core i) (u.is i) l.process)

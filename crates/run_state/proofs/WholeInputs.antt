@@ -1,4 +1,4 @@
--- An engine whose text depends on the bytes of its input, and not on what they say alone.
+-- An engine whose text depends on the bytes of its input, and not on their meaning alone.
 use Rattle.std.proofs.Common.{◌≡◌, ℕ, List, [], Option, None, Some, Result, Ok, Err, IfSome, IsErrAnd, refl, ap, sym, subst, ◌∙◌}
 use Rattle.std.proofs.KnownBytes.{Consumes-all}
 use Rattle.std.specs.Io.KnownBytes.{Appends}

@@ -1,4 +1,4 @@
--- What a process writes: its next access and its cursor tell the same write, and the value is that which the write leaves.
+-- The value that a process writes: its next access and its cursor belong to one write, and the value is the one that the write leaves.
 use Rattle.std.proofs.Common.{◌≡◌, ℕ, zero, suc, ◌+◌, ◌-◌, ◌*◌, ◌/◌, ◌%◌, ◌<◌, ◌≤◌, ◌==◌, ◌≢◌, ◌||◌, Bool, true, false, cond, List, [], ◌∷◌, ◌++◌, Option, None, Some, get_or, length, map, refl, sym, ap, subst, ◌∙◌, arith, eqb-true}
 use Rattle.std.proofs.lemmas.Bool.{eqb-false}
 use Rattle.std.proofs.lemmas.Bool.Decides.{nat_tests}
@@ -35,7 +35,7 @@ some_access a b h = cc
 abbrev pub cursor_progress : Setup → RegisterWrite → AccessProgress
 cursor_progress s w = record { made = accesses_made s.processes w; all = accesses_in_all s.processes w }
 
--- the next access before a read's end has its value, and the progress: of a write, or of a read, where none is made
+-- the next access before the value of a read's end is known, and the progress: that of the write, or of a read where there is no write
 abbrev IsNextOf : Setup → ℕ → Option AccessProgress → Option RegisterWrite → Access → Type 0
 IsNextOf s p g None a = (is_writing a.how ≡ false) × (g ≡ Some (read_progress s a))
 IsNextOf s p g (Some w) a = (a ≡ access_of p w.field (next_written w.bits w.run)) × (g ≡ Some (cursor_progress s w))
@@ -87,12 +87,12 @@ next-within s p v w = let is = go (made % 2 == 0) refl in record { owner = refl;
     go true even = let none : made % 2 ≡ 0 = eqb-true (made % 2) 0 even in (omega (arith, none), refl)
     go false odd = let some : made % 2 ≢ 0 = eqb-false (made % 2) 0 odd in (omega (arith, some), refl)
 
--- the next access of p, where it settles nothing, and the progress: of its write, or of its read, where it makes none
+-- the next access of p, where it settles nothing, and the progress: that of its write, or of its read where it makes no write
 abbrev pub IsAccessOf : Setup → ℕ → Option AccessProgress → Access → Option RegisterWrite → Type 0
 IsAccessOf s p g a None = (is_writing a.how ≡ false) × (g ≡ Some (read_progress s a))
 IsAccessOf s p g a (Some w) = IsWithin s p a w × (g ≡ Some (cursor_progress s w))
 
--- what a next access is, by what p does
+-- the next access, by what p does
 stepped : (s : Setup) → IsGood s → (events : List Event) (p : ℕ) (a : Access) → ComesNext s (past_of s events) p a → (x : Access) × (next_of s p (doing s p (past_of s events)) false ≡ Some x) × (valued s (past_of s events) false x ≡ a)
 stepped s g events p a next = go (entry_of s (past_of s events) (Step p false)) refl next
   where
@@ -161,7 +161,7 @@ copy-shown s past p field bits wide first hold =
     let held = cells-hold cell bits 0 (λ k below. let here : k ≡ 0 + k = omega arith in subst (λ j. HoldsBit (cell j) (get_or bits k false)) here (hold k 0 below first)) in
     ap (λ n. bits_text s field (bits_in_cells (map cell (range_with_len 0 n)))) (sym wide) ∙ (λ i. bits_text s field (cond (held.0 i) None (Some (held.1 i))))
 
--- what the first copy holds once the accesses are made that are left, and how far the write is
+-- the first copy once the remaining accesses are made, and how far the write is
 value_is : WritesFitTheirRegister → WritesLeaveTheirBits → (s : Setup) → checked s ≡ Ok tt → (events : List Event) (p : ℕ) (a : Access) (w : RegisterWrite) → register_write s p (doing s p (past_of s events)) ≡ Some w → IsWithin s p a w →
     (length w.bits ≡ width s a.field) × (value_written s (past_of s events) p a ≡ shown s a.field w.bits) × ((write_progress s a).all ≡ accesses_in_all s.processes w)
 value_is fitting leaves s good events p a w writes within =

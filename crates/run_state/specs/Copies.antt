@@ -18,7 +18,7 @@ use Rattle.run_state.specs.Stores.{number_word, store_text}
 
 -- Bits.
 
--- what is seen of the bit of an access
+-- the state of the bit of an access
 abbrev pub bit_at : Setup → Past → Access → BitSeen
 bit_at s past a = bit_seen (cell_held s past a)
 
@@ -48,7 +48,7 @@ image_text s bytes =
     let store : Contents = store_in s.slots (callers_of s) bytes in
     cond (bytes_eq (image_of store) bytes) (store_text (callers_of s) store) (codes "no-image")
 
--- what bits show in such a register: a number, or a store
+-- the text of bits in such a register: a number, or a store
 abbrev pub shown : Setup → Field → List Bool → List ℕ
 shown s field bits = cond (is_image field) (image_text s (bytes_of_bits (image_bytes s) bits)) (decimal (number_of_bits bits))
 
@@ -105,7 +105,7 @@ copies_line name texts text = name ++ (codes " readers" ++ (flat_map (reader_if 
 abbrev pub line_of_first : List ℕ → List (List ℕ) → ℕ → List ℕ
 line_of_first name texts reader = cond (is_among (text_at texts reader) (take reader texts)) [] (copies_line name texts (text_at texts reader))
 
--- one line, if all readers have one text; else one for each text
+-- one line, if all readers have one text; otherwise one for each text
 abbrev pub copies_lines : List ℕ → List (List ℕ) → List ℕ
 copies_lines name texts =
     cond (are_all (text_at texts 0) texts)
@@ -116,7 +116,7 @@ copies_lines name texts =
 abbrev pub texts_in : List (Vec ℕ) → List (List ℕ)
 texts_in texts = map (λ (t : Vec ℕ). t.items) texts
 
--- the name of a register behind the word
+-- the name of a register after the word `register`
 abbrev pub register_words : ℕ → Field → List ℕ
 register_words owner field = codes "register " ++ (decimal owner ++ (codes "." ++ field_word field))
 

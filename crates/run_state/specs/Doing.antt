@@ -1,4 +1,4 @@
--- How far a process is: its ticket, for whom it waits, what it or its unit reads, writes or settles, and what is open.
+-- How far a process is: its ticket, the process for which it waits, what it or its unit reads, writes or settles, and what is open.
 use Rattle.std.specs.Prelude.{◌≡◌, ℕ, ◌+◌, ◌-◌, ◌*◌, ◌/◌, ◌%◌, ◌==◌, nat_lt, Bool, true, false, not, ◌&&◌, ◌||◌, List, [], ◌++◌, codes, cond, if◌then◌else◌, Option, None, Some}
 use Rattle.std.specs.Fmt.{decimal}
 use Rattle.plain_store.specs.{Setup}
@@ -18,7 +18,7 @@ use Rattle.calls.specs.world.process.declared.looks.TicketKnown.TheVariants.{Abo
 use Rattle.calls.specs.world.process.registers.reader_copies.{BitSeen}
 use Rattle.run_state.specs.declared.kept.ProcessKept.{ProcessKept}
 use Rattle.run_state.specs.Copies.{bit_at, copy_text, is_image}
-use Rattle.run_state.specs.Keeping.{kept}
+use Rattle.run_state.specs.Keeping.{kept, number_finished}
 use Rattle.run_state.specs.Lines.{line_if, process_line}
 
 -- Its ticket.
@@ -47,14 +47,17 @@ ticket_at Waiting known c = waiting_ticket c.marks.ticket
 ticket_at Inside known c = waiting_ticket c.marks.ticket
 ticket_at _ known c = None
 
--- what of q it waits for, by the number read
+-- the register of q for which it waits, by the number read
 abbrev pub awaited : Field → ℕ → List ℕ
 awaited Ticket n = codes " ticket " ++ decimal n
 awaited _ n = codes " choosing"
 
 -- the number that it has read last holds it up
 abbrev pub waits_by : ℕ → Option ℕ → Option FinishedRead → Option (List ℕ)
-waits_by p (Some ticket) (Some read) = cond (holds_up p ticket read.owner read.field read.number) (Some (codes "waits for " ++ (decimal read.owner ++ awaited read.field read.number))) None
+waits_by p (Some ticket) (Some read) =
+    let a : Access = read.access in
+    let n : ℕ = number_finished read in
+    cond (holds_up p ticket a.owner a.field n) (Some (codes "waits for " ++ (decimal a.owner ++ awaited a.field n))) None
 waits_by p _ _ = None
 
 abbrev pub waits_at : ℕ → Stage → Option FinishedRead → Called → Option (List ℕ)
@@ -69,7 +72,7 @@ abbrev pub ticket_lines : ℕ → Stage → Option TicketKnown → Option Finish
 ticket_lines p stage known read None = []
 ticket_lines p stage known read (Some c) = call_told p stage known read c
 
--- What it reads, writes or settles.
+-- Reading, writing and settling.
 
 -- the name of a register, and how many of its accesses are made, of how many
 abbrev pub progress_words : ℕ → Field → AccessProgress → List ℕ
@@ -84,15 +87,15 @@ abbrev pub is_write_end : Move → Bool
 is_write_end EndWrite = true
 is_write_end _ = false
 
--- of the write of a register the accesses before this one are made: of each bit two on each copy
+-- the write of a register has two accesses for each bit on each copy; those before this one are made
 abbrev pub write_progress : Setup → Access → AccessProgress
 write_progress s a = record { made = 2 * (a.bit * s.processes + a.reader) + one_if (is_write_end a.how); all = 2 * (s.processes * width s a.field) }
 
--- of its read: of each bit two
+-- its read has two for each bit
 abbrev pub read_progress : Setup → Access → AccessProgress
 read_progress s a = record { made = 2 * a.bit + one_if (is_read_end a.how); all = 2 * width s a.field }
 
--- what the register's first copy holds once p alone has made the accesses that are left of its write
+-- the register's first copy, once p alone has made the remaining accesses of its write
 abbrev pub value_written : Setup → Past → ℕ → Access → List ℕ
 value_written s past p a = copy_text s (steps_alone s p ((write_progress s a).all - (write_progress s a).made) past) a.owner a.field 0
 
@@ -100,7 +103,7 @@ value_written s past p a = copy_text s (steps_alone s p ((write_progress s a).al
 abbrev pub writes_words : Access → AccessProgress → List ℕ
 writes_words a g = codes "writes " ++ (progress_words a.owner a.field g ++ codes " value ")
 
--- the bits of a number that are read so far; an image's are not told
+-- the bits of a number that are read so far; those of an image are omitted
 abbrev pub so_far : Access → ℕ → List ℕ
 so_far a n = cond (is_image a.field || (a.bit == 0)) [] (codes " so far " ++ decimal n)
 
@@ -120,7 +123,7 @@ cut_access p t = record { owner = p; field = t.field; bit = t.bit; reader = t.cu
 abbrev pub is_cut_open : Torn → Bool
 is_cut_open t = t.cut % 2 == 1
 
--- of a settling: two on each copy, and one on that whose write was open
+-- a settling has two accesses on each copy, and one on the copy whose write was open
 abbrev pub settling_progress : Setup → Torn → AccessProgress
 settling_progress s t = record {
   made = 2 * t.copy + one_if t.begun - one_if (is_cut_open t && nat_lt (t.cut / 2) t.copy);
@@ -138,7 +141,7 @@ is_writing (BeginWrite v) = true
 is_writing EndWrite = true
 is_writing _ = false
 
--- what it is within, or begins with this access
+-- the register access that it is within, or begins with this access
 abbrev pub access_words : Setup → Past → ℕ → Access → ℕ → List ℕ
 access_words s past p a n = cond (is_writing a.how) (writes_words a (write_progress s a) ++ value_written s past p a) (reads_words a (read_progress s a) n)
 
@@ -149,7 +152,7 @@ abbrev pub busy_lines : Setup → Past → ℕ → Access → ℕ → Option Tor
 busy_lines s past p a n None = process_line p (access_words s past p a n)
 busy_lines s past p a n (Some t) = settling_lines p t (settling_progress s t)
 
--- What is open.
+-- The open access.
 
 abbrev pub written_word : Bool → List ℕ
 written_word v = codes " write " ++ bit_word v
@@ -204,6 +207,6 @@ abbrev pub doing_by : Setup → Past → ℕ → Stage → Option Access → Lis
 doing_by s past p stage None = []
 doing_by s past p stage (Some a) = doing_with s past p stage (open_call s p past) (kept s p past) (doing s p past) a
 
--- of p at a stage, by the access of its next Step
+-- the lines of p at a stage, by the access of its next Step
 abbrev pub doing_lines : Setup → Past → ℕ → Stage → List ℕ
 doing_lines s past p stage = doing_by s past p stage (access_in (entry_of s past (Step p false)))

@@ -1,4 +1,4 @@
--- What is kept of a process: found by looking back over its entries, and how it goes on with an entry.
+-- The state of a process: how it is found by looking back over its entries, and how an entry changes it.
 use Rattle.std.specs.Prelude.{◌≡◌, ℕ, zero, suc, ◌==◌, Bool, true, false, List, [], ◌∷◌, length, cond, Option, None, Some, is_none, is_some}
 use Rattle.std.specs.List.{list_any}
 use Rattle.plain_store.specs.{Setup}
@@ -9,7 +9,7 @@ use Rattle.calls.specs.world.laws.{doing}
 use Rattle.calls.specs.world.process.{number_read}
 use Rattle.run_state.specs.declared.kept.ProcessKept.{ProcessKept}
 
--- a call without what its accesses tell, but for the first that the process makes itself
+-- a call without the columns of its accesses, except the first access that the process makes itself
 abbrev pub without_accesses : CallStanding → CallStanding
 without_accesses k = record k { last = record k.last { accesses = record no_accesses { doorway = k.last.accesses.doorway } } }
 
@@ -18,11 +18,15 @@ abbrev pub failed_at : ℕ → Past → ℕ
 failed_at p [] = 0
 failed_at p (e ∷ past) = cond (e.process == p) (cond (has is_failed e) (length past) (failed_at p past)) (failed_at p past)
 
+-- the number that such a read has read
+abbrev pub number_finished : FinishedRead → ℕ
+number_finished read = number_after read.access.bit read.access.how read.before
+
 -- the number that was read last, with an access without a mark, before which n was read of it
 abbrev pub read_with : Setup → Access → ℕ → Option FinishedRead → Option FinishedRead
-read_with s a n found = cond (ends_number (width s a.field) a.bit a.how) (Some (record { owner = a.owner; field = a.field; number = number_after a.bit a.how n })) found
+read_with s a n found = cond (ends_number (width s a.field) a.bit a.how) (Some (record { access = a; before = n })) found
 
--- the same with an entry: one with a mark leads on, so that no number is the last
+-- the number that was read last, with an entry; one with a mark leads on, so that no number is the last
 abbrev pub read_after : Setup → ℕ → Entry → Option FinishedRead → Option FinishedRead
 read_after s n e found = elim e.marks [ [] ↦ elim e.access [ None ↦ found | Some a ↦ read_with s a n found ] | m ∷ marks ↦ None ]
 
@@ -31,7 +35,7 @@ abbrev pub read_last : Setup → ℕ → Past → Option FinishedRead
 read_last s p [] = None
 read_last s p (e ∷ past) = cond (e.process == p) (read_after s (number_read (doing s p past)) e (read_last s p past)) (read_last s p past)
 
--- what is kept of p
+-- the state of p
 abbrev pub kept : Setup → ℕ → Past → ProcessKept
 kept s p past = record { standing = without_accesses (standing s p past); failed = failed_at p past; read = read_last s p past }
 
@@ -62,7 +66,7 @@ kept_stepped s number a n k = record { standing = opened number k.standing; fail
 abbrev pub call_kept : ProcessKept → Option Called
 call_kept k = cond k.standing.calling (Some k.standing.last) None
 
--- so much of the number was read before an access of p, if that ends the read of one
+-- `n` is the number that was read before an access of p, if the access ends the read of a register
 abbrev pub TellsNumber : Setup → Past → ℕ → Access → ℕ → Type 0
 TellsNumber s past p a n = ends_number (width s a.field) a.bit a.how ≡ true → n ≡ number_read (doing s p past)
 
@@ -70,7 +74,7 @@ TellsNumber s past p a n = ends_number (width s a.field) a.bit a.how ≡ true �
 abbrev pub has_accessed : Setup → ℕ → Past → Bool
 has_accessed s p past = is_some (standing s p past).last.accesses.doorway
 
--- from one past to another so many entries of p were made within a number access, none of them with the first access of its call
+-- from one past to another p added a number of entries within a register access, none of them with the first access of its call
 abbrev pub Passes : Setup → ℕ → ℕ → Past → Past → Type 0
 Passes s p zero past after = after ≡ past
 Passes s p (suc n) past after = (a : Access) × (ends_number (width s a.field) a.bit a.how ≡ false) × (has_accessed s p past ≡ true)

@@ -49,7 +49,7 @@ call_lines p taken c =
     ++ (line_if p (taken_words taken c.marks.place c.marks.taken)
     ++ line_if p (at_words (codes "withdrew") c.marks.withdrew))))
 
--- those of its call, if it has one
+-- the lines of its call, if it has one
 abbrev pub open_lines : ℕ → List Taken → Option Called → List ℕ
 open_lines p taken None = []
 open_lines p taken (Some c) = call_lines p taken c

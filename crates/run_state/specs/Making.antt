@@ -5,7 +5,7 @@ use Rattle.plain_store.specs.{Setup}
 use Rattle.calls.specs.scenario.{Line, Script, line_words, spaced}
 use Rattle.calls.specs.course.{LineMade, MadeNewest, Run, events_in, happenings, past_after, run_after, run_at_start, runs}
 
--- Of the numbers of some lines, that of the line with so many lines after it.
+-- The number of the line that is followed by `after` lines, among the numbers of some lines.
 abbrev pub number_in : List ℕ → ℕ → ℕ
 number_in numbers after = slice_index numbers (length numbers - suc after)
 
@@ -26,14 +26,14 @@ making_line numbers s e run (line ∷ after) = elim (makes_event s e line run) [
   | false ↦ making_line numbers s e (run_after s line run) after
 ]
 
--- The line of the state for the line that made the newest of so many events is added to a text.
+-- The line of the state for the line that made the newest of `events` events is added to a text.
 abbrev pub WritesMade : List ℕ → List Line → Option LineMade → ℕ → List ℕ → List ℕ → Type 0
 WritesMade numbers lines newest events old new = (s : Setup) (run : Run) →
     MadeNewest s lines run_at_start run newest → events ≡ events_in s run → new ≡ old ++ making_line numbers s events run_at_start lines
 
--- What holds of it.
+-- The law of the making line.
 
--- Of lines that are run one after another, this one makes event number e, and it is the one that is written.
+-- Lines are run one after another. This one of them makes event number e, and it is the one that is written.
 pub record IsMade (numbers : List ℕ) (s : Setup) (e : ℕ) (run : Run) (lines : List Line) : Type 0 where
   pub before : List Line
   pub line : Line

@@ -11,22 +11,22 @@ use Rattle.calls.specs.{open_call}
 use Rattle.run_state.specs.Doing.{doing_lines}
 use Rattle.run_state.specs.Lines.{open_lines, process_line}
 
--- What comes next.
+-- The next entry.
 
--- what `record` writes of an entry behind its process, with the end of the line
+-- the part of a record's line after the process, with the end of the line
 abbrev pub behind_process : Entry → List ℕ
 behind_process e = drop (length (decimal e.process) + 1) (entry_line e)
 
--- the same of the entry that is added, if one is
+-- that part for the entry that is added, if one is
 abbrev pub words_added : Option Entry → List ℕ
 words_added None = []
 words_added (Some e) = behind_process e
 
--- of the entry that a Step of p adds with this flick
+-- that part for the entry that a Step of p adds with this flick
 abbrev pub next_words : Setup → Past → ℕ → Bool → List ℕ
 next_words s past p flick = words_added (entry_of s past (Step p flick))
 
--- a line of what comes next
+-- a line of the next entry
 abbrev pub next_line : ℕ → List ℕ → List ℕ
 next_line p words = (codes "process " ++ (decimal p ++ codes " next ")) ++ words
 
@@ -34,13 +34,13 @@ next_line p words = (codes "process " ++ (decimal p ++ codes " next ")) ++ words
 abbrev pub lines_of_two : ℕ → List ℕ → List ℕ → List ℕ
 lines_of_two p words others = next_line p words ++ cond (bytes_eq words others) [] (next_line p others)
 
--- what a Step of p adds with either flick
+-- the lines of the entries that a Step of p adds with either flick
 abbrev pub next_lines : Setup → Past → ℕ → List ℕ
 next_lines s past p = lines_of_two p (next_words s past p false) (next_words s past p true)
 
 -- All lines.
 
--- the line of one that is idle or down, which has made so many calls
+-- the line of a process that is idle or down and has made `calls` calls
 abbrev pub rest_line : ℕ → Stage → ℕ → List ℕ
 rest_line p stage calls = process_line p (cond (calls == 0) (stage_word stage) (stage_word stage ++ (codes " calls " ++ decimal calls)))
 

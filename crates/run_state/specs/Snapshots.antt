@@ -1,4 +1,4 @@
--- The state of a run: what a snapshot keeps, and what is written of it.
+-- The state of a run: what a snapshot keeps, and how it is written.
 use Rattle.std.specs.Prelude.{◌≡◌, ◌<◌, ℕ, List, ◌++◌, Ok, Some, flat_map, length, slice_get}
 use Rattle.plain_store.specs.{Setup, checked}
 use Rattle.record.specs.{Event, Past, Taken, history, past_of, processes}
@@ -10,23 +10,23 @@ use Rattle.run_state.specs.Keeping.{kept}
 use Rattle.run_state.specs.Processes.{process_lines}
 use Rattle.run_state.specs.Stores.{history_lines}
 
--- what is kept of each process, and how many entries there were
+-- the state of each process, and the number of entries
 pub record SnapshotState : Type 0 where
   pub setup : Setup
   pub kept : List ProcessKept
   pub entries : ℕ
 
--- there is something kept for each process of a good setup
+-- the setup is good, and each of its processes has a state
 pub record IsSnapshot (t : SnapshotState) : Type 0 where
   pub good : checked t.setup ≡ Ok tt
   pub processes : length t.kept ≡ t.setup.processes
 
--- it has heard these entries
+-- it has observed these entries
 pub record HasHeard (t : SnapshotState) (past : Past) : Type 0 where
   pub kept : (p : ℕ) → p < t.setup.processes → slice_get t.kept p ≡ Some (kept t.setup p past)
   pub entries : t.entries ≡ length past
 
--- it has heard what the world shows that keeps this core and this history
+-- it has observed the past of the world that has this core and this history
 pub record Stands (t : SnapshotState) (c : CoreState) (taken : List Taken) (past : Past) : Type 0 where
   pub heard : HasHeard t past
   pub setup : c.setup ≡ t.setup

@@ -1,5 +1,5 @@
 -- The state after the first events of a scenario's run, and what an observer stores of it.
-use Rattle.std.specs.Prelude.{◌≡◌, ◌+◌, ◌-◌, ◌<◌, ◌^◌, ℕ, if◌then◌else◌, List, [], ◌∷◌, ◌++◌, codes, drop, length, Option, None, Some, Result, Ok, Err}
+use Rattle.std.specs.Prelude.{◌≡◌, ◌+◌, ◌-◌, ◌<◌, ◌≤◌, ◌^◌, ℕ, if◌then◌else◌, List, [], ◌∷◌, ◌++◌, codes, drop, length, Option, None, Some, option_map, Result, Ok, Err}
 use Rattle.std.specs.Fmt.{decimal}
 use Rattle.std.specs.Str.{bytes_eq}
 use Rattle.plain_store.specs.{Setup}
@@ -12,8 +12,6 @@ use Rattle.run_state.specs.Processes.{newest_line}
 use Rattle.run_state.specs.Snapshots.{HasHeard, state_lines}
 use Rattle.run_state.specs.Making.{making_line}
 use Rattle.calls.specs.Tables.{IsInTurn, past_with}
-use Rattle.run_state.specs.declared.observer.NewestEvent.{NewestEvent}
-use Rattle.run_state.specs.declared.observer.NewestEvent.TheVariants.{Marked, Nothing, Unmarked}
 use Rattle.run_state.specs.declared.observer.StateObserver.{StateObserver}
 
 -- The text.
@@ -42,7 +40,7 @@ state_of numbers said past = state_after (newest_made numbers said past) said.se
 abbrev pub stated : ℕ → List ℕ → Script → List ℕ
 stated n numbers said = state_of numbers said (first_of n (past_after said.setup (happenings said)))
 
--- the same, where the lines have their numbers in a file
+-- that state, where the lines have their numbers in a file
 abbrev pub stated_in : ℕ → List ℕ → Script → List ℕ
 stated_in n file said = stated n (line_numbers file (length said.lines)) said
 
@@ -52,7 +50,7 @@ state_text n file = text_by scenario_of (stated_in n file) file
 
 -- After how many events a word asks for the state.
 
--- a number that a word says, if it does
+-- the number that a word means, if it means one
 abbrev pub number_said : Result ℕ FaultKind → Option ℕ
 number_said (Ok n) = Some n
 number_said (Err kind) = None
@@ -61,7 +59,7 @@ number_said (Err kind) = None
 abbrev pub events_said : List ℕ → Option ℕ
 events_said word = if bytes_eq word (codes "end") then Some (2 ^ 64 - 1) else number_said (number_at (2 ^ 64 - 1) word)
 
--- What was observed.
+-- Observing.
 
 -- the newest entry
 abbrev pub newest : Past → Option Entry
@@ -80,26 +78,24 @@ pub record IsNewestWithin (s : Setup) (p : ℕ) (past : Past) : Type 0 where
   pub within : 0 < left_at (process_after s before p)
 
 -- the entry of the newest event that was reported
-abbrev pub entry_reported : NewestEvent → Option Entry
-entry_reported Nothing = None
-entry_reported (Marked made) = Some (entry_made made)
-entry_reported (Unmarked p access) = Some (unmarked_entry p (Some access))
+abbrev pub entry_reported : StateObserver → Option Entry
+entry_reported observer = elim observer.stepped [
+  | Some access ↦ Some (unmarked_entry observer.process (Some access))
+  | None ↦ option_map entry_made observer.marked
+]
 
--- The newest event is the one that was reported last; or else it is a Step of this process that has passed by since.
-abbrev pub StoresNewest : Setup → NewestEvent → Option ℕ → Past → Type 0
-StoresNewest s reported None past = newest past ≡ entry_reported reported
-StoresNewest s reported (Some p) past = IsNewestWithin s p past
-
--- these entries were observed
+-- These entries were observed. The newest was reported, or else it is a Step that has passed by since one was reported.
 pub record HasSeen (s : Setup) (past : Past) (observer : StateObserver) : Type 0 where
   pub setup : observer.snapshot.setup ≡ s
   pub heard : HasHeard observer.snapshot past
-  pub newest_is : StoresNewest s observer.newest observer.passed past
+  pub reported : observer.reported ≤ observer.snapshot.entries
+  pub newest_is : observer.reported ≡ observer.snapshot.entries → newest past ≡ entry_reported observer
+  pub passed : observer.reported < observer.snapshot.entries → IsNewestWithin s observer.process past
 
 -- all that has happened between two moments was observed
 abbrev pub Hears : StateObserver → Setup → List Happening → List Happening → StateObserver → Type 0
 Hears old s before after new = HasSeen s (past_after s before) old → HasSeen s (past_after s after) new
 
--- what is reported is observed, whatever has happened before
+-- a report is observed, after any past
 abbrev pub HearsTold : Told → StateObserver → StateObserver → Type 0
 HearsTold answer old new = (s : Setup) (past : Past) → IsInTurn s past answer → IsMarked answer → HasSeen s past old → HasSeen s (past_with past answer) new

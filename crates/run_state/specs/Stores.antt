@@ -5,7 +5,7 @@ use Rattle.std.specs.List.{list_any, range_with_len}
 use Rattle.plain_store.specs.{Contents, Setup, callers_of, number_of, store_words}
 use Rattle.record.specs.{Taken, store_after}
 
--- the numbers of so many callers
+-- the numbers of the first `callers` callers
 abbrev pub numbers_of : ℕ → List ℕ → List ℕ
 numbers_of callers numbers = map (number_of numbers) (range_with_len 0 callers)
 
@@ -13,7 +13,7 @@ numbers_of callers numbers = map (number_of numbers) (range_with_len 0 callers)
 abbrev pub is_some_call : ℕ → Bool
 is_some_call n = not (n == 0)
 
--- a number behind a space
+-- a number after a space
 abbrev pub number_word : ℕ → List ℕ
 number_word n = codes " " ++ decimal n
 
@@ -21,7 +21,7 @@ number_word n = codes " " ++ decimal n
 abbrev pub numbers_text : List ℕ → List ℕ
 numbers_text numbers = cond (list_any is_some_call numbers) (codes " numbers" ++ flat_map number_word numbers) []
 
--- a store with so many callers
+-- a store with this number of callers
 abbrev pub store_text : ℕ → Contents → List ℕ
 store_text callers store = store_words store.pairs ++ numbers_text (numbers_of callers store.numbers)
 

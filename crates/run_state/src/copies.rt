@@ -1,5 +1,5 @@
 //! The copies of a register: their bytes, their texts, and whether one has changed.
-ghost use Rattle.std.specs.Prelude.{◌≡◌, ◌<◌, ◌≤◌, ◌*◌, IfOk, Ok, codes, length, map};
+ghost use Rattle.std.specs.Prelude.{◌≡◌, ◌↔◌, ◌<◌, ◌≤◌, ◌*◌, IfOk, IsTrue, Ok, codes, length, map};
 ghost use Rattle.std.specs.List.{list_any};
 ghost use Rattle.plain_store.specs.{checked};
 ghost use Rattle.record.specs.{Past, opening_bits, processes, width};
@@ -38,7 +38,8 @@ pub(crate) fn copies_held(
     Ok(copies)
 }
 
-/// Returns the texts of a register's copies, by reader.
+/// Returns the texts of a register's copies, by reader. A copy that is equal to the first one has the same text, which is then
+/// not made anew: most copies are equal, and the text of an image is expensive.
 pub(crate) fn copy_texts(
     alloc: Global,
     setup: &Setup,
@@ -51,11 +52,45 @@ pub(crate) fn copy_texts(
         (bits_read (width setup.now field) copy)) copies.now) }
 {
     let mut texts = Vec::new(alloc);
+    let Some(first) = copies.first() else {
+        return Ok(texts);
+    };
+    let shown = copy_text(alloc, setup, field, first)?;
     for copy in copies {
-        let text = copy_text(alloc, setup, field, copy)?;
+        let text = text_by_first(alloc, setup, field, copy, first, shown.as_slice())?;
         texts.push(text)?;
     }
     Ok(texts)
+}
+
+/// Returns the text of a copy, where `text` is that of the copy `first`.
+fn text_by_first(
+    alloc: Global,
+    setup: &Setup,
+    field: Field,
+    copy: &Option<[u8; 216]>,
+    first: &Option<[u8; 216]>,
+    text: &[u8],
+) -> Result<Vec<u8>, AllocError>
+    requires good { checked setup.now ≡ Ok tt }
+    requires text { text.now ≡ bits_text setup.now field (bits_read (width setup.now field) first.now) }
+    ensures { IfOk result (λ text. text.items
+        ≡ bits_text setup.now field (bits_read (width setup.now field) copy.now)) }
+{
+    if are_same(copy, first) {
+        return Vec::from_slice(alloc, text);
+    }
+    copy_text(alloc, setup, field, copy)
+}
+
+/// Returns whether two copies hold the same bytes, or a bit of each is being written.
+fn are_same(copy: &Option<[u8; 216]>, other: &Option<[u8; 216]>) -> bool
+    ensures { IsTrue result ↔ (copy.now ≡ other.now) }
+{
+    match other {
+        None => copy.is_none(),
+        Some(bytes) => !are_other(copy, bytes),
+    }
 }
 
 /// Returns the text of a copy: `flickers` while a write of one of its bits is open, otherwise what its bits show.

@@ -106,11 +106,13 @@ fn waits_by(
     let Some(read) = newest else {
         return Ok(None);
     };
-    if !holds_up(process, ticket, read.owner, read.field, read.number) {
+    let owner = read.access.owner;
+    let field = read.access.field;
+    let number = read.number();
+    if !holds_up(process, ticket, owner, field, number) {
         return Ok(None);
     }
-    let owner = read.owner;
-    let what = awaited(alloc, read.field, read.number)?;
+    let what = awaited(alloc, field, number)?;
     Ok(Some(format!(in alloc; "waits for {owner}{what}")?))
 }
 

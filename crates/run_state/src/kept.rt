@@ -1,20 +1,30 @@
-//! What is kept of a process, entry by entry.
+//! The state that is kept of a process, and how its entries change it.
 ghost use Rattle.std.specs.Prelude.{◌≡◌, ◌-◌, ◌<◌, ◌^◌, Ok, cond, None, Some};
 ghost use Rattle.std.specs.List.{list_any};
 ghost use Rattle.plain_store.specs.{checked};
 ghost use Rattle.record.specs.{is_failed};
-ghost use Rattle.run_state.specs.Keeping.{kept_marked, kept_stepped, nothing_kept, opened};
+ghost use Rattle.run_state.specs.Keeping.{kept_marked, kept_stepped, nothing_kept, number_finished, opened};
 
-use calls::{CallStanding, Called, called_in, ends_number, first_if, number_after};
+use calls::{CallStanding, Called, called_in, ends_number, number_after};
 use plain_store::{NestedTypes, Setup};
-use record::{Access, Field, Mark};
+use record::{Access, Mark};
 
-/// A number that was read from a register.
+/// The read of a whole register. Its number is worked out only where it is printed, because few of these reads are printed.
 #[derive(Clone, Copy)]
 pub(crate) struct FinishedRead {
-    pub owner: u8,
-    pub field: Field,
-    pub number: u64,
+    /// The access that ended it.
+    pub access: Access,
+    /// The number as far as it was read before that access.
+    pub before: u32,
+}
+
+impl FinishedRead {
+    /// Returns the number that was read.
+    pub fn number(&self) -> u64
+        ensures { result ≡ number_finished self.now }
+    {
+        number_after(&self.access, u64::from(self.before))
+    }
 }
 
 /// The state of a process. Its last call stores no access except the first that the process makes itself.
@@ -23,7 +33,7 @@ pub(crate) struct ProcessKept {
     pub standing: CallStanding,
     /// The number of the entry with which it failed last.
     pub failed: u64,
-    /// The number that it has read last, unless an entry has had a mark since.
+    /// The register read that it has finished last, unless an entry has had a mark since.
     pub read: Option<FinishedRead>,
 }
 
@@ -80,9 +90,8 @@ impl ProcessKept {
         self.open(number);
         if ends_number(setup, access) {
             self.read = Some(FinishedRead {
-                owner: access.owner,
-                field: access.field,
-                number: number_after(access, u64::from(read)),
+                access: *access,
+                before: read,
             });
         }
     }
@@ -93,8 +102,9 @@ impl ProcessKept {
         ensures { self.new ≡ record self.old { standing = opened number self.old.standing } }
     {
         let last = &mut self.standing.last;
-        let itself = last.marks.failed.is_none();
-        last.accesses.doorway = first_if(last.accesses.doorway, itself, number);
+        if last.accesses.doorway.is_none() && last.marks.failed.is_none() {
+            last.accesses.doorway = Some(number);
+        }
     }
 }
 

@@ -22,7 +22,7 @@ mod snapshot;
 mod stating;
 mod stores;
 
-pub use calls::run_calls;
+pub use calls::{list_record, run_calls};
 pub use fault_place::{FileKind, KeptFile, KeptInput, explanation};
 pub use laws_of_lines::lines_make_events;
 pub use snapshot::Snapshot;

@@ -10,7 +10,7 @@ ghost use Rattle.run_state.specs.States.{HasSeen, Hears, HearsTold, entry_report
 ghost use Rattle.calls.specs.Tables.{fewer};
 
 use crate::snapshot::Snapshot;
-use calls::course::{Accepted, Listener, Stepped, Taken, Told};
+use calls::course::{Accepted, Listener, Stepped, Told};
 use calls::scenario::Fault;
 use calls::world::Core;
 use plain_store::{NestedTypes, Setup};
@@ -18,26 +18,23 @@ use record::{Access, Act, Entry, Move};
 use smallvec::SmallVec;
 use std::alloc::{AllocError, Global};
 
-/// What is stored of the newest event that was reported.
-#[derive(Clone, Copy)]
-enum NewestEvent {
-    /// There was no event.
-    Nothing,
-    /// An event with marks.
-    Marked(Accepted),
-    /// A Step of this process, with this access and without a mark.
-    Unmarked(u8, Access),
-}
-
 /// The state of a run, and its newest event.
+///
+/// Most events are Steps without a mark, so they are stored in small fields of their own. In one enum with the event with marks
+/// each of them would write as many bytes as the largest variant has.
 #[derive(Drop)]
 pub(crate) struct StateObserver {
     alloc: Global,
     pub snapshot: Snapshot,
-    newest: NewestEvent,
-    /// The process whose Steps have passed by since, within a register access and without a mark; their accesses are not stored.
-    /// It has a field of its own, because `pass` would otherwise write as many bytes as an event has.
-    passed: Option<u8>,
+    /// The newest event with marks, if there was one.
+    marked: Option<Accepted>,
+    /// The access of the newest event that was reported, if that was a Step without a mark.
+    stepped: Option<Access>,
+    /// The process of the newest Step without a mark, which may have passed by.
+    process: u8,
+    /// The number of events when one was reported last. All later ones are Steps that passed by, within a register access and
+    /// without a mark; their accesses are not stored. A flag for this would cost each of them an instruction.
+    reported: u64,
 }
 
 impl StateObserver {
@@ -51,8 +48,10 @@ impl StateObserver {
         Ok(StateObserver {
             alloc,
             snapshot,
-            newest: NewestEvent::Nothing,
-            passed: None,
+            marked: None,
+            stepped: None,
+            process: 0,
+            reported: 0,
         })
     }
 
@@ -85,8 +84,9 @@ impl StateObserver {
             made.access.is_some(),
             marks.as_slice(),
         );
-        self.newest = NewestEvent::Marked(made);
-        self.passed = None;
+        self.marked = Some(made);
+        self.stepped = None;
+        self.reported = self.snapshot.entries();
     }
 
     /// Observes a Step without a mark. One that is reported without a number ends no register read.
@@ -98,8 +98,9 @@ impl StateObserver {
     {
         let number = made.number.unwrap_or(0);
         self.snapshot.step(made.process, &made.access, number);
-        self.newest = NewestEvent::Unmarked(made.process, made.access);
-        self.passed = None;
+        self.stepped = Some(made.access);
+        self.process = made.process;
+        self.reported = self.snapshot.entries();
     }
 
     /// Writes how many events there were and the entry of the newest one. The run's world keeps this core.
@@ -130,26 +131,24 @@ impl StateObserver {
         ensures { InEachCorePast core.now (λ s past. HasSeen s past self.now → result ≡ newest_of past) }
     {
         let _nested: NestedTypes = None;
-        match self.passed {
-            None => self.reported_entry(),
-            Some(process) => {
-                let access = core.last_access(process);
-                Some(unmarked_entry(self.alloc, process, access))
-            }
+        if self.reported == self.snapshot.entries() {
+            return self.reported_entry();
         }
+        let access = core.last_access(self.process);
+        Some(unmarked_entry(self.alloc, self.process, access))
     }
 
     /// Returns the entry of the newest event that was reported. It does not allocate.
     fn reported_entry(&self) -> Option<Entry>
-        ensures { result ≡ entry_reported self.now.newest }
+        ensures { result ≡ entry_reported self.now }
     {
         let _nested: NestedTypes = None;
-        match &self.newest {
-            NewestEvent::Nothing => None,
-            NewestEvent::Marked(made) => Some(made.entry(self.alloc)),
-            NewestEvent::Unmarked(process, access) => {
-                Some(unmarked_entry(self.alloc, *process, Some(*access)))
-            }
+        if self.stepped.is_some() {
+            return Some(unmarked_entry(self.alloc, self.process, self.stepped));
+        }
+        match &self.marked {
+            None => None,
+            Some(made) => Some(made.entry(self.alloc)),
         }
     }
 }
@@ -187,11 +186,12 @@ impl Listener for StateObserver {
 
     ghost Stops = { λ a s x y fault b. fault ≡ Memory };
 
-    fn hear(&mut self, told: &Told, _taken: &[Taken]) -> Result<(), Fault> {
+    fn hear(&mut self, told: &Told) -> Result<(), Fault> {
         self.hear_told(told);
         Ok(())
     }
 
+    #[inline(always)]
     fn step(&mut self, made: Stepped) -> Result<(), Fault> {
         self.hear_step(made);
         Ok(())
@@ -200,7 +200,7 @@ impl Listener for StateObserver {
     #[inline(always)]
     fn pass(&mut self, process: u8, steps: u32, _newest: Move, _overlapped: u32) {
         self.snapshot.pass(steps);
-        self.passed = Some(process);
+        self.process = process;
     }
 
     ghost room_less = { λ a n k few room. fewer a.snapshot.entries n k few room };

@@ -171,7 +171,7 @@ fn push_readers(
     Ok(())
 }
 
-/// Writes the word of a reader, if it is to stand there.
+/// Writes the word of a reader, if it belongs to the line.
 fn push_reader_if(
     alloc: Global,
     stands: bool,

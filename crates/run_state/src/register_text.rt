@@ -1,4 +1,4 @@
-//! What the bits of a register are as text, and what is seen of one of them.
+//! The bits of a register as text, and the state of one of them.
 ghost use Rattle.std.specs.Prelude.{◌≡◌, ◌<◌, ◌≤◌, ◌*◌, ℕ, Bool, false, IfOk, List, Ok, codes, length, slice_index_or};
 ghost use Rattle.std.specs.Fmt.{decimal};
 ghost use Rattle.plain_store.specs.{checked};

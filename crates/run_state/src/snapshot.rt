@@ -19,7 +19,8 @@ use record::{Access, Entry, Mark, Stage, Taken};
 use std::alloc::{AllocError, Global};
 use std::marker::Model;
 
-/// The state of a run that its core does not have: of each process its last call, when it failed, and what it has read last.
+/// The state of a run that its core does not have: for each process its last call, when it failed, and the number that it has
+/// read last.
 /// Its memory does not grow with the run.
 #[derive(Drop)]
 pub struct Snapshot {
@@ -82,6 +83,7 @@ impl Snapshot {
     }
 
     /// Observes one more entry, which has no mark. If it ends the read of a number, `read` is what was read of it before.
+    #[inline]
     pub fn step(&mut self, process: u8, access: &Access, read: u32)
         requires { self.old.entries < 2 ^ 64 - 1 }
         ensures setup { self.new.setup ≡ self.old.setup }

@@ -1,4 +1,4 @@
-//! The engine `state`: the state after the first events of a scenario's run.
+//! The engine `state`: it writes the state after the first events of a scenario's run.
 ghost use Rattle.std.specs.Prelude.{◌≡◌, ◌-◌, ◌^◌, ◌<◌, [], IfOk, IfSome, OnOk, length};
 ghost use Rattle.calls.specs.scenario.files.Engines.{Ran, streams};
 ghost use Rattle.calls.specs.scenario.files.{ReadsFront};
@@ -29,9 +29,15 @@ pub fn events_said(word: &str) -> Option<u64>
     }
 }
 
-/// Reads a whole scenario file, makes so many events of its run, or all if there are fewer, and then writes the state. However it
-/// ends, at most `INPUT_LIMIT` bytes are taken from the front of the input.
-/// An onlooker hears how far it is: `Nobody`, where nobody is to know.
+/// Reads a whole scenario file, makes the first `events` events of its run, or all if there are fewer, and then writes the
+/// state. It takes at most `INPUT_LIMIT` bytes from the start of the input, even if it fails. It reports its progress to the
+/// onlooker; `Nobody` ignores the reports.
+///
+/// # Errors
+///
+/// Returns [`Fault::Read`] or [`Fault::Memory`] if the file cannot be read, [`Fault::Line`] for its first fault, and
+/// [`Fault::Memory`] if an allocation fails later; nothing is written then. Returns [`Fault::Write`] if the output fails; a
+/// prefix of the text may be written then.
 pub fn run_state<R: Source, W: Sink, L: Onlooker>(
     alloc: Global,
     events: u64,
@@ -52,7 +58,7 @@ pub fn run_state<R: Source, W: Sink, L: Onlooker>(
     write_all(output, text.as_slice())
 }
 
-/// Returns the state after so many events of the run of a scenario.
+/// Returns the state after the first `events` events of a scenario's run.
 fn state_text<L: Onlooker>(
     alloc: Global,
     events: u64,
@@ -103,7 +109,7 @@ fn played_text<L: Onlooker>(
     Ok(text)
 }
 
-/// Writes the line that made the newest of so many events, if there is one.
+/// Writes the line that made the newest of `events` events, if there is one.
 fn push_made(
     alloc: Global,
     scenario: &Scenario,

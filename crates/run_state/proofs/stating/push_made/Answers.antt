@@ -9,7 +9,7 @@ use Rattle.run_state.proofs.Makers.{line_there, line_within, newest_written, non
 use Rattle.run_state.proofs.Stand.{ok_then}
 use Rattle.run_state.proofs.stating.push_made.Goals as goal
 
--- what is written, where there was memory
+-- the text that is written, where no allocation failed
 where_ok : {A E : Type 0} (r : Result A E) (new written old : List ℕ) → new ≡ (if is_ok r then written else old) → OnOk r (new ≡ written)
 where_ok (Ok done) new written old is = is
 where_ok (Err e) new written old is = tt

@@ -1,4 +1,4 @@
-use Rattle.std.proofs.Common.{◌<◌, refl, sym, subst, ◌∙◌}
+use Rattle.std.proofs.Common.{◌<◌, arith, refl, sym, subst, ◌∙◌}
 use Rattle.plain_store.specs.{Setup}
 use Rattle.record.specs.{Entry}
 use Rattle.calls.specs.course.{entry_made}
@@ -8,8 +8,11 @@ pub returns-clause-heard : goal.returns-clause-heard
 returns-clause-heard c = λ s past turn marked seen.
     let e : Entry = entry_made c.args.made in
     let marks = sym (c.as_slice.ensures ∙ c.marks-marks.ensures) in
+    let all = c.entries-self.ensures in
     record {
       setup = c.hear.ensures.setup ∙ seen.setup;
       heard = c.hear.ensures.heard past e (sym c.process.ensures) (sym c.is_some.ensures) marks (λ none. marked (sym (c.as_slice.ensures ∙ c.marks-marks.ensures) ∙ none)) (subst (λ (s : Setup). c.process.result < s.processes) (sym seen.setup) (subst (λ p. p < s.processes) (sym c.process.ensures) turn.process)) seen.heard;
-      newest_is = refl;
+      reported = omega (arith, all);
+      newest_is = λ same. refl;
+      passed = λ fewer. absurd (omega (arith, all, fewer));
     }

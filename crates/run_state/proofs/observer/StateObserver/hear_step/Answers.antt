@@ -1,10 +1,9 @@
-use Rattle.std.proofs.Common.{◌<◌, [], None, Option, Some, ℕ, ap, refl, sym, subst, ◌∙◌}
+use Rattle.std.proofs.Common.{◌<◌, [], Option, Some, ℕ, ap, arith, refl, sym, subst, ◌∙◌}
 use Rattle.std.specs.Option.{unwrap_or}
 use Rattle.plain_store.specs.{Setup}
 use Rattle.record.specs.{Entry, Past}
 use Rattle.calls.specs.course.{past_after}
 use Rattle.run_state.specs.{HasSeen, StateObserver, TellsNumber, unmarked_entry}
-use Rattle.run_state.specs.declared.observer.NewestEvent.TheVariants.{Unmarked}
 use Rattle.calls.proofs.UnmarkedSteps.{steps_below}
 use Rattle.run_state.proofs.Seeing.{step_past, tells_number}
 use Rattle.run_state.proofs.observer.StateObserver.hear_step.Goals as goal
@@ -12,13 +11,16 @@ use Rattle.run_state.proofs.observer.StateObserver.hear_step.Goals as goal
 pub returns-clause-heard : goal.returns-clause-heard
 returns-clause-heard c = λ s before on seen.
     let made = c.args.made in
+    let all = c.entries-self.ensures in
     let number = c.unwrap_or-number.result in
     let past : Past = past_after s before in
     let e : Entry = unmarked_entry made.process (Some made.access) in
-    let new : StateObserver = record c.args.self.now { snapshot = c.step.new.self; newest = Unmarked made.process made.access; passed = None } in
+    let new : StateObserver = record c.args.self.now { snapshot = c.step.new.self; stepped = Some made.access; process = made.process; reported = c.entries-self.result } in
     subst (λ past. HasSeen s past new) (sym (step_past s before made on)) (record {
       setup = c.step.ensures.setup ∙ seen.setup;
       heard = c.step.ensures.heard past e refl refl refl (subst (λ (s : Setup). TellsNumber s past made.process made.access number) (sym seen.setup) (tells_number s before made number (λ m is. c.unwrap_or-number.ensures ∙ ap (λ (o : Option ℕ). unwrap_or o 0) is) on))
           (subst (λ (s : Setup). made.process < s.processes) (sym seen.setup) (steps_below s before made on)) seen.heard;
-      newest_is = refl;
+      reported = omega (arith, all);
+      newest_is = λ same. refl;
+      passed = λ fewer. absurd (omega (arith, all, fewer));
     })

@@ -1,5 +1,13 @@
-use Rattle.std.proofs.Common.{refl}
+use Rattle.std.proofs.Common.{arith, refl}
 use Rattle.run_state.proofs.observer.StateObserver.new.Goals as goal
 
 pub returns-clause-seen : goal.returns-clause-seen
-returns-clause-seen c = record { setup = c.in_ok-snapshot.ensures.setup; heard = c.in_ok-snapshot.ensures.heard; newest_is = refl }
+returns-clause-seen c =
+    let none = c.in_ok-snapshot.ensures.entries in
+    record {
+      setup = c.in_ok-snapshot.ensures.setup;
+      heard = c.in_ok-snapshot.ensures.heard;
+      reported = omega (arith);
+      newest_is = λ same. refl;
+      passed = λ some. absurd (omega (arith, none, some));
+    }

@@ -1,4 +1,4 @@
-use Rattle.std.proofs.Common.{subst, sym, ◌∙◌}
+use Rattle.std.proofs.Common.{arith, subst, sym, ◌∙◌}
 use Rattle.plain_store.specs.{Setup}
 use Rattle.calls.specs.course.{past_after}
 use Rattle.run_state.specs.{Passes}
@@ -9,8 +9,13 @@ pub returns-clause-ok : goal.returns-clause-ok
 returns-clause-ok c = λ off s before after newest is passed seen.
     let p = c.args.process in
     let n = c.args.steps in
+    let most = seen.reported in
+    let more = c.pass.ensures.count in
+    let some = c.requires.some in
     record {
       setup = c.pass.ensures.setup ∙ seen.setup;
       heard = c.pass.ensures.heard p (past_after s before) (past_after s after) (subst (λ (s' : Setup). Passes s' p n (past_after s before) (past_after s after)) (sym seen.setup) (passes_of s p n before after passed.within)) seen.heard;
-      newest_is = newest_within s p n before after c.requires.some passed.within;
+      reported = omega (arith, most, more);
+      newest_is = λ same. absurd (omega (arith, most, more, some, same));
+      passed = λ fewer. newest_within s p n before after some passed.within;
     }

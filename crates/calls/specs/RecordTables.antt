@@ -1,0 +1,37 @@
+-- The table of a record's calls as an engine writes it, and what is kept while the entries are heard.
+use Rattle.std.specs.Prelude.{◌≡◌, ◌<◌, ℕ, List, ◌++◌, get_or, length, reverse, None, Ok, Result}
+use Rattle.plain_store.specs.{Setup, checked}
+use Rattle.record.specs.{Entry, Past}
+use Rattle.calls.specs.Lines.{header}
+use Rattle.calls.specs.Recorded.{HasListed, last_access, record_table, recorded_lines}
+use Rattle.judge.specs.Ends.{TrialEnds}
+use Rattle.judge.specs.files.Engines.{Streams}
+use Rattle.judge.specs.files.{Fault}
+use Rattle.judge.specs.read_law.{HasHeard}
+use Rattle.calls.specs.declared.overlaps.OverlapWatch.{OverlapWatch}
+use Rattle.calls.specs.declared.record_table.RecordCalls.{RecordCalls}
+
+-- the table of a record's calls, and the status 0
+pub record TellsCalls (s : Setup) (entries : List Entry) (numbers told : List ℕ) (status : ℕ) : Type 0 where
+  pub table : told ≡ record_table s (reverse entries)
+  pub answer : status ≡ 0
+
+-- How listing ends: with the table of the record that the whole input says, or with its fault. Each fault has its cause, and nothing was written unless the table is known.
+abbrev pub CallsEnd : Result ℕ Fault → Streams → Streams → Type 0
+CallsEnd = TrialEnds TellsCalls
+
+-- a watch has heard these entries, and the last access of each process is kept
+pub record Watches (s : Setup) (past : Past) (w : OverlapWatch) : Type 0 where
+  pub good : checked s ≡ Ok tt
+  pub watched : w.watch.setup ≡ s
+  pub heard : HasHeard w.watch past
+  pub last : (p : ℕ) → p < 16 → get_or w.last p None ≡ last_access p past
+  pub room : length w.last ≡ 16
+
+-- all entries of a record were listed, and the lines of the ended calls were printed
+pub record HasListedAll (c : RecordCalls) (s : Setup) (entries : List Entry) : Type 0 where
+  pub reads : Watches s (reverse entries) c.reads
+  pub setup : c.table.setup ≡ s
+  pub table : HasListed c.table (reverse entries)
+  pub count : c.table.entries ≡ length entries
+  pub lines : c.lines.items ≡ header ++ recorded_lines s (reverse entries)
