@@ -1,15 +1,19 @@
-//! What stands between the program and who runs it: its words and pages, and how it writes to a terminal.
+//! The command line of the program: its arguments and help pages, the kind of file that it is given, and how it writes to a
+//! terminal.
 #![tactic(auto)]
 
 mod causes;
 mod command_pages;
 mod commands;
+mod first_word;
 mod fronts;
 mod help;
 mod notices;
+mod opened;
 mod pages;
 mod program;
 mod progress;
+mod recognized;
 mod retries;
 mod terminal;
 mod words;
@@ -17,11 +21,13 @@ mod words;
 pub use causes::{NotedReader, NotedWriter, reason_of};
 pub use commands::{CommandEntry, Engine, Intake};
 pub use files::{Fault, FromRead, IntoWrite, LineFault, Sink, Source, exit_status};
-pub use first_word::{FirstWord, Opened};
+pub use first_word::FirstWord;
 pub use fronts::FrontSink;
 pub use notices::{Notice, USAGE_STATUS, shown_word};
+pub use opened::Opened;
 pub use pages::HelpPage;
 pub use progress::{WatchedInput, Watcher};
+pub use recognized::{records_are_recognized, scenarios_have_another_first_word};
 pub use retries::Uninterrupted;
 pub use terminal::{Output, Terminals};
 pub use words::{Invocation, Request, all_words, each_file_runs, read_words};

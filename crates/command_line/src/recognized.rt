@@ -1,0 +1,14 @@
+//! The first words of the files that are read without a fault. Each law is a function with nothing to do, whose contract is
+//! the law.
+ghost use Rattle.command_line.specs.FirstWords.{RecordsAreRecognized, ScenariosHaveAnotherWord};
+
+/// A record has the first word `record`, unless half a megabyte of skipped lines precedes it: then its first word is not
+/// looked at.
+pub fn records_are_recognized()
+    ensures { RecordsAreRecognized }
+{}
+
+/// A scenario has neither of the two words.
+pub fn scenarios_have_another_first_word()
+    ensures { ScenariosHaveAnotherWord }
+{}
