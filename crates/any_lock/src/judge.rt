@@ -89,6 +89,7 @@ impl Judge {
 
     /// The verdict on the entries so far, and how many there are: the lowest entry that breaks a law, and the first law
     /// that it breaks.
+    #[inline]
     pub fn judged(&self) -> Audited<AnyLockLaw>
         ensures now { result.verdict ≡ self.now.verdict }
         ensures verdict { OfJudged self.now (λ s entries. result.verdict ≡ verdict_of s entries) }

@@ -28,6 +28,7 @@ impl RecordJudge for Judge {
         Judge::new(alloc, setup)
     }
 
+    #[inline]
     fn hear(&mut self, process: u8, access: &Option<Access>, marks: &[Mark]) {
         Judge::hear(self, process, access, marks);
     }
@@ -36,6 +37,7 @@ impl RecordJudge for Judge {
         Judge::judged(self)
     }
 
+    #[inline]
     fn is_good(&self) -> bool {
         Judge::judged(self).verdict.is_good()
     }

@@ -1,8 +1,8 @@
 //! A judge that reports the reasons of a bad verdict too.
-ghost use Rattle.std.specs.Prelude.{◌≡◌};
+ghost use Rattle.std.specs.Prelude.{◌≡◌, IfOk};
 ghost use Rattle.auditor.specs.read_law.declared.verdicts.Verdict.TheVariants.{Good};
-ghost use Rattle.auditor.specs.read_law.{is_good};
-ghost use Rattle.judge.specs.Explanations.{HasExplained};
+ghost use Rattle.auditor.specs.read_law.{entry_by, is_good};
+ghost use Rattle.judge.specs.Explanations.{GivesReasons, HasExplained};
 ghost use Rattle.judge.specs.Judgements.{TellsReasons};
 ghost use Rattle.judge.specs.KeepingLaws.{found_bad, found_good};
 
@@ -35,6 +35,7 @@ impl<J: RecordJudge> Hearer for Explaining<J> {
         })
     }
 
+    #[inline]
     fn take(
         &mut self,
         alloc: Global,
@@ -48,8 +49,7 @@ impl<J: RecordJudge> Hearer for Explaining<J> {
         if !was_good || self.judge.is_good() {
             return Ok(());
         }
-        let entry = entry_of_parts(alloc, process, access, marks)?;
-        self.reasons = self.judge.reasons(alloc, number, &entry)?;
+        self.reasons = reasons_of(&self.judge, alloc, number, process, access, marks)?;
         Ok(())
     }
 
@@ -80,4 +80,22 @@ impl<J: RecordJudge> Judging for Explaining<J> {
     ghost good = { λ e s entries numbers heard good. found_good J.IsVerdict s entries (J.verdict e.judge) (J.finds e.judge s entries heard.judged) good };
 
     ghost bad = { λ e s entries numbers heard bad keeps. found_bad J.IsVerdict J.one s entries (J.verdict e.judge) (J.finds e.judge s entries heard.judged) bad keeps };
+}
+
+/// Returns the lines that explain the bad verdict of a judge on this entry, which is in line `number`. It is a call of its own,
+/// because only one entry of a record needs it, and an entry's room for three marks would be cleared for each.
+#[inline(never)]
+fn reasons_of<J: RecordJudge>(
+    judge: &J,
+    alloc: Global,
+    number: u64,
+    process: u8,
+    access: &Option<Access>,
+    marks: &[Mark],
+) -> Result<Vec<u8>, AllocError>
+    ensures { IfOk result (λ lines. GivesReasons J.HasJudged J.verdict J.AreReasons judge.now number
+        (entry_by process access.now marks.now) lines.items) }
+{
+    let entry = entry_of_parts(alloc, process, access, marks)?;
+    judge.reasons(alloc, number, &entry)
 }

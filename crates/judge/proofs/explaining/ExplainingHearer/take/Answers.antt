@@ -1,7 +1,6 @@
-use Rattle.std.proofs.Common.{◌<◌, ◌^◌, length, sym, subst, ◌∙◌, arith}
+use Rattle.std.proofs.Common.{◌<◌, ◌^◌, length, sym, ◌∙◌, arith}
 use Rattle.record.specs.{Entry}
 use Rattle.auditor.specs.read_law.{entry_by}
-use Rattle.judge.specs.{GivesReasons}
 use Rattle.judge.proofs.Explained.{gets_bad, still_bad, still_good}
 use Rattle.judge.proofs.explaining.ExplainingHearer.take.Goals as goal
 use Rattle.judge.proofs.explaining.ExplainingHearer.take.Goals.{then-not-was_good-via-then-not-was_good, then-not-was_good-via-else-not-was_good+then-is_good}
@@ -26,8 +25,7 @@ returns g c =
     let laws = g.met.J.RecordJudge in
     let e : Entry = entry_by c.args.process c.args.access.now c.args.marks.now in
     let lines = c.in_ok-self.field-0.items in
-    let gives = subst (λ (e : Entry). GivesReasons J.HasJudged J.verdict J.AreReasons c.hear.new.self c.args.number e lines) c.in_ok-entry.ensures c.in_ok-self.ensures in
     λ s entries numbers had.
     let few : length entries < 2 ^ 64 = let count = laws.counts c.args.self.now.judge s entries had.judged in omega (arith, count, c.requires) in
     gets_bad J.HasJudged J.verdict J.AreReasons J.IsVerdict laws.finds laws.one laws.stays laws.newest c.args.self.now.judge c.hear.new.self c.args.number e s entries numbers c.args.self.now.reasons.items had (c.hear.ensures.heard s entries had.judged)
-    lines few (sym c.is_good-was_good.ensures ∙ c.if-not-was_good.false) (sym c.is_good.ensures ∙ c.if-is_good.false) gives
+    lines few (sym c.is_good-was_good.ensures ∙ c.if-not-was_good.false) (sym c.is_good.ensures ∙ c.if-is_good.false) c.in_ok-self.ensures
