@@ -9,15 +9,15 @@ use command_line::{
     Uninterrupted, WatchedInput, Watcher, all_words, exit_status, read_words, reason_of,
     shown_word,
 };
-use drawer::progress::Onlooker;
-use drawer::{Reads, draw, draw_svg};
+use draw::progress::Onlooker;
+use draw::{
+    JudgedBy, Reads, draw, draw_judged_record, draw_judged_record_svg, draw_record,
+    draw_record_svg, draw_svg,
+};
 use engines::{
     judge_any_lock, replay, run_audit, run_bits, run_judge, run_plain, run_record, run_sweep,
 };
 use race::{RunFault, run_fault_status, run_race};
-use record_drawer::{
-    JudgedBy, draw_judged_record, draw_judged_record_svg, draw_record, draw_record_svg,
-};
 use run_state::{
     FileKind, KeptFile, KeptInput, events_said, explanation, list_record, run_calls, run_state,
 };

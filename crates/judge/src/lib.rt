@@ -31,11 +31,11 @@ pub use auditor::{
 pub use common_laws::good_records_keep_laws_of_any_lock;
 pub use engine::run_trial;
 pub use explaining::Explaining;
-pub use files::{DONE, Fault, Sink, Source};
+pub use files::{DONE, Fault, Sink, Source, read_any_line, source_lines};
 pub use hearers::{Hearer, Judging, Telling};
 pub use judging::{judge_any_lock, run_judge};
 pub use laws_of_reasons::only_steps_keep_all_laws;
-pub use record_file::{StepLine, print_entry, print_setup};
+pub use record_file::{RecordReader, StepLine, print_entry, print_setup, read_step};
 pub use record_judge::RecordJudge;
 pub use this_lock_judge::ThisLockJudge;
 pub use trial::Trial;

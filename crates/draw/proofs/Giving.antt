@@ -1,0 +1,132 @@
+-- What a picture is told, read back: its lines, their texts and their marks, and the reads that stand before them.
+use Rattle.std.proofs.Common.{◌≡◌, ◌<◌, ℕ, ◌+◌, List, [], ◌∷◌, ◌++◌, flat_map, get_or, length, map, take, refl, ap, sym, ◌∙◌, append-nil, append_assoc}
+use Rattle.std.proofs.lemmas.Grind.{flat_map-append}
+use Rattle.std.proofs.lemmas.List.{map-append, take_more}
+use Rattle.picture.specs.{Item, Reads, Tells, sayings}
+use Rattle.picture.specs.columns.{OverlappedRead, Saying, marks_said, saying_text}
+use Rattle.picture.specs.columns.declared.told.Saying.TheVariants.{Marked, Refused, Tired, Shown as ShowsStore, Judged, Ended}
+use Rattle.picture.specs.declared.reads.Reads.{Reads as Mode}
+use Rattle.picture.specs.declared.reads.Reads.TheVariants.{Hidden, Shown}
+use Rattle.plain_store.specs.{Setup}
+use Rattle.record.specs.{Mark}
+use Rattle.draw.specs.{Gives, GivesLine, GivesRead, Says, given, lines_given, mark_given, marks_after, marks_given, marks_says, says_marks, says_of, says_text, shown_of, text_given, texts_given, waiting}
+
+-- one more, by what is made of each
+pub map_next : {A : Type 0} {B : Type 0} (f : A → B) (xs : List A) (k : ℕ) (d : A) → k < length xs → map f (take (k + 1) xs) ≡ map f (take k xs) ++ f (get_or xs k d) ∷ []
+map_next f xs k d within = ap (map f) (take_more xs k d within) ∙ map-append f (take k xs) (get_or xs k d ∷ [])
+
+-- of no reads none is shown
+shown_none : (mode : Mode) → shown_of mode [] ≡ []
+shown_none Hidden = refl
+shown_none Shown = refl
+
+-- reads wait as long as there is no line
+waiting_none : {A : Type 0} (lines : List A) → waiting lines [] ≡ []
+waiting_none [] = refl
+waiting_none (line ∷ lines) = refl
+
+pub waiting_append : {A : Type 0} (lines more : List A) (reads : List OverlappedRead) → waiting (lines ++ more) reads ≡ waiting more (waiting lines reads)
+waiting_append [] more reads = refl
+waiting_append (line ∷ lines) more reads = sym (waiting_none more)
+
+-- lines, and then more
+module _ (mode : Mode) (source at : ℕ) where
+  of_none : (more : List Says) → map (GivesLine source at) more ≡ lines_given mode source at [] more
+  of_none [] = refl
+  of_none (line ∷ more) = ap (λ (l : List OverlappedRead). map GivesRead l ++ map (GivesLine source at) (line ∷ more)) (sym (shown_none mode))
+
+  pub lines_append : (reads : List OverlappedRead) (lines more : List Says) → lines_given mode source at reads (lines ++ more) ≡ lines_given mode source at reads lines ++ lines_given mode source at (waiting lines reads) more
+  lines_append reads [] more = refl
+  lines_append reads (line ∷ lines) more =
+      let before : List Gives = map GivesRead (shown_of mode reads) in
+      let first : List Gives = map (GivesLine source at) (line ∷ lines) in
+      ap (λ l. before ++ l) (map-append (GivesLine source at) (line ∷ lines) more) ∙ sym (append_assoc before first (map (GivesLine source at) more)) ∙ ap (λ l. (before ++ first) ++ l) (of_none more)
+
+-- items, and then others, which stand before them
+given_append : (more items : List Item) → given (more ++ items) ≡ given items ++ given more
+given_append [] items = sym (append-nil (given items))
+given_append (Tells line ∷ more) items = ap (λ l. l ++ GivesLine line.source line.at (says_of line.saying) ∷ []) (given_append more items) ∙ append_assoc (given items) (given more) (GivesLine line.source line.at (says_of line.saying) ∷ [])
+given_append (Reads read ∷ more) items = ap (λ l. l ++ GivesRead read ∷ []) (given_append more items) ∙ append_assoc (given items) (given more) (GivesRead read ∷ [])
+
+pub both_given : (more items : List Item) (gives then : List Gives) → given items ≡ gives → given more ≡ then → given (more ++ items) ≡ gives ++ then
+both_given more items gives then is next = given_append more items ∙ (λ i. is i ++ next i)
+
+-- The lines.
+
+pub texts_append : (gives more : List Gives) → texts_given (gives ++ more) ≡ texts_given gives ++ texts_given more
+texts_append gives more = flat_map-append text_given gives more
+
+pub text_of_saying : (at : ℕ) (saying : Saying) → says_text at (says_of saying) ≡ saying_text at saying
+text_of_saying at (Marked p mark change) = refl
+text_of_saying at (Refused p refusal) = refl
+text_of_saying at (Tired p) = refl
+text_of_saying at (ShowsStore words) = refl
+text_of_saying at (Judged p words) = refl
+text_of_saying at (Ended events taken refused) = refl
+
+texts_of_reads : (reads : List OverlappedRead) → texts_given (map GivesRead reads) ≡ []
+texts_of_reads [] = refl
+texts_of_reads (read ∷ reads) = texts_of_reads reads
+
+pub texts_of_lines : (mode : Mode) (source at : ℕ) (reads : List OverlappedRead) (lines : List Says) → texts_given (lines_given mode source at reads lines) ≡ map (says_text at) lines
+texts_of_lines mode source at reads [] = refl
+texts_of_lines mode source at reads (line ∷ lines) =
+    texts_append (map GivesRead (shown_of mode reads)) (map (GivesLine source at) (line ∷ lines)) ∙ (λ i. texts_of_reads (shown_of mode reads) i ++ each (line ∷ lines) i)
+  where
+    each : (lines : List Says) → texts_given (map (GivesLine source at) lines) ≡ map (says_text at) lines
+    each [] = refl
+    each (line ∷ lines) = ap (λ l. says_text at line ∷ l) (each lines)
+
+-- The marks.
+
+pub marks_append : (gives more : List Gives) → marks_given (gives ++ more) ≡ marks_given gives ++ marks_given more
+marks_append gives more = flat_map-append mark_given gives more
+
+marks_of_saying : (saying : Saying) → marks_says (says_of saying) ≡ marks_said saying
+marks_of_saying (Marked p mark change) = refl
+marks_of_saying (Refused p refusal) = refl
+marks_of_saying (Tired p) = refl
+marks_of_saying (ShowsStore words) = refl
+marks_of_saying (Judged p words) = refl
+marks_of_saying (Ended events taken refused) = refl
+
+pub marks_of_items : (items : List Item) → marks_given (given items) ≡ flat_map marks_said (sayings items)
+marks_of_items [] = refl
+marks_of_items (Tells line ∷ before) =
+    marks_append (given before) (GivesLine line.source line.at (says_of line.saying) ∷ [])
+    ∙ (λ i. marks_of_items before i ++ (ap (λ l. l ++ []) (marks_of_saying line.saying)) i)
+    ∙ sym (flat_map-append marks_said (sayings before) (line.saying ∷ []))
+marks_of_items (Reads read ∷ before) = marks_append (given before) (GivesRead read ∷ []) ∙ append-nil (marks_given (given before)) ∙ marks_of_items before
+
+marks_of_reads : (reads : List OverlappedRead) → marks_given (map GivesRead reads) ≡ []
+marks_of_reads [] = refl
+marks_of_reads (read ∷ reads) = marks_of_reads reads
+
+pub marks_of_lines : (mode : Mode) (source at : ℕ) (reads : List OverlappedRead) (lines : List Says) → marks_given (lines_given mode source at reads lines) ≡ flat_map marks_says lines
+marks_of_lines mode source at reads [] = refl
+marks_of_lines mode source at reads (line ∷ lines) =
+    marks_append (map GivesRead (shown_of mode reads)) (map (GivesLine source at) (line ∷ lines)) ∙ (λ i. marks_of_reads (shown_of mode reads) i ++ each (line ∷ lines) i)
+  where
+    each : (lines : List Says) → marks_given (map (GivesLine source at) lines) ≡ flat_map marks_says lines
+    each [] = refl
+    each (line ∷ lines) = ap (λ l. marks_says line ++ l) (each lines)
+
+-- What the marks of an entry say.
+
+pub marks_after_append : (p : ℕ) (marks more : List Mark) (before : List (ℕ × Mark)) → marks_after p (marks ++ more) before ≡ marks_after p more (marks_after p marks before)
+marks_after_append p [] more before = refl
+marks_after_append p (m ∷ marks) more before = marks_after_append p marks more ((p, m) ∷ before)
+
+pub says_append : (s : Setup) (p : ℕ) (before : List (ℕ × Mark)) (marks more : List Mark) → says_marks s p before (marks ++ more) ≡ says_marks s p before marks ++ says_marks s p (marks_after p marks before) more
+says_append s p before [] more = refl
+says_append s p before (m ∷ marks) more = ap (λ l. says_marks s p before (m ∷ []) ++ l) (says_append s p ((p, m) ∷ before) marks more)
+
+-- reads wait as long as there is no mark, and so no line
+pub waiting_says : (s : Setup) (p : ℕ) (before : List (ℕ × Mark)) (marks : List Mark) (reads : List OverlappedRead) → waiting (says_marks s p before marks) reads ≡ waiting marks reads
+waiting_says s p before [] reads = refl
+waiting_says s p before (m ∷ marks) reads = refl
+
+-- they say these marks
+pub marks_of_says : (s : Setup) (p : ℕ) (before : List (ℕ × Mark)) (marks : List Mark) → flat_map marks_says (says_marks s p before marks) ≡ map {B = ℕ × Mark} (λ (mark : Mark). (p, mark)) marks
+marks_of_says s p before [] = refl
+marks_of_says s p before (m ∷ marks) = ap (λ l. (p, m) ∷ l) (marks_of_says s p ((p, m) ∷ before) marks)

@@ -1,0 +1,38 @@
+-- What commands change, and how that is shown
+mod Changing
+pub mod Shown
+-- The one-thread store after marks
+pub mod TakenStores
+-- The reads that writes overlap
+pub mod Overhearing
+-- What is drawn, and written piece by piece
+pub mod Written
+pub mod Giving
+pub mod Drawn
+-- Runs
+pub mod RunGiving
+pub mod RunTold
+mod OverlapsTold
+mod Marked
+pub mod Drawings
+pub mod RunEnds
+pub mod Pictured
+pub mod Turning
+-- What the lines of a run show of its record
+pub mod Chains
+pub mod Changes
+pub mod Insides
+pub mod TicketsShown
+pub mod SeatTickets
+pub mod LineOrder
+pub mod InLine
+-- Records
+mod RecordGiving
+mod Hearing
+mod JudgedLines
+mod Lanes
+mod Lines
+mod Sheeted
+mod JudgedFile
+mod RecordEnds
+mod Whole

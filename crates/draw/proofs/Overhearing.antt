@@ -1,0 +1,195 @@
+-- What is heard of a record whose reads are shown or hidden.
+use Rattle.std.proofs.Common.{◌≡◌, ℕ, ◌<◌, ◌==◌, ◌&&◌, Bool, true, false, cond, get_or, List, [], ◌∷◌, ◌++◌, length, Option, None, Some, IfSome, Ok, true≢false, refl, ap, sym, subst, ◌∙◌, append-nil, arith, inl, inr}
+use Rattle.std.proofs.lemmas.Bool.{cases_lt}
+use Rattle.std.proofs.lemmas.Bool.Decides.{nat_tests}
+use Rattle.record.specs.{Access, Entry, Past, begins_read, moves_of, same_bit}
+use Rattle.record.specs.safe_bit.{Move}
+use Rattle.record.specs.safe_bit.declared.Move.TheVariants.{BeginRead}
+use Rattle.plain_store.specs.declared.setups.Setup.{Setup as Given}
+use Rattle.plain_store.specs.{checked}
+use Rattle.plain_store.proofs.GoodSetups.{few-processes}
+use Rattle.judge.specs.read_law.{HasHeard, WatchState, ends_overlapped}
+use Rattle.judge.specs.read_law.laws.{IsThere}
+use Rattle.judge.proofs.read_law.Hears.{heard_none}
+use Rattle.picture.specs.columns.{OverlappedRead}
+use Rattle.picture.specs.declared.reads.Reads.{Reads as Mode}
+use Rattle.picture.specs.declared.reads.Reads.TheVariants.{Hidden, Shown}
+use Rattle.draw.specs.{BegunRead, Hears, Overhears, OverlapsHeard, TellsEnd, TellsOver, Watches, begun_with, ended_of, first_three, is_begin, is_there, overlapped_by, overlapped_with, read_begun, read_ended}
+
+-- what has heard entries has heard one more
+pub hears_on : (s : Given) (past : Past) (reads : List OverlappedRead) (e : Entry) (old new : OverlapsHeard) → new.setup ≡ old.setup →
+    ((p : ℕ) → p < 16 → get_or new.begun p None ≡ read_begun p (e ∷ past)) → length new.begun ≡ 16 →
+    new.ended.items ≡ first_three (reads ++ overlapped_by s past e) → Hears s past reads old → Hears s (e ∷ past) (reads ++ overlapped_by s past e) new
+hears_on s past reads e old new setup begun room ended h = record {
+  good = h.good;
+  setup = setup ∙ h.setup;
+  begun = begun;
+  room = room;
+  ended = ended;
+}
+
+-- one without an access leaves it as it is
+pub hears_none : (s : Given) (past : Past) (reads : List OverlappedRead) (e : Entry) (o : OverlapsHeard) → e.access ≡ None → Hears s past reads o → Hears s (e ∷ past) (reads ++ overlapped_by s past e) o
+hears_none s past reads e o none h = record {
+  good = h.good;
+  setup = h.setup;
+  begun = λ p below. h.begun p below ∙ sym (ap (λ (access : Option Access). begun_with p (length past) access (read_begun p past)) none);
+  room = h.room;
+  ended = h.ended ∙ ap first_three (sym (append-nil reads)) ∙ ap (λ (access : Option Access). first_three (reads ++ overlapped_with s past access)) (sym none);
+}
+
+-- The reads that have begun.
+
+-- an access that begins no read
+begun_still : (p n : ℕ) (a : Access) (before : Option BegunRead) → is_begin a.how ≡ false → begun_with p n (Some a) before ≡ before
+begun_still p n a before none = by (a.reader == p)
+  where
+    by : (b : Bool) → cond (b && is_begin a.how) (Some (record { entry = n; access = a })) before ≡ before
+    by true = ap (λ i. cond i (Some (record { entry = n; access = a })) before) none
+    by false = refl
+
+-- a move behind others
+begins_on : (m : Move) (moves : List Move) → begins_read moves ≡ true → begins_read (m ∷ moves) ≡ true
+begins_on BeginRead moves is = refl
+begins_on m moves is = is
+
+begins_here : (m : Move) (moves : List Move) → is_begin m ≡ true → begins_read (m ∷ moves) ≡ true
+begins_here BeginRead moves is = refl
+begins_here m moves is = absurd (true≢false (sym is))
+
+-- where the last read of a process is of a bit, a read of that bit has begun
+begun_onwards : (x : Access) (c : Bool) (moves : List Move) → begins_read moves ≡ true → begins_read (cond c (x.how ∷ []) [] ++ moves) ≡ true
+begun_onwards x true moves more = begins_on x.how moves more
+begun_onwards x false moves more = more
+
+begun_here : (a x : Access) (moves : List Move) → is_begin x.how ≡ true → same_bit a x ≡ true → begins_read (cond (same_bit a x) (x.how ∷ []) [] ++ moves) ≡ true
+begun_here a x moves begins is_same = ap (λ c. begins_read (cond c (x.how ∷ []) [] ++ moves)) is_same ∙ begins_here x.how moves begins
+
+begun_cases : (a x : Access) (n : ℕ) (before : Option BegunRead) (moves : List Move) (b : BegunRead) (r i : Bool) → same_bit a b.access ≡ true → (before ≡ Some b → begins_read moves ≡ true) → is_begin x.how ≡ i → cond (r && i) (Some (record { entry = n; access = x })) before ≡ Some b → begins_read (cond (same_bit a x) (x.how ∷ []) [] ++ moves) ≡ true
+begun_cases a x n before moves b true true same more begins at =
+    let is_it : (let c : BegunRead = record { entry = n; access = x } in c) ≡ b = cc in
+    begun_here a x moves begins (ap (λ (c : BegunRead). same_bit a c.access) is_it ∙ same)
+begun_cases a x n before moves b true false same more begins at = begun_onwards x (same_bit a x) moves (more at)
+begun_cases a x n before moves b false i same more begins at = begun_onwards x (same_bit a x) moves (more at)
+
+begun_by_access : (a : Access) (n : ℕ) (before : Option BegunRead) (moves : List Move) (b : BegunRead) (o : Option Access) → same_bit a b.access ≡ true → (before ≡ Some b → begins_read moves ≡ true) → begun_with a.reader n o before ≡ Some b →
+    begins_read (elim o as (λ _. List Move) [ None ↦ [] | Some x ↦ cond (same_bit a x) (x.how ∷ []) [] ] ++ moves) ≡ true
+begun_by_access a n before moves b None same more at = more at
+begun_by_access a n before moves b (Some x) same more at = begun_cases a x n before moves b (x.reader == a.reader) (is_begin x.how) same more refl at
+
+begun_reads : (a : Access) (past : Past) (b : BegunRead) → read_begun a.reader past ≡ Some b → same_bit a b.access ≡ true → begins_read (moves_of a past) ≡ true
+begun_reads a [] b is same = absurd (cc)
+begun_reads a (e ∷ past) b is same = begun_by_access a (length past) (read_begun a.reader past) (moves_of a past) b e.access same (λ at. begun_reads a past b at same) is
+
+-- so where none of the bit has, the access ends none
+ends_none : (s : Given) (n : ℕ) (a : Access) (past : Past) → begins_read (moves_of a past) ≡ false → ended_of s n a (read_begun a.reader past) ≡ []
+ends_none s n a past none = by (read_begun a.reader past) refl
+  where
+    inner : (b : BegunRead) (same : Bool) → same_bit a b.access ≡ same → read_begun a.reader past ≡ Some b → ended_of s n a (Some b) ≡ []
+    inner b true is at = absurd (true≢false (sym (begun_reads a past b at is) ∙ none))
+    inner b false is at = ap (λ c. cond c (read_ended s b.entry n a ∷ []) []) is
+
+    by : (o : Option BegunRead) → read_begun a.reader past ≡ o → ended_of s n a o ≡ []
+    by None at = refl
+    by (Some b) at = inner b (same_bit a b.access) refl at
+
+both_none : {A : Type 0} (b : Bool) (xs : List A) → xs ≡ [] → cond b xs [] ≡ []
+both_none true xs none = none
+both_none false xs none = refl
+
+-- whether a bit is there
+there_is : (s : Given) (a : Access) → is_there s a ≡ true → IsThere s a
+there_is s a is = record { owner = grind (arith, nat_tests, is); reader = grind (arith, nat_tests, is); bit = grind (arith, nat_tests, is) }
+
+not_there : (s : Given) (a : Access) → is_there s a ≡ false → IsThere s a → ⊥
+not_there s a is there =
+    let owner = there.owner in let reader = there.reader in let bit = there.bit in
+    let yes : is_there s a ≡ true = grind (arith, nat_tests, owner, reader, bit) in true≢false (sym yes ∙ is)
+
+-- so it is known which read is overlapped
+told_by : (s : Given) (past : Past) (a : Access) (over : Bool) → TellsOver s past a over →
+    cond over (ended_of s (length past) a (read_begun a.reader past)) [] ≡ overlapped_with s past (Some a)
+told_by s past a over tells = by (is_there s a) refl (begins_read (moves_of a past)) refl
+  where
+    reads : List OverlappedRead
+    reads = ended_of s (length past) a (read_begun a.reader past)
+
+    by : (t : Bool) → is_there s a ≡ t → (b : Bool) → begins_read (moves_of a past) ≡ b → cond over reads [] ≡ cond (is_there s a && ends_overlapped (moves_of a past) a.how) reads []
+    by false is b begins = ap (λ c. cond c reads []) (tells.stray (not_there s a is)) ∙ ap (λ t. cond (t && ends_overlapped (moves_of a past) a.how) reads []) (sym is)
+    by true is true begins = ap (λ c. cond c reads []) (tells.there (there_is s a is) begins) ∙ ap (λ t. cond (t && ends_overlapped (moves_of a past) a.how) reads []) (sym is)
+    by true is false begins =
+        let none : reads ≡ [] = ends_none s (length past) a past begins in
+        both_none over reads none ∙ sym (both_none (is_there s a && ends_overlapped (moves_of a past) a.how) reads none)
+
+-- an access that ends no read
+pub ends_no_read : (s : Given) (past : Past) (a : Access) → ((moves : List Move) → ends_overlapped moves a.how ≡ false) → overlapped_with s past (Some a) ≡ []
+ends_no_read s past a none = by (is_there s a)
+  where
+    by : (t : Bool) → cond (t && ends_overlapped (moves_of a past) a.how) (ended_of s (length past) a (read_begun a.reader past)) [] ≡ []
+    by true = ap (λ c. cond c (ended_of s (length past) a (read_begun a.reader past)) []) (none (moves_of a past))
+    by false = refl
+
+-- a move that neither begins a read nor ends one
+abbrev pub IsQuiet : Move → Type 0
+IsQuiet m = (is_begin m ≡ false) × ((moves : List Move) → ends_overlapped moves m ≡ false)
+
+-- an access that begins no read, or ends none, leaves what is kept
+module _ (s : Given) (past : Past) (reads : List OverlappedRead) (e : Entry) (a : Access) (o : OverlapsHeard) (is : e.access ≡ Some a) (h : Hears s past reads o) where
+  pub still_begun : is_begin a.how ≡ false → (p : ℕ) → p < 16 → get_or o.begun p None ≡ read_begun p (e ∷ past)
+  still_begun none p below = h.begun p below ∙ sym (begun_still p (length past) a (read_begun p past) none) ∙ sym (ap (λ (access : Option Access). begun_with p (length past) access (read_begun p past)) is)
+
+  pub still_ended : overlapped_with s past (Some a) ≡ [] → o.ended.items ≡ first_three (reads ++ overlapped_by s past e)
+  still_ended none = h.ended ∙ ap first_three (sym (append-nil reads)) ∙ ap (λ (l : List OverlappedRead). first_three (reads ++ l)) (sym none ∙ ap (overlapped_with s past) (sym is))
+
+-- Modes.
+
+-- where reads are shown
+pub overhears_on : (mode : Mode) (s : Given) (past then : Past) (reads more : List OverlappedRead) (access : Option Access) (over : Bool) (old new : OverlapsHeard) → (Hears s past reads old → IfSome access (λ a. TellsOver s past a over) → Hears s then more new) →
+    TellsEnd mode s past access over → Overhears mode s past reads (Some old) → Overhears mode s then more (Some new)
+overhears_on Hidden s past then reads more access over old new on tells h = absurd h
+overhears_on Shown s past then reads more access over old new on tells h = on h tells
+
+-- where they are hidden
+pub overhears_nothing : (mode : Mode) (s : Given) (past then : Past) (reads more : List OverlappedRead) → Overhears mode s past reads None → Overhears mode s then more None
+overhears_nothing Hidden s past then reads more h = tt
+overhears_nothing Shown s past then reads more h = absurd h
+
+-- of what is kept
+told_at : (s : Given) (past : Past) (reads : List OverlappedRead) (o : OverlapsHeard) (a : Access) (n : ℕ) (over : Bool) → Hears s past reads o → n ≡ length past → TellsOver s past a over →
+    cond over (ended_of o.setup n a (get_or o.begun a.reader None)) [] ≡ overlapped_with s past (Some a)
+told_at s past reads o a n over h number tells =
+    (λ i. cond over (ended_of (h.setup i) (number i) a (get_or o.begun a.reader None)) []) ∙ elim (cases_lt a.reader 16) [
+      | inl below ↦ ap (λ b. cond over (ended_of s (length past) a b) []) (h.begun a.reader below) ∙ told_by s past a over tells
+      | inr out ↦
+          let no : over ≡ false = tells.stray (λ is. let few = few-processes s h.good in let reader : a.reader < s.processes = is.reader in absurd (omega (arith, out, few, reader))) in
+          ap (λ c. cond c (ended_of s (length past) a (get_or o.begun a.reader None)) []) no ∙ ap (λ c. cond c (ended_of s (length past) a (read_begun a.reader past)) []) (sym no) ∙ told_by s past a over tells
+    ]
+
+pub told_ended : (s : Given) (past : Past) (reads : List OverlappedRead) (o : OverlapsHeard) (a : Access) (n : ℕ) (over : Bool) (ended : List OverlappedRead) → Hears s past reads o → n ≡ length past → TellsOver s past a over →
+    (checked o.setup ≡ Ok tt → ended ≡ cond over (ended_of o.setup n a (get_or o.begun a.reader None)) []) → ended ≡ overlapped_with s past (Some a)
+told_ended s past reads o a n over ended h number tells is = is (subst (λ (t : Given). checked t ≡ Ok tt) (sym h.setup) h.good) ∙ told_at s past reads o a n over h number tells
+
+-- A watch that goes along.
+
+-- where reads are shown, it tells which access ends an overlapped read
+pub watches_on : (mode : Mode) (s : Given) (past : Past) (e : Entry) (a : Access) (over : Bool) (old new : WatchState) → e.access ≡ Some a → new.setup ≡ old.setup → (HasHeard old past → HasHeard new (e ∷ past)) →
+    (HasHeard old past → IsThere old.setup a → begins_read (moves_of a past) ≡ true → over ≡ ends_overlapped (moves_of a past) a.how) → ((IsThere old.setup a → ⊥) → over ≡ false) →
+    Watches mode s past (Some old) → TellsEnd mode s past (Some a) over × Watches mode s (e ∷ past) (Some new)
+watches_on Hidden s past e a over old new is setup heard there stray watches = absurd watches
+watches_on Shown s past e a over old new is setup heard there stray watches = (
+  record {
+    there = subst (λ (t : Given). IsThere t a → begins_read (moves_of a past) ≡ true → over ≡ ends_overlapped (moves_of a past) a.how) watches.0 (there watches.1);
+    stray = subst (λ (t : Given). (IsThere t a → ⊥) → over ≡ false) watches.0 stray;
+  },
+  (setup ∙ watches.0, heard watches.1),
+)
+
+-- an entry without an access tells nothing
+pub watches_still : (mode : Mode) (s : Given) (past : Past) (e : Entry) (over : Bool) (watch : WatchState) → e.access ≡ None → Watches mode s past (Some watch) → TellsEnd mode s past None over × Watches mode s (e ∷ past) (Some watch)
+watches_still Hidden s past e over watch none watches = absurd watches
+watches_still Shown s past e over watch none watches = (tt, (watches.0, heard_none watch past e none watches.1))
+
+-- where reads are hidden, there is none
+pub watches_nothing : (mode : Mode) (s : Given) (past : Past) (e : Entry) (access : Option Access) (over : Bool) → Watches mode s past None → TellsEnd mode s past access over × Watches mode s (e ∷ past) None
+watches_nothing Hidden s past e access over watches = (tt, tt)
+watches_nothing Shown s past e access over watches = absurd watches

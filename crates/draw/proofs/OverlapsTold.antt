@@ -1,0 +1,45 @@
+-- What the memory of a run reports of an access is whether it ends an overlapped read.
+use Rattle.std.proofs.Common.{◌≡◌, Bool, false, List, [], Option, None, Some, IfSome, refl, ap, ◌∙◌}
+use Rattle.plain_store.specs.{Setup}
+use Rattle.record.specs.{Access, Entry, Event, Past, entry_of, moves_of, past_of}
+use Rattle.record.specs.declared.events.Event.TheVariants.{Step}
+use Rattle.record.specs.safe_bit.{Move}
+use Rattle.record.specs.safe_bit.declared.Move.TheVariants.{EndRead}
+use Rattle.record.proofs.Width.{IsGood, is_good}
+use Rattle.picture.specs.declared.reads.Reads.{Reads as Mode}
+use Rattle.picture.specs.declared.reads.Reads.TheVariants.{Hidden, Shown}
+use Rattle.judge.specs.read_law.{ends_overlapped}
+use Rattle.draw.specs.{TellsEnd, TellsOver}
+use Rattle.course.specs.world.{ends_overlapped as ends_in_world, ends_overlapped_read}
+use Rattle.course.specs.{Happening, Stepped, StepsOn, past_after, tried}
+use Rattle.course.proofs.laws.HeldThere.{access_there}
+
+-- the memory and a watch define it by the same moves
+ends_same : (moves : List Move) (how : Move) → ends_in_world moves how ≡ ends_overlapped moves how
+ends_same moves (EndRead v) = refl
+ends_same moves how = refl
+
+-- the access of each entry of a run is of a bit that there is
+tells_over : (s : Setup) → IsGood s → (events : List Event) (event : Event) (e : Entry) → entry_of s (past_of s events) event ≡ Some e → (a : Access) → e.access ≡ Some a → (over : Bool) → over ≡ ends_in_world (moves_of a (past_of s events)) a.how → TellsOver s (past_of s events) a over
+tells_over s good events event e added a is over told = record {
+  there = λ there begun. told ∙ ends_same (moves_of a (past_of s events)) a.how;
+  stray = λ none. absurd (none (access_there s good events event e added a is));
+}
+
+by_mode : (mode : Mode) (s : Setup) (past : Past) (access : Option Access) (over : Bool) → IfSome access (λ a. TellsOver s past a over) → TellsEnd mode s past access over
+by_mode Hidden s past access over tells = tt
+by_mode Shown s past access over tells = tells
+
+-- of an event with marks
+pub made_tells : (mode : Mode) (s : Setup) → IsGood s → (events : List Event) (event : Event) (e : Entry) (over : Bool) → entry_of s (past_of s events) event ≡ Some e → over ≡ ends_overlapped_read (past_of s events) e → TellsEnd mode s (past_of s events) e.access over
+made_tells mode s good events event e over added told = by_mode mode s (past_of s events) e.access over (by e.access refl)
+  where
+    by : (access : Option Access) → e.access ≡ access → IfSome access (λ a. TellsOver s (past_of s events) a over)
+    by None is = tt
+    by (Some a) is = tells_over s good events event e added a is over (told ∙ ap (λ (o : Option Access). elim o as (λ _. Bool) [ None ↦ false | Some a ↦ ends_in_world (moves_of a (past_of s events)) a.how ]) is)
+
+-- and of a Step without a mark
+pub stepped_tells : (mode : Mode) (s : Setup) (before : List Happening) (made : Stepped) → StepsOn s before made → TellsEnd mode s (past_after s before) (Some made.access) made.overlapped
+stepped_tells mode s before made on =
+    by_mode mode s (past_after s before) (Some made.access) made.overlapped
+    (tells_over s (is_good s on.good) (tried before) (Step made.process made.flick) (record { process = made.process; access = Some made.access; marks = [] }) on.adds made.access refl made.overlapped on.overlapped)

@@ -1,0 +1,18 @@
+use Rattle.std.proofs.Common.{◌≡◌, ◌-◌, ◌^◌}
+use Rattle.scenario.specs.files.{EndHolds, coming}
+use Rattle.draw.proofs.JudgedFile.{Judged}
+use Rattle.draw.proofs.records.engines.judge_lines.Given as goal
+
+-- each entry so far was heard, and drawn as far as it is shown; a source that has told its end is at it, and no call has failed
+abbrev pub invariant-lines : goal.invariant-lines
+invariant-lines g l = record {
+  judged : Judged g.H.Hearer.HasHeard g.H.Judging.Keeps g.H.Judging.finds_good (g.R.Source.to_come l.fn.input) (coming l.lines.ahead (g.R.Source.to_come l.input)) l.lines.taken l.trial.reader l.trial.hearer l.shows l.sheet (g.W.Sink.taken l.fn.output) (g.W.Sink.taken l.output);
+  holds : EndHolds l.lines.ahead (g.R.Source.to_come l.input);
+  form : l.sheet.form ≡ l.fn.sheet.form;
+  reads : l.sheet.reads ≡ l.fn.sheet.reads;
+  whole : g.R.Source.failures l.input ≡ g.R.Source.failures l.fn.input;
+  wrote : g.W.Sink.failures l.output ≡ g.W.Sink.failures l.fn.output;
+}
+
+abbrev pub decreases-lines : goal.decreases-lines
+decreases-lines g l = 2 ^ 64 - l.lines.taken

@@ -1,0 +1,87 @@
+-- What was written of a canvas, what is read back of it, and what it keeps.
+use Rattle.std.specs.Prelude.{◌≡◌, ℕ, true, List, [], ◌++◌, Option}
+use Rattle.std.specs.Io.KnownBytes.{Appends}
+use Rattle.plain_store.specs.{Setup, opening_store}
+use Rattle.record.specs.{Mark, Past}
+use Rattle.picture.specs.{Form, Item, Plan, SeenPage, bands_told, full_told, heights_told, held, page_of, seen_page}
+use Rattle.picture.specs.columns.{OverlappedRead}
+use Rattle.picture.specs.declared.reads.Reads.{Reads as Mode}
+use Rattle.picture.specs.markup.{EndsAll, is_at_rest, lines_in, tags_of}
+use Rattle.draw.specs.Items.{Gives, Says, given, lines_given, marks_after, says_marks, texts_given, waiting}
+use Rattle.draw.specs.Overlaps.{Overhears}
+use Rattle.draw.specs.StoreChanges.{words_by}
+use Rattle.draw.specs.TakenStores.{IsAfterMarks}
+use Rattle.draw.specs.declared.canvas.Canvas.{Canvas}
+use Rattle.draw.specs.declared.taken_store.TakenStore.{TakenStore}
+
+-- what is known of a picture from the start
+abbrev pub plan_of : Form → Setup → Plan
+plan_of form s = record { form = form; processes = s.processes; opening = words_by (opening_store s).pairs }
+
+-- This markup was written. However it goes on, what is read of it stays as it is.
+pub record Writes (old new : Option (List ℕ)) (markup : List ℕ) : Type 0 where
+  pub rests : is_at_rest (tags_of markup) ≡ true
+  pub taken : Appends old new markup
+
+-- This markup was written, in which each element that begins ends, and these are the titles of its marks.
+pub record Draws (old new : Option (List ℕ)) (markup : List ℕ) (lines : List (List ℕ)) : Type 0 where
+  pub ended : EndsAll markup
+  pub read_back : lines_in markup ≡ lines
+  pub writes : Writes old new markup
+
+-- a page under way: the lines that it holds back, and all that it keeps
+pub record Kept : Type 0 where
+  pub lines : List (List ℕ)
+  pub page : SeenPage
+
+abbrev pub kept : Canvas → Kept
+kept canvas = record { lines = held canvas.page; page = seen_page canvas.page }
+
+-- before the first item
+abbrev pub kept_at_first : Plan → Kept
+kept_at_first plan = record { lines = []; page = page_of plan [] }
+
+-- a page took in items that are these, and this markup is the bands that are full by them
+pub record Fills (old new : SeenPage) (markup : List ℕ) (gives : List Gives) : Type 0 where
+  pub items : List Item
+  pub are : given items ≡ gives
+  pub goes_on : (plan : Plan) (before : List Item) → old ≡ page_of plan before → (new ≡ page_of plan (items ++ before)) × (full_told plan (items ++ before) ≡ full_told plan before ++ markup)
+
+-- markup was written, where some lines were held back before, and some are now
+pub record DrawsOn (had has : Kept) (old new : Option (List ℕ)) (gives : List Gives) : Type 0 where
+  pub markup : List ℕ
+  pub drawn : List (List ℕ)
+  pub draws : Draws old new markup drawn
+  pub goes_on : drawn ++ has.lines ≡ had.lines ++ texts_given gives
+  pub fills : Fills had.page has.page markup gives
+
+-- what was held back was written, and the last items
+pub record DrawsRest (had : Kept) (old new : Option (List ℕ)) (gives : List Gives) (height : ℕ) : Type 0 where
+  pub markup : List ℕ
+  pub draws : Draws old new markup (had.lines ++ texts_given gives)
+  pub items : List Item
+  pub are : given items ≡ gives
+  pub ends : (plan : Plan) (before : List Item) → had.page ≡ page_of plan before → (bands_told plan (items ++ before) ≡ full_told plan before ++ markup) × (height ≡ heights_told plan (items ++ before))
+
+-- all bands were written, whose heights come to so much
+pub record DrawsBands (plan : Plan) (old new : Option (List ℕ)) (gives : List Gives) (height : ℕ) : Type 0 where
+  pub items : List Item
+  pub are : given items ≡ gives
+  pub draws : Draws old new (bands_told plan items) (texts_given gives)
+  pub heights : height ≡ heights_told plan items
+
+-- lines made by one line of the list were drawn, and before them the reads that waited; none waits behind a line
+abbrev pub DrawsLines : Canvas → Canvas → Option (List ℕ) → Option (List ℕ) → (source at : ℕ) → List Says → Type 0
+DrawsLines had has old new source at lines =
+    (mode : Mode) (s : Setup) (past : Past) (reads : List OverlappedRead) → Overhears mode s past reads had.overlaps →
+    DrawsOn (kept had) (kept has) old new (lines_given mode source at reads lines) × Overhears mode s past (waiting lines reads) has.overlaps
+
+-- so were the lines of a process's marks that come after other marks, and the store is the one after them
+abbrev pub DrawsMarks : Canvas → Canvas → TakenStore → TakenStore → Option (List ℕ) → Option (List ℕ) → (source at : ℕ) → ℕ → List Mark → Type 0
+DrawsMarks had has store stores old new source at p marks =
+    (s : Setup) (before : List (ℕ × Mark)) → IsAfterMarks s before store → DrawsLines had has old new source at (says_marks s p before marks) × IsAfterMarks s (marks_after p marks before) stores
+
+-- so were the last ones, and all that was held back
+abbrev pub DrawsLast : Canvas → Option (List ℕ) → Option (List ℕ) → (source at : ℕ) → List Says → ℕ → Type 0
+DrawsLast had old new source at lines height =
+    (mode : Mode) (s : Setup) (past : Past) (reads : List OverlappedRead) → Overhears mode s past reads had.overlaps → DrawsRest (kept had) old new (lines_given mode source at reads lines) height

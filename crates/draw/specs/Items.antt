@@ -1,0 +1,100 @@
+-- What a picture is told, item by item, as values: its lines, and the reads that writes overlapped.
+use Rattle.std.specs.Prelude.{ℕ, List, [], ◌∷◌, ◌++◌, flat_map, length, map, string_bytes, Option, option_map}
+use Rattle.plain_store.specs.{Setup}
+use Rattle.record.specs.{Entry, Mark, Past, Refusal}
+use Rattle.picture.specs.{Item, Reads, Tells}
+use Rattle.picture.specs.columns.{OverlappedRead, Saying, judged_text}
+use Rattle.picture.specs.columns.run_lines.{ended_text, marked_text, refused_text, shown_text, tired_text}
+use Rattle.picture.specs.columns.declared.told.Saying.TheVariants.{Marked, Refused, Tired, Shown, Judged, Ended}
+use Rattle.picture.specs.declared.reads.Reads.{Reads as Mode}
+use Rattle.draw.specs.Overlaps.{overlapped_by, shown_of}
+use Rattle.draw.specs.StoreChanges.{Changed, changed}
+use Rattle.draw.specs.TakenStores.{change_of}
+
+-- what a line says
+pub data Says : Type 0 where
+  SaysMark : ℕ → Mark → Option Changed → Says  -- an event of the process has this mark; what its command changed
+  SaysRefusal : ℕ → Refusal → Says  -- an event of the process was refused
+  SaysTired : ℕ → Says  -- the process has made all the Steps of a `go`
+  SaysStore : List ℕ → Says  -- the newest store, by these words
+  SaysJudged : Option ℕ → List ℕ → Says  -- a judge tells this line, which stands in the lane of that process
+  SaysEnd : ℕ → ℕ → ℕ → Says  -- the end: so many events were accepted, so many commands taken, so many events refused
+
+-- an item
+pub data Gives : Type 0 where
+  GivesLine : ℕ → ℕ → Says → Gives  -- the line of the list that makes it, how many events were accepted before it, and what it says
+  GivesRead : OverlappedRead → Gives  -- a read that a write overlapped
+
+abbrev pub says_of : Saying → Says
+says_of (Marked p mark change) = SaysMark p mark (option_map changed change)
+says_of (Refused p refusal) = SaysRefusal p refusal
+says_of (Tired p) = SaysTired p
+says_of (Shown words) = SaysStore (string_bytes words)
+says_of (Judged p words) = SaysJudged p words.items
+says_of (Ended events taken refused) = SaysEnd events taken refused
+
+-- the items that a picture is told, of which the newest stands first; they stand in their order
+abbrev pub given : List Item → List Gives
+given [] = []
+given (Tells line ∷ before) = given before ++ GivesLine line.source line.at (says_of line.saying) ∷ []
+given (Reads read ∷ before) = given before ++ GivesRead read ∷ []
+
+-- the text of a line, without its end
+abbrev pub says_text : ℕ → Says → List ℕ
+says_text at (SaysMark p mark change) = marked_text at p mark
+says_text at (SaysRefusal p refusal) = refused_text p refusal
+says_text at (SaysTired p) = tired_text p
+says_text at (SaysStore words) = shown_text words
+says_text at (SaysJudged p line) = judged_text line
+says_text at (SaysEnd events taken refused) = ended_text events taken refused
+
+-- the lines of what is given, without their ends
+abbrev pub text_given : Gives → List (List ℕ)
+text_given (GivesLine source at says) = says_text at says ∷ []
+text_given (GivesRead read) = []
+
+abbrev pub texts_given : List Gives → List (List ℕ)
+texts_given = flat_map text_given
+
+-- the marks of what is given, each with its process
+abbrev pub marks_says : Says → List (ℕ × Mark)
+marks_says (SaysMark p mark change) = (p, mark) ∷ []
+marks_says _ = []
+
+abbrev pub mark_given : Gives → List (ℕ × Mark)
+mark_given (GivesLine source at says) = marks_says says
+mark_given (GivesRead read) = []
+
+abbrev pub marks_given : List Gives → List (ℕ × Mark)
+marks_given = flat_map mark_given
+
+-- reads wait for the next line
+abbrev pub waiting : {A : Type 0} → List A → List OverlappedRead → List OverlappedRead
+waiting [] reads = reads
+waiting (line ∷ lines) reads = []
+
+-- lines made by one line of the list after so many events, and before them the reads that wait, as far as they are shown
+abbrev pub lines_given : Mode → ℕ → ℕ → List OverlappedRead → List Says → List Gives
+lines_given mode source at reads [] = []
+lines_given mode source at reads (line ∷ lines) = map GivesRead (shown_of mode reads) ++ map (GivesLine source at) (line ∷ lines)
+
+-- Entries, be they of a run or of a record.
+
+-- the marks after those of an entry of a process
+abbrev pub marks_after : ℕ → List Mark → List (ℕ × Mark) → List (ℕ × Mark)
+marks_after p [] before = before
+marks_after p (mark ∷ marks) before = marks_after p marks ((p, mark) ∷ before)
+
+-- the marks of all entries, the newest first
+abbrev pub marks_back : Past → List (ℕ × Mark)
+marks_back [] = []
+marks_back (e ∷ past) = marks_after e.process e.marks (marks_back past)
+
+-- what the lines of a process's marks say that come after other marks
+abbrev pub says_marks : Setup → ℕ → List (ℕ × Mark) → List Mark → List Says
+says_marks s p before [] = []
+says_marks s p before (mark ∷ marks) = SaysMark p mark (change_of s before p mark) ∷ says_marks s p ((p, mark) ∷ before) marks
+
+-- what an entry gives that is added to a past while these reads wait
+abbrev pub given_of : Mode → Setup → ℕ → Past → List OverlappedRead → Entry → List Gives
+given_of mode s source past reads e = lines_given mode source (length past) (reads ++ overlapped_by s past e) (says_marks s e.process (marks_back past) e.marks)

@@ -1,0 +1,106 @@
+-- The reads of a run or of a record that writes overlap.
+use Rattle.std.specs.Prelude.{◌≡◌, ◌<◌, ℕ, ◌==◌, Bool, true, false, ◌&&◌, nat_lt, cond, get_or, List, [], ◌∷◌, length, Option, None, Some, IfSome, Ok}
+use Rattle.record.specs.safe_bit.{Move}
+use Rattle.record.specs.safe_bit.declared.Move.TheVariants.{BeginRead, EndRead}
+use Rattle.record.specs.{Access, Entry, Past, begins_read, moves_of, same_bit, width}
+use Rattle.plain_store.specs.{Setup, checked}
+use Rattle.judge.specs.read_law.{HasHeard, WatchState, ends_overlapped}
+use Rattle.judge.specs.read_law.laws.{IsThere}
+use Rattle.picture.specs.{held_in_64}
+use Rattle.picture.specs.columns.{OverlappedRead}
+use Rattle.picture.specs.declared.reads.Reads.{Reads as Mode}
+use Rattle.picture.specs.declared.reads.Reads.TheVariants.{Hidden, Shown}
+use Rattle.draw.specs.declared.overlaps.BegunRead.{BegunRead}
+use Rattle.draw.specs.declared.overlaps.OverlapsHeard.{OverlapsHeard}
+
+-- a read begins
+abbrev pub is_begin : Move → Bool
+is_begin BeginRead = true
+is_begin _ = false
+
+-- the read of a process that has begun last, after an access by an entry with this number
+abbrev pub begun_with : ℕ → ℕ → Option Access → Option BegunRead → Option BegunRead
+begun_with p entry None before = before
+begun_with p entry (Some a) before = cond ((a.reader == p) && is_begin a.how) (Some (record { entry = entry; access = a })) before
+
+-- the read of a process that has begun last
+abbrev pub read_begun : ℕ → Past → Option BegunRead
+read_begun p [] = None
+read_begun p (e ∷ past) = begun_with p (length past) e.access (read_begun p past)
+
+-- the bit of an access is there
+abbrev pub is_there : Setup → Access → Bool
+is_there s a = nat_lt a.owner s.processes && (nat_lt a.reader s.processes && nat_lt a.bit (width s a.field))
+
+-- what a read's end gives
+abbrev pub value_given : Move → Bool
+value_given (EndRead v) = v
+value_given _ = false
+
+-- the read that an access ends, which began with that entry
+abbrev pub read_ended : Setup → ℕ → ℕ → Access → OverlappedRead
+read_ended s begin end a = record {
+  reader = a.reader;
+  owner = a.owner;
+  field = a.field;
+  bit = a.bit;
+  is_wide = nat_lt 1 (width s a.field);
+  begin = begin;
+  end = end;
+  value = value_given a.how;
+  more = 0;
+}
+
+-- the read that an access ends, if the last one that has begun is of its bit
+abbrev pub ended_of : Setup → ℕ → Access → Option BegunRead → List OverlappedRead
+ended_of s end a None = []
+ended_of s end a (Some b) = cond (same_bit a b.access) (read_ended s b.entry end a ∷ []) []
+
+-- the read that an access ends, of a bit that is there, if a write of the bit was open as it began, or has begun since
+abbrev pub overlapped_with : Setup → Past → Option Access → List OverlappedRead
+overlapped_with s past None = []
+overlapped_with s past (Some a) = cond (is_there s a && ends_overlapped (moves_of a past) a.how) (ended_of s (length past) a (read_begun a.reader past)) []
+
+-- that of an entry
+abbrev pub overlapped_by : Setup → Past → Entry → List OverlappedRead
+overlapped_by s past e = overlapped_with s past e.access
+
+-- of reads that end between two lines the first three are shown; the third one says how many more there are
+abbrev pub first_three : List OverlappedRead → List OverlappedRead
+first_three (first ∷ second ∷ third ∷ others) = first ∷ second ∷ record third { more = held_in_64 (length others) } ∷ []
+first_three reads = reads
+
+-- those that are shown at all
+abbrev pub shown_of : Mode → List OverlappedRead → List OverlappedRead
+shown_of Hidden reads = []
+shown_of Shown reads = first_three reads
+
+-- whether an access ends an overlapped read is told, if its bit is there and a read of it has begun
+pub record TellsOver (s : Setup) (past : Past) (a : Access) (over : Bool) : Type 0 where
+  pub there : IsThere s a → begins_read (moves_of a past) ≡ true → over ≡ ends_overlapped (moves_of a past) a.how
+  pub stray : (IsThere s a → ⊥) → over ≡ false
+
+-- so it is told of an entry by its access, if reads are shown
+abbrev pub TellsEnd : Mode → Setup → Past → Option Access → Bool → Type 0
+TellsEnd Hidden s past access over = Unit {0}
+TellsEnd Shown s past access over = IfSome access (λ a. TellsOver s past a over)
+
+-- a watch has heard these entries, if reads are shown
+abbrev pub Watches : Mode → Setup → Past → Option WatchState → Type 0
+Watches Hidden s past None = Unit {0}
+Watches Shown s past (Some watch) = (watch.setup ≡ s) × HasHeard watch past
+Watches _ s past watch = ⊥
+
+-- it has heard these entries, and keeps the reads that have ended since the last line, as far as they are shown
+pub record Hears (s : Setup) (past : Past) (reads : List OverlappedRead) (overlaps : OverlapsHeard) : Type 0 where
+  pub good : checked s ≡ Ok tt
+  pub setup : overlaps.setup ≡ s
+  pub begun : (p : ℕ) → p < 16 → get_or overlaps.begun p None ≡ read_begun p past
+  pub room : length overlaps.begun ≡ 16
+  pub ended : overlaps.ended.items ≡ first_three reads
+
+-- the same, if reads are shown; else nothing is heard
+abbrev pub Overhears : Mode → Setup → Past → List OverlappedRead → Option OverlapsHeard → Type 0
+Overhears Hidden s past reads None = Unit {0}
+Overhears Shown s past reads (Some overlaps) = Hears s past reads overlaps
+Overhears _ s past reads _ = ⊥

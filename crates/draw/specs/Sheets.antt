@@ -1,0 +1,172 @@
+-- What stands while a record is read and drawn line by line, and how that ends.
+use Rattle.std.specs.Prelude.{◌≡◌, ◌<◌, ◌+◌, ℕ, true, List, [], ◌∷◌, ◌++◌, codes, flat_map, reverse, Option, None, Some, IfSome, Result, Ok, Err}
+use Rattle.std.specs.Io.KnownBytes.{IsAtEnd, Keeps}
+use Rattle.scenario.specs.files.Engines.{Streams}
+use Rattle.scenario.specs.files.{Fault, FaultKind, UnlessMemory}
+use Rattle.scenario.specs.files.declared.faults.Fault.TheVariants as fault
+use Rattle.plain_store.specs.{Setup, opening_store}
+use Rattle.record.specs.{Entry, Past}
+use Rattle.judge.specs.record_file.{Progress, Said, cleared, entry_in, head_words, record_of}
+use Rattle.judge.specs.record_file.scenario.{printed_line}
+use Rattle.judge.specs.{IsOfRecord}
+use Rattle.picture.specs.{Form, Item, bands_told, heights_told, page_back, page_front, page_names, picture_back, picture_front, sayings}
+use Rattle.picture.specs.columns.{marks_in, marks_said}
+use Rattle.picture.specs.declared.page.Form.TheVariants as form
+use Rattle.picture.specs.declared.reads.Reads.{Reads as Mode}
+use Rattle.picture.specs.markup.{lines_in, opens_in}
+use Rattle.draw.specs.RecordDrawings.{RecordRecalls}
+use Rattle.draw.specs.RecordItems.{record_end, record_given, record_gives, record_lines, source_of}
+use Rattle.draw.specs.Canvases.{DrawsBands, DrawsOn, Writes, kept, kept_at_first, plan_of}
+use Rattle.draw.specs.Items.{given}
+use Rattle.draw.specs.StoreChanges.{store_words}
+use Rattle.draw.specs.declared.records.drawing.RecordDrawing.{RecordDrawing}
+use Rattle.draw.specs.declared.records.sheet.DrawnEntry.{DrawnEntry}
+use Rattle.draw.specs.declared.records.sheet.Sheet.{Sheet}
+
+-- the lines that a page lists: the headings and the opening pairs of the record, and one that stands for its entries
+abbrev pub listed : Setup → List ℕ
+listed s = flat_map printed_line (head_words s) ++ codes "(entries)\n"
+
+-- A record's picture, as bytes: what items are told, between a front and a back.
+abbrev pub picture_of : Mode → Form → Setup → List Item → List ℕ
+picture_of reads form.Page s items = (page_front s (listed s) reads ++ bands_told (plan_of form.Page s) items) ++ page_back (store_words (opening_store s))
+picture_of reads (form.Picture top) s items =
+    (picture_front s (heights_told (plan_of (form.Picture top) s) items) reads ++ bands_told (plan_of (form.Picture top) s) items) ++ picture_back (heights_told (plan_of (form.Picture top) s) items) reads
+
+-- Markup is the picture of a record of which a judge tells this, or nothing, if there is none; and nothing else: that of items which are what the record gives, one by one. So they say its marks.
+pub record IsRecordPicture (reads : Mode) (form : Form) (said : Said) (told markup : List ℕ) : Type 0 where
+  pub items : List Item
+  pub are : given items ≡ record_gives reads said told
+  pub marks : flat_map marks_said (sayings items) ≡ marks_in (reverse said.entries)
+  pub is : markup ≡ picture_of reads form said.setup items
+
+-- A whole picture was written: it is that of a record of which a judge tells this, and nothing else; its tags fit, and no element is open at its end; and the titles of its marks, read back, are the marks of the record, in their order, what the judge tells, line by line, and a last line.
+pub record DrawsSaid (reads : Mode) (form : Form) (said : Said) (told : List ℕ) (old new : Option (List ℕ)) : Type 0 where
+  pub markup : List ℕ
+  pub picture : IsRecordPicture reads form said told markup
+  pub elements : opens_in markup (Some []) ≡ Some []
+  pub read_back : lines_in markup ≡ record_lines said told
+  pub writes : Writes old new markup
+
+-- That of the record that a text says, of which no judge tells.
+abbrev pub DrawsRecord : Mode → Form → List ℕ → Option (List ℕ) → Option (List ℕ) → Type 0
+DrawsRecord reads form text old new = IsOfRecord (λ s entries numbers. DrawsSaid reads form (record { setup = s; entries = entries }) [] old new) text
+
+-- These entries of a record are shown: all, which keep all laws; or those up to the first that breaks one.
+pub data Shows (Keeps : List Entry → Type 0) (entries shown : List Entry) : Type 0 where
+  All : shown ≡ entries → Keeps entries → Shows Keeps entries shown
+  UpTo : (before : List Entry) (e : Entry) (later : List Entry) → shown ≡ before ++ e ∷ [] → entries ≡ shown ++ later → Keeps before → (Keeps shown → ⊥) → Shows Keeps entries shown
+
+-- this holds of what is shown of a record, and of what a judge tells of the whole record, whose entries stand in the lines with these numbers
+pub record IsJudged (Keeps : Setup → List Entry → Type 0) (Tells : Setup → List Entry → List ℕ → List ℕ → ℕ → Type 0) (status : ℕ) (P : Said → List ℕ → Type 0) (s : Setup) (entries : List Entry) (numbers : List ℕ) : Type 0 where
+  pub told : List ℕ
+  pub tells : Tells s entries numbers told status
+  pub shown : List Entry
+  pub shows : Shows (Keeps s) entries shown
+  pub is : P (record { setup = s; entries = shown }) told
+
+-- The picture of the record that a text says, up to the first entry that breaks a law, and of what a judge tells of that record.
+abbrev pub DrawsJudged : (Setup → List Entry → Type 0) → (Setup → List Entry → List ℕ → List ℕ → ℕ → Type 0) → Mode → Form → ℕ → List ℕ → Option (List ℕ) → Option (List ℕ) → Type 0
+DrawsJudged Keeps Tells reads form status text old new = IsOfRecord (IsJudged Keeps Tells status (λ said told. DrawsSaid reads form said told old new)) text
+
+-- what a page has before its bands was written; one picture has it later, once its height is known
+pub record HeadsPage (reads : Mode) (s : Setup) (old new : Option (List ℕ)) : Type 0 where
+  pub head : List ℕ
+  pub is : head ≡ page_front s (listed s) reads
+  pub lines : lines_in head ≡ []
+  pub opens : opens_in head (Some []) ≡ Some page_names
+  pub writes : Writes old new head
+
+abbrev pub Heads : Mode → Form → Setup → Option (List ℕ) → Option (List ℕ) → Type 0
+Heads reads form.Page s old new = HeadsPage reads s old new
+Heads reads (form.Picture top) s old new = new ≡ old
+
+-- these entries of a record with this setup are drawn, but for what is held back
+pub record IsDrawn (reads : Mode) (form : Form) (s : Setup) (past : Past) (d : RecordDrawing) (old new : Option (List ℕ)) : Type 0 where
+  pub last : d.last ≡ source_of s + 1
+  pub recalls : RecordRecalls reads s past d
+  pub mid : Option (List ℕ)
+  pub heads : Heads reads form s old mid
+  pub draws : DrawsOn (kept_at_first (plan_of form s)) (kept d.canvas) mid new (record_given reads s (source_of s) past)
+
+-- the same by what there is: before the first entry nothing was written
+abbrev pub DrawsPast : Mode → Form → Option RecordDrawing → Setup → Past → Option (List ℕ) → Option (List ℕ) → Type 0
+DrawsPast reads form None s past old new = (past ≡ []) × (new ≡ old)
+DrawsPast reads form (Some d) s past old new = IsDrawn reads form s past d old new
+
+-- the same by what was read: behind an entry the setup stays
+abbrev pub DrawsAt : Mode → Form → Option RecordDrawing → Option Progress → Past → Option (List ℕ) → Option (List ℕ) → Type 0
+DrawsAt reads form None before past old new = (past ≡ []) × (new ≡ old)
+DrawsAt reads form (Some d) None past old new = ⊥
+DrawsAt reads form (Some d) (Some p) past old new = (p.ended ≡ true) × IsDrawn reads form p.head.setup past d old new
+
+-- this was read, these entries were said, the newest first, each was taken, and they were drawn
+pub record Stands (t : Sheet) (before : Option Progress) (past : Past) (old new : Option (List ℕ)) : Type 0 where
+  pub reader : t.reader ≡ before
+  pub clear : cleared before ≡ before
+  pub draws : DrawsAt t.reads t.form t.drawing before past old new
+
+-- what a line says was read, and drawn if it is an entry
+pub record GoesOn (line : Result (Option Progress) FaultKind) (t : Sheet) (past : Past) (old new : Option (List ℕ)) : Type 0 where
+  pub now : Option Progress
+  pub says : line ≡ Ok now
+  pub stands : Stands t (cleared now) (entry_in now ++ past) old new
+
+-- why a line is not drawn: its fault, a call that failed, or want of memory
+abbrev pub LineStops : Fault → ℕ → (FaultKind → Type 0) → Type 0
+LineStops (fault.Line f) number says = (f.line ≡ number) × UnlessMemory f.kind (says f.kind)
+LineStops fault.Write number says = Unit {0}
+LineStops fault.Memory number says = Unit {0}
+LineStops fault.Read number says = ⊥
+
+-- how many entries were drawn
+abbrev pub entries_of : Option RecordDrawing → ℕ
+entries_of None = 0
+entries_of (Some d) = d.entries
+
+-- all bands of these entries and of what a judge tells were written, and a page's front before them
+pub record EndsAt (reads : Mode) (form : Form) (s : Setup) (past : Past) (told : List ℕ) (height : ℕ) (old new : Option (List ℕ)) : Type 0 where
+  pub mid : Option (List ℕ)
+  pub heads : Heads reads form s old mid
+  pub bands : DrawsBands (plan_of form s) mid new (record_given reads s (source_of s) past ++ record_end reads s (source_of s) past told) height
+
+-- the same of a record
+pub record DrawsBandsOf (reads : Mode) (form : Form) (drawn : DrawnEntry) (old new : Option (List ℕ)) (said : Said) (told : List ℕ) : Type 0 where
+  pub setup : drawn.setup ≡ said.setup
+  pub ends : EndsAt reads form said.setup (reverse said.entries) told drawn.height old new
+
+-- of the record that a text says, of which no judge tells
+abbrev pub DrawsAllBands : Mode → Form → DrawnEntry → Option (List ℕ) → Option (List ℕ) → List ℕ → Type 0
+DrawsAllBands reads form drawn old new = IsOfRecord (λ s entries numbers. DrawsBandsOf reads form drawn old new (record { setup = s; entries = entries }) [])
+
+-- why drawing ends early: a fault of what the input says, a call that failed, or want of memory
+abbrev pub IsDrawFault : Fault → Option (List ℕ) → Type 0
+IsDrawFault (fault.Line f) to_come = IfSome to_come (λ text. UnlessMemory f.kind (record_of text ≡ Err f))
+IsDrawFault fault.Read to_come = Unit {0}
+IsDrawFault fault.Write to_come = Unit {0}
+IsDrawFault fault.Memory to_come = Unit {0}
+
+-- nothing was written of one picture; of a page what stood before the fault may have been
+abbrev pub LeavesNone : Form → Option (List ℕ) → Option (List ℕ) → Type 0
+LeavesNone form.Page old new = Unit {0}
+LeavesNone (form.Picture top) old new = Keeps old new
+
+-- How drawing a record ends: with a picture of what the whole input says, or with its fault, which is the one that judging it has; each fault has its cause.
+abbrev pub DrewAs : {A : Type 0} → (A → List ℕ → Option (List ℕ) → Option (List ℕ) → Type 0) → Form → Result A Fault → Streams → Streams → Type 0
+DrewAs draws form (Ok done) old new = IfSome old.to_come (λ text. draws done text old.taken new.taken) × IsAtEnd new.to_come
+DrewAs draws form (Err (fault.Line f)) old new = IfSome old.to_come (λ text. UnlessMemory f.kind (record_of text ≡ Err f)) × LeavesNone form old.taken new.taken
+DrewAs draws form (Err fault.Read) old new = (old.read_failures < new.read_failures) × LeavesNone form old.taken new.taken
+DrewAs draws form (Err fault.Write) old new = old.write_failures < new.write_failures
+DrewAs draws form (Err fault.Memory) old new = Unit {0}
+
+abbrev pub DrewRecord : Mode → Form → Result (Unit {0}) Fault → Streams → Streams → Type 0
+DrewRecord reads form = DrewAs (λ done. DrawsRecord reads form) form
+
+-- The same of a record that is judged, with the status that the judge answers.
+abbrev pub DrewJudged : (Setup → List Entry → Type 0) → (Setup → List Entry → List ℕ → List ℕ → ℕ → Type 0) → Mode → Form → Result ℕ Fault → Streams → Streams → Type 0
+DrewJudged Keeps Tells reads form = DrewAs (DrawsJudged Keeps Tells reads form) form
+
+-- where bytes are held, a write that fails wants memory
+abbrev pub without_write : Fault → Fault
+without_write fault.Write = fault.Memory
+without_write other = other

@@ -1,0 +1,189 @@
+//! A page whose bands are written as they are full, with the overlapped reads that it shows.
+ghost use Rattle.std.specs.Prelude.{◌≡◌, ◌+◌, ◌-◌, ◌^◌, ◌<◌, List, [], ◌∷◌, ◌++◌, is_some, length, map, IfErr, IfOk, OnOk, Ok};
+ghost use Rattle.plain_store.specs.{checked};
+ghost use Rattle.plain_store.specs.declared.setups.Setup.{Setup as Given};
+ghost use Rattle.record.specs.{Entry, Past};
+ghost use Rattle.picture.specs.columns.declared.reads.OverlappedRead.{OverlappedRead as Ended};
+ghost use Rattle.picture.specs.declared.reads.Reads.{Reads as Mode};
+ghost use Rattle.draw.specs.Canvases.{DrawsLast, DrawsLines, DrawsMarks, DrawsOn, kept, kept_at_first, plan_of};
+ghost use Rattle.draw.specs.Items.{GivesRead, says_of};
+ghost use Rattle.draw.specs.Overlaps.{Overhears, TellsEnd, overlapped_by, shown_of};
+ghost use Rattle.draw.specs.TakenStores.{IsAfterMarks};
+ghost use Rattle.draw.specs.Writing.{IsWriteFault, failed_write};
+
+use crate::overlaps::{OverlapsHeard, take_ended};
+use crate::store_changes::words_by_pairs;
+use crate::taken_store::TakenStore;
+use crate::writing::{write_band, write_last};
+use picture::{Form, OverlappedRead, Page, Reads, RunLine, Saying};
+use plain_store::{NestedTypes, Setup};
+use record::{Access, Mark};
+use scenario::{Fault, Sink};
+use std::alloc::{AllocError, Global};
+
+/// The picture of a run or of a record, on its way.
+#[derive(Drop)]
+pub struct Canvas {
+    alloc: Global,
+    page: Page,
+    /// The overlapped reads, if they are shown.
+    overlaps: Option<OverlapsHeard>,
+}
+
+impl Canvas {
+    /// Before the first line, where this is the opening store.
+    pub fn new(
+        alloc: Global,
+        setup: &Setup,
+        store: &TakenStore,
+        form: Form,
+        reads: Reads,
+    ) -> Result<Canvas, AllocError>
+        requires { checked setup.now ≡ Ok tt }
+        ensures kept { IsAfterMarks setup.now [] store.now →
+            IfOk result (λ canvas. kept canvas ≡ kept_at_first (plan_of form setup.now)) }
+        ensures hears { IfOk result (λ canvas. Overhears reads setup.now [] [] canvas.overlaps) }
+    {
+        let overlaps = OverlapsHeard::new(alloc, setup, reads)?;
+        let opening = words_by_pairs(alloc, &store.store)?;
+        let page = Page::new(alloc, form, setup.processes, opening.as_slice())?;
+        Ok(Canvas {
+            alloc,
+            page,
+            overlaps,
+        })
+    }
+
+    /// Whether overlapped reads are shown.
+    #[inline(always)]
+    pub fn shows_reads(&self) -> bool
+        ensures { result ≡ is_some self.now.overlaps }
+    {
+        self.overlaps.is_some()
+    }
+
+    /// Hears an entry with this number by its access, and whether that ends an overlapped read, if reads are shown; nothing is
+    /// drawn.
+    #[inline(always)]
+    pub fn hear(
+        &mut self,
+        number: u64,
+        access: Option<Access>,
+        overlapped: bool,
+    ) -> Result<(), AllocError>
+        ensures kept { kept self.new ≡ kept self.old }
+        ensures hears { OnOk result ((mode : Mode) (s : Given) (past : Past) (reads : List Ended) (e : Entry) →
+            e.access ≡ access → Overhears mode s past reads self.old.overlaps → number ≡ length past →
+            TellsEnd mode s past access overlapped →
+            Overhears mode s (e ∷ past) (reads ++ overlapped_by s past e) self.new.overlaps) }
+    {
+        match &mut self.overlaps {
+            Some(overlaps) => overlaps.hear(number, access, overlapped),
+            None => Ok(()),
+        }
+    }
+
+    /// Draws the marks of an entry of a process, in their order, with what their commands change in the store. The line
+    /// `source` of the list makes them, after `at` entries.
+    ///
+    /// # Errors
+    ///
+    /// Returns [`Fault::Write`] if a call of the sink fails, and [`Fault::Memory`] if memory is lacking.
+    pub fn draw_marks<W: Sink>(
+        &mut self,
+        store: &mut TakenStore,
+        source: u64,
+        at: u64,
+        process: u8,
+        marks: &[Mark],
+        output: &mut W,
+    ) -> Result<(), Fault>
+        requires { W.failures output.old < 2 ^ 64 - 1 }
+        ensures ok { OnOk result (DrawsMarks self.old self.new store.old store.new
+            (W.taken output.old) (W.taken output.new) source at process marks.now) }
+        ensures fault { IfErr result IsWriteFault }
+        ensures failures { W.failures output.new ≡ W.failures output.old + failed_write result }
+    {
+        for mark in marks {
+            self.draw_mark(store, source, at, process, mark, output)?;
+        }
+        Ok(())
+    }
+
+    /// Draws a mark of an entry.
+    fn draw_mark<W: Sink>(
+        &mut self,
+        store: &mut TakenStore,
+        source: u64,
+        at: u64,
+        process: u8,
+        mark: &Mark,
+        output: &mut W,
+    ) -> Result<(), Fault>
+        requires { W.failures output.old < 2 ^ 64 - 1 }
+        ensures ok { OnOk result (DrawsMarks self.old self.new store.old store.new
+            (W.taken output.old) (W.taken output.new) source at process (mark.now ∷ [])) }
+        ensures fault { IfErr result IsWriteFault }
+        ensures failures { W.failures output.new ≡ W.failures output.old + failed_write result }
+    {
+        let _nested: NestedTypes = None;
+        let change = store.mark(process, mark)?;
+        let saying = Saying::Marked {
+            process,
+            mark: *mark,
+            change,
+        };
+        self.draw(RunLine { source, at, saying }, output)
+    }
+
+    /// Draws a line, and before it the reads that were overlapped since the line before; writes each band that is full.
+    pub fn draw<W: Sink>(&mut self, line: RunLine, output: &mut W) -> Result<(), Fault>
+        requires { W.failures output.old < 2 ^ 64 - 1 }
+        ensures ok { OnOk result (DrawsLines self.old self.new (W.taken output.old) (W.taken output.new) line.source line.at (says_of line.saying ∷ [])) }
+        ensures fault { IfErr result IsWriteFault }
+        ensures failures { W.failures output.new ≡ W.failures output.old + failed_write result }
+    {
+        self.draw_reads(output)?;
+        let full = self.page.take(line)?;
+        write_band(&full, output)
+    }
+
+    /// Draws the reads that were overlapped since the last line, which are no lines.
+    fn draw_reads<W: Sink>(&mut self, output: &mut W) -> Result<(), Fault>
+        requires { W.failures output.old < 2 ^ 64 - 1 }
+        ensures ok { OnOk result ((mode : Mode) (s : Given) (past : Past) (reads : List Ended) → Overhears mode s past reads self.old.overlaps → DrawsOn (kept self.old) (kept self.new) (W.taken output.old) (W.taken output.new) (map GivesRead (shown_of mode reads)) × Overhears mode s past [] self.new.overlaps) }
+        ensures fault { IfErr result IsWriteFault }
+        ensures failures { W.failures output.new ≡ W.failures output.old + failed_write result }
+    {
+        let ended = take_ended(self.alloc, &mut self.overlaps);
+        for read in &ended {
+            self.draw_read(read, output)?;
+        }
+        Ok(())
+    }
+
+    /// Draws a read, and writes the band that it does not fit into, if it does not.
+    fn draw_read<W: Sink>(&mut self, read: &OverlappedRead, output: &mut W) -> Result<(), Fault>
+        requires { W.failures output.old < 2 ^ 64 - 1 }
+        ensures ok { OnOk result (DrawsOn (kept self.old) (kept self.new) (W.taken output.old) (W.taken output.new) (GivesRead read.now ∷ [])) }
+        ensures overlaps { self.new.overlaps ≡ self.old.overlaps }
+        ensures fault { IfErr result IsWriteFault }
+        ensures failures { W.failures output.new ≡ W.failures output.old + failed_write result }
+    {
+        let full = self.page.take_read(*read)?;
+        write_band(&full, output)
+    }
+
+    /// Draws the last line, and writes what is held back; answers the heights of all bands, with 16 more for each.
+    pub fn end<W: Sink>(&mut self, line: RunLine, output: &mut W) -> Result<u64, Fault>
+        requires { W.failures output.old < 2 ^ 64 - 1 }
+        ensures ok { IfOk result (DrawsLast self.old (W.taken output.old) (W.taken output.new) line.source line.at (says_of line.saying ∷ [])) }
+        ensures fault { IfErr result IsWriteFault }
+        ensures failures { W.failures output.new ≡ W.failures output.old + failed_write result }
+    {
+        self.draw(line, output)?;
+        let (full, last) = self.page.end()?;
+        write_last(&full, &last, output)?;
+        Ok(self.page.height())
+    }
+}

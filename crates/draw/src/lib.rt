@@ -1,0 +1,34 @@
+//! Draws runs and records: the commands `draw` and `draw-svg`, each as a page for a browser and as one picture.
+//!
+//! A run is made anew from its scenario, and a record is read entry by entry. Either one draws its marks on a canvas, which
+//! writes a band as soon as the band is full. The one-thread store changes with the marks, so that each command shows what it
+//! changed. If they are asked for, the reads that writes overlapped are drawn too. The titles of a run's marks, read back, are
+//! the text of `replay`. A record may be good or bad, and of any lock. If a judge observes it, its picture ends with the first
+//! entry that breaks a law and with the judge's reasons.
+//!
+//! ```rust
+//! Engine::Draw => exit_status(draw(alloc, reads, input, output, onlooker)),
+//! Engine::DrawSvg => exit_status(draw_svg(alloc, reads, input, output, onlooker)),
+//! ```
+#![tactic(auto)]
+
+mod canvas;
+mod laws_of_pictures;
+mod overlaps;
+mod read_watch;
+mod records;
+mod runs;
+mod store_changes;
+mod surroundings;
+mod taken_store;
+mod writing;
+
+pub use laws_of_pictures::{
+    chain_is_the_history, changes_are_the_historys, one_is_inside, who_enters_is_first_in_line,
+};
+pub use picture::Reads;
+pub use records::engines::{
+    JudgedBy, draw_judged_record, draw_judged_record_svg, draw_record, draw_record_svg,
+};
+pub use runs::engines::{draw, draw_svg};
+pub use scenario::progress;

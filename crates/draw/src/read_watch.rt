@@ -1,0 +1,56 @@
+//! Which accesses of a record end reads that writes overlap.
+ghost use Rattle.std.specs.Prelude.{◌≡◌, [], ◌∷◌, IfOk, Ok};
+ghost use Rattle.plain_store.specs.{checked};
+ghost use Rattle.plain_store.specs.declared.setups.Setup.{Setup as Given};
+ghost use Rattle.record.specs.{Entry, Past};
+ghost use Rattle.picture.specs.declared.reads.Reads.{Reads as Mode};
+ghost use Rattle.draw.specs.Overlaps.{TellsEnd, Watches};
+
+use judge::Watch;
+use picture::Reads;
+use plain_store::Setup;
+use record::Access;
+use std::alloc::{AllocError, Global};
+
+/// A watch that goes along with the entries of a record, if reads are shown. A run needs none: its memory reports which reads
+/// are overlapped.
+#[derive(Drop)]
+pub struct ReadWatch {
+    watch: Option<Watch>,
+}
+
+impl ReadWatch {
+    /// Returns a watch of no entries, if reads are shown.
+    ///
+    /// # Errors
+    ///
+    /// Returns [`AllocError`] if memory is lacking.
+    pub fn new(alloc: Global, setup: &Setup, reads: Reads) -> Result<ReadWatch, AllocError>
+        requires { checked setup.now ≡ Ok tt }
+        ensures { IfOk result (λ w. Watches reads setup.now [] w.watch) }
+    {
+        let watch = match reads {
+            Reads::Hidden => None,
+            Reads::Shown => Some(Watch::new(alloc, setup)?),
+        };
+        Ok(ReadWatch { watch })
+    }
+
+    /// Goes on by the access of the next entry, and returns whether it ends an overlapped read; where reads are hidden, it
+    /// returns `false`.
+    pub fn hear(&mut self, access: Option<Access>) -> bool
+        ensures { (mode : Mode) (s : Given) (past : Past) (e : Entry) → e.access ≡ access →
+            Watches mode s past self.old.watch →
+            TellsEnd mode s past access result × Watches mode s (e ∷ past) self.new.watch }
+    {
+        let Some(watch) = &mut self.watch else {
+            return false;
+        };
+        let Some(access) = access else {
+            return false;
+        };
+        let overlapped = watch.overlaps(&access);
+        watch.hear(&Some(access));
+        overlapped
+    }
+}

@@ -1,0 +1,48 @@
+//! Bytes that are held until they are wanted.
+ghost use Rattle.std.specs.Prelude.{◌≡◌, [], Some};
+
+use scenario::{Failed, Sink};
+use std::alloc::Global;
+
+/// Where the bands of one picture go until its height is known.
+#[derive(Drop)]
+pub(crate) struct Held {
+    bytes: Vec<u8>,
+    failures: u64,
+}
+
+impl Held {
+    /// No bytes yet.
+    pub fn new(alloc: Global) -> Held
+        ensures bytes { result.bytes.items ≡ [] }
+        ensures failures { result.failures ≡ 0 }
+    {
+        Held {
+            bytes: Vec::new(alloc),
+            failures: 0,
+        }
+    }
+
+    /// The bytes that went there.
+    pub fn bytes(&self) -> &[u8]
+        ensures { result.now ≡ self.now.bytes.items }
+    {
+        self.bytes.as_slice()
+    }
+}
+
+impl Sink for Held {
+    ghost taken = { λ h. Some h.bytes.items };
+
+    ghost failures = { λ h. h.failures };
+
+    fn put(&mut self, bytes: &[u8]) -> Result<usize, Failed> {
+        match self.bytes.extend_from_slice(bytes) {
+            Ok(()) => Ok(bytes.len()),
+            Err(_) => {
+                self.failures += 1;
+                Err(Failed)
+            }
+        }
+    }
+}

@@ -1,0 +1,204 @@
+//! The two engines.
+ghost use Rattle.std.specs.Prelude.{◌≡◌, ◌+◌, ◌-◌, ◌^◌, ◌<◌, [], IfErr, IfOk, Ok, OnOk, Some};
+ghost use Rattle.plain_store.specs.{checked, opening_store};
+ghost use Rattle.draw.specs.StoreChanges.{store_words as store_words_of};
+ghost use Rattle.draw.specs.Writing.{IsWriteFault, failed_write};
+ghost use Rattle.picture.specs.{page_back, page_names};
+ghost use Rattle.picture.specs.markup.{lines_in, opens_in};
+ghost use Rattle.scenario.specs.files.{ReadsFront, streams};
+ghost use Rattle.scenario.specs.{script};
+ghost use Rattle.course.specs.{IsSummaryOf, ended, happenings, summary_of};
+ghost use Rattle.picture.specs.declared.page.Form.TheVariants as form_variants;
+ghost use Rattle.draw.specs.RunDrawings.{DrawsAll, DrawsFramed, DrewRun};
+
+use crate::runs::drawing::draw_bands;
+use crate::runs::nowhere::Nowhere;
+use crate::surroundings::{around_picture, end_of_page};
+use crate::writing::write_markup;
+use course::Summary;
+use picture::{FIRST_BAND, Form, Markup, Reads, page_head};
+use scenario::progress::{Again, Onlooker};
+use scenario::{Fault, Scenario, Sink, Source, read_input, read_scenario};
+use std::alloc::Global;
+
+/// Reads a whole file, and writes the page of its run: a picture in bands, each written when it is full. Where it ends
+/// well, what was written is the page of what the run gives, item by item, and nothing else: of its lines, each with the
+/// line of the scenario that makes it and with what its command changed, and, if they are to be shown, of the reads that
+/// writes overlapped. It lists the lines of the file, as they are. The titles of the marks, read back, are the lines that
+/// `replay` writes for the file; and the tags fit, and no element is open at the end.
+pub fn draw<R: Source, W: Sink, L: Onlooker>(
+    alloc: Global,
+    reads: Reads,
+    input: &mut R,
+    output: &mut W,
+    onlooker: &mut L,
+) -> Result<Summary, Fault>
+    requires reads { R.failures input.old < 2 ^ 64 - 1 }
+    requires writes { W.failures output.old < 2 ^ 64 - 1 }
+    ensures drew { DrewRun reads form_variants.Page (ended result)
+        (streams ⟦<R as Source>⟧ ⟦<W as Sink>⟧ input.old output.old)
+        (streams ⟦<R as Source>⟧ ⟦<W as Sink>⟧ input.new output.new) }
+    ensures input { ReadsFront (R.to_come input.old) (R.to_come input.new) }
+    ensures summary { IfOk result (λ summary. IsSummaryOf (R.to_come input.old) summary) }
+{
+    draw_file(alloc, Form::Page, reads, input, output, onlooker)
+}
+
+/// Writes the page of the run of a file's scenario.
+fn draw_page<W: Sink, L: Onlooker>(
+    alloc: Global,
+    reads: Reads,
+    file: &[u8],
+    scenario: &Scenario,
+    output: &mut W,
+    onlooker: &mut L,
+) -> Result<Summary, Fault>
+    requires { W.failures output.old < 2 ^ 64 - 1 }
+    ensures ok { OnOk result (DrawsAll reads form_variants.Page file.now (script scenario.now) (W.taken output.old) (W.taken output.new)) }
+    ensures summary { IfOk result (λ summary. summary ≡ summary_of scenario.now.setup (happenings (script scenario.now))) }
+    ensures fault { IfErr result IsWriteFault }
+    ensures failures { W.failures output.new ≡ W.failures output.old + failed_write result }
+{
+    let head = page_head(alloc, &scenario.setup, file, reads)?;
+    let end = end_of_page(alloc, &scenario.setup)?;
+    let form = Form::Page;
+    let frame = Frame {
+        form,
+        reads,
+        head,
+        end,
+    };
+    draw_framed(alloc, &frame, scenario, output, onlooker)
+}
+
+/// What the bands of a picture stand in: its form, and what stands before and behind them.
+#[derive(Drop)]
+struct Frame {
+    form: Form,
+    reads: Reads,
+    head: Markup,
+    end: Markup,
+}
+
+/// Draws the bands of the run of a file's scenario in a frame, lent it: values that are dropped at each way out of a function
+/// are dear to prove.
+fn draw_framed<W: Sink, L: Onlooker>(
+    alloc: Global,
+    frame: &Frame,
+    scenario: &Scenario,
+    output: &mut W,
+    onlooker: &mut L,
+) -> Result<Summary, Fault>
+    requires { W.failures output.old < 2 ^ 64 - 1 }
+    ensures ok { OnOk result (DrawsFramed frame.now.reads frame.now.form frame.now.head frame.now.end (script scenario.now) (W.taken output.old) (W.taken output.new)) }
+    ensures summary { IfOk result (λ summary. summary ≡ summary_of scenario.now.setup (happenings (script scenario.now))) }
+    ensures fault { IfErr result IsWriteFault }
+    ensures failures { W.failures output.new ≡ W.failures output.old + failed_write result }
+{
+    write_markup(&frame.head, output)?;
+    let (summary, _) = draw_bands(alloc, scenario, frame.form, frame.reads, output, onlooker)?;
+    write_markup(&frame.end, output)?;
+    Ok(summary)
+}
+
+/// Reads a whole file, and writes one picture of its run, which tells the same. The run is made twice, since a picture
+/// begins with its height.
+pub fn draw_svg<R: Source, W: Sink, L: Onlooker>(
+    alloc: Global,
+    reads: Reads,
+    input: &mut R,
+    output: &mut W,
+    onlooker: &mut L,
+) -> Result<Summary, Fault>
+    requires reads { R.failures input.old < 2 ^ 64 - 1 }
+    requires writes { W.failures output.old < 2 ^ 64 - 1 }
+    ensures drew { DrewRun reads (form_variants.Picture 34) (ended result)
+        (streams ⟦<R as Source>⟧ ⟦<W as Sink>⟧ input.old output.old)
+        (streams ⟦<R as Source>⟧ ⟦<W as Sink>⟧ input.new output.new) }
+    ensures input { ReadsFront (R.to_come input.old) (R.to_come input.new) }
+    ensures summary { IfOk result (λ summary. IsSummaryOf (R.to_come input.old) summary) }
+{
+    let form = Form::Picture(FIRST_BAND);
+    draw_file(alloc, form, reads, input, output, onlooker)
+}
+
+/// Reads a whole file, and draws its run in this form.
+fn draw_file<R: Source, W: Sink, L: Onlooker>(
+    alloc: Global,
+    form: Form,
+    reads: Reads,
+    input: &mut R,
+    output: &mut W,
+    onlooker: &mut L,
+) -> Result<Summary, Fault>
+    requires reads { R.failures input.old < 2 ^ 64 - 1 }
+    requires writes { W.failures output.old < 2 ^ 64 - 1 }
+    ensures drew { DrewRun reads form (ended result)
+        (streams ⟦<R as Source>⟧ ⟦<W as Sink>⟧ input.old output.old)
+        (streams ⟦<R as Source>⟧ ⟦<W as Sink>⟧ input.new output.new) }
+    ensures input { ReadsFront (R.to_come input.old) (R.to_come input.new) }
+    ensures summary { IfOk result (λ summary. IsSummaryOf (R.to_come input.old) summary) }
+{
+    let file = read_input(alloc, input)?;
+    let scenario = read_scenario(alloc, file.as_slice())?;
+    draw_scenario(
+        alloc,
+        form,
+        reads,
+        file.as_slice(),
+        &scenario,
+        output,
+        onlooker,
+    )
+}
+
+/// Draws the run of a file's scenario in this form.
+fn draw_scenario<W: Sink, L: Onlooker>(
+    alloc: Global,
+    form: Form,
+    reads: Reads,
+    file: &[u8],
+    scenario: &Scenario,
+    output: &mut W,
+    onlooker: &mut L,
+) -> Result<Summary, Fault>
+    requires { W.failures output.old < 2 ^ 64 - 1 }
+    ensures ok { OnOk result (DrawsAll reads form file.now (script scenario.now) (W.taken output.old) (W.taken output.new)) }
+    ensures summary { IfOk result (λ summary. summary ≡ summary_of scenario.now.setup (happenings (script scenario.now))) }
+    ensures fault { IfErr result IsWriteFault }
+    ensures failures { W.failures output.new ≡ W.failures output.old + failed_write result }
+{
+    match form {
+        Form::Page => draw_page(alloc, reads, file, scenario, output, onlooker),
+        Form::Picture(top) => draw_picture(alloc, top, reads, file, scenario, output, onlooker),
+    }
+}
+
+/// Writes one picture of the run of a file's scenario, whose first band begins at this height.
+fn draw_picture<W: Sink, L: Onlooker>(
+    alloc: Global,
+    top: u64,
+    reads: Reads,
+    file: &[u8],
+    scenario: &Scenario,
+    output: &mut W,
+    onlooker: &mut L,
+) -> Result<Summary, Fault>
+    requires { W.failures output.old < 2 ^ 64 - 1 }
+    ensures ok { OnOk result (DrawsAll reads (form_variants.Picture top) file.now (script scenario.now) (W.taken output.old) (W.taken output.new)) }
+    ensures summary { IfOk result (λ summary. summary ≡ summary_of scenario.now.setup (happenings (script scenario.now))) }
+    ensures fault { IfErr result IsWriteFault }
+    ensures failures { W.failures output.new ≡ W.failures output.old + failed_write result }
+{
+    let form = Form::Picture(top);
+    let (first, height) = draw_bands(alloc, scenario, form, reads, &mut Nowhere, onlooker)?;
+    let (head, end) = around_picture(alloc, &scenario.setup, height, reads)?;
+    let frame = Frame {
+        form,
+        reads,
+        head,
+        end,
+    };
+    let mut again = Again::new(onlooker, first.events);
+    draw_framed(alloc, &frame, scenario, output, &mut again)
+}

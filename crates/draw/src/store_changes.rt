@@ -1,0 +1,94 @@
+//! What the commands taken change in the one-thread store beside a picture, and how that is shown.
+ghost use Rattle.std.specs.Prelude.{◌≡◌, Ok, IfOk, OnOk, option_map};
+ghost use Rattle.std.specs.String.{string_bytes};
+ghost use Rattle.plain_store.specs.{after, changes, name_of, value_at};
+ghost use Rattle.draw.specs.StoreChanges.{change_by, changed, pair_words, store_words as words_of_store, words_by};
+
+use picture::TakenChange;
+use plain_store::{Caller, Command, Name, NestedTypes, Store, Value};
+use std::alloc::{AllocError, Global};
+
+/// Applies a command of a caller, and returns what it changed, if it changed something.
+pub(crate) fn apply<S: Store>(
+    alloc: Global,
+    store: &mut S,
+    command: &Command,
+    caller: Caller,
+) -> Result<Option<TakenChange>, AllocError>
+    ensures change { IfOk result (λ change. option_map changed change ≡ change_by (S.contents store.old) command.now caller) }
+    ensures store { OnOk result (S.contents store.new ≡ after (S.contents store.old) command.now caller) }
+{
+    let _nested: NestedTypes = None;
+    let changes = would_change(store, command);
+    store.apply(command, caller)?;
+    if !changes {
+        return Ok(None);
+    }
+    Ok(Some(change_shown(alloc, store, command)?))
+}
+
+/// What a command changed that was just applied.
+fn change_shown<S: Store>(
+    alloc: Global,
+    store: &S,
+    command: &Command,
+) -> Result<TakenChange, AllocError>
+    ensures { IfOk result (λ change. changed change ≡ record { pair = pair_words (S.contents store.now).pairs (name_of command.now); store = words_of_store (S.contents store.now) }) }
+{
+    Ok(TakenChange {
+        pair: pair(alloc, store, command)?,
+        store: store_words(alloc, store)?,
+    })
+}
+
+/// Whether the command would change the store.
+#[tactic(auto, using(plain_store::proofs::Changes::changes_differs))]
+fn would_change<S: Store>(store: &S, command: &Command) -> bool
+    ensures { result ≡ changes (S.contents store.now) command.now }
+{
+    store.would_change(command)
+}
+
+/// The pair of the command's name, as `NAME=VALUE`; nothing where the name has no value.
+fn pair<S: Store>(alloc: Global, store: &S, command: &Command) -> Result<String, AllocError>
+    ensures { IfOk result (λ words. string_bytes words ≡ pair_words (S.contents store.now).pairs (name_of command.now)) }
+{
+    let _nested: NestedTypes = None;
+    if let Some(name) = command.name()
+        && let Some(value) = value_of(store, &name)
+    {
+        return plain_store::pair_words(alloc, &name, &value);
+    }
+    Ok(String::new(alloc))
+}
+
+/// The value of a name, if it has one.
+fn value_of<S: Store>(store: &S, name: &Name) -> Option<Value>
+    ensures { result ≡ value_at (S.contents store.now).pairs name.now }
+{
+    for place in 0..store.len() {
+        let (other, value) = store.entry(place).unwrap();
+        if *name == other {
+            return Some(value);
+        }
+    }
+    None
+}
+
+/// The store's pairs, with single spaces between them, or that it is empty.
+pub(crate) fn store_words<S: Store>(alloc: Global, store: &S) -> Result<Vec<u8>, AllocError>
+    ensures { IfOk result (λ words. words.items ≡ words_of_store (S.contents store.now)) }
+{
+    Ok(plain_store::store_words(alloc, store)?.into_bytes())
+}
+
+/// The same, and nothing where it is empty.
+#[tactic(auto, using(crate::proofs::Shown::words_none, crate::proofs::Shown::words_some))]
+pub(crate) fn words_by_pairs<S: Store>(alloc: Global, store: &S) -> Result<Vec<u8>, AllocError>
+    ensures { IfOk result (λ words. words.items ≡ words_by (S.contents store.now).pairs) }
+{
+    if store.len() == 0 {
+        return Ok(Vec::new(alloc));
+    }
+    store_words(alloc, store)
+}

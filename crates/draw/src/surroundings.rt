@@ -1,0 +1,40 @@
+//! What stands around the bands of one picture, and behind those of a page.
+ghost use Rattle.std.specs.Prelude.{◌≡◌, [], IfOk, Ok, Some};
+ghost use Rattle.plain_store.specs.{checked, opening_store};
+ghost use Rattle.picture.specs.{page_back, page_names, picture_back, picture_front, picture_names};
+ghost use Rattle.picture.specs.markup.{lines_in, opens_in};
+ghost use Rattle.draw.specs.Around.{IsAround};
+ghost use Rattle.draw.specs.StoreChanges.{store_words as words_of_store};
+
+use crate::store_changes::store_words;
+use picture::{Markup, Reads, page_end, picture_end, picture_head};
+use plain_store::{PlainStore, Setup, opened};
+use std::alloc::{AllocError, Global};
+
+/// What one picture has before its bands, whose heights come to so much, and what it has behind them.
+pub fn around_picture(
+    alloc: Global,
+    setup: &Setup,
+    height: u64,
+    reads: Reads,
+) -> Result<(Markup, Markup), AllocError>
+    ensures front { IfOk result (λ around. around.0 ≡ picture_front setup.now height reads) }
+    ensures back { IfOk result (λ around. around.1 ≡ picture_back height reads) }
+    ensures elements { IfOk result (λ around. IsAround picture_names around.0 around.1) }
+{
+    let head = picture_head(alloc, setup, height, reads)?;
+    let end = picture_end(alloc, height, reads)?;
+    Ok((head, end))
+}
+
+/// What a page has behind its bands: a slider, which shows the opening store at first.
+pub fn end_of_page(alloc: Global, setup: &Setup) -> Result<Markup, AllocError>
+    requires { checked setup.now ≡ Ok tt }
+    ensures back { IfOk result (λ markup. markup ≡ page_back (words_of_store (opening_store setup.now))) }
+    ensures lines { IfOk result (λ markup. lines_in markup ≡ []) }
+    ensures elements { IfOk result (λ markup. opens_in markup (Some page_names) ≡ Some []) }
+{
+    let store = opened(PlainStore::new(alloc, setup.slots, setup.callers()), setup)?;
+    let opening = store_words(alloc, &store)?;
+    page_end(alloc, opening.as_slice())
+}

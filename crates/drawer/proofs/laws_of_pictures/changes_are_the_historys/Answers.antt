@@ -1,5 +1,0 @@
-use Rattle.drawer.proofs.Changes.{lines_say, store_is}
-use Rattle.drawer.proofs.laws_of_pictures.changes_are_the_historys.Goals as goal
-
-pub returns : goal.returns
-returns c = record { lines = lines_say; store = store_is }

@@ -1,5 +1,0 @@
-use Rattle.drawer.proofs.Insides.{one_is}
-use Rattle.drawer.proofs.laws_of_pictures.one_is_inside.Goals as goal
-
-pub returns : goal.returns
-returns c = one_is c.stages_are_the_records.ensures
