@@ -1,80 +1,83 @@
--- A run that goes on from line to line while it is drawn.
-use Rattle.std.proofs.Common.{◌≡◌, ℕ, suc, ◌+◌, ◌-◌, List, [], ◌∷◌, ◌++◌, length, Option, None, refl, ap, sym, subst, ◌∙◌, append-nil, append_assoc, arith}
+-- A picture is drawn part by part.
+use Rattle.std.proofs.Common.{◌≡◌, ◌+◌, ℕ, false, suc, List, [], ◌∷◌, ◌++◌, is_some, length, Option, None, Some, sym, subst, ◌∙◌, arith, true≢false}
 use Rattle.plain_store.specs.{Setup}
-use Rattle.scenario.specs.{Line}
-use Rattle.picture.specs.{Plan}
+use Rattle.record.specs.{Access, Entry, Mark, Past}
+use Rattle.judge.specs.read_law.{entry_by}
+use Rattle.picture.specs.columns.{OverlappedRead}
 use Rattle.picture.specs.declared.reads.Reads.{Reads as Mode}
-use Rattle.draw.specs.{Canvas, DrawsBands, DrawsLast, DrawsOn, Gives, Kept, TakenStore, kept, kept_at_first, lines_given}
-use Rattle.draw.proofs.Drawn.{draws_bands, draws_on_both, draws_on_none}
-use Rattle.course.specs.{CourseState, Follows, Happening, Run, Summary, past_after, run_after, run_at_start, runs, summary_of, text_of}
-use Rattle.course.specs.Writing.{Counts}
-use Rattle.course.proofs.Onwards.{Onward}
-use Rattle.draw.specs.{Advances, Drawing, DrawsLine, HasDrawn, Recalls, first_line, given_at_end, given_by, given_from, given_last, reads_since, says_end}
+use Rattle.draw.specs.{Canvas, Drawing, DrawsLines, DrawsMarks, DrawsOn, DrawsPart, HasDrawn, IsAfterMarks, Kept, Overhears, OverlapsHeard, Part, PartEntry, PartLine, Recalls, Says, entries_among, given_last, given_of, kept, lines_given, marks_back, overlapped_by, reads_since, says_marks}
+use Rattle.draw.proofs.Drawn.{draws_on_both, draws_on_none}
+use Rattle.draw.proofs.Giving.{waiting_says}
+use Rattle.draw.proofs.Overhearing.{overhears_nothing}
 
--- from the start of a run on, between two lines, of which the last one has this number in the printed scenario
-pub record Drawn (plan : Plan) (mode : Mode) (s : Setup) (lines rest : List Line) (source : ℕ) (course : CourseState) (summary : Summary) (store : TakenStore) (canvas : Canvas) (old new : Option (List ℕ)) : Type 0 where
-  pub gives : List Gives
-  pub draws : DrawsOn (kept_at_first plan) (kept canvas) old new gives
-  pub onward : Onward s lines rest course summary None None
-  pub are : gives ++ given_by mode s (source + 1) rest onward.now ≡ given_by mode s (first_line s) lines run_at_start
-  pub number : source + 1 + length rest ≡ first_line s + length lines
-  pub recalls : Recalls mode s onward.now.happened store canvas
+-- One part.
 
--- at the start
-pub drawn_start : (plan : Plan) (mode : Mode) (s : Setup) (lines : List Line) (source : ℕ) (course : CourseState) (summary : Summary) (store : TakenStore) (canvas : Canvas) (a : Option (List ℕ)) → course.world.setup ≡ s → Follows course run_at_start → summary ≡ record { events = 0; taken = 0; refused = 0 } →
-    kept canvas ≡ kept_at_first plan → source + 1 ≡ first_line s → Recalls mode s [] store canvas → Drawn plan mode s lines lines source course summary store canvas a a
-drawn_start plan mode s lines source course summary store canvas a setup follows none first begins recalls = record {
-  gives = [];
-  draws = subst (λ (k : Kept). DrawsOn (kept_at_first plan) k a a []) (sym first) (draws_on_none (kept_at_first plan) a);
-  onward = record {
-    now = run_at_start;
-    follows = follows;
-    setup = setup;
-    counts = record { events = ap (λ (s : Summary). s.events) none; refused = ap (λ (s : Summary). s.refused) none };
-    text = [];
-    is = refl;
-    taken = tt;
-    whole = refl;
-  };
-  are = ap (λ n. given_by mode s n lines run_at_start) begins;
-  number = ap (λ n. n + length lines) begins;
-  recalls = recalls;
+-- an entry, once its access is observed and its marks are drawn
+pub entry_drawn : (mode : Mode) (s : Setup) (parts : List Part) (e : Entry) (d d' : Drawing) (seen : Canvas) (a b : Option (List ℕ)) (p : ℕ) (marks : List Mark) → e.process ≡ p → e.marks ≡ marks → kept seen ≡ kept d.canvas → Recalls mode s parts d →
+    Overhears mode s (e ∷ entries_among parts) (reads_since s parts ++ overlapped_by s (entries_among parts) e) seen.overlaps →
+    DrawsMarks seen d'.canvas d.store d'.store a b d.source d.entries p marks → d'.entries ≡ d.entries + 1 → DrawsPart mode s parts (PartEntry e) d d' a b
+entry_drawn mode s parts e d d' seen a b p marks process are same recalls waits drew entries =
+    let past : Past = entries_among parts in
+    let all : List OverlappedRead = reads_since s parts ++ overlapped_by s past e in
+    let its = (subst (λ (l : List Mark). DrawsMarks seen d'.canvas d.store d'.store a b d.source d.entries e.process l) (sym are) (subst (λ (q : ℕ). DrawsMarks seen d'.canvas d.store d'.store a b d.source d.entries q marks) (sym process) drew)) s (marks_back past) recalls.store in
+    let drawn = its.0 mode s (e ∷ past) all waits in (
+      subst (λ (k : Kept). DrawsOn k (kept d'.canvas) a b (given_of mode s d.source parts (PartEntry e))) same
+          (subst (λ (n : ℕ). DrawsOn (kept seen) (kept d'.canvas) a b (lines_given mode d.source n all (says_marks s e.process (marks_back past) e.marks))) recalls.entries drawn.0),
+      record {
+        entries = let n : d.entries ≡ length past = recalls.entries in omega (arith, entries, n);
+        store = its.1;
+        waits = subst (λ (l : List OverlappedRead). Overhears mode s (e ∷ past) l d'.canvas.overlaps) (waiting_says s e.process (marks_back past) e.marks all) drawn.1;
+      },
+    )
+
+-- a line that comes from no entry
+pub line_drawn : (mode : Mode) (s : Setup) (parts : List Part) (says : Says) (d d' : Drawing) (a b : Option (List ℕ)) → DrawsLines d.canvas d'.canvas a b d.source d.entries (says ∷ []) → d'.store ≡ d.store → d'.entries ≡ d.entries →
+    Recalls mode s parts d → DrawsPart mode s parts (PartLine says) d d' a b
+line_drawn mode s parts says d d' a b drew store entries recalls =
+    let past : Past = entries_among parts in
+    let its = drew mode s past (reads_since s parts) recalls.waits in (
+      subst (λ (n : ℕ). DrawsOn (kept d.canvas) (kept d'.canvas) a b (lines_given mode d.source n (reads_since s parts) (says ∷ []))) recalls.entries its.0,
+      record { entries = entries ∙ recalls.entries; store = subst (IsAfterMarks s (marks_back past)) (sym store) recalls.store; waits = its.1 },
+    )
+
+-- Entries without a mark, where no reads are shown.
+
+still_waits : (mode : Mode) (s : Setup) (past then : Past) (reads more : List OverlappedRead) (overlaps : Option OverlapsHeard) → is_some overlaps ≡ false → Overhears mode s past reads overlaps → Overhears mode s then more overlaps
+still_waits mode s past then reads more None none waits = overhears_nothing mode s past then reads more waits
+still_waits mode s past then reads more (Some overlaps) none waits = absurd (true≢false none)
+
+pub recalls_passed : (mode : Mode) (s : Setup) (parts : List Part) (p : ℕ) (access : Option Access) (d : Drawing) → is_some d.canvas.overlaps ≡ false → Recalls mode s parts d →
+    Recalls mode s (PartEntry (entry_by p access []) ∷ parts) (record d { entries = d.entries + 1 })
+recalls_passed mode s parts p access d none recalls = record {
+  entries = let n : d.entries ≡ length (entries_among parts) = recalls.entries in omega (arith, n);
+  store = recalls.store;
+  waits = still_waits mode s (entries_among parts) (entry_by p access [] ∷ entries_among parts) (reads_since s parts) (reads_since s (PartEntry (entry_by p access []) ∷ parts)) d.canvas.overlaps none recalls.waits;
 }
 
--- a line more
-pub drawn_on : (plan : Plan) (mode : Mode) (s : Setup) (lines rest : List Line) (line : Line) (source : ℕ) (course course' : CourseState) (drawing drawings : Drawing) (a b c : Option (List ℕ)) →
-    Drawn plan mode s lines (line ∷ rest) source course drawing.summary drawing.store drawing.canvas a b → DrawsLine line course course' drawing drawings b c → drawings.source ≡ source + 1 →
-    Drawn plan mode s lines rest (source + 1) course' drawings.summary drawings.store drawings.canvas a c
-drawn_on plan mode s lines rest line source course course' drawing drawings a b c d draws here =
-    let u = d.onward in
-    let after : Run = run_after s line u.now in
-    let family : Setup → Type 0 = λ s. Counts s u.now.happened drawing.summary → Recalls mode s u.now.happened drawing.store drawing.canvas → Advances mode s u.now (run_after s line u.now) course' drawing drawings b c in
-    let more : Advances mode s u.now after course' drawing drawings b c = subst family u.setup (draws mode u.now u.follows) u.counts d.recalls in
-    let h : HasDrawn mode s u.now.happened (kept drawing.canvas) b after.happened drawings c = more.drawn in
-    let long : length after.happened - length u.now.happened ≡ h.more = omega (arith, h.long) in
-    let given : List Gives = given_from mode s (source + 1) u.now.happened after.happened in
-    let next : suc (source + 1) ≡ source + 1 + 1 = omega arith in
-    record {
-      gives = d.gives ++ given;
-      draws = draws_on_both (kept_at_first plan) (kept drawing.canvas) (kept drawings.canvas) a b c d.gives given d.draws
-          (subst (λ l. DrawsOn (kept drawing.canvas) (kept drawings.canvas) b c l) {x = given_last mode s drawings.source h.more after.happened} {y = given} (λ i. given_last mode s (here i) (sym long i) after.happened) h.draws);
-      onward = record { now = after; follows = more.follows; setup = more.setup; counts = h.counts; text = text_of s after.happened; is = refl; taken = tt; whole = u.whole };
-      are = ap (λ n. (d.gives ++ given) ++ given_by mode s n rest after) (sym next) ∙ append_assoc d.gives given (given_by mode s (suc (source + 1)) rest after) ∙ d.are;
-      number = omega (arith, d.number);
-      recalls = h.recalls;
-    }
+-- a drawing recalls the same parts whichever line of the list comes next
+pub recalls_at : (mode : Mode) (s : Setup) (parts : List Part) (d : Drawing) (source : ℕ) → Recalls mode s parts d → Recalls mode s parts (record d { source = source })
+recalls_at mode s parts d source recalls = record { entries = recalls.entries; store = recalls.store; waits = recalls.waits }
 
--- the whole run, once the last line and what was held back are drawn
-pub drawn_end : (plan : Plan) (mode : Mode) (s : Setup) (lines : List Line) (source : ℕ) (course : CourseState) (summary last : Summary) (store : TakenStore) (canvas : Canvas) (a b c : Option (List ℕ)) (height : ℕ) → Drawn plan mode s lines [] source course summary store canvas a b →
-    last ≡ summary_of s (runs s lines run_at_start).happened → DrawsLast canvas b c (source + 1) last.events (says_end last ∷ []) height →
-    DrawsBands plan a c (given_by mode s (first_line s) lines run_at_start ++ given_at_end mode s (first_line s + length lines) (runs s lines run_at_start).happened) height
-drawn_end plan mode s lines source course summary last store canvas a b c height d numbers ends =
-    let whole : List Happening = (runs s lines run_at_start).happened in
-    let here : List Happening = d.onward.now.happened in
-    let same : here ≡ whole = ap (λ (r : Run). r.happened) d.onward.whole in
-    let at : source + 1 ≡ first_line s + length lines = omega (arith, d.number) in
-    let ended : List Gives = lines_given mode (source + 1) last.events (reads_since s here) (says_end last ∷ []) in
-    let is : ended ≡ given_at_end mode s (first_line s + length lines) whole = λ i. lines_given mode (at i) (numbers i).events (reads_since s (same i)) (says_end (numbers i) ∷ []) in
-    let given : d.gives ≡ given_by mode s (first_line s) lines run_at_start = sym (append-nil d.gives) ∙ d.are in
-    subst (λ l. DrawsBands plan a c l height) {x = d.gives ++ ended} (λ i. given i ++ is i)
-    (draws_bands plan (kept canvas) a b c d.gives ended height d.draws (ends mode s (past_after s here) (reads_since s here) d.recalls.waits))
+-- All parts since a start.
+
+-- none
+pub drawn_none : (mode : Mode) (s : Setup) (parts : List Part) (d : Drawing) (a : Option (List ℕ)) → Recalls mode s parts d → HasDrawn mode s parts (kept d.canvas) a parts d a
+drawn_none mode s parts d a recalls = record { recalls = recalls; more = 0; long = omega arith; draws = draws_on_none (kept d.canvas) a }
+
+module _ (mode : Mode) (s : Setup) (start : List Part) (had : Kept) (old : Option (List ℕ)) where
+  -- one more
+  pub drawn_more : (parts : List Part) (part : Part) (d d' : Drawing) (mid new : Option (List ℕ)) → DrawsPart mode s parts part d d' mid new → d'.source ≡ d.source →
+      HasDrawn mode s start had old parts d mid → HasDrawn mode s start had old (part ∷ parts) d' new
+  drawn_more parts part d d' mid new drew source h = record {
+    recalls = drew.1;
+    more = suc h.more;
+    long = let long = h.long in omega (arith, long);
+    draws = subst (λ n. DrawsOn had (kept d'.canvas) old new (given_last mode s n (suc h.more) (part ∷ parts))) (sym source)
+        (draws_on_both had (kept d.canvas) (kept d'.canvas) old mid new (given_last mode s d.source h.more parts) (given_of mode s d.source parts part) h.draws drew.0);
+  }
+
+  -- an entry without a mark, of which nothing is drawn
+  pub drawn_quiet : (parts : List Part) (p : ℕ) (access : Option Access) (d d' : Drawing) (new : Option (List ℕ)) → kept d'.canvas ≡ kept d.canvas → d'.source ≡ d.source → Recalls mode s (PartEntry (entry_by p access []) ∷ parts) d' →
+      HasDrawn mode s start had old parts d new → HasDrawn mode s start had old (PartEntry (entry_by p access []) ∷ parts) d' new
+  drawn_quiet parts p access d d' new same source recalls h =
+      drawn_more parts (PartEntry (entry_by p access [])) d d' new new (subst (λ (k : Kept). DrawsOn (kept d.canvas) k new new []) (sym same) (draws_on_none (kept d.canvas) new), recalls) source h

@@ -1,16 +1,14 @@
 -- Markup that is written piece by piece, and what a page holds back.
-use Rattle.std.proofs.Common.{◌≡◌, ℕ, true, List, [], ◌∷◌, ◌++◌, length, Option, Some, refl, ap, sym, subst, ◌∙◌, append-nil, append_assoc}
+use Rattle.std.proofs.Common.{◌≡◌, ℕ, true, List, [], ◌∷◌, ◌++◌, Option, Some, refl, ap, sym, subst, ◌∙◌, append-nil, append_assoc}
 use Rattle.std.specs.Io.KnownBytes.{Appends}
-use Rattle.plain_store.specs.{Setup}
-use Rattle.record.specs.{Entry, Mark, Past}
-use Rattle.picture.specs.declared.reads.Reads.{Reads as Mode}
+use Rattle.record.specs.{Mark}
 use Rattle.picture.specs.markup.{EndsAll, is_at_rest, lines_in, opens_in, tags_of}
 use Rattle.picture.proofs.markup.Lines.{lines_on, rests_on}
 use Rattle.picture.proofs.markup.Stacks.{opens_on}
 use Rattle.picture.specs.{GivesRest, GoesOn, Item, Plan, Reads, SeenPage, Tells, band_text, bands_told, full_told, heights_told, lines_of_band, page_of}
 use Rattle.picture.specs.columns.{OverlappedRead, RunLine, text_of}
-use Rattle.draw.specs.{Canvas, Draws, DrawsBands, DrawsLast, DrawsLines, DrawsMarks, DrawsOn, DrawsRest, Fills, Gives, GivesLine, GivesRead, IsAfterMarks, IsAround, Kept, Overhears, Says, TakenStore, Writes, given, given_of, kept, kept_at_first, lines_given, marks_after, marks_back, overlapped_by, says_marks, says_of, texts_given, waiting}
-use Rattle.draw.proofs.Giving.{both_given, lines_append, marks_after_append, says_append, text_of_saying, texts_append, waiting_append, waiting_says}
+use Rattle.draw.specs.{Canvas, Draws, DrawsBands, DrawsLast, DrawsLines, DrawsMarks, DrawsOn, DrawsRest, Fills, Gives, GivesLine, GivesRead, IsAfterMarks, IsAround, Kept, Overhears, Says, TakenStore, Writes, given, kept, kept_at_first, lines_given, marks_after, says_marks, says_of, texts_given, waiting}
+use Rattle.draw.proofs.Giving.{both_given, lines_append, marks_after_append, says_append, text_of_saying, texts_append, waiting_append}
 use Rattle.draw.proofs.Written.{appends_both, appends_none}
 
 -- markup at rest
@@ -160,22 +158,7 @@ draws_marks_both had has now store stores last a b c source at p marks more firs
       subst (λ l. IsAfterMarks s l last) (sym (marks_after_append p marks more before)) two.1,
     )
 
--- what an entry gives, once its marks are drawn: the number of the entries before it is known, and that its reads wait
-pub draws_entry : (mode : Mode) (s : Setup) (past : Past) (reads : List OverlappedRead) (e : Entry) (had heard has : Canvas) (store stores : TakenStore) (a b : Option (List ℕ)) (source at p : ℕ) (marks : List Mark) →
-    e.process ≡ p → e.marks ≡ marks → at ≡ length past → kept heard ≡ kept had → IsAfterMarks s (marks_back past) store → Overhears mode s (e ∷ past) (reads ++ overlapped_by s past e) heard.overlaps →
-    DrawsMarks heard has store stores a b source at p marks →
-    DrawsOn (kept had) (kept has) a b (given_of mode s source past reads e) × IsAfterMarks s (marks_back (e ∷ past)) stores × Overhears mode s (e ∷ past) (waiting e.marks (reads ++ overlapped_by s past e)) has.overlaps
-draws_entry mode s past reads e had heard has store stores a b source at p marks process are number same is waits drew =
-    let all : List OverlappedRead = reads ++ overlapped_by s past e in
-    let its = (subst (λ (l : List Mark). DrawsMarks heard has store stores a b source at e.process l) (sym are) (subst (λ (q : ℕ). DrawsMarks heard has store stores a b source at q marks) (sym process) drew)) s (marks_back past) is in
-    let drawn = its.0 mode s (e ∷ past) all waits in (
-      subst (λ (k : Kept). DrawsOn k (kept has) a b (given_of mode s source past reads e)) same
-          (subst (λ (n : ℕ). DrawsOn (kept heard) (kept has) a b (lines_given mode source n all (says_marks s e.process (marks_back past) e.marks))) number drawn.0),
-      its.1,
-      subst (λ (l : List OverlappedRead). Overhears mode s (e ∷ past) l has.overlaps) (waiting_says s e.process (marks_back past) e.marks all) drawn.1,
-    )
-
--- or the last ones
+-- lines, and then the last ones
 pub draws_last_behind : (had has : Canvas) (a b c : Option (List ℕ)) (source at : ℕ) (lines more : List Says) (height : ℕ) → DrawsLines had has a b source at lines → DrawsLast has b c source at more height → DrawsLast had a c source at (lines ++ more) height
 draws_last_behind had has a b c source at lines more height first last = λ mode s past reads waits.
     let one = first mode s past reads waits in

@@ -1,7 +1,7 @@
 -- The lines of a judge are drawn one by one.
 use Rattle.std.proofs.Common.{◌≡◌, ℕ, List, [], ◌∷◌, ◌++◌, Option, refl, sym, subst, ◌∙◌, append-nil, append_assoc}
 use Rattle.std.proofs.lemmas.List.{map-append}
-use Rattle.draw.specs.{Canvas, DrawsLines}
+use Rattle.draw.specs.{Canvas, DrawsLast, DrawsLines, SaysEnd}
 use Rattle.draw.proofs.Drawn.{draws_lines_both, draws_no_lines}
 use Rattle.draw.specs.{bad_process, judged_with, say_judged, says_judged, told_lines}
 
@@ -32,3 +32,9 @@ all_judged bad told source at old canvas a b rest is none h =
     let all : HasJudged bad (told_lines told) source at old a [] canvas b = subst (λ (l : List (List ℕ)). HasJudged bad (told_lines told) source at old a l canvas b) none h in
     let done : all.done ≡ told_lines told = sym (append-nil all.done) ∙ all.parts in
     subst (DrawsLines old canvas a b source at) (λ i. say_judged (is i) (done i)) all.drawn
+
+-- the last line, by numbers that are these
+pub last_at : (canvas : Canvas) (a b : Option (List ℕ)) (n n' m m' t t' height : ℕ) → n ≡ n' → m ≡ m' → t ≡ t' → DrawsLast canvas a b n m (SaysEnd m t 0 ∷ []) height → DrawsLast canvas a b n' m' (SaysEnd m' t' 0 ∷ []) height
+last_at canvas a b n n' m m' t t' height source entries taken last =
+    subst (λ x. DrawsLast canvas a b n' m' (SaysEnd m' x 0 ∷ []) height) taken
+    (subst (λ x. DrawsLast canvas a b n' x (SaysEnd x t 0 ∷ []) height) entries (subst (λ x. DrawsLast canvas a b x m (SaysEnd m t 0 ∷ []) height) source last))

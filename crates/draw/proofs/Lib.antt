@@ -9,15 +9,17 @@ pub mod Overhearing
 pub mod Written
 pub mod Giving
 pub mod Drawn
+-- What parts give, and how they are drawn
+pub mod PartsRead
+pub mod Drawings
 -- Runs
 pub mod RunGiving
 pub mod RunTold
 mod OverlapsTold
-mod Marked
-pub mod Drawings
+pub mod Turning
+pub mod LinesDrawn
 pub mod RunEnds
 pub mod Pictured
-pub mod Turning
 -- What the lines of a run show of its record
 pub mod Chains
 pub mod Changes
@@ -28,7 +30,6 @@ pub mod LineOrder
 pub mod InLine
 -- Records
 mod RecordGiving
-mod Hearing
 mod JudgedLines
 mod Lanes
 mod Lines

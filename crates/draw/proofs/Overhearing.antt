@@ -1,5 +1,5 @@
 -- What is heard of a record whose reads are shown or hidden.
-use Rattle.std.proofs.Common.{◌≡◌, ℕ, ◌<◌, ◌==◌, ◌&&◌, Bool, true, false, cond, get_or, List, [], ◌∷◌, ◌++◌, length, Option, None, Some, IfSome, Ok, true≢false, refl, ap, sym, subst, ◌∙◌, append-nil, arith, inl, inr}
+use Rattle.std.proofs.Common.{◌≡◌, ℕ, ◌<◌, ◌==◌, ◌&&◌, Bool, true, false, cond, get_or, List, [], ◌∷◌, ◌++◌, is_some, length, Option, None, Some, IfSome, Ok, true≢false, refl, ap, sym, subst, ◌∙◌, append-nil, arith, inl, inr}
 use Rattle.std.proofs.lemmas.Bool.{cases_lt}
 use Rattle.std.proofs.lemmas.Bool.Decides.{nat_tests}
 use Rattle.record.specs.{Access, Entry, Past, begins_read, moves_of, same_bit}
@@ -193,3 +193,11 @@ watches_still Shown s past e over watch none watches = (tt, (watches.0, heard_no
 pub watches_nothing : (mode : Mode) (s : Given) (past : Past) (e : Entry) (access : Option Access) (over : Bool) → Watches mode s past None → TellsEnd mode s past access over × Watches mode s (e ∷ past) None
 watches_nothing Hidden s past e access over watches = (tt, tt)
 watches_nothing Shown s past e access over watches = absurd watches
+
+-- where no reads are shown, it is not asked
+pub watches_hidden : (mode : Mode) (s : Given) (past : Past) (reads : List OverlappedRead) (e : Entry) (access : Option Access) (overlaps : Option OverlapsHeard) (watch : Option WatchState) → is_some overlaps ≡ false → Overhears mode s past reads overlaps → Watches mode s past watch →
+    TellsEnd mode s past access false × Watches mode s (e ∷ past) watch
+watches_hidden Hidden s past reads e access None None hidden waits watches = (tt, tt)
+watches_hidden Hidden s past reads e access None (Some watch) hidden waits watches = absurd watches
+watches_hidden Shown s past reads e access None watch hidden waits watches = absurd waits
+watches_hidden mode s past reads e access (Some overlaps) watch hidden waits watches = absurd (true≢false hidden)

@@ -15,6 +15,7 @@ use Rattle.judge.proofs.Ends.{at_end, line_fault, line_then, of_input, told_on}
 use Rattle.judge.proofs.Lines.{few_in, long_read}
 use Rattle.judge.proofs.Trials.{unless_then}
 use Rattle.draw.proofs.Lines.{reverse_in}
+use Rattle.draw.proofs.RecordGiving.{entries_of_record}
 
 -- All lines so far.
 
@@ -34,7 +35,7 @@ pub record Onwards (to_come rest : Option (List ℕ)) (taken : ℕ) (t : Sheet) 
 pub drawn_count : (reads : Mode) (form : Form) (d : Option RecordDrawing) (before : Option Progress) (past : Past) (old new : Option (List ℕ)) → DrawsAt reads form d before past old new → entries_of d ≡ length past
 drawn_count reads form None before past old new drawn = sym (ap length drawn.0)
 drawn_count reads form (Some d) None past old new drawn = absurd drawn
-drawn_count reads form (Some d) (Some p) past old new drawn = drawn.1.recalls.entries
+drawn_count reads form (Some d) (Some p) past old new drawn = drawn.1.drawn.recalls.entries ∙ ap length (entries_of_record past)
 
 pub onwards_few : (to_come rest : Option (List ℕ)) (taken : ℕ) (t : Sheet) (old new : Option (List ℕ)) → Onwards to_come rest taken t old new → entries_of t.drawing ≤ taken
 onwards_few to_come rest taken t old new u =

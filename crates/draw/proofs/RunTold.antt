@@ -3,45 +3,57 @@ use Rattle.std.proofs.Common.{◌≡◌, ℕ, suc, ◌+◌, ◌-◌, List, [], �
 use Rattle.std.proofs.lemmas.Grind.{flat_map-append}
 use Rattle.std.proofs.lemmas.List.{length-append}
 use Rattle.plain_store.specs.{Setup}
-use Rattle.record.specs.{Entry, Mark, Past, Refusal, added, process_of, refused}
+use Rattle.record.specs.{Entry, Mark, Past, Refusal, added, entry_of, process_of, refused}
 use Rattle.record.specs.declared.refusals.Refusal.TheVariants.{NoProcess}
 use Rattle.scenario.specs.{Line, Script}
-use Rattle.course.specs.{Happening, Lacks, Looks, Run, Tires, Tries, end_line, entry_text, happenings, mark_line, newest_store, past_after, refused_line, replayed, run_after, run_at_start, runs, store_text, summary_of, text_at, text_of}
-use Rattle.course.specs.run_lines.{tired_text, with_end}
+use Rattle.course.specs.{Happening, Lacks, Looks, Run, Tires, Tries, end_line, entry_text, happenings, mark_line, newest_store, newest_words, past_after, refused_line, replayed, run_after, run_at_start, runs, summary_of, text_at, text_of}
+use Rattle.course.specs.run_lines.{marked_text, refused_text, shown_text, tired_text, with_end}
 use Rattle.course.proofs.Grows.{Grows, line_grows}
 use Rattle.picture.specs.{Item, Reads, Tells, sayings}
 use Rattle.picture.specs.columns.{marks_in, marks_said}
 use Rattle.picture.specs.declared.reads.Reads.{Reads as Mode}
-use Rattle.draw.specs.{Gives, GivesLine, GivesRead, given, marks_back, marks_given, marks_says, says_marks, says_of, says_text, texts_given}
-use Rattle.draw.proofs.Giving.{marks_append, marks_of_items, marks_of_lines, marks_of_says, text_of_saying, texts_append, texts_of_lines}
-use Rattle.draw.specs.{ended_lines, first_line, given_at, given_at_end, given_by, given_from, given_last, lines_told, read_at, reads_since, run_given, said_at, said_of_event, says_end}
+use Rattle.draw.specs.{Gives, GivesLine, GivesRead, Part, ended_lines, entries_among, first_line, given, given_at_end, given_by, given_from, given_last, given_of, lines_told, marks_given, part_of_event, parts_at, parts_of, reads_since, run_given, says_end, says_of, texts_given}
+use Rattle.draw.proofs.Giving.{marks_append, marks_of_items, marks_of_lines, text_of_saying, texts_append, texts_of_lines}
+use Rattle.draw.proofs.PartsRead.{marks_at, of_last, of_more, of_none, parts_marks, parts_texts, texts_at}
 
--- What is read off what is given, piece by piece.
-module _ {A : Type 0} (of : List Gives → List A) (none : of [] ≡ []) (both : (gives more : List Gives) → of (gives ++ more) ≡ of gives ++ of more) (mode : Mode) (s : Setup) (so_far : List Happening → List A)
-    (at : (n : ℕ) (before : List Happening) (this : Happening) → so_far (this ∷ before) ≡ so_far before ++ of (given_at mode s n before this)) where
-  -- nothing, and more behind some
-  of_none : (xs : List A) → xs ≡ xs ++ of []
-  of_none xs = sym (append-nil xs) ∙ ap (λ l. xs ++ l) (sym none)
+-- The parts of a run.
 
-  of_more : (xs ys zs : List A) (gives more : List Gives) → ys ≡ xs ++ of gives → zs ≡ ys ++ of more → zs ≡ xs ++ of (gives ++ more)
-  of_more xs ys zs gives more one two = two ∙ ap (λ l. l ++ of more) one ∙ append_assoc xs (of gives) (of more) ∙ ap (λ l. xs ++ l) (sym (both gives more))
+-- their entries are its record
+entries_of_event : (p : ℕ) (o : Option Refusal) (e : Option Entry) (parts : List Part) (past : Past) → entries_among parts ≡ past → entries_among (part_of_event p o e ++ parts) ≡ elim e as (λ _. Past) [ None ↦ past | Some e ↦ e ∷ past ]
+entries_of_event p o (Some e) parts past are = ap (λ (l : Past). e ∷ l) are
+entries_of_event p (Some r) None parts past are = are
+entries_of_event p None None parts past are = are
 
-  -- by what happened last, and by lines of a scenario
-  of_last : (n : ℕ) (more before : List Happening) → so_far (more ++ before) ≡ so_far before ++ of (given_last mode s n (length more) (more ++ before))
-  of_last n [] before = of_none (so_far before)
-  of_last n (this ∷ more) before = of_more (so_far before) (so_far (more ++ before)) (so_far (this ∷ more ++ before)) (given_last mode s n (length more) (more ++ before)) (given_at mode s n (more ++ before) this) (of_last n more before) (at n (more ++ before) this)
+pub entries_of_run : (s : Setup) (happened : List Happening) → entries_among (parts_of s happened) ≡ past_after s happened
+entries_of_run s [] = refl
+entries_of_run s (Tries event ∷ before) = entries_of_event (process_of event) (refused s (past_after s before) event) (entry_of s (past_after s before) event) (parts_of s before) (past_after s before) (entries_of_run s before)
+entries_of_run s (Lacks p ∷ before) = entries_of_run s before
+entries_of_run s (Tires p ∷ before) = entries_of_run s before
+entries_of_run s (Looks ∷ before) = entries_of_run s before
 
-  of_line : (n : ℕ) (before after : List Happening) → Grows before after → so_far after ≡ so_far before ++ of (given_from mode s n before after)
+-- they grow with what happens
+parts_more : (s : Setup) (more before : List Happening) → (parts : List Part) × (parts_of s (more ++ before) ≡ parts ++ parts_of s before)
+parts_more s [] before = ([], refl)
+parts_more s (this ∷ more) before =
+    let rest = parts_more s more before in
+    let here : List Part = parts_at s (past_after s (more ++ before)) this in (here ++ rest.0, ap (λ l. here ++ l) rest.1 ∙ sym (append_assoc here rest.0 (parts_of s before)))
+
+-- What is read of what lines of a scenario give.
+module _ {A : Type 0} (of : List Gives → List A) (none : of [] ≡ []) (both : (gives more : List Gives) → of (gives ++ more) ≡ of gives ++ of more) (mode : Mode) (s : Setup) (so_far : List Part → List A)
+    (at : (n : ℕ) (before : List Part) (part : Part) → so_far (part ∷ before) ≡ so_far before ++ of (given_of mode s n before part)) where
+  of_line : (n : ℕ) (before after : List Happening) → Grows before after → so_far (parts_of s after) ≡ so_far (parts_of s before) ++ of (given_from mode s n (parts_of s before) (parts_of s after))
   of_line n before after grows =
-      let all : length after ≡ length grows.more + length before = ap length grows.is ∙ length-append grows.more before in
-      let many : length grows.more ≡ length after - length before = omega (arith, all) in
-      ap so_far grows.is ∙ of_last n grows.more before ∙ (λ i. so_far before ++ of (given_last mode s n (many i) (sym grows.is i)))
+      let more = parts_more s grows.more before in
+      let is : parts_of s after ≡ more.0 ++ parts_of s before = ap (parts_of s) grows.is ∙ more.1 in
+      let all : length (parts_of s after) ≡ length more.0 + length (parts_of s before) = ap length is ∙ length-append more.0 (parts_of s before) in
+      let many : length more.0 ≡ length (parts_of s after) - length (parts_of s before) = omega (arith, all) in
+      ap so_far is ∙ of_last of none both mode s so_far at n more.0 (parts_of s before) ∙ (λ i. so_far (parts_of s before) ++ of (given_last mode s n (many i) (sym is i)))
 
-  pub of_lines : (n : ℕ) (lines : List Line) (run : Run) → so_far (runs s lines run).happened ≡ so_far run.happened ++ of (given_by mode s n lines run)
-  of_lines n [] run = of_none (so_far run.happened)
+  pub of_lines : (n : ℕ) (lines : List Line) (run : Run) → so_far (parts_of s (runs s lines run).happened) ≡ so_far (parts_of s run.happened) ++ of (given_by mode s n lines run)
+  of_lines n [] run = of_none of none both mode s so_far at (so_far (parts_of s run.happened))
   of_lines n (line ∷ lines) run =
       let after : Run = run_after s line run in
-      of_more (so_far run.happened) (so_far after.happened) (so_far (runs s lines after).happened) (given_from mode s n run.happened after.happened) (given_by mode s (suc n) lines after)
+      of_more of none both mode s so_far at (so_far (parts_of s run.happened)) (so_far (parts_of s after.happened)) (so_far (parts_of s (runs s lines after).happened)) (given_from mode s n (parts_of s run.happened) (parts_of s after.happened)) (given_by mode s (suc n) lines after)
       (of_line n run.happened after.happened (line_grows s line run)) (of_lines (suc n) lines after)
 
 -- The lines.
@@ -49,40 +61,46 @@ module _ {A : Type 0} (of : List Gives → List A) (none : of [] ≡ []) (both :
 ended_append : (xs ys : List (List ℕ)) → ended_lines (xs ++ ys) ≡ ended_lines xs ++ ended_lines ys
 ended_append xs ys = flat_map-append with_end xs ys
 
-text_both : (gives more : List Gives) → ended_lines (texts_given (gives ++ more)) ≡ ended_lines (texts_given gives) ++ ended_lines (texts_given more)
-text_both gives more = ap ended_lines (texts_append gives more) ∙ ended_append (texts_given gives) (texts_given more)
+ended_marks : (n p : ℕ) (marks : List Mark) → ended_lines (map (marked_text n p) marks) ≡ flat_map (mark_line n p) marks
+ended_marks n p [] = refl
+ended_marks n p (m ∷ marks) = ap (λ l. mark_line n p m ++ l) (ended_marks n p marks)
 
--- of marks
-text_of_marks : (s : Setup) (n p : ℕ) (before : List (ℕ × Mark)) (marks : List Mark) → ended_lines (map (says_text n) (says_marks s p before marks)) ≡ flat_map (mark_line n p) marks
-text_of_marks s n p before [] = refl
-text_of_marks s n p before (m ∷ marks) = ap (λ l. mark_line n p m ++ l) (text_of_marks s n p ((p, m) ∷ before) marks)
+-- the text of parts with one more
+module _ (parts : List Part) (past : Past) (are : entries_among parts ≡ past) where
+  abbrev so_far : List ℕ
+  so_far = ended_lines (parts_texts parts)
 
--- of what happens
-text_of_event : (s : Setup) (past : Past) (p n : ℕ) (o : Option Refusal) (e : Option Entry) →
-    ended_lines (map (says_text n) (said_of_event s past p o (elim o as (λ _. Option Entry) [ Some r ↦ None | None ↦ e ])))
-    ≡ elim o as (λ _. List ℕ) [ Some r ↦ refused_line p r | None ↦ elim e as (λ _. List ℕ) [ None ↦ [] | Some e ↦ entry_text n e ] ]
-text_of_event s past p n (Some r) e = append-nil (refused_line p r)
-text_of_event s past p n None None = refl
-text_of_event s past p n None (Some e) = text_of_marks s n e.process (marks_back past) e.marks
+  text_of_line : (text : List ℕ) → ended_lines (parts_texts parts ++ text ∷ []) ≡ so_far ++ with_end text
+  text_of_line text = ended_append (parts_texts parts) (text ∷ []) ∙ ap (λ l. so_far ++ l) (append-nil (with_end text))
 
-text_said : (s : Setup) (before : List Happening) (this : Happening) → ended_lines (map (says_text (length (past_after s before))) (said_at s before this)) ≡ text_at s (past_after s before) this
-text_said s before (Tries event) = let past : Past = past_after s before in text_of_event s past (process_of event) (length past) (refused s past event) (added s past event)
-text_said s before (Lacks p) = append-nil (refused_line p NoProcess)
-text_said s before (Tires p) = append-nil (with_end (tired_text p))
-text_said s before Looks = append-nil (store_text (newest_store s (past_after s before)))
+  text_of_event : (p : ℕ) (o : Option Refusal) (e : Option Entry) →
+      ended_lines (parts_texts (part_of_event p o (elim o as (λ _. Option Entry) [ Some r ↦ None | None ↦ e ]) ++ parts))
+      ≡ so_far ++ elim o as (λ _. List ℕ) [ Some r ↦ refused_line p r | None ↦ elim e as (λ _. List ℕ) [ None ↦ [] | Some e ↦ entry_text (length past) e ] ]
+  text_of_event p (Some r) e = text_of_line (refused_text p r)
+  text_of_event p None None = sym (append-nil so_far)
+  text_of_event p None (Some e) =
+      ended_append (parts_texts parts) (map (marked_text (length (entries_among parts)) e.process) e.marks)
+      ∙ ap (λ l. so_far ++ l) (ended_marks (length (entries_among parts)) e.process e.marks ∙ ap (λ (l : Past). entry_text (length l) e) are)
 
-text_at_is : (mode : Mode) (s : Setup) (n : ℕ) (before : List Happening) (this : Happening) → text_of s (this ∷ before) ≡ text_of s before ++ ended_lines (texts_given (given_at mode s n before this))
-text_at_is mode s n before this =
-    ap (λ l. text_of s before ++ l) (sym (text_said s before this) ∙ sym (ap ended_lines (texts_of_lines mode n (length (past_after s before)) (reads_since s before ++ read_at s before this) (said_at s before this))))
+  text_more : (s : Setup) (this : Happening) → ended_lines (parts_texts (parts_at s past this ++ parts)) ≡ so_far ++ text_at s past this
+  text_more s (Tries event) = text_of_event (process_of event) (refused s past event) (added s past event)
+  text_more s (Lacks p) = text_of_line (refused_text p NoProcess)
+  text_more s (Tires p) = text_of_line (tired_text p)
+  text_more s Looks = text_of_line (shown_text (newest_words (newest_store s past)))
+
+text_so_far : (s : Setup) (happened : List Happening) → ended_lines (parts_texts (parts_of s happened)) ≡ text_of s happened
+text_so_far s [] = refl
+text_so_far s (this ∷ before) = text_more (parts_of s before) (past_after s before) (entries_of_run s before) s this ∙ ap (λ l. l ++ text_at s (past_after s before) this) (text_so_far s before)
 
 -- of a whole run
 pub text_of_run : (mode : Mode) (said : Script) → ended_lines (texts_given (run_given mode said)) ≡ replayed said
 text_of_run mode said =
     let s : Setup = said.setup in
     let all : List Happening = happenings said in
-    text_both (given_by mode s (first_line s) said.lines run_at_start) (given_at_end mode s (first_line s + length said.lines) all)
-    ∙ (λ i. sym (of_lines (λ gives. ended_lines (texts_given gives)) refl text_both mode s (text_of s) (text_at_is mode s) (first_line s) said.lines run_at_start) i
-    ++ (ap ended_lines (texts_of_lines mode (first_line s + length said.lines) (length (past_after s all)) (reads_since s all) (says_end (summary_of s all) ∷ [])) ∙ append-nil (end_line (summary_of s all))) i)
+    let front : List Gives = given_by mode s (first_line s) said.lines run_at_start in
+    ap ended_lines (texts_append front (given_at_end mode s (first_line s + length said.lines) all)) ∙ ended_append (texts_given front) (texts_given (given_at_end mode s (first_line s + length said.lines) all))
+    ∙ (λ i. (ap ended_lines (sym (of_lines texts_given refl texts_append mode s parts_texts (texts_at mode s) (first_line s) said.lines run_at_start)) ∙ text_so_far s all) i
+    ++ (ap ended_lines (texts_of_lines mode (first_line s + length said.lines) (length (past_after s all)) (reads_since s (parts_of s all)) (says_end (summary_of s all) ∷ [])) ∙ append-nil (end_line (summary_of s all))) i)
 
 -- the lines among items
 texts_of_items : (items : List Item) → lines_told items ≡ texts_given (given items)
@@ -96,20 +114,17 @@ lines_of_run mode said items are = ap ended_lines (texts_of_items items ∙ ap t
 
 -- The marks.
 
-marks_of_event : (s : Setup) (past : Past) (p : ℕ) (o : Option Refusal) (e : Option Entry) → marks_in (elim e as (λ _. Past) [ None ↦ past | Some e ↦ e ∷ past ]) ≡ marks_in past ++ flat_map marks_says (said_of_event s past p o e)
-marks_of_event s past p o (Some e) = ap (λ l. marks_in past ++ l) (sym (marks_of_says s e.process (marks_back past) e.marks))
-marks_of_event s past p (Some r) None = sym (append-nil (marks_in past))
-marks_of_event s past p None None = sym (append-nil (marks_in past))
+marks_of_event : (parts : List Part) (past : Past) → parts_marks parts ≡ marks_in past → (p : ℕ) (o : Option Refusal) (e : Option Entry) → parts_marks (part_of_event p o e ++ parts) ≡ marks_in (elim e as (λ _. Past) [ None ↦ past | Some e ↦ e ∷ past ])
+marks_of_event parts past are p o (Some e) = ap (λ l. l ++ map {B = ℕ × Mark} (λ (mark : Mark). (e.process, mark)) e.marks) are
+marks_of_event parts past are p (Some r) None = append-nil (parts_marks parts) ∙ are
+marks_of_event parts past are p None None = are
 
-marks_said_at : (s : Setup) (before : List Happening) (this : Happening) → marks_in (past_after s (this ∷ before)) ≡ marks_in (past_after s before) ++ flat_map marks_says (said_at s before this)
-marks_said_at s before (Tries event) = marks_of_event s (past_after s before) (process_of event) (refused s (past_after s before) event) _
-marks_said_at s before (Lacks p) = sym (append-nil (marks_in (past_after s before)))
-marks_said_at s before (Tires p) = sym (append-nil (marks_in (past_after s before)))
-marks_said_at s before Looks = sym (append-nil (marks_in (past_after s before)))
-
-marks_at_is : (mode : Mode) (s : Setup) (n : ℕ) (before : List Happening) (this : Happening) → marks_in (past_after s (this ∷ before)) ≡ marks_in (past_after s before) ++ marks_given (given_at mode s n before this)
-marks_at_is mode s n before this =
-    marks_said_at s before this ∙ ap (λ l. marks_in (past_after s before) ++ l) (sym (marks_of_lines mode n (length (past_after s before)) (reads_since s before ++ read_at s before this) (said_at s before this)))
+marks_so_far : (s : Setup) (happened : List Happening) → parts_marks (parts_of s happened) ≡ marks_in (past_after s happened)
+marks_so_far s [] = refl
+marks_so_far s (Tries event ∷ before) = marks_of_event (parts_of s before) (past_after s before) (marks_so_far s before) (process_of event) (refused s (past_after s before) event) (entry_of s (past_after s before) event)
+marks_so_far s (Lacks p ∷ before) = append-nil (parts_marks (parts_of s before)) ∙ marks_so_far s before
+marks_so_far s (Tires p ∷ before) = append-nil (parts_marks (parts_of s before)) ∙ marks_so_far s before
+marks_so_far s (Looks ∷ before) = append-nil (parts_marks (parts_of s before)) ∙ marks_so_far s before
 
 pub marks_of_run : (mode : Mode) (said : Script) (items : List Item) → given items ≡ run_given mode said → flat_map marks_said (sayings items) ≡ marks_in (past_after said.setup (happenings said))
 marks_of_run mode said items are =
@@ -117,5 +132,5 @@ marks_of_run mode said items are =
     let all : List Happening = happenings said in
     let front : List Gives = given_by mode s (first_line s) said.lines run_at_start in
     sym (marks_of_items items) ∙ ap marks_given are ∙ marks_append front (given_at_end mode s (first_line s + length said.lines) all)
-    ∙ ap (λ l. marks_given front ++ l) (marks_of_lines mode (first_line s + length said.lines) (length (past_after s all)) (reads_since s all) (says_end (summary_of s all) ∷ [])) ∙ append-nil (marks_given front)
-    ∙ sym (of_lines marks_given refl marks_append mode s (λ happened. marks_in (past_after s happened)) (marks_at_is mode s) (first_line s) said.lines run_at_start)
+    ∙ ap (λ l. marks_given front ++ l) (marks_of_lines mode (first_line s + length said.lines) (length (past_after s all)) (reads_since s (parts_of s all)) (says_end (summary_of s all) ∷ [])) ∙ append-nil (marks_given front)
+    ∙ sym (of_lines marks_given refl marks_append mode s parts_marks (marks_at mode s) (first_line s) said.lines run_at_start) ∙ marks_so_far s all

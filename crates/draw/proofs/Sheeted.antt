@@ -1,5 +1,5 @@
 -- The picture of a record goes on, entry by entry.
-use Rattle.std.proofs.Common.{◌≡◌, ℕ, ◌+◌, ◌-◌, List, [], ◌∷◌, ◌++◌, is_some, false, true≢false, Option, None, Some, sym, subst, ◌∙◌, append-nil, arith}
+use Rattle.std.proofs.Common.{◌≡◌, ℕ, ◌+◌, List, [], ◌∷◌, ◌++◌, is_some, length, false, true≢false, Option, None, Some, ap, sym, subst, ◌∙◌, arith}
 use Rattle.plain_store.specs.{Setup}
 use Rattle.record.specs.{Access, Entry, Past}
 use Rattle.judge.specs.record_file.{Progress, step_entry}
@@ -7,45 +7,46 @@ use Rattle.picture.specs.{Form, page_front, page_names}
 use Rattle.picture.specs.declared.page.Form.TheVariants as form
 use Rattle.picture.specs.declared.reads.Reads.{Reads as Mode}
 use Rattle.picture.specs.markup.{lines_in, opens_in}
-use Rattle.draw.specs.{DrawsLast, DrawsOn, DrawsRest, Kept, SaysEnd, Writes, given_of, kept, kept_at_first, lines_given, plan_of}
-use Rattle.draw.specs.{DrawsAt, DrawsPast, EndsAt, Heads, IsDrawn, RecordRecalls, RecordDrawing, record_end, record_given, listed, record_reads, says_judged, source_of}
-use Rattle.draw.proofs.Drawn.{draws_bands, draws_on_both, draws_on_none}
+use Rattle.draw.specs.{DrawsAt, DrawsLast, DrawsOn, DrawsPart, DrawsPast, DrawsRest, EndsAt, HasDrawn, Heads, IsDrawn, Kept, PartEntry, RecordDrawing, RecordRecalls, SaysEnd, Watches, Writes, entries_among, entry_parts, given_all, given_last, kept, kept_at_first, lines_given, listed, marks_back, plan_of, reads_since, record_end, says_judged, source_of, taken_by}
+use Rattle.draw.proofs.Drawings.{drawn_more, drawn_none, drawn_quiet}
+use Rattle.draw.proofs.Drawn.{draws_bands}
+use Rattle.draw.proofs.RecordGiving.{entries_of_record}
 
 module _ (reads : Mode) (form : Form) (s : Setup) where
-  -- the line that stands for the entries
-  source : (d : RecordDrawing) → d.last ≡ source_of s + 1 → d.last - 1 ≡ source_of s
-  source d is = omega (arith, is)
+  -- what a drawing of entries recalls
+  pub recalled : (past : Past) (d : RecordDrawing) (old new : Option (List ℕ)) → IsDrawn reads form s past d old new → RecordRecalls reads s (entry_parts past) d
+  recalled past d old new drawn = record { drawing = drawn.drawn.recalls; watches = drawn.watches }
 
   -- one entry more
-  pub drawn_entry : (past : Past) (e : Entry) (d d' : RecordDrawing) (old mid new : Option (List ℕ)) → IsDrawn reads form s past d old mid → DrawsOn (kept d.canvas) (kept d'.canvas) mid new (given_of reads s (d.last - 1) past (record_reads s past) e) × RecordRecalls reads s (e ∷ past) d' → d'.last ≡ d.last → IsDrawn reads form s (e ∷ past) d' old new
-  drawn_entry past e d d' old mid new drawn on last = record {
-    last = last ∙ drawn.last;
-    recalls = on.1;
+  pub drawn_entry : (past : Past) (e : Entry) (d d' : RecordDrawing) (old mid new : Option (List ℕ)) → IsDrawn reads form s past d old mid →
+      DrawsPart reads s (entry_parts past) (PartEntry e) d.drawing d'.drawing mid new × Watches reads s (e ∷ entries_among (entry_parts past)) d'.watch.watch → d'.drawing.source ≡ d.drawing.source → IsDrawn reads form s (e ∷ past) d' old new
+  drawn_entry past e d d' old mid new drawn on source = record {
+    source = source ∙ drawn.source;
+    watches = on.1;
     mid = drawn.mid;
     heads = drawn.heads;
-    draws = draws_on_both (kept_at_first (plan_of form s)) (kept d.canvas) (kept d'.canvas) drawn.mid mid new (record_given reads s (source_of s) past) (given_of reads s (source_of s) past (record_reads s past) e) drawn.draws
-        (subst (λ n. DrawsOn (kept d.canvas) (kept d'.canvas) mid new (given_of reads s n past (record_reads s past) e)) (source d drawn.last) on.0);
+    drawn = drawn_more reads s [] (kept_at_first (plan_of form s)) drawn.mid (entry_parts past) (PartEntry e) d.drawing d'.drawing mid new on.0 source drawn.drawn;
   }
 
   -- one without a mark, of which nothing is drawn
-  pub drawn_step : (past : Past) (p : ℕ) (a : Access) (d d' : RecordDrawing) (old new : Option (List ℕ)) → kept d'.canvas ≡ kept d.canvas → RecordRecalls reads s (step_entry p a ∷ past) d' → d'.last ≡ d.last → IsDrawn reads form s past d old new → IsDrawn reads form s (step_entry p a ∷ past) d' old new
-  drawn_step past p a d d' old new page recalls last drawn = record {
-    last = last ∙ drawn.last;
-    recalls = recalls;
+  pub drawn_step : (past : Past) (p : ℕ) (a : Access) (d d' : RecordDrawing) (old new : Option (List ℕ)) → kept d'.drawing.canvas ≡ kept d.drawing.canvas → RecordRecalls reads s (PartEntry (step_entry p a) ∷ entry_parts past) d' →
+      d'.drawing.source ≡ d.drawing.source → IsDrawn reads form s past d old new → IsDrawn reads form s (step_entry p a ∷ past) d' old new
+  drawn_step past p a d d' old new same recalls source drawn = record {
+    source = source ∙ drawn.source;
+    watches = recalls.watches;
     mid = drawn.mid;
     heads = drawn.heads;
-    draws = subst (λ gives. DrawsOn (kept_at_first (plan_of form s)) (kept d'.canvas) drawn.mid new gives) (sym (append-nil (record_given reads s (source_of s) past)))
-        (subst (λ (k : Kept). DrawsOn (kept_at_first (plan_of form s)) k drawn.mid new (record_given reads s (source_of s) past)) (sym page) drawn.draws);
+    drawn = drawn_quiet reads s [] (kept_at_first (plan_of form s)) drawn.mid (entry_parts past) p (Some a) d.drawing d'.drawing new same source recalls.drawing drawn.drawn;
   }
 
   -- none yet
-  pub drawn_none : (d : RecordDrawing) (old new : Option (List ℕ)) → d.last ≡ source_of s + 1 → RecordRecalls reads s [] d → kept d.canvas ≡ kept_at_first (plan_of form s) → Heads reads form s old new → IsDrawn reads form s [] d old new
-  drawn_none d old new last recalls page heads = record {
-    last = last;
-    recalls = recalls;
+  pub drawn_first : (d : RecordDrawing) (old new : Option (List ℕ)) → d.drawing.source ≡ source_of s → RecordRecalls reads s [] d → kept d.drawing.canvas ≡ kept_at_first (plan_of form s) → Heads reads form s old new → IsDrawn reads form s [] d old new
+  drawn_first d old new source recalls page heads = record {
+    source = source;
+    watches = recalls.watches;
     mid = new;
     heads = heads;
-    draws = subst (λ (k : Kept). DrawsOn (kept_at_first (plan_of form s)) k new new []) (sym page) (draws_on_none (kept_at_first (plan_of form s)) new);
+    drawn = subst (λ (k : Kept). HasDrawn reads s [] k new [] d.drawing new) page (drawn_none reads s [] d.drawing new recalls.drawing);
   }
 
   -- a picture that begins where there was none
@@ -54,16 +55,26 @@ module _ (reads : Mode) (form : Form) (s : Setup) where
   drawn_begun (Some d) d' past old mid new none drawn begun = absurd (true≢false none)
 
   -- all
-  pub drawn_end : (past : Past) (d : RecordDrawing) (told : List ℕ) (old mid new : Option (List ℕ)) (height : ℕ) → IsDrawn reads form s past d old mid → DrawsLast d.canvas mid new d.last d.entries (says_judged told ++ SaysEnd d.entries d.store.taken 0 ∷ []) height → EndsAt reads form s past told height old new
+  pub drawn_end : (past : Past) (d : RecordDrawing) (told : List ℕ) (old mid new : Option (List ℕ)) (height : ℕ) → IsDrawn reads form s past d old mid →
+      DrawsLast d.drawing.canvas mid new (source_of s + 1) d.drawing.entries (says_judged told ++ SaysEnd d.drawing.entries d.drawing.store.taken 0 ∷ []) height → EndsAt reads form s past told height old new
   drawn_end past d told old mid new height drawn rest = record {
     mid = drawn.mid;
     heads = drawn.heads;
-    bands = draws_bands (plan_of form s) (kept d.canvas) drawn.mid mid new (record_given reads s (source_of s) past) (record_end reads s (source_of s) past told) height drawn.draws
-        (subst (λ gives. DrawsRest (kept d.canvas) mid new gives height) same (rest reads s past (record_reads s past) drawn.recalls.waits));
+    bands = draws_bands (plan_of form s) (kept d.drawing.canvas) drawn.mid mid new (given_all reads s (source_of s) (entry_parts past)) (record_end reads s (source_of s) past told) height
+        (subst (λ l. DrawsOn (kept_at_first (plan_of form s)) (kept d.drawing.canvas) drawn.mid mid l) {x = given_last reads s d.drawing.source drawn.drawn.more (entry_parts past)} (λ i. given_last reads s (drawn.source i) (sym long i) (entry_parts past)) drawn.drawn.draws)
+        (subst (λ gives. DrawsRest (kept d.drawing.canvas) mid new gives height) {x = lines_given reads (source_of s + 1) d.drawing.entries (reads_since s (entry_parts past)) (says_judged told ++ SaysEnd d.drawing.entries d.drawing.store.taken 0 ∷ [])}
+        (λ i. lines_given reads (source_of s + 1) (entries i) (reads_since s (entry_parts past)) (says_judged told ++ SaysEnd (entries i) (taken i) 0 ∷ []))
+        (rest reads s (entries_among (entry_parts past)) (reads_since s (entry_parts past)) drawn.drawn.recalls.waits));
   }
     where
-      same : lines_given reads d.last d.entries (record_reads s past) (says_judged told ++ SaysEnd d.entries d.store.taken 0 ∷ []) ≡ record_end reads s (source_of s) past told
-      same = λ i. lines_given reads (drawn.last i) (drawn.recalls.entries i) (record_reads s past) (says_judged told ++ SaysEnd (drawn.recalls.entries i) (drawn.recalls.store.taken i) 0 ∷ [])
+      long : length (entry_parts past) ≡ drawn.drawn.more
+      long = let long = drawn.drawn.long in omega (arith, long)
+
+      entries : d.drawing.entries ≡ length past
+      entries = drawn.drawn.recalls.entries ∙ ap length (entries_of_record past)
+
+      taken : d.drawing.store.taken ≡ taken_by (marks_back past)
+      taken = drawn.drawn.recalls.store.taken ∙ ap (λ (l : Past). taken_by (marks_back l)) (entries_of_record past)
 
 -- a page's front
 pub heads_page : (reads : Mode) (s : Setup) (old new : Option (List ℕ)) (head : List ℕ) → head ≡ page_front s (listed s) reads → lines_in head ≡ [] → opens_in head (Some []) ≡ Some page_names → Writes old new head → Heads reads form.Page s old new

@@ -1,66 +1,96 @@
--- What a turn tells gives the items of what happens.
-use Rattle.std.proofs.Common.{◌≡◌, ℕ, List, [], ◌∷◌, ◌++◌, length, Option, None, Some, refl, ap, sym, subst, ◌∙◌}
+-- What a turn tells is drawn as the part that happens.
+use Rattle.std.proofs.Common.{◌≡◌, ◌+◌, ℕ, zero, suc, false, refl, List, [], ◌∷◌, ◌++◌, is_some, Option, None, Some, ap, sym, subst, ◌∙◌, arith, add-zero}
 use Rattle.plain_store.specs.{Setup}
-use Rattle.record.specs.{Entry, Event, Mark, Past, entry_of, process_of, refused}
+use Rattle.record.specs.{Access, Entry, Event, Past, Refusal, added, process_of, refused}
+use Rattle.record.specs.declared.events.Event.TheVariants.{Step}
 use Rattle.record.proofs.Width.{is_good}
-use Rattle.picture.specs.columns.{OverlappedRead}
+use Rattle.judge.specs.read_law.{entry_by}
 use Rattle.picture.specs.declared.reads.Reads.{Reads as Mode}
-use Rattle.course.specs.world.{ends_overlapped_read}
-use Rattle.course.specs.{Accepted, Happening, TellsOf, Tries, entry_made, marks_made, past_after, tried}
+use Rattle.course.specs.{Happening, Happens, IsQuiet, Lacks, Looks, PassQuietly, Stepped, StepsOn, TellsOf, Tires, Told, Tries, counted, entry_made, newest_words, past_after, tried}
+use Rattle.course.specs.Writing.{Counts}
 use Rattle.course.specs.declared.told.Told.TheVariants as told
-use Rattle.draw.specs.{Canvas, DrawsMarks, DrawsOn, IsAfterMarks, Overhears, TakenStore, TellsEnd, given_of, kept, lines_given, marks_back, overlapped_by, waiting}
-use Rattle.draw.proofs.Drawn.{draws_entry}
-use Rattle.draw.proofs.Giving.{waiting_says}
-use Rattle.draw.specs.{DrawsThis, IsToDraw, given_at, reads_since, said_of_event}
-use Rattle.draw.proofs.OverlapsTold.{made_tells}
+use Rattle.course.proofs.Counting.{counts_heard, counts_passed, counts_stepped}
+use Rattle.draw.specs.{Drawing, DrawsTold, HasDrawn, HasDrawnRun, Kept, Part, PartEntry, PartLine, Recalls, RunDrawing, SaysRefusal, SaysStore, SaysTired, TellsEnd, TellsReads, entries_among, kept, part_of_event, part_told, parts_at, parts_of, tally}
+use Rattle.draw.proofs.Drawings.{drawn_more, drawn_none, drawn_quiet, recalls_passed}
+use Rattle.draw.proofs.OverlapsTold.{made_tells, stepped_tells}
+use Rattle.draw.proofs.RunTold.{entries_of_run}
 
--- an event that is made, and the entry that it adds
-pub record Makes (s : Setup) (before : List Happening) (this : Happening) (made : Accepted) : Type 0 where
-  pub event : Event
-  pub is : this ≡ Tries event
-  pub event_is : made.event ≡ event
-  pub entry : entry_of s (past_after s before) event ≡ Some (entry_made made)
-  pub overlapped : made.overlapped ≡ ends_overlapped_read (past_after s before) (entry_made made)
+-- a turn tells the part that happens
+pub part_is : (s : Setup) (before : List Happening) (this : Happening) (answer : Told) → Happens s before this answer → parts_of s (this ∷ before) ≡ part_told answer ∷ parts_of s before
+part_is s before this answer h = ap (λ l. l ++ parts_of s before) (by this answer h.tells)
+  where
+    past : Past
+    past = past_after s before
 
-makes_of : (s : Setup) (before : List Happening) (this : Happening) (made : Accepted) → TellsOf s (past_after s before) this (told.Accepted made) → Makes s before this made
-makes_of s before (Tries event) made tells = record { event = event; is = refl; event_is = tells.0; entry = tells.1; overlapped = tells.2 }
-makes_of s before this made tells = absurd tells
+    by : (this : Happening) (answer : Told) → TellsOf s past this answer → parts_at s past this ≡ part_told answer ∷ []
+    by (Tries event) (told.Accepted made) tells = ap (λ (o : Option Entry). part_of_event (process_of event) (refused s past event) o) tells.1
+    by (Tries event) (told.Refused p refusal) tells =
+        ap (λ (o : Option Refusal). part_of_event (process_of event) o (elim o as (λ _. Option Entry) [ Some r ↦ None | None ↦ added s past event ])) tells.1
+        ∙ ap (λ (q : ℕ). PartLine (SaysRefusal q refusal) ∷ []) (sym tells.0)
+    by (Lacks p) (told.Refused q refusal) tells = λ i. PartLine (SaysRefusal (sym tells.0 i) (sym tells.1 i)) ∷ []
+    by (Tires p) (told.Tired q) tells = λ i. PartLine (SaysTired (sym tells i)) ∷ []
+    by Looks (told.Shown store) tells = λ i. PartLine (SaysStore (newest_words (sym tells i))) ∷ []
+    by this answer tells = absurd tells
 
--- what such an event gives is what its entry gives
-gives_entry : (mode : Mode) (s : Setup) (n : ℕ) (before : List Happening) (event : Event) (e : Entry) → entry_of s (past_after s before) event ≡ Some e → given_of mode s n (past_after s before) (reads_since s before) e ≡ given_at mode s n before (Tries event)
-gives_entry mode s n before event e is =
-    let past : Past = past_after s before in
-    sym (ap (λ (o : Option Entry). lines_given mode n (length past) (reads_since s before ++ elim o as (λ _. List OverlappedRead) [ None ↦ [] | Some e ↦ overlapped_by s past e ]) (said_of_event s past (process_of event) (refused s past event) o)) is)
+-- it tells whether an overlapped read ends
+pub tells_reads : (mode : Mode) (s : Setup) (before : List Happening) (this : Happening) (answer : Told) → Happens s before this answer → TellsReads mode s (entries_among (parts_of s before)) answer
+tells_reads mode s before this answer h = subst (λ (past : Past). TellsReads mode s past answer) (sym (entries_of_run s before)) (by this answer h.tells)
+  where
+    by : (this : Happening) (answer : Told) → TellsOf s (past_after s before) this answer → TellsReads mode s (past_after s before) answer
+    by (Tries event) (told.Accepted made) tells = made_tells mode s (is_good s h.good) (tried before) event (entry_made made) made.overlapped tells.1 tells.2
+    by this (told.Accepted made) tells = absurd tells
+    by this (told.Refused p refusal) tells = tt
+    by this (told.Tired p) tells = tt
+    by this (told.Shown store) tells = tt
 
--- the reads that wait then
-waiting_of : (s : Setup) (before : List Happening) (event : Event) (e : Entry) → entry_of s (past_after s before) event ≡ Some e → waiting e.marks (reads_since s before ++ overlapped_by s (past_after s before) e) ≡ reads_since s (Tries event ∷ before)
-waiting_of s before event e is =
-    let past : Past = past_after s before in
-    sym (ap (λ (o : Option Entry). waiting (said_of_event s past (process_of event) (refused s past event) o) (reads_since s before ++ elim o as (λ _. List OverlappedRead) [ None ↦ [] | Some e ↦ overlapped_by s past e ])) is
-    ∙ waiting_says s e.process (marks_back past) e.marks (reads_since s before ++ overlapped_by s past e))
+-- From here on.
+pub run_none : (mode : Mode) (s : Setup) (now : List Happening) (run : RunDrawing) (taken : Option (List ℕ)) → Counts s now (tally run) → Recalls mode s (parts_of s now) run.drawing →
+    HasDrawnRun mode s (parts_of s now) (kept run.drawing.canvas) taken now run taken
+run_none mode s now run taken counts recalls = record { counts = counts; drawn = drawn_none mode s (parts_of s now) run.drawing taken recalls }
 
--- the record then
-past_of_made : (s : Setup) (before : List Happening) (event : Event) (e : Entry) → entry_of s (past_after s before) event ≡ Some e → e ∷ past_after s before ≡ past_after s (Tries event ∷ before)
-past_of_made s before event e is = sym (ap (λ (o : Option Entry). elim o as (λ _. Past) [ None ↦ past_after s before | Some e ↦ e ∷ past_after s before ]) is)
+module _ (mode : Mode) (s : Setup) (start : List Part) (had : Kept) (old : Option (List ℕ)) where
+  -- what a turn tells
+  pub told_drawn : (before : List Happening) (this : Happening) (answer : Told) (run run' : RunDrawing) (mid new : Option (List ℕ)) → Happens s before this answer → DrawsTold run run' answer mid new →
+      tally run' ≡ counted answer (tally run) → run'.drawing.source ≡ run.drawing.source → HasDrawnRun mode s start had old before run mid → HasDrawnRun mode s start had old (this ∷ before) run' new
+  told_drawn before this answer run run' mid new h drew count source d = record {
+    counts = counts_heard s before this answer (tally run) (tally run') h count d.counts;
+    drawn = subst (λ (parts : List Part). HasDrawn mode s start had old parts run'.drawing new) (sym (part_is s before this answer h))
+        (drawn_more mode s start had old (parts_of s before) (part_told answer) run.drawing run'.drawing mid new (drew mode s (parts_of s before) (tells_reads mode s before this answer h) d.drawn.recalls) source d.drawn);
+  }
 
--- an event that is made is drawn, once it is heard and its marks are drawn
-pub made_drawn : (mode : Mode) (s : Setup) (source events : ℕ) (store stores : TakenStore) (canvas heard drawn : Canvas) (before : List Happening) (this : Happening) (made : Accepted) (p : ℕ) (marks : List Mark) (a b : Option (List ℕ)) →
-    IsToDraw mode s events store canvas before this (told.Accepted made) → process_of made.event ≡ p → marks_made made ≡ marks → kept heard ≡ kept canvas →
-    ((mode : Mode) (s : Setup) (past : Past) (reads : List OverlappedRead) → Overhears mode s past reads canvas.overlaps → events ≡ length past → TellsEnd mode s past made.access made.overlapped → Overhears mode s (entry_made made ∷ past) (reads ++ overlapped_by s past (entry_made made)) heard.overlaps) →
-    DrawsMarks heard drawn store stores a b source events p marks → DrawsThis mode s source before this canvas drawn a b stores
-made_drawn mode s source events store stores canvas heard drawn before this made p marks a b d process are same hears drew =
-    let past : Past = past_after s before in
-    let e : Entry = entry_made made in
-    let reads : List OverlappedRead = reads_since s before in
-    let m : Makes s before this made = makes_of s before this made d.happens.tells in
-    let tells : TellsEnd mode s past made.access made.overlapped = made_tells mode s (is_good s d.happens.good) (tried before) m.event e made.overlapped m.entry m.overlapped in
-    let its = draws_entry mode s past reads e canvas heard drawn store stores a b source events p marks process are d.number same d.recalls.store_is (hears mode s past reads d.recalls.waits d.number tells) drew in
-    let here : e ∷ past ≡ past_after s (Tries m.event ∷ before) = past_of_made s before m.event e m.entry in
-    subst (λ (h : Happening). DrawsThis mode s source before h canvas drawn a b stores) (sym m.is) (
-      subst (λ l. DrawsOn (kept canvas) (kept drawn) a b l) (gives_entry mode s source before m.event e m.entry) its.0,
+  -- a Step without a mark, with its access
+  pub step_drawn : (before : List Happening) (made : Stepped) (run : RunDrawing) (d' : Drawing) (new : Option (List ℕ)) → StepsOn s before made → kept d'.canvas ≡ kept run.drawing.canvas → d'.source ≡ run.drawing.source → d'.entries ≡ run.drawing.entries + 1 →
+      ((mode : Mode) (s : Setup) (parts : List Part) (p : ℕ) → TellsEnd mode s (entries_among parts) (Some made.access) made.overlapped → Recalls mode s parts run.drawing → Recalls mode s (PartEntry (entry_by p (Some made.access) []) ∷ parts) d') →
+      HasDrawnRun mode s start had old before run new → HasDrawnRun mode s start had old (Tries (Step made.process made.flick) ∷ before) (record run { drawing = d' }) new
+  step_drawn before made run d' new on same source entries recalls d =
+      let event : Event = Step made.process made.flick in
+      let past : Past = past_after s before in
+      let parts : List Part = parts_of s before in
+      let tells = subst (λ (past : Past). TellsEnd mode s past (Some made.access) made.overlapped) (sym (entries_of_run s before)) (stepped_tells mode s before made on) in
       record {
-        store_is = subst (λ (q : Past). IsAfterMarks s (marks_back q) stores) here its.1;
-        waits = subst (λ (l : List OverlappedRead). Overhears mode s (past_after s (Tries m.event ∷ before)) l drawn.overlaps) (waiting_of s before m.event e m.entry)
-            (subst (λ (q : Past). Overhears mode s q (waiting e.marks (reads ++ overlapped_by s past e)) drawn.overlaps) here its.2);
-      },
-    )
+        counts = subst (λ (n : ℕ). Counts s (Tries event ∷ before) (record { events = n; taken = 0; refused = run.refused })) (sym entries) (counts_stepped s before made (tally run) on d.counts);
+        drawn = subst (λ (l : List Part). HasDrawn mode s start had old l d' new) (sym (ap (λ (o : Option Entry). part_of_event (process_of event) (refused s past event) o ++ parts) on.adds))
+            (drawn_quiet mode s start had old parts made.process (Some made.access) run.drawing d' new same source (recalls mode s parts made.process tells d.drawn.recalls) d.drawn);
+      }
+
+  -- events without a mark, where no reads are shown
+  quiet_part : (before : List Happening) (this : Happening) → IsQuiet s (past_after s before) (Some this) → (p : ℕ) × (access : Option Access) × (parts_of s (this ∷ before) ≡ PartEntry (entry_by p access []) ∷ parts_of s before)
+  quiet_part before (Tries event) adds = (process_of event, adds.0, ap (λ (o : Option Entry). part_of_event (process_of event) (refused s (past_after s before) event) o ++ parts_of s before) adds.1)
+  quiet_part before this adds = absurd adds
+
+  passed_drawn : (n : ℕ) (before after : List Happening) (d : Drawing) (new : Option (List ℕ)) → is_some d.canvas.overlaps ≡ false → PassQuietly s n before after →
+      HasDrawn mode s start had old (parts_of s before) d new → HasDrawn mode s start had old (parts_of s after) (record d { entries = d.entries + n }) new
+  passed_drawn zero before after d new none same h =
+      subst (λ (n : ℕ). HasDrawn mode s start had old (parts_of s after) (record d { entries = n }) new) (sym (add-zero d.entries)) (subst (λ (l : List Happening). HasDrawn mode s start had old (parts_of s l) d new) (sym same) h)
+  passed_drawn (suc n) before after d new none (this, quiet, more) h =
+      let one = quiet_part before this quiet in
+      let next : Drawing = record d { entries = d.entries + 1 } in
+      let sum : d.entries + 1 + n ≡ d.entries + suc n = omega arith in
+      subst (λ (k : ℕ). HasDrawn mode s start had old (parts_of s after) (record d { entries = k }) new) sum
+      (passed_drawn n (this ∷ before) after next new none more (subst (λ (l : List Part). HasDrawn mode s start had old l next new) (sym one.2)
+      (drawn_quiet mode s start had old (parts_of s before) one.0 one.1 d next new refl refl (recalls_passed mode s (parts_of s before) one.0 one.1 d none h.recalls) h)))
+
+  pub run_passed : (n : ℕ) (before after : List Happening) (run : RunDrawing) (d' : Drawing) (new : Option (List ℕ)) → is_some run.drawing.canvas.overlaps ≡ false → PassQuietly s n before after → (let d : Drawing = record run.drawing { entries = run.drawing.entries + n } in d' ≡ d) →
+      HasDrawnRun mode s start had old before run new → HasDrawnRun mode s start had old after (record run { drawing = d' }) new
+  run_passed n before after run d' new none passes is h = subst (λ (d : Drawing). HasDrawnRun mode s start had old after (record run { drawing = d }) new) (sym is)
+      (record { counts = counts_passed s n before after (tally run) passes h.counts; drawn = passed_drawn n before after run.drawing new none passes h.drawn })

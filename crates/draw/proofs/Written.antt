@@ -40,6 +40,10 @@ pub if_ok_then : {A E : Type 0} (r : Result A E) {P Q : A → Type 0} → ((x : 
 if_ok_then (Ok x) then is = then x is
 if_ok_then (Err e) then is = tt
 
+pub if_ok_both : {A E : Type 0} (r : Result A E) {P Q R : A → Type 0} → ((x : A) → P x → Q x → R x) → IfOk r P → IfOk r Q → IfOk r R
+if_ok_both (Ok x) then p q = then x p q
+if_ok_both (Err e) then p q = tt
+
 pub if_err_then : {A E : Type 0} (r : Result A E) {P Q : E → Type 0} → ((e : E) → P e → Q e) → IfErr r P → IfErr r Q
 if_err_then (Ok x) then is = tt
 if_err_then (Err e) then is = then e is

@@ -1,5 +1,5 @@
 -- What a picture is told, item by item, as values: its lines, and the reads that writes overlapped.
-use Rattle.std.specs.Prelude.{ℕ, List, [], ◌∷◌, ◌++◌, flat_map, length, map, string_bytes, Option, option_map}
+use Rattle.std.specs.Prelude.{ℕ, zero, suc, List, [], ◌∷◌, ◌++◌, flat_map, length, map, string_bytes, Option, option_map}
 use Rattle.plain_store.specs.{Setup}
 use Rattle.record.specs.{Entry, Mark, Past, Refusal}
 use Rattle.picture.specs.{Item, Reads, Tells}
@@ -95,6 +95,37 @@ abbrev pub says_marks : Setup → ℕ → List (ℕ × Mark) → List Mark → L
 says_marks s p before [] = []
 says_marks s p before (mark ∷ marks) = SaysMark p mark (change_of s before p mark) ∷ says_marks s p ((p, mark) ∷ before) marks
 
--- what an entry gives that is added to a past while these reads wait
-abbrev pub given_of : Mode → Setup → ℕ → Past → List OverlappedRead → Entry → List Gives
-given_of mode s source past reads e = lines_given mode source (length past) (reads ++ overlapped_by s past e) (says_marks s e.process (marks_back past) e.marks)
+-- Parts: what a drawing of a run or of a record draws, one after the other. In a list of parts the newest comes first.
+
+-- one part
+pub data Part : Type 0 where
+  PartEntry : Entry → Part  -- an entry, with a line for each of its marks
+  PartLine : Says → Part  -- a line that comes from no entry
+
+-- the entries among parts
+abbrev pub entries_among : List Part → Past
+entries_among [] = []
+entries_among (PartEntry e ∷ before) = e ∷ entries_among before
+entries_among (PartLine says ∷ before) = entries_among before
+
+-- the overlapped reads that have ended since the last line, in their order
+abbrev pub reads_since : Setup → List Part → List OverlappedRead
+reads_since s [] = []
+reads_since s (PartEntry e ∷ before) = waiting e.marks (reads_since s before ++ overlapped_by s (entries_among before) e)
+reads_since s (PartLine says ∷ before) = []
+
+-- the items that a part gives, which comes after other parts and is made by the line `source` of the list
+abbrev pub given_of : Mode → Setup → ℕ → List Part → Part → List Gives
+given_of mode s source before (PartEntry e) =
+    lines_given mode source (length (entries_among before)) (reads_since s before ++ overlapped_by s (entries_among before) e) (says_marks s e.process (marks_back (entries_among before)) e.marks)
+given_of mode s source before (PartLine says) = lines_given mode source (length (entries_among before)) (reads_since s before) (says ∷ [])
+
+-- the items that the last `count` of these parts give
+abbrev pub given_last : Mode → Setup → ℕ → ℕ → List Part → List Gives
+given_last mode s source zero parts = []
+given_last mode s source (suc count) [] = []
+given_last mode s source (suc count) (part ∷ before) = given_last mode s source count before ++ given_of mode s source before part
+
+-- the items that all of them give
+abbrev pub given_all : Mode → Setup → ℕ → List Part → List Gives
+given_all mode s source parts = given_last mode s source (length parts) parts

@@ -1,5 +1,6 @@
 pub mod Around
 pub mod Canvases
+pub mod Drawings
 pub mod Items
 pub mod Overlaps
 pub mod StoreChanges
@@ -20,7 +21,7 @@ pub mod Judgings
 pub mod Sheets
 pub use Around.{IsAround}
 pub use Canvases.{Draws, DrawsBands, DrawsLast, DrawsLines, DrawsMarks, DrawsOn, DrawsRest, Fills, Kept, Writes, kept, kept_at_first, plan_of}
-pub use Items.{Gives, GivesLine, GivesRead, Says, SaysEnd, SaysJudged, SaysMark, SaysRefusal, SaysStore, SaysTired, given, given_of, lines_given, mark_given, marks_after, marks_back, marks_given, marks_says, says_marks, says_of, says_text, text_given, texts_given, waiting}
+pub use Items.{Gives, GivesLine, GivesRead, Part, PartEntry, PartLine, Says, SaysEnd, SaysJudged, SaysMark, SaysRefusal, SaysStore, SaysTired, entries_among, given, given_all, given_last, given_of, lines_given, mark_given, marks_after, marks_back, marks_given, marks_says, reads_since, says_marks, says_of, says_text, text_given, texts_given, waiting}
 pub use Overlaps.{Hears, Overhears, TellsEnd, TellsOver, Watches, begun_with, ended_of, first_three, is_begin, is_there, overlapped_by, overlapped_with, read_begun, read_ended, shown_of}
 pub use StoreChanges.{Changed, change_by, changed, store_words, words_by}
 pub use TakenStores.{IsAfterMarks, after_call, call_after, called_by, change_by_call, change_of, change_with, next_number, no_call, store_by, store_with, taken_by}
@@ -32,14 +33,16 @@ pub use declared.overlaps.BegunRead.{BegunRead}
 pub use declared.overlaps.OverlapsHeard.{OverlapsHeard}
 pub use Chains.{ChainIsTheHistory, Knot, knot_of, knots, numbered}
 pub use Changes.{LinesSayTheHistory, StoreIsTheHistorys, after_taken, change_at, change_in, change_taken, says_mark}
-pub use RunDrawings.{Advances, DrawsAll, DrawsFramed, DrawsLine, DrawsThis, DrawsTold, DrewRun, HasDrawn, IsRunPicture, IsToDraw, Recalls}
+pub use Drawings.{DrawsPart, HasDrawn, Recalls}
+pub use declared.drawing.Drawing.{Drawing}
+pub use RunDrawings.{Advances, DrawsAll, DrawsFramed, DrawsLine, DrawsTold, DrewRun, HasDrawnRun, IsRunPicture, TellsReads, part_told, tally}
 pub use InLine.{IsFirstInLine, WaitsNoMore, WhoEntersIsFirst, WhoIsInsideIsDrawnFirst, WhoIsInsideIsFirst, state_of_lines}
 pub use Insides.{OneIsInside}
-pub use RunItems.{first_line, given_at, given_at_end, given_by, given_from, given_last, read_at, reads_since, run_given, said_at, said_of_event, says_end}
+pub use RunItems.{first_line, given_at_end, given_by, given_from, part_of_event, parts_at, parts_of, run_given, says_end}
 pub use Pictures.{ended_lines, lines_told}
-pub use declared.runs.drawing.Drawing.{Drawing}
-pub use RecordDrawings.{HasHeardAccess, RecordRecalls}
-pub use RecordItems.{record_end, record_given, judged_with, lines_of_past, record_reads, record_gives, record_lines, say_judged, says_judged, source_of}
+pub use declared.runs.drawing.RunDrawing.{RunDrawing}
+pub use RecordDrawings.{RecordRecalls}
+pub use RecordItems.{entry_parts, judged_with, lines_of_past, record_end, record_gives, record_lines, say_judged, says_judged, source_of}
 pub use Judged.{bad_process, number_from, told_lines}
 pub use Judges.{DrewJudgedBy}
 pub use Judgings.{HasRead, HasStopped, IsShown, SaysAll, TellsOfLines}

@@ -1,25 +1,18 @@
--- What a record gives its picture, item by item: a line for each mark of its entries, the reads that writes overlapped, and a last line.
+-- The items of a record's picture: a line for each mark of its entries, the reads that writes overlapped, a judge's lines, and a last line.
 use Rattle.std.specs.Prelude.{ℕ, ◌+◌, List, [], ◌∷◌, ◌++◌, length, map, reverse, Option}
 use Rattle.plain_store.specs.{Setup}
-use Rattle.record.specs.{Mark, Past}
+use Rattle.record.specs.{Past}
 use Rattle.judge.specs.record_file.{Said, head_words}
 use Rattle.picture.specs.columns.run_lines.{ended_text, marked_text}
-use Rattle.picture.specs.columns.{OverlappedRead, judged_text}
+use Rattle.picture.specs.columns.{judged_text}
 use Rattle.picture.specs.declared.reads.Reads.{Reads as Mode}
-use Rattle.draw.specs.Items.{Gives, Says, SaysEnd, SaysJudged, given_of, lines_given, marks_back, waiting}
-use Rattle.draw.specs.Overlaps.{overlapped_by}
+use Rattle.draw.specs.Items.{Gives, Part, PartEntry, Says, SaysEnd, SaysJudged, given_all, lines_given, marks_back, reads_since}
 use Rattle.draw.specs.TakenStores.{taken_by}
 use Rattle.draw.specs.Judged.{bad_process, lane_told, told_lines}
 
--- the overlapped reads that have ended since the last line, in their order
-abbrev pub record_reads : Setup → Past → List OverlappedRead
-record_reads s [] = []
-record_reads s (e ∷ past) = waiting e.marks (record_reads s past ++ overlapped_by s past e)
-
--- what entries give
-abbrev pub record_given : Mode → Setup → ℕ → Past → List Gives
-record_given mode s source [] = []
-record_given mode s source (e ∷ past) = record_given mode s source past ++ given_of mode s source past (record_reads s past) e
+-- the parts of a record
+abbrev pub entry_parts : Past → List Part
+entry_parts = map PartEntry
 
 -- what is said of what a judge tells, line by line
 abbrev pub judged_with : Option ℕ → List ℕ → Says
@@ -33,7 +26,7 @@ says_judged told = say_judged (bad_process (told_lines told)) (told_lines told)
 
 -- what a judge tells, if there is one, and the last line
 abbrev pub record_end : Mode → Setup → ℕ → Past → List ℕ → List Gives
-record_end mode s source past told = lines_given mode (source + 1) (length past) (record_reads s past) (says_judged told ++ SaysEnd (length past) (taken_by (marks_back past)) 0 ∷ [])
+record_end mode s source past told = lines_given mode (source + 1) (length past) (reads_since s (entry_parts past)) (says_judged told ++ SaysEnd (length past) (taken_by (marks_back past)) 0 ∷ [])
 
 -- the line of the page's list that stands for all entries: it is behind the headings and the opening pairs
 abbrev pub source_of : Setup → ℕ
@@ -41,7 +34,7 @@ source_of s = length (head_words s) + 1
 
 -- what a whole record gives, and a judge who tells this of it
 abbrev pub record_gives : Mode → Said → List ℕ → List Gives
-record_gives mode said told = record_given mode said.setup (source_of said.setup) (reverse said.entries) ++ record_end mode said.setup (source_of said.setup) (reverse said.entries) told
+record_gives mode said told = given_all mode said.setup (source_of said.setup) (entry_parts (reverse said.entries)) ++ record_end mode said.setup (source_of said.setup) (reverse said.entries) told
 
 -- the lines of a record, without their ends: one for each mark of its entries, in their order, those of a judge, and a last one
 abbrev pub lines_of_past : Past → List (List ℕ)

@@ -1,7 +1,8 @@
 -- What was written of a run's picture, and what is read back of it.
-use Rattle.std.specs.Prelude.{◌≡◌, ◌<◌, ℕ, List, [], ◌∷◌, ◌+◌, flat_map, length, Option, Some, IfSome, Result, Ok, Err}
+use Rattle.std.specs.Prelude.{◌≡◌, ◌<◌, ℕ, List, [], flat_map, Option, Some, IfSome, Result, Ok, Err}
 use Rattle.std.specs.Io.KnownBytes.{IsAtEnd}
 use Rattle.plain_store.specs.{Setup}
+use Rattle.record.specs.{Past}
 use Rattle.scenario.specs.files.Engines.{Ran, Streams}
 use Rattle.scenario.specs.files.{Fault}
 use Rattle.scenario.specs.files.declared.faults.Fault.TheVariants as fault
@@ -10,17 +11,16 @@ use Rattle.picture.specs.markup.{lines_in, opens_in}
 use Rattle.picture.specs.{Form, Item, heights_told, sayings}
 use Rattle.picture.specs.columns.{marks_in, marks_said}
 use Rattle.picture.specs.declared.reads.Reads.{Reads as Mode}
-use Rattle.draw.specs.Canvases.{DrawsBands, DrawsOn, Kept, Writes, kept, plan_of}
-use Rattle.draw.specs.Items.{given, marks_back}
-use Rattle.draw.specs.Overlaps.{Overhears}
-use Rattle.draw.specs.TakenStores.{IsAfterMarks}
-use Rattle.draw.specs.declared.canvas.Canvas.{Canvas}
-use Rattle.draw.specs.declared.taken_store.TakenStore.{TakenStore}
-use Rattle.course.specs.{CourseState, Follows, Happening, Happens, Run, Told, happenings, past_after, replay_text, replayed, run_after}
+use Rattle.course.specs.{CourseState, Follows, Happening, Run, Summary, Told, entry_made, happenings, newest_words, past_after, replay_text, replayed, run_after}
+use Rattle.course.specs.declared.told.Told.TheVariants as told
 use Rattle.course.specs.Writing.{Counts}
-use Rattle.draw.specs.RunItems.{given_at, given_last, reads_since, run_given}
+use Rattle.draw.specs.Canvases.{DrawsBands, Kept, Writes, kept, plan_of}
+use Rattle.draw.specs.Drawings.{DrawsPart, HasDrawn, Recalls}
+use Rattle.draw.specs.Items.{Part, PartEntry, PartLine, SaysRefusal, SaysStore, SaysTired, entries_among, given}
+use Rattle.draw.specs.Overlaps.{TellsEnd}
 use Rattle.draw.specs.Pictures.{ended_lines, lines_told, picture_of}
-use Rattle.draw.specs.declared.runs.drawing.Drawing.{Drawing}
+use Rattle.draw.specs.RunItems.{parts_of, run_given}
+use Rattle.draw.specs.declared.runs.drawing.RunDrawing.{RunDrawing}
 
 -- Markup is the picture of the run of a file, and nothing else: that of items which are what the run gives, one by one. So their lines are the text of the run, in order, and say the marks of its record. The height of one picture is that of such a picture.
 pub record IsRunPicture (reads : Mode) (form : Form) (file : List ℕ) (said : Script) (markup : List ℕ) : Type 0 where
@@ -51,49 +51,47 @@ pub record DrawsFramed (reads : Mode) (form : Form) (head ending : List ℕ) (sa
   pub bands : DrawsBands (plan_of form said.setup) begun drawn (run_given reads said) height
   pub last : Writes drawn new ending
 
--- a drawing comes after what has happened: its store is the one after the marks so far, and the overlapped reads that wait are those since the last line
-pub record Recalls (mode : Mode) (s : Setup) (happened : List Happening) (store : TakenStore) (canvas : Canvas) : Type 0 where
-  pub store_is : IsAfterMarks s (marks_back (past_after s happened)) store
-  pub waits : Overhears mode s (past_after s happened) (reads_since s happened) canvas.overlaps
+-- The numbers that a drawing has counted so far. The commands taken are counted at the end.
+abbrev pub tally : RunDrawing → Summary
+tally run = record { events = run.drawing.entries; taken = 0; refused = run.refused }
 
--- what a turn tells is to be drawn, where so many events were accepted before it
-pub record IsToDraw (mode : Mode) (s : Setup) (events : ℕ) (store : TakenStore) (canvas : Canvas) (before : List Happening) (this : Happening) (answer : Told) : Type 0 where
-  pub happens : Happens s before this answer
-  pub number : events ≡ length (past_after s before)
-  pub recalls : Recalls mode s before store canvas
+-- the part that a turn tells
+abbrev pub part_told : Told → Part
+part_told (told.Accepted made) = PartEntry (entry_made made)
+part_told (told.Refused p refusal) = PartLine (SaysRefusal p refusal)
+part_told (told.Tired p) = PartLine (SaysTired p)
+part_told (told.Shown store) = PartLine (SaysStore (newest_words store))
 
--- what happened was drawn, made by this line of the printed scenario, and the drawing stands behind it
-abbrev pub DrawsThis : (mode : Mode) (s : Setup) (source : ℕ) (before : List Happening) (this : Happening) (had has : Canvas) (old new : Option (List ℕ)) (store : TakenStore) → Type 0
-DrawsThis mode s source before this had has old new store = DrawsOn (kept had) (kept has) old new (given_at mode s source before this) × Recalls mode s (this ∷ before) store has
+-- a turn that tells an accepted event tells whether it ends an overlapped read, if reads are shown
+abbrev pub TellsReads : Mode → Setup → Past → Told → Type 0
+TellsReads mode s past (told.Accepted made) = TellsEnd mode s past made.access made.overlapped
+TellsReads mode s past answer = Unit {0}
 
--- so was what a turn tells, wherever it is to be drawn
-abbrev pub DrawsTold : Drawing → Drawing → Told → Option (List ℕ) → Option (List ℕ) → Type 0
+-- the part that a turn tells was drawn, whatever parts came before it
+abbrev pub DrawsTold : RunDrawing → RunDrawing → Told → Option (List ℕ) → Option (List ℕ) → Type 0
 DrawsTold had has answer old new =
-    (mode : Mode) (s : Setup) (before : List Happening) (this : Happening) → IsToDraw mode s had.summary.events had.store had.canvas before this answer → DrawsThis mode s had.source before this had.canvas has.canvas old new has.store
+    (mode : Mode) (s : Setup) (parts : List Part) → TellsReads mode s (entries_among parts) answer → Recalls mode s parts had.drawing → DrawsPart mode s parts (part_told answer) had.drawing has.drawing old new
 
--- a run that went on from `start`, where a page kept so much and so much was written: all that it has told since is drawn
-pub record HasDrawn (mode : Mode) (s : Setup) (start : List Happening) (had : Kept) (old : Option (List ℕ)) (now : List Happening) (drawing : Drawing) (new : Option (List ℕ)) : Type 0 where
-  pub counts : Counts s now drawing.summary
-  pub recalls : Recalls mode s now drawing.store drawing.canvas
-  pub more : ℕ
-  pub long : length now ≡ more + length start
-  pub draws : DrawsOn had (kept drawing.canvas) old new (given_last mode s drawing.source more now)
+-- All that has happened in a run since `start` was counted and drawn.
+pub record HasDrawnRun (mode : Mode) (s : Setup) (start : List Part) (had : Kept) (old : Option (List ℕ)) (now : List Happening) (run : RunDrawing) (new : Option (List ℕ)) : Type 0 where
+  pub counts : Counts s now (tally run)
+  pub drawn : HasDrawn mode s start had old (parts_of s now) run.drawing new
 
--- a drawing that stood after `before` stands after `after`, wherever the run began
-abbrev pub GoesOnDrawing : Setup → List Happening → List Happening → Drawing → Drawing → Option (List ℕ) → Option (List ℕ) → Type 0
+-- a drawing that came after `before` comes after `after`, wherever it began
+abbrev pub GoesOnDrawing : Setup → List Happening → List Happening → RunDrawing → RunDrawing → Option (List ℕ) → Option (List ℕ) → Type 0
 GoesOnDrawing s before after drawing drawings taken then =
-    (mode : Mode) (start : List Happening) (had : Kept) (old : Option (List ℕ)) → HasDrawn mode s start had old before drawing taken → HasDrawn mode s start had old after drawings then
+    (mode : Mode) (start : List Part) (had : Kept) (old : Option (List ℕ)) → HasDrawnRun mode s start had old before drawing taken → HasDrawnRun mode s start had old after drawings then
 
 -- from one run to another: the cursor, and what was drawn
-pub record Advances (mode : Mode) (s : Setup) (before after : Run) (course : CourseState) (drawing drawings : Drawing) (old new : Option (List ℕ)) : Type 0 where
+pub record Advances (mode : Mode) (s : Setup) (before after : Run) (course : CourseState) (drawing drawings : RunDrawing) (old new : Option (List ℕ)) : Type 0 where
   pub follows : Follows course after
   pub setup : course.world.setup ≡ s
-  pub drawn : HasDrawn mode s before.happened (kept drawing.canvas) old after.happened drawings new
+  pub drawn : HasDrawnRun mode s (parts_of s before.happened) (kept drawing.drawing.canvas) old after.happened drawings new
 
 -- a line of a scenario has made all its turns, whatever has happened before
-abbrev pub DrawsLine : Line → CourseState → CourseState → Drawing → Drawing → Option (List ℕ) → Option (List ℕ) → Type 0
+abbrev pub DrawsLine : Line → CourseState → CourseState → RunDrawing → RunDrawing → Option (List ℕ) → Option (List ℕ) → Type 0
 DrawsLine line old new drawing drawings taken then =
-    (mode : Mode) (run : Run) → Follows old run → Counts old.world.setup run.happened drawing.summary → Recalls mode old.world.setup run.happened drawing.store drawing.canvas →
+    (mode : Mode) (run : Run) → Follows old run → Counts old.world.setup run.happened (tally drawing) → Recalls mode old.world.setup (parts_of old.world.setup run.happened) drawing.drawing →
     Advances mode old.world.setup run (run_after old.world.setup line run) new drawing drawings taken then
 
 -- How `draw` ends: where it ends well, what was written is a picture of the whole run; after a fault of the input nothing was written.

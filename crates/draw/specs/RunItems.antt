@@ -1,72 +1,54 @@
--- What a run gives its picture, item by item: its lines, and the reads that writes overlapped.
-use Rattle.std.specs.Prelude.{ℕ, zero, suc, ◌+◌, ◌-◌, List, [], ◌∷◌, ◌++◌, length, map, Option, None, Some}
+-- The items of a run's picture: its lines, and the reads that writes overlapped.
+use Rattle.std.specs.Prelude.{ℕ, suc, ◌+◌, ◌-◌, List, [], ◌∷◌, ◌++◌, length, map, Option, None, Some}
 use Rattle.plain_store.specs.{Setup}
 use Rattle.record.specs.{Entry, Past, Refusal, entry_of, process_of, refused}
 use Rattle.record.specs.declared.refusals.Refusal.TheVariants.{NoProcess}
 use Rattle.scenario.specs.{Script, open_words, setup_words}
 use Rattle.scenario.specs.declared.lines.Line.{Line as ScenarioLine}
 use Rattle.course.specs.{Happening, Lacks, Looks, Run, Summary, Tires, Tries, happenings, newest_store, newest_words, past_after, run_after, run_at_start, summary_of}
-use Rattle.picture.specs.columns.{OverlappedRead}
 use Rattle.picture.specs.declared.reads.Reads.{Reads as Mode}
-use Rattle.draw.specs.Items.{Gives, Says, SaysEnd, SaysRefusal, SaysStore, SaysTired, lines_given, marks_back, says_marks, waiting}
-use Rattle.draw.specs.Overlaps.{overlapped_by}
+use Rattle.draw.specs.Items.{Gives, Part, PartEntry, PartLine, Says, SaysEnd, SaysRefusal, SaysStore, SaysTired, given_last, lines_given, reads_since}
 
--- what is said of what happens, against what has happened before: the marks of the entry that an event adds, or why it adds none
-abbrev pub said_of_event : Setup → Past → ℕ → Option Refusal → Option Entry → List Says
-said_of_event s past p refusal (Some e) = says_marks s e.process (marks_back past) e.marks
-said_of_event s past p (Some refusal) None = SaysRefusal p refusal ∷ []
-said_of_event s past p None None = []
+-- the part that an event becomes: the entry that it adds, or the reason why it adds none
+abbrev pub part_of_event : ℕ → Option Refusal → Option Entry → List Part
+part_of_event p refusal (Some e) = PartEntry e ∷ []
+part_of_event p (Some refusal) None = PartLine (SaysRefusal p refusal) ∷ []
+part_of_event p None None = []
 
-abbrev pub said_at : Setup → List Happening → Happening → List Says
-said_at s before (Tries event) = said_of_event s (past_after s before) (process_of event) (refused s (past_after s before) event) (entry_of s (past_after s before) event)
-said_at s before (Lacks p) = SaysRefusal p NoProcess ∷ []
-said_at s before (Tires p) = SaysTired p ∷ []
-said_at s before Looks = SaysStore (newest_words (newest_store s (past_after s before))) ∷ []
+-- the part that a happening becomes after these entries
+abbrev pub parts_at : Setup → Past → Happening → List Part
+parts_at s past (Tries event) = part_of_event (process_of event) (refused s past event) (entry_of s past event)
+parts_at s past (Lacks p) = PartLine (SaysRefusal p NoProcess) ∷ []
+parts_at s past (Tires p) = PartLine (SaysTired p) ∷ []
+parts_at s past Looks = PartLine (SaysStore (newest_words (newest_store s past))) ∷ []
 
--- the overlapped read that ends with what happens, if one does
-abbrev pub read_at : Setup → List Happening → Happening → List OverlappedRead
-read_at s before (Tries event) = elim (entry_of s (past_after s before) event) [ None ↦ [] | Some e ↦ overlapped_by s (past_after s before) e ]
-read_at s before (Lacks p) = []
-read_at s before (Tires p) = []
-read_at s before Looks = []
+-- the parts of a run
+abbrev pub parts_of : Setup → List Happening → List Part
+parts_of s [] = []
+parts_of s (this ∷ before) = parts_at s (past_after s before) this ++ parts_of s before
 
--- the overlapped reads that have ended since the last line, in their order
-abbrev pub reads_since : Setup → List Happening → List OverlappedRead
-reads_since s [] = []
-reads_since s (this ∷ before) = waiting (said_at s before this) (reads_since s before ++ read_at s before this)
+-- the items that parts give which a line of the printed scenario has added to others
+abbrev pub given_from : Mode → Setup → ℕ → List Part → List Part → List Gives
+given_from mode s n before parts = given_last mode s n (length parts - length before) parts
 
--- what is given by what happens, by this line of the printed scenario
-abbrev pub given_at : Mode → Setup → ℕ → List Happening → Happening → List Gives
-given_at mode s n before this = lines_given mode n (length (past_after s before)) (reads_since s before ++ read_at s before this) (said_at s before this)
-
--- by so many things that happened last
-abbrev pub given_last : Mode → Setup → ℕ → ℕ → List Happening → List Gives
-given_last mode s n zero happened = []
-given_last mode s n (suc k) [] = []
-given_last mode s n (suc k) (this ∷ before) = given_last mode s n k before ++ given_at mode s n before this
-
--- by all that a line does
-abbrev pub given_from : Mode → Setup → ℕ → List Happening → List Happening → List Gives
-given_from mode s n before happened = given_last mode s n (length happened - length before) happened
-
--- by lines of a scenario, the first of which has this number among those of the printed one
+-- the items of lines of a scenario, the first of which has this number among those of the printed one
 abbrev pub given_by : Mode → Setup → ℕ → List ScenarioLine → Run → List Gives
 given_by mode s n [] run = []
-given_by mode s n (line ∷ lines) run = given_from mode s n run.happened (run_after s line run).happened ++ given_by mode s (suc n) lines (run_after s line run)
+given_by mode s n (line ∷ lines) run = given_from mode s n (parts_of s run.happened) (parts_of s (run_after s line run).happened) ++ given_by mode s (suc n) lines (run_after s line run)
 
--- what the end says
+-- the last line
 abbrev pub says_end : Summary → Says
 says_end summary = SaysEnd summary.events summary.taken summary.refused
 
--- at the end, by the line of the printed scenario behind its last one
+-- the items of the end, which the line after the last one of the printed scenario makes
 abbrev pub given_at_end : Mode → Setup → ℕ → List Happening → List Gives
-given_at_end mode s n happened = lines_given mode n (length (past_after s happened)) (reads_since s happened) (says_end (summary_of s happened) ∷ [])
+given_at_end mode s n happened = lines_given mode n (length (past_after s happened)) (reads_since s (parts_of s happened)) (says_end (summary_of s happened) ∷ [])
 
--- the number of the first line of a printed scenario behind its headings and opening pairs, from 1
+-- the number of the first line of a printed scenario after its headings and opening pairs, from 1
 abbrev pub first_line : Setup → ℕ
 first_line s = length (setup_words s ++ map open_words s.opening) + 1
 
--- by a whole run
+-- the items of a whole run
 abbrev pub run_given : Mode → Script → List Gives
 run_given mode script =
     given_by mode script.setup (first_line script.setup) script.lines run_at_start ++ given_at_end mode script.setup (first_line script.setup + length script.lines) (happenings script)

@@ -1,5 +1,5 @@
 -- What stands while a record is read and drawn line by line, and how that ends.
-use Rattle.std.specs.Prelude.{◌≡◌, ◌<◌, ◌+◌, ℕ, true, List, [], ◌∷◌, ◌++◌, codes, flat_map, reverse, Option, None, Some, IfSome, Result, Ok, Err}
+use Rattle.std.specs.Prelude.{◌≡◌, ◌<◌, ℕ, true, List, [], ◌∷◌, ◌++◌, codes, flat_map, reverse, Option, None, Some, IfSome, Result, Ok, Err}
 use Rattle.std.specs.Io.KnownBytes.{IsAtEnd, Keeps}
 use Rattle.scenario.specs.files.Engines.{Streams}
 use Rattle.scenario.specs.files.{Fault, FaultKind, UnlessMemory}
@@ -14,10 +14,11 @@ use Rattle.picture.specs.columns.{marks_in, marks_said}
 use Rattle.picture.specs.declared.page.Form.TheVariants as form
 use Rattle.picture.specs.declared.reads.Reads.{Reads as Mode}
 use Rattle.picture.specs.markup.{lines_in, opens_in}
-use Rattle.draw.specs.RecordDrawings.{RecordRecalls}
-use Rattle.draw.specs.RecordItems.{record_end, record_given, record_gives, record_lines, source_of}
-use Rattle.draw.specs.Canvases.{DrawsBands, DrawsOn, Writes, kept, kept_at_first, plan_of}
-use Rattle.draw.specs.Items.{given}
+use Rattle.draw.specs.Drawings.{HasDrawn}
+use Rattle.draw.specs.Overlaps.{Watches}
+use Rattle.draw.specs.RecordItems.{entry_parts, record_end, record_gives, record_lines, source_of}
+use Rattle.draw.specs.Canvases.{DrawsBands, Writes, kept_at_first, plan_of}
+use Rattle.draw.specs.Items.{entries_among, given, given_all}
 use Rattle.draw.specs.StoreChanges.{store_words}
 use Rattle.draw.specs.declared.records.drawing.RecordDrawing.{RecordDrawing}
 use Rattle.draw.specs.declared.records.sheet.DrawnEntry.{DrawnEntry}
@@ -83,11 +84,11 @@ Heads reads (form.Picture top) s old new = new ≡ old
 
 -- these entries of a record with this setup are drawn, but for what is held back
 pub record IsDrawn (reads : Mode) (form : Form) (s : Setup) (past : Past) (d : RecordDrawing) (old new : Option (List ℕ)) : Type 0 where
-  pub last : d.last ≡ source_of s + 1
-  pub recalls : RecordRecalls reads s past d
+  pub source : d.drawing.source ≡ source_of s
+  pub watches : Watches reads s (entries_among (entry_parts past)) d.watch.watch
   pub mid : Option (List ℕ)
   pub heads : Heads reads form s old mid
-  pub draws : DrawsOn (kept_at_first (plan_of form s)) (kept d.canvas) mid new (record_given reads s (source_of s) past)
+  pub drawn : HasDrawn reads s [] (kept_at_first (plan_of form s)) mid (entry_parts past) d.drawing new
 
 -- the same by what there is: before the first entry nothing was written
 abbrev pub DrawsPast : Mode → Form → Option RecordDrawing → Setup → Past → Option (List ℕ) → Option (List ℕ) → Type 0
@@ -122,13 +123,13 @@ LineStops fault.Read number says = ⊥
 -- how many entries were drawn
 abbrev pub entries_of : Option RecordDrawing → ℕ
 entries_of None = 0
-entries_of (Some d) = d.entries
+entries_of (Some d) = d.drawing.entries
 
 -- all bands of these entries and of what a judge tells were written, and a page's front before them
 pub record EndsAt (reads : Mode) (form : Form) (s : Setup) (past : Past) (told : List ℕ) (height : ℕ) (old new : Option (List ℕ)) : Type 0 where
   pub mid : Option (List ℕ)
   pub heads : Heads reads form s old mid
-  pub bands : DrawsBands (plan_of form s) mid new (record_given reads s (source_of s) past ++ record_end reads s (source_of s) past told) height
+  pub bands : DrawsBands (plan_of form s) mid new (given_all reads s (source_of s) (entry_parts past) ++ record_end reads s (source_of s) past told) height
 
 -- the same of a record
 pub record DrawsBandsOf (reads : Mode) (form : Form) (drawn : DrawnEntry) (old new : Option (List ℕ)) (said : Said) (told : List ℕ) : Type 0 where

@@ -1,4 +1,5 @@
-//! A page whose bands are written as they are full, with the overlapped reads that it shows.
+//! The canvas of a picture: a page that writes each band as soon as the band is full, and the overlapped reads that it
+//! shows.
 ghost use Rattle.std.specs.Prelude.{◌≡◌, ◌+◌, ◌-◌, ◌^◌, ◌<◌, List, [], ◌∷◌, ◌++◌, is_some, length, map, IfErr, IfOk, OnOk, Ok};
 ghost use Rattle.plain_store.specs.{checked};
 ghost use Rattle.plain_store.specs.declared.setups.Setup.{Setup as Given};
@@ -21,7 +22,7 @@ use record::{Access, Mark};
 use scenario::{Fault, Sink};
 use std::alloc::{AllocError, Global};
 
-/// The picture of a run or of a record, on its way.
+/// The page of a picture so far, with the overlapped reads that it shows.
 #[derive(Drop)]
 pub struct Canvas {
     alloc: Global,
@@ -31,7 +32,11 @@ pub struct Canvas {
 }
 
 impl Canvas {
-    /// Before the first line, where this is the opening store.
+    /// Creates a canvas without lines, where `store` is the opening store.
+    ///
+    /// # Errors
+    ///
+    /// Returns [`AllocError`] if memory is lacking.
     pub fn new(
         alloc: Global,
         setup: &Setup,
@@ -54,7 +59,7 @@ impl Canvas {
         })
     }
 
-    /// Whether overlapped reads are shown.
+    /// Returns whether overlapped reads are shown.
     #[inline(always)]
     pub fn shows_reads(&self) -> bool
         ensures { result ≡ is_some self.now.overlaps }
@@ -62,8 +67,12 @@ impl Canvas {
         self.overlaps.is_some()
     }
 
-    /// Hears an entry with this number by its access, and whether that ends an overlapped read, if reads are shown; nothing is
-    /// drawn.
+    /// Observes the entry with this number by its access. If reads are shown, `overlapped` is whether the access ends an
+    /// overlapped read. Nothing is drawn.
+    ///
+    /// # Errors
+    ///
+    /// Returns [`AllocError`] if memory is lacking.
     #[inline(always)]
     pub fn hear(
         &mut self,
@@ -110,7 +119,7 @@ impl Canvas {
         Ok(())
     }
 
-    /// Draws a mark of an entry.
+    /// Draws one mark of an entry.
     fn draw_mark<W: Sink>(
         &mut self,
         store: &mut TakenStore,
@@ -136,7 +145,7 @@ impl Canvas {
         self.draw(RunLine { source, at, saying }, output)
     }
 
-    /// Draws a line, and before it the reads that were overlapped since the line before; writes each band that is full.
+    /// Draws the overlapped reads that have ended since the last line and then a line, and writes each band that is full.
     pub fn draw<W: Sink>(&mut self, line: RunLine, output: &mut W) -> Result<(), Fault>
         requires { W.failures output.old < 2 ^ 64 - 1 }
         ensures ok { OnOk result (DrawsLines self.old self.new (W.taken output.old) (W.taken output.new) line.source line.at (says_of line.saying ∷ [])) }
@@ -148,7 +157,7 @@ impl Canvas {
         write_band(&full, output)
     }
 
-    /// Draws the reads that were overlapped since the last line, which are no lines.
+    /// Draws the overlapped reads that have ended since the last line. A read is not a line.
     fn draw_reads<W: Sink>(&mut self, output: &mut W) -> Result<(), Fault>
         requires { W.failures output.old < 2 ^ 64 - 1 }
         ensures ok { OnOk result ((mode : Mode) (s : Given) (past : Past) (reads : List Ended) → Overhears mode s past reads self.old.overlaps → DrawsOn (kept self.old) (kept self.new) (W.taken output.old) (W.taken output.new) (map GivesRead (shown_of mode reads)) × Overhears mode s past [] self.new.overlaps) }
@@ -162,7 +171,7 @@ impl Canvas {
         Ok(())
     }
 
-    /// Draws a read, and writes the band that it does not fit into, if it does not.
+    /// Draws a read, and writes the band before it if the band has no room for the read.
     fn draw_read<W: Sink>(&mut self, read: &OverlappedRead, output: &mut W) -> Result<(), Fault>
         requires { W.failures output.old < 2 ^ 64 - 1 }
         ensures ok { OnOk result (DrawsOn (kept self.old) (kept self.new) (W.taken output.old) (W.taken output.new) (GivesRead read.now ∷ [])) }
@@ -174,7 +183,7 @@ impl Canvas {
         write_band(&full, output)
     }
 
-    /// Draws the last line, and writes what is held back; answers the heights of all bands, with 16 more for each.
+    /// Draws the last line, writes what is held back, and returns the heights of all bands, with 16 more for each.
     pub fn end<W: Sink>(&mut self, line: RunLine, output: &mut W) -> Result<u64, Fault>
         requires { W.failures output.old < 2 ^ 64 - 1 }
         ensures ok { IfOk result (DrawsLast self.old (W.taken output.old) (W.taken output.new) line.source line.at (says_of line.saying ∷ [])) }

@@ -13,6 +13,7 @@
 #![tactic(auto)]
 
 mod canvas;
+mod drawing;
 mod laws_of_pictures;
 mod overlaps;
 mod read_watch;

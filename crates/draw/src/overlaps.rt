@@ -1,4 +1,4 @@
-//! The reads of a run or of a record that writes overlap, each with the entries with which it began and ended.
+//! The overlapped reads of a run or of a record, each with the entries with which it began and ended.
 ghost use Rattle.std.specs.Prelude.{◌≡◌, ◌<◌, ◌&&◌, ℕ, cond, [], ◌∷◌, ◌++◌, List, get_or, length, nat_lt, set, IfOk, IfSome, None, Ok, OnOk, Some};
 ghost use Rattle.std.specs.Option.{option_to_list};
 ghost use Rattle.record.specs.safe_bit.declared.Move.TheVariants.{EndRead};
@@ -14,28 +14,32 @@ use plain_store::{NestedTypes, Setup};
 use record::{Access, Field, Move};
 use std::alloc::{AllocError, Global};
 
-/// How many reads are shown between two lines of the picture.
+/// The number of reads that are shown between two lines of the picture.
 const MOST_SHOWN: usize = 3;
 
-/// A read that has begun: with which entry, and by which access.
+/// A read that has begun, with the number of its first entry and its access.
 #[derive(Clone, Copy)]
 pub(crate) struct BegunRead {
     pub entry: u64,
     pub access: Access,
 }
 
-/// The reads that have begun, and the overlapped ones that have ended since the last line.
+/// The reads that have begun, and the overlapped reads that have ended since the last line.
 #[derive(Drop)]
 pub(crate) struct OverlapsHeard {
     setup: Setup,
     /// The last read of each process that has begun.
     begun: [Option<BegunRead>; 16],
-    /// The overlapped reads since the last line, of which so many are shown.
+    /// The first [`MOST_SHOWN`] overlapped reads since the last line.
     ended: Vec<OverlappedRead>,
 }
 
 impl OverlapsHeard {
-    /// One that has heard nothing, if reads are shown.
+    /// Creates a list without reads, if reads are shown.
+    ///
+    /// # Errors
+    ///
+    /// Returns [`AllocError`] if memory is lacking.
     pub fn new(
         alloc: Global,
         setup: &Setup,
@@ -55,8 +59,12 @@ impl OverlapsHeard {
         }))
     }
 
-    /// Hears an entry with this number by its access, if it has one, and whether that ends an overlapped read. It is a function
-    /// of its own, so that where no reads are shown nothing is called.
+    /// Observes the entry with this number by its access, if it has one; `overlapped` is whether the access ends an
+    /// overlapped read. It is never inlined, so that nothing is called if no reads are shown.
+    ///
+    /// # Errors
+    ///
+    /// Returns [`AllocError`] if memory is lacking.
     #[inline(never)]
     pub fn hear(
         &mut self,
@@ -75,7 +83,7 @@ impl OverlapsHeard {
         self.keep(number, access, overlapped)
     }
 
-    /// Keeps that a read begins, and that an overlapped one ends.
+    /// Records that a read begins, or that an overlapped read ends.
     fn keep(&mut self, number: u64, access: Access, overlapped: bool) -> Result<(), AllocError>
         ensures setup { self.new.setup ≡ self.old.setup }
         ensures room { OnOk result (length self.old.begun ≡ 16 → length self.new.begun ≡ 16) }
@@ -95,7 +103,7 @@ impl OverlapsHeard {
         }
     }
 
-    /// A read of a process begins.
+    /// Records that a process begins a read.
     fn begin(&mut self, entry: u64, access: Access)
         ensures { self.new ≡ record self.old { begun = set self.old.begun access.reader (Some (record { entry = entry; access = access })) } }
     {
@@ -105,7 +113,7 @@ impl OverlapsHeard {
         }
     }
 
-    /// The last read of a process that has begun.
+    /// Returns the last read of a process that has begun.
     fn begun_last(&self, reader: u8) -> Option<BegunRead>
         ensures { result ≡ get_or self.now.begun reader None }
     {
@@ -115,7 +123,8 @@ impl OverlapsHeard {
         }
     }
 
-    /// The read that an access ends with this value, if it is overlapped, and the last one of its process that has begun.
+    /// Returns the read that an access ends with this value, if the read is overlapped and is the last one of its process
+    /// that has begun.
     fn ended_by(
         &self,
         is_overlapped: bool,
@@ -136,7 +145,7 @@ impl OverlapsHeard {
         Some(self.read_of(begun.entry, number, access, value))
     }
 
-    /// The read that an access ends with this value, which began with that entry.
+    /// Returns the read that an access ends with this value and that began with the entry `begin`.
     fn read_of(&self, begin: u64, end: u64, access: &Access, value: bool) -> OverlappedRead
         ensures read { checked self.now.setup ≡ Ok tt → access.now.how ≡ EndRead value → result ≡ read_ended self.now.setup begin end access.now }
         ensures alone { result.more ≡ 0 }
@@ -154,7 +163,11 @@ impl OverlapsHeard {
         }
     }
 
-    /// Adds a read to those that are shown, or counts it.
+    /// Adds a read to those that are shown, or counts it if there are enough.
+    ///
+    /// # Errors
+    ///
+    /// Returns [`AllocError`] if memory is lacking.
     fn add(&mut self, read: OverlappedRead) -> Result<(), AllocError>
         ensures setup { self.new.setup ≡ self.old.setup }
         ensures begun { self.new.begun ≡ self.old.begun }
@@ -168,7 +181,7 @@ impl OverlapsHeard {
     }
 }
 
-/// The overlapped reads since the last line; then there are none.
+/// Removes the overlapped reads since the last line and returns them.
 pub(crate) fn take_ended(alloc: Global, overlaps: &mut Option<OverlapsHeard>) -> Vec<OverlappedRead>
     ensures reads { (mode : Mode) (s : Given) (past : Past) (reads : List Ended) → Overhears mode s past reads overlaps.old → result.items ≡ shown_of mode reads }
     ensures none { (mode : Mode) (s : Given) (past : Past) (reads : List Ended) → Overhears mode s past reads overlaps.old → Overhears mode s past [] overlaps.new }
@@ -179,7 +192,7 @@ pub(crate) fn take_ended(alloc: Global, overlaps: &mut Option<OverlapsHeard>) ->
     }
 }
 
-/// Whether a register has more than one bit.
+/// Returns whether a register has more than one bit.
 fn is_wide(setup: &Setup, field: Field) -> bool
     ensures { checked setup.now ≡ Ok tt → result ≡ nat_lt 1 (width setup.now field) }
 {

@@ -1,4 +1,4 @@
-//! Which accesses of a record end reads that writes overlap.
+//! The watch that finds the overlapped reads of a record.
 ghost use Rattle.std.specs.Prelude.{◌≡◌, [], ◌∷◌, IfOk, Ok};
 ghost use Rattle.plain_store.specs.{checked};
 ghost use Rattle.plain_store.specs.declared.setups.Setup.{Setup as Given};
@@ -12,8 +12,8 @@ use plain_store::Setup;
 use record::Access;
 use std::alloc::{AllocError, Global};
 
-/// A watch that goes along with the entries of a record, if reads are shown. A run needs none: its memory reports which reads
-/// are overlapped.
+/// A watch that observes the entries of a record, if reads are shown. A run needs none, because its memory reports which
+/// reads are overlapped.
 #[derive(Drop)]
 pub struct ReadWatch {
     watch: Option<Watch>,
@@ -36,8 +36,8 @@ impl ReadWatch {
         Ok(ReadWatch { watch })
     }
 
-    /// Goes on by the access of the next entry, and returns whether it ends an overlapped read; where reads are hidden, it
-    /// returns `false`.
+    /// Observes the access of the next entry, and returns whether it ends an overlapped read. It returns `false` if no reads
+    /// are shown.
     pub fn hear(&mut self, access: Option<Access>) -> bool
         ensures { (mode : Mode) (s : Given) (past : Past) (e : Entry) → e.access ≡ access →
             Watches mode s past self.old.watch →

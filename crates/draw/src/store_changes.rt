@@ -1,4 +1,4 @@
-//! What the commands taken change in the one-thread store beside a picture, and how that is shown.
+//! What the commands taken change in the one-thread store of a picture, and how a picture shows it.
 ghost use Rattle.std.specs.Prelude.{◌≡◌, Ok, IfOk, OnOk, option_map};
 ghost use Rattle.std.specs.String.{string_bytes};
 ghost use Rattle.plain_store.specs.{after, changes, name_of, value_at};
@@ -8,7 +8,7 @@ use picture::TakenChange;
 use plain_store::{Caller, Command, Name, NestedTypes, Store, Value};
 use std::alloc::{AllocError, Global};
 
-/// Applies a command of a caller, and returns what it changed, if it changed something.
+/// Applies a command of a caller, and returns what it changed, or `None` if it changed nothing.
 pub(crate) fn apply<S: Store>(
     alloc: Global,
     store: &mut S,
@@ -27,7 +27,7 @@ pub(crate) fn apply<S: Store>(
     Ok(Some(change_shown(alloc, store, command)?))
 }
 
-/// What a command changed that was just applied.
+/// Returns what a command changed that was just applied.
 fn change_shown<S: Store>(
     alloc: Global,
     store: &S,
@@ -41,7 +41,7 @@ fn change_shown<S: Store>(
     })
 }
 
-/// Whether the command would change the store.
+/// Returns whether the command would change the store.
 #[tactic(auto, using(plain_store::proofs::Changes::changes_differs))]
 fn would_change<S: Store>(store: &S, command: &Command) -> bool
     ensures { result ≡ changes (S.contents store.now) command.now }
@@ -49,7 +49,7 @@ fn would_change<S: Store>(store: &S, command: &Command) -> bool
     store.would_change(command)
 }
 
-/// The pair of the command's name, as `NAME=VALUE`; nothing where the name has no value.
+/// Returns the pair of the command's name, as `NAME=VALUE`, or nothing if the name has no value.
 fn pair<S: Store>(alloc: Global, store: &S, command: &Command) -> Result<String, AllocError>
     ensures { IfOk result (λ words. string_bytes words ≡ pair_words (S.contents store.now).pairs (name_of command.now)) }
 {
@@ -62,7 +62,7 @@ fn pair<S: Store>(alloc: Global, store: &S, command: &Command) -> Result<String,
     Ok(String::new(alloc))
 }
 
-/// The value of a name, if it has one.
+/// Returns the value of a name, or `None` if it has none.
 fn value_of<S: Store>(store: &S, name: &Name) -> Option<Value>
     ensures { result ≡ value_at (S.contents store.now).pairs name.now }
 {
@@ -75,14 +75,14 @@ fn value_of<S: Store>(store: &S, name: &Name) -> Option<Value>
     None
 }
 
-/// The store's pairs, with single spaces between them, or that it is empty.
+/// Returns the store's pairs with single spaces between them, or that the store is empty.
 pub(crate) fn store_words<S: Store>(alloc: Global, store: &S) -> Result<Vec<u8>, AllocError>
     ensures { IfOk result (λ words. words.items ≡ words_of_store (S.contents store.now)) }
 {
     Ok(plain_store::store_words(alloc, store)?.into_bytes())
 }
 
-/// The same, and nothing where it is empty.
+/// Returns the store's pairs with single spaces between them, or nothing if the store is empty.
 #[tactic(auto, using(crate::proofs::Shown::words_none, crate::proofs::Shown::words_some))]
 pub(crate) fn words_by_pairs<S: Store>(alloc: Global, store: &S) -> Result<Vec<u8>, AllocError>
     ensures { IfOk result (λ words. words.items ≡ words_by (S.contents store.now).pairs) }

@@ -1,4 +1,4 @@
-//! What stands around the bands of one picture, and behind those of a page.
+//! The markup before and after the bands of one picture, and after those of a page.
 ghost use Rattle.std.specs.Prelude.{◌≡◌, [], IfOk, Ok, Some};
 ghost use Rattle.plain_store.specs.{checked, opening_store};
 ghost use Rattle.picture.specs.{page_back, page_names, picture_back, picture_front, picture_names};
@@ -11,7 +11,11 @@ use picture::{Markup, Reads, page_end, picture_end, picture_head};
 use plain_store::{PlainStore, Setup, opened};
 use std::alloc::{AllocError, Global};
 
-/// What one picture has before its bands, whose heights come to so much, and what it has behind them.
+/// Returns the markup before and after the bands of one picture; `height` is the sum of their heights.
+///
+/// # Errors
+///
+/// Returns [`AllocError`] if memory is lacking.
 pub fn around_picture(
     alloc: Global,
     setup: &Setup,
@@ -27,7 +31,11 @@ pub fn around_picture(
     Ok((head, end))
 }
 
-/// What a page has behind its bands: a slider, which shows the opening store at first.
+/// Returns the markup after the bands of a page: a slider, which shows the opening store at first.
+///
+/// # Errors
+///
+/// Returns [`AllocError`] if memory is lacking.
 pub fn end_of_page(alloc: Global, setup: &Setup) -> Result<Markup, AllocError>
     requires { checked setup.now ≡ Ok tt }
     ensures back { IfOk result (λ markup. markup ≡ page_back (words_of_store (opening_store setup.now))) }

@@ -1,4 +1,4 @@
-//! How markup is written.
+//! Writing markup.
 ghost use Rattle.std.specs.Prelude.{◌≡◌, ◌+◌, ◌-◌, ◌^◌, ◌<◌, ◌++◌, IfErr, IfSome, OnOk};
 ghost use Rattle.picture.specs.markup.{EndsAll, lines_in};
 ghost use Rattle.picture.specs.{band_text, lines_of_band};
@@ -9,6 +9,10 @@ use picture::Markup;
 use scenario::{Fault, Sink, write_all};
 
 /// Writes markup.
+///
+/// # Errors
+///
+/// Returns [`Fault::Write`] if a call of the sink fails, and [`Fault::Memory`] if memory is lacking.
 #[tactic(auto, using(crate::proofs::Drawn::draws_bytes, crate::proofs::Drawn::writes_bytes))]
 pub fn write_markup<W: Sink>(markup: &Markup, output: &mut W) -> Result<(), Fault>
     requires { W.failures output.old < 2 ^ 64 - 1 }
@@ -20,7 +24,7 @@ pub fn write_markup<W: Sink>(markup: &Markup, output: &mut W) -> Result<(), Faul
     write_all(output, markup.as_slice())
 }
 
-/// Writes a band, if there is one.
+/// Writes a band, if one is given.
 #[tactic(auto, using(crate::proofs::Drawn::draws_no_band))]
 pub(crate) fn write_band<W: Sink>(band: &Option<Markup>, output: &mut W) -> Result<(), Fault>
     requires { W.failures output.old < 2 ^ 64 - 1 }
@@ -34,7 +38,7 @@ pub(crate) fn write_band<W: Sink>(band: &Option<Markup>, output: &mut W) -> Resu
     }
 }
 
-/// Writes a band, if there is one, and the last one behind it.
+/// Writes a band, if one is given, and then the last band.
 pub(crate) fn write_last<W: Sink>(
     band: &Option<Markup>,
     last: &Markup,

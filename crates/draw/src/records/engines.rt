@@ -1,4 +1,4 @@
-//! The two engines.
+//! The commands `draw` and `draw-svg` for records.
 ghost use Rattle.std.specs.Prelude.{◌≡◌, ◌+◌, ◌-◌, ◌^◌, ◌<◌, ℕ, [], false, IfErr, IfOk, IfSome, List, None, Ok, OnOk, Option, Some};
 ghost use Rattle.plain_store.specs.{checked};
 ghost use Rattle.std.specs.Io.KnownBytes.{IsAtEnd};
@@ -24,19 +24,25 @@ use picture::{FIRST_BAND, Form, Reads};
 use scenario::{Fault, FaultKind, Sink, Source, write_all};
 use std::alloc::{AllocError, Global};
 
-/// Which judge hears a record while it is drawn: the one of this project's lock, or the one of any lock.
+/// The judge that observes a record while it is drawn: that of this project's lock, or that of any lock.
 #[derive(Clone, Copy)]
 pub enum JudgedBy {
     ThisLock,
     AnyLock,
 }
 
-/// Reads a record file line by line, and writes the page of what it says: a picture in bands, each written when it is full.
-/// So it holds a line, a block and a band, however long the file is. Where it ends well, what was written is the page of
-/// what the record gives, item by item, and nothing else: a line for each mark of its entries, with what its command
-/// changes in the one-thread store, and, if they are to be shown, the reads that writes overlapped. The titles of the
-/// marks, read back, are the marks of the record in their order, and a last line; the tags fit, and no element is open at
-/// the end. The record may be good or bad. A fault of the file is the one that judging it has.
+/// Reads a record file line by line, and writes the page of the record: a picture in bands, each of which is written when it
+/// is full. So it stores a line, a block and a band, however long the file is.
+///
+/// If it succeeds, the output is the page of the items that the record gives, and nothing else. These items are a line for
+/// each mark of the entries, with what its command changes in the one-thread store, and the overlapped reads, if they are to
+/// be shown. The titles of the marks, read back, are the marks of the record in their order, and a last line. The tags
+/// match, and no element is open at the end. The record may be good or bad.
+///
+/// # Errors
+///
+/// Returns the fault that judging the file has, if the file has one; the start of the page may then have been written.
+/// Returns [`Fault::Read`] and [`Fault::Write`] if a call of a stream fails, and [`Fault::Memory`] if memory is lacking.
 pub fn draw_record<R: Source, W: Sink>(
     alloc: Global,
     reads: Reads,
@@ -53,8 +59,13 @@ pub fn draw_record<R: Source, W: Sink>(
     end_page(alloc, &drawn, output)
 }
 
-/// The same of a record that a judge hears too: the page ends with the first entry that breaks a law, and then shows what
-/// the judge tells of the whole record, line by line. The file is read to its end. Answers the judge's exit status.
+/// Does the work of [`draw_record`] for a record that a judge observes, and returns the judge's exit status. The page ends
+/// with the first entry that breaks a law, and then shows the judge's lines about the whole record. The file is read to its
+/// end.
+///
+/// # Errors
+///
+/// Returns the faults of [`draw_record`].
 pub fn draw_judged_record<R: Source, W: Sink>(
     alloc: Global,
     by: JudgedBy,
@@ -76,7 +87,7 @@ pub fn draw_judged_record<R: Source, W: Sink>(
     }
 }
 
-/// The same, by any judge.
+/// Does the work of [`draw_judged_record`] by any judge.
 fn judged_page<H: Judging, R: Source, W: Sink>(
     alloc: Global,
     reads: Reads,
@@ -94,7 +105,7 @@ fn judged_page<H: Judging, R: Source, W: Sink>(
     Ok(status)
 }
 
-/// Writes what a page has behind its bands.
+/// Writes the end of a page.
 fn end_page<W: Sink>(alloc: Global, drawn: &DrawnEntry, output: &mut W) -> Result<(), Fault>
     requires good { checked drawn.now.setup ≡ Ok tt }
     requires writes { W.failures output.old < 2 ^ 64 - 1 }
@@ -106,8 +117,13 @@ fn end_page<W: Sink>(alloc: Global, drawn: &DrawnEntry, output: &mut W) -> Resul
     write_markup(&end, output)
 }
 
-/// Reads a record file line by line, and writes one picture of what it says, which tells the same. A picture begins with
-/// its height, so its bands are held until all are drawn, and the file is not.
+/// Reads a record file line by line, and writes one picture of the record, with the items of its page. The bands are stored
+/// until all are drawn, because a picture begins with its height; the file is not stored.
+///
+/// # Errors
+///
+/// Returns the faults of [`draw_record`], after which nothing has been written, except that writing the picture may have
+/// failed.
 pub fn draw_record_svg<R: Source, W: Sink>(
     alloc: Global,
     reads: Reads,
@@ -127,7 +143,12 @@ pub fn draw_record_svg<R: Source, W: Sink>(
     }
 }
 
-/// The same of a record that a judge hears too, as on its page.
+/// Does the work of [`draw_record_svg`] for a record that a judge observes, as [`draw_judged_record`] does, and returns the
+/// judge's exit status.
+///
+/// # Errors
+///
+/// Returns the faults of [`draw_record_svg`].
 pub fn draw_judged_record_svg<R: Source, W: Sink>(
     alloc: Global,
     by: JudgedBy,
@@ -149,7 +170,7 @@ pub fn draw_judged_record_svg<R: Source, W: Sink>(
     }
 }
 
-/// The same, by any judge.
+/// Does the work of [`draw_judged_record_svg`] by any judge.
 fn judged_picture<H: Judging, R: Source, W: Sink>(
     alloc: Global,
     reads: Reads,
@@ -173,7 +194,7 @@ fn judged_picture<H: Judging, R: Source, W: Sink>(
     }
 }
 
-/// Writes one picture, whose bands are these bytes.
+/// Writes one picture, which has these bands.
 fn write_picture<W: Sink>(
     alloc: Global,
     reads: Reads,
@@ -192,7 +213,7 @@ fn write_picture<W: Sink>(
     write_markup(&end, output)
 }
 
-/// Draws the bands of the record that a file says, and before them what a page has there.
+/// Draws the bands of the record of a file, and before them the start of a page.
 fn draw_bands<R: Source, W: Sink>(
     alloc: Global,
     form: Form,
@@ -214,8 +235,8 @@ fn draw_bands<R: Source, W: Sink>(
     draw_lines(&mut lines, &mut sheet, input, output)
 }
 
-/// The same, lent what it draws with, of which nothing is used. It is a function of its own, since values that are dropped at
-/// each way out of a function are dear to prove.
+/// Does the work of [`draw_bands`] with lines and a sheet that are new. It borrows them, because a value that is dropped at
+/// each way out of a function takes long to prove.
 fn draw_lines<R: Source, W: Sink>(
     lines: &mut Lines,
     sheet: &mut Sheet,
@@ -244,8 +265,8 @@ fn draw_lines<R: Source, W: Sink>(
     }
 }
 
-/// The same of a record that a judge hears too: entries are drawn up to the first that breaks a law, and then what he tells.
-/// Answers his exit status too.
+/// Does the work of [`draw_bands`] for a record that a judge observes. It draws the entries up to the first that breaks a
+/// law, and then the judge's lines, and also returns the judge's exit status.
 fn judge_bands<H: Judging, R: Source, W: Sink>(
     alloc: Global,
     form: Form,
@@ -267,7 +288,7 @@ fn judge_bands<H: Judging, R: Source, W: Sink>(
     judge_sheet::<H, R, W>(alloc, &mut lines, &mut sheet, input, output)
 }
 
-/// The same, lent what it draws with, of which nothing is used.
+/// Does the work of [`judge_bands`] with lines and a sheet that are new.
 fn judge_sheet<H: Judging, R: Source, W: Sink>(
     alloc: Global,
     lines: &mut Lines,
@@ -293,7 +314,7 @@ fn judge_sheet<H: Judging, R: Source, W: Sink>(
     end_judged(alloc, lines, trial, sheet, output)
 }
 
-/// Hears and draws all lines, lent a fresh trial too.
+/// Judges and draws all lines, with a trial that is new.
 fn judge_lines<H: Judging, R: Source, W: Sink>(
     lines: &mut Lines,
     trial: &mut Trial<H>,
@@ -332,7 +353,7 @@ fn judge_lines<H: Judging, R: Source, W: Sink>(
     Ok(())
 }
 
-/// Draws what a judge tells, and the end, once all lines were read.
+/// Draws the judge's lines and the end, once all lines are read.
 fn end_judged<H: Judging, W: Sink>(
     alloc: Global,
     lines: &Lines,
@@ -356,7 +377,7 @@ fn end_judged<H: Judging, W: Sink>(
     }
 }
 
-/// What a judge tells of the lines that were read, unless all of these were skipped.
+/// Returns what a judge tells of the lines that were read, or `None` if all of them were skipped.
 fn telling_of<H: Judging>(alloc: Global, trial: Trial<H>) -> Result<Option<Telling>, AllocError>
     ensures { IfOk result (λ telling. (before : Option Progress) (entries : List Noted) (numbers : List ℕ) → HearerStands H.HasHeard trial.reader trial.hearer before entries numbers → TellsOfLines H.Tells telling before entries numbers) }
 {
@@ -366,7 +387,7 @@ fn telling_of<H: Judging>(alloc: Global, trial: Trial<H>) -> Result<Option<Telli
     }
 }
 
-/// A fault of drawing where bytes are held: these want memory alone.
+/// Returns the fault of a picture whose bands are stored: storing them fails only if memory is lacking.
 fn held_fault(fault: Fault) -> Fault
     ensures { result ≡ without_write fault }
 {

@@ -1,10 +1,10 @@
-//! Bytes that are held until they are wanted.
+//! Bytes that are stored until they are written.
 ghost use Rattle.std.specs.Prelude.{◌≡◌, [], Some};
 
 use scenario::{Failed, Sink};
 use std::alloc::Global;
 
-/// Where the bands of one picture go until its height is known.
+/// The sink of the bands of one picture, until its height is known.
 #[derive(Drop)]
 pub(crate) struct Held {
     bytes: Vec<u8>,
@@ -12,7 +12,7 @@ pub(crate) struct Held {
 }
 
 impl Held {
-    /// No bytes yet.
+    /// Creates a sink without bytes.
     pub fn new(alloc: Global) -> Held
         ensures bytes { result.bytes.items ≡ [] }
         ensures failures { result.failures ≡ 0 }
@@ -23,7 +23,7 @@ impl Held {
         }
     }
 
-    /// The bytes that went there.
+    /// Returns the bytes that were written to it.
     pub fn bytes(&self) -> &[u8]
         ensures { result.now ≡ self.now.bytes.items }
     {

@@ -1,10 +1,10 @@
-//! The lanes in which the lines of a judge stand.
+//! The lanes of a judge's lines.
 ghost use Rattle.std.specs.Prelude.{◌≡◌};
 ghost use Rattle.draw.specs.Judged.{bad_process as process_bad, lane_told, named_behind, number_from, told_lines};
 
 use bstr::ByteSlice;
 
-/// The process of the bad entry, which a line of a judge spells, if there is one.
+/// Returns the process of the bad entry, or `None` if no line of the judge names it.
 pub(crate) fn bad_process(told: &[u8]) -> Option<u8>
     ensures { result ≡ process_bad (told_lines told.now) }
 {
@@ -17,7 +17,7 @@ pub(crate) fn bad_process(told: &[u8]) -> Option<u8>
     None
 }
 
-/// The lane of a line: that of the process that it says to be inside, or to wait; else that of the bad entry.
+/// Returns the lane of a line: that of the process that is inside or waits by this line, otherwise that of the bad entry.
 pub(crate) fn lane_of(bad: Option<u8>, line: &[u8]) -> Option<u8>
     ensures { result ≡ lane_told bad line.now }
 {
@@ -26,7 +26,7 @@ pub(crate) fn lane_of(bad: Option<u8>, line: &[u8]) -> Option<u8>
     inside.or(waits.or(bad))
 }
 
-/// The process that a line names behind a word, if it begins with that word.
+/// Returns the process that a line names after `word`, or `None` if the line does not begin with `word`.
 fn process_behind(word: &[u8], line: &[u8]) -> Option<u8>
     ensures { result ≡ named_behind word.now line.now }
 {
@@ -40,7 +40,7 @@ fn process_behind(word: &[u8], line: &[u8]) -> Option<u8>
     Some(number_at(rest))
 }
 
-/// The number whose digits stand at the front of a text; 255 stands for more.
+/// Returns the number that a text begins with, or 255 if it is greater.
 #[tactic(auto, using(crate::proofs::Lanes::digit_next, crate::proofs::Lanes::digits_end))]
 fn number_at(text: &[u8]) -> u8
     ensures { result ≡ number_from 0 text.now }

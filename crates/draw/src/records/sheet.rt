@@ -17,7 +17,7 @@ use record::Entry;
 use scenario::{Fault, FaultKind, LineFault, Sink};
 use std::alloc::{AllocError, Global};
 
-/// What was read of a record file, and the picture of its entries, once there is one.
+/// What was read of a record file, and the picture of its entries, once it has one.
 #[derive(Drop)]
 pub(crate) struct Sheet {
     alloc: Global,
@@ -27,7 +27,7 @@ pub(crate) struct Sheet {
     drawing: Option<RecordDrawing>,
 }
 
-/// What was drawn: the record's setup, and the heights of the bands.
+/// The record's setup, and the heights of the bands that were drawn.
 #[derive(Drop)]
 pub(crate) struct DrawnEntry {
     pub setup: Setup,
@@ -35,7 +35,7 @@ pub(crate) struct DrawnEntry {
 }
 
 impl Sheet {
-    /// Nothing was read.
+    /// Creates a sheet of which nothing is read.
     pub fn new(alloc: Global, form: Form, reads: Reads) -> Sheet
         ensures form { result.form ≡ form }
         ensures reads { result.reads ≡ reads }
@@ -51,8 +51,13 @@ impl Sheet {
         }
     }
 
-    /// One more line, with its number, which is not too long. It stands in its caller's loop: a call and its answer would cost
-    /// as much as hearing a Step.
+    /// Reads and draws one more line, with its number. It is a part of its caller's loop, because a call would cost as much
+    /// as a Step.
+    ///
+    /// # Errors
+    ///
+    /// Returns the fault of the line, if it has one. Returns [`Fault::Write`] if a call of the sink fails, and
+    /// [`Fault::Memory`] if memory is lacking.
     #[inline(always)]
     pub fn read<W: Sink>(&mut self, number: u64, line: &[u8], output: &mut W) -> Result<(), Fault>
         requires short { length line.now ≤ 128 }
@@ -74,9 +79,9 @@ impl Sheet {
         self.shown_line(number, line, output)
     }
 
-    /// The same where reads are shown, or nothing is drawn yet. It stands beside the other: where no reads are shown, nobody asks
-    /// which access a Step made, and so the compiler keeps of `read_step` only the test that the line is one. It is a call: with
-    /// both, the caller would be too large to be a part of the loop.
+    /// Reads a line where reads are shown or nothing is drawn yet. [`Sheet::read`] has a branch of its own for hidden reads,
+    /// in which the access of a Step is not used, so that the compiler keeps only the test of `read_step`. This function is
+    /// a call, because both branches together would be too large to be a part of the loop.
     #[inline(never)]
     fn shown_line<W: Sink>(&mut self, number: u64, line: &[u8], output: &mut W) -> Result<(), Fault>
         requires short { length line.now ≤ 128 }
@@ -95,7 +100,8 @@ impl Sheet {
         self.any_line(number, line, output)
     }
 
-    /// Whether entries are drawn and no reads among them. It has no clause: a line is heard the same by either way.
+    /// Returns whether entries are drawn, and no reads. It has no clause, because either branch reads a line in the same
+    /// way.
     #[inline(always)]
     fn hides_reads(&self) -> bool {
         match &self.drawing {
@@ -104,8 +110,12 @@ impl Sheet {
         }
     }
 
-    /// Whether behind an entry the line is as it is printed for a Step with an access and no mark, as most lines are: then
-    /// that was heard. Else nothing is changed, and nothing is known of the line.
+    /// Reads a line that follows an entry and is as it is printed for a Step with an access and without a mark, as most
+    /// lines are. Returns whether the line is one. Otherwise nothing is changed, and the line may be any.
+    ///
+    /// # Errors
+    ///
+    /// Returns [`AllocError`] if memory is lacking.
     #[inline(always)]
     fn hears_step(&mut self, line: &[u8]) -> Result<bool, AllocError>
         requires short { length line.now ≤ 128 }
@@ -122,12 +132,12 @@ impl Sheet {
         let Some((_process, access)) = read_step(line) else {
             return Ok(false);
         };
-        drawing.hear_step(access)?;
+        drawing.step(access)?;
         Ok(true)
     }
 
-    /// Any line, by its words. It is a function of its own, since nearly no line comes to it, and what it needs would else be
-    /// made ready for each.
+    /// Reads any line by its words. It is never inlined, because hardly any line reaches it, and what it needs would
+    /// otherwise be prepared for each line.
     #[inline(never)]
     fn any_line<W: Sink>(&mut self, number: u64, line: &[u8], output: &mut W) -> Result<(), Fault>
         requires short { length line.now ≤ 128 }
@@ -159,7 +169,11 @@ impl Sheet {
         Ok(())
     }
 
-    /// Draws what a judge tells and the end of the record, unless all lines were skipped.
+    /// Draws the judge's lines and the end of the record, and returns what was drawn, or `None` if all lines were skipped.
+    ///
+    /// # Errors
+    ///
+    /// Returns [`Fault::Write`] if a call of the sink fails, and [`Fault::Memory`] if memory is lacking.
     pub fn end<W: Sink>(&mut self, told: &[u8], output: &mut W) -> Result<Option<DrawnEntry>, Fault>
         requires { W.failures output.old < 2 ^ 64 - 1 }
         ensures none { IfOk result (λ drawn. drawn ≡ None → self.old.reader ≡ None) }
@@ -186,7 +200,7 @@ impl Sheet {
     }
 }
 
-/// What a picture's bands stand in.
+/// The form of a picture, and whether it shows reads.
 #[derive(Clone, Copy)]
 struct Around {
     alloc: Global,
@@ -195,7 +209,7 @@ struct Around {
 }
 
 impl Around {
-    /// Draws one more entry; with the first one there is a picture.
+    /// Draws one more entry. The first entry begins the picture.
     fn draw_entry<W: Sink>(
         self,
         setup: &Setup,
@@ -216,12 +230,12 @@ impl Around {
             self.begin(setup, drawing, output)?;
         }
         match drawing {
-            Some(drawing) => drawing.hear(entry, output),
+            Some(drawing) => drawing.draw_entry(entry, output),
             None => Ok(()),
         }
     }
 
-    /// Draws what a judge tells and the end; answers the heights of the bands.
+    /// Draws the judge's lines and the end, and returns the heights of the bands.
     fn draw_end<W: Sink>(
         self,
         setup: &Setup,
@@ -239,13 +253,13 @@ impl Around {
             self.begin(setup, drawing, output)?;
         }
         match drawing {
-            Some(drawing) => drawing.end(told, output),
+            Some(drawing) => drawing.end(setup, told, output),
             None => Ok(0),
         }
     }
 
-    /// Now there is a picture of no entries, and of a page its front is written. It is a function of its own, since the room
-    /// in which a picture is made would else be cleared before each entry.
+    /// Begins the picture, and writes the start of a page. It is never inlined, because the room in which a picture is made
+    /// would otherwise be cleared before each entry.
     #[inline(never)]
     fn begin<W: Sink>(
         self,
@@ -266,7 +280,7 @@ impl Around {
         self.write_head(setup, output)
     }
 
-    /// Writes what a page has before its bands.
+    /// Writes the start of a page, if the form is one.
     fn write_head<W: Sink>(self, setup: &Setup, output: &mut W) -> Result<(), Fault>
         requires { W.failures output.old < 2 ^ 64 - 1 }
         ensures heads { OnOk result (Heads self.reads self.form setup.now (W.taken output.old) (W.taken output.new)) }
@@ -282,7 +296,7 @@ impl Around {
         }
     }
 
-    /// What a page has before its bands.
+    /// Returns the start of a page.
     fn head(self, setup: &Setup) -> Result<Markup, AllocError>
         ensures draws { IfOk result (λ markup. markup ≡ page_front setup.now (listed setup.now) self.reads) }
         ensures lines { IfOk result (λ markup. lines_in markup ≡ []) }
@@ -293,14 +307,15 @@ impl Around {
     }
 }
 
-/// A fault of the line of this number.
+/// Returns the fault of the line with this number.
 fn fault_at(line: u64, kind: FaultKind) -> Fault
     ensures { result ≡ Fault.Line (record { line = line; kind = kind }) }
 {
     Fault::Line(LineFault { line, kind })
 }
 
-/// The lines that a page lists: the headings and the opening pairs of a record, and one that stands for its entries.
+/// Returns the lines that a page lists: the headings and the opening pairs of a record, and one line that stands for its
+/// entries.
 fn listed_lines(alloc: Global, setup: &Setup) -> Result<Vec<u8>, AllocError>
     ensures { IfOk result (λ lines. lines.items ≡ listed setup.now) }
 {

@@ -1,42 +1,42 @@
-//! A run told line by line to a picture, whose bands are written as they are full.
+//! The run of a scenario as it is drawn.
 ghost use Rattle.std.specs.Prelude.{◌≡◌, ◌+◌, ◌-◌, ◌^◌, ◌<◌, [], ◌∷◌, length, IfErr, IfOk, Ok, OnOk};
 ghost use Rattle.plain_store.specs.{checked};
 ghost use Rattle.picture.specs.declared.reads.Reads.{Reads as Mode};
 ghost use Rattle.picture.specs.{Plan};
 ghost use Rattle.draw.specs.Canvases.{DrawsBands, DrawsLast, kept, kept_at_first, plan_of};
+ghost use Rattle.draw.specs.Drawings.{Recalls};
 ghost use Rattle.draw.specs.Writing.{IsWriteFault, failed_write};
 ghost use Rattle.scenario.specs.{script};
 ghost use Rattle.course.specs.{Follows, counted, happenings, run_at_start, summary_of};
-ghost use Rattle.draw.specs.RunDrawings.{DrawsTold, Recalls};
+ghost use Rattle.draw.specs.RunDrawings.{DrawsTold, tally};
 ghost use Rattle.draw.specs.RunItems.{run_given, says_end};
+ghost use Rattle.course.specs.declared.told.Told.TheVariants as told_variants;
 
 mod listening;
 
-use crate::canvas::Canvas;
-use crate::taken_store::TakenStore;
-use course::{Course, Summary, Told, newest_words};
+use crate::drawing::{Drawing, lines_of_setup};
+use course::{Accepted, Course, Summary, Told, newest_words};
 use listening::draw_line;
-use picture::{Form, Reads, RunLine, Saying};
+use picture::{Form, Reads, Saying};
 use plain_store::{NestedTypes, Setup};
 use scenario::progress::{LinePlace, Onlooker};
 use scenario::{Fault, Scenario, Sink};
 use std::alloc::Global;
 
-/// The picture of a run, on its way.
+/// The picture of a run so far.
 #[derive(Drop)]
-pub(crate) struct Drawing {
+pub(crate) struct RunDrawing {
     alloc: Global,
-    store: TakenStore,
-    canvas: Canvas,
-    summary: Summary,
-    /// The number of the line of the printed scenario.
-    source: u64,
+    drawing: Drawing,
+    /// The number of refusals.
+    refused: u64,
 }
 
-/// The lines that a printed scenario has before its opening pairs.
-const HEADINGS: u64 = 5;
-
-/// Draws the bands of the run of a file's scenario; answers its numbers, and the heights of the bands.
+/// Draws the bands of a scenario's run, and returns the numbers of the run and the heights of the bands.
+///
+/// # Errors
+///
+/// Returns [`Fault::Write`] if a call of the sink fails, and [`Fault::Memory`] if memory is lacking.
 pub(crate) fn draw_bands<W: Sink, L: Onlooker>(
     alloc: Global,
     scenario: &Scenario,
@@ -51,158 +51,139 @@ pub(crate) fn draw_bands<W: Sink, L: Onlooker>(
     ensures fault { IfErr result IsWriteFault }
     ensures failures { W.failures output.new ≡ W.failures output.old + failed_write result }
 {
-    let mut drawing = Drawing::new(alloc, &scenario.setup, form, reads)?;
+    let mut run = RunDrawing::new(alloc, &scenario.setup, form, reads)?;
     let mut course = Course::new(alloc, &scenario.setup)?;
-    draw_lines(scenario, &mut course, &mut drawing, output, onlooker)
+    draw_lines(scenario, &mut course, &mut run, output, onlooker)
 }
 
-/// The same, lent a course and a drawing that have just begun: values that are dropped at each way out of a function are dear
-/// to prove.
+/// Does the work of [`draw_bands`] with a course and a drawing that have just begun. It borrows them, because a value that
+/// is dropped at each way out of a function takes long to prove.
 fn draw_lines<W: Sink, L: Onlooker>(
     scenario: &Scenario,
     course: &mut Course,
-    drawing: &mut Drawing,
+    run: &mut RunDrawing,
     output: &mut W,
     onlooker: &mut L,
 ) -> Result<(Summary, u64), Fault>
     requires setup { course.old.world.setup ≡ scenario.now.setup }
     requires follows { Follows course.old run_at_start }
-    requires summary { drawing.old.summary ≡ record { events = 0; taken = 0; refused = 0 } }
-    requires source { drawing.old.source ≡ length scenario.now.setup.opening + 5 }
+    requires tally { tally run.old ≡ record { events = 0; taken = 0; refused = 0 } }
+    requires source { run.old.drawing.source ≡ length scenario.now.setup.opening + 5 }
     requires writes { W.failures output.old < 2 ^ 64 - 1 }
     ensures ok { IfOk result (λ answer. (plan : Plan) (mode : Mode)
-        → kept drawing.old.canvas ≡ kept_at_first plan
-        → Recalls mode scenario.now.setup [] drawing.old.store drawing.old.canvas
+        → kept run.old.drawing.canvas ≡ kept_at_first plan
+        → Recalls mode scenario.now.setup [] run.old.drawing
         → DrawsBands plan (W.taken output.old) (W.taken output.new) (run_given mode (script scenario.now)) answer.1) }
     ensures summary { IfOk result (λ answer. (plan : Plan) (mode : Mode)
-        → kept drawing.old.canvas ≡ kept_at_first plan
-        → Recalls mode scenario.now.setup [] drawing.old.store drawing.old.canvas
+        → kept run.old.drawing.canvas ≡ kept_at_first plan
+        → Recalls mode scenario.now.setup [] run.old.drawing
         → answer.0 ≡ summary_of scenario.now.setup (happenings (script scenario.now))) }
     ensures fault { IfErr result IsWriteFault }
     ensures failures { W.failures output.new ≡ W.failures output.old + failed_write result }
 {
     let mut place = LinePlace::before(&scenario.numbers);
     for line in &scenario.lines {
-        onlooker.reached(place.begin_line(drawing.summary.events));
-        drawing.source += 1;
-        draw_line(course, line, drawing, output)?;
+        onlooker.reached(place.begin_line(run.drawing.entries));
+        run.drawing.source += 1;
+        draw_line(course, line, run, output)?;
     }
-    drawing.source += 1;
-    drawing.summary.taken = course.taken();
-    let height = drawing.end(output)?;
-    Ok((drawing.summary, height))
+    run.drawing.source += 1;
+    run.end(course.taken(), output)
 }
 
-impl Drawing {
-    fn new(alloc: Global, setup: &Setup, form: Form, reads: Reads) -> Result<Drawing, Fault>
+impl RunDrawing {
+    fn new(alloc: Global, setup: &Setup, form: Form, reads: Reads) -> Result<RunDrawing, Fault>
         requires { checked setup.now ≡ Ok tt }
-        ensures summary { IfOk result (λ drawing. drawing.summary ≡ record { events = 0; taken = 0; refused = 0 }) }
-        ensures first { IfOk result (λ drawing. kept drawing.canvas ≡ kept_at_first (plan_of form setup.now)) }
-        ensures source { IfOk result (λ drawing. drawing.source ≡ length setup.now.opening + 5) }
-        ensures recalls { IfOk result (λ drawing. Recalls reads setup.now [] drawing.store drawing.canvas) }
+        ensures tally { IfOk result (λ run. tally run ≡ record { events = 0; taken = 0; refused = 0 }) }
+        ensures first { IfOk result (λ run. kept run.drawing.canvas ≡ kept_at_first (plan_of form setup.now)) }
+        ensures source { IfOk result (λ run. run.drawing.source ≡ length setup.now.opening + 5) }
+        ensures recalls { IfOk result (λ run. Recalls reads setup.now [] run.drawing) }
         ensures fault { IfErr result IsWriteFault }
         ensures failures { failed_write result ≡ 0 }
     {
-        let store = TakenStore::new(alloc, setup)?;
-        let canvas = Canvas::new(alloc, setup, &store, form, reads)?;
-        Ok(Drawing {
+        let source = lines_of_setup(setup);
+        Ok(RunDrawing {
             alloc,
-            store,
-            canvas,
-            summary: Summary::new(),
-            source: setup.opening.len() as u64 + HEADINGS,
+            drawing: Drawing::new(alloc, setup, form, reads, source)?,
+            refused: 0,
         })
     }
 
     /// Draws and counts what a turn tells.
-    pub fn tell<W: Sink>(&mut self, told: &Told, output: &mut W) -> Result<(), Fault>
-        requires writes { W.failures output.old < 2 ^ 64 - 1 }
-        requires events { self.old.summary.events < 2 ^ 64 - 1 }
-        requires refused { self.old.summary.refused < 2 ^ 64 - 1 }
-        ensures ok { OnOk result (DrawsTold self.old self.new told.now (W.taken output.old) (W.taken output.new)) }
-        ensures source { self.new.source ≡ self.old.source }
-        ensures count { OnOk result (self.new.summary ≡ counted told.now self.old.summary) }
-        ensures fault { IfErr result IsWriteFault }
-        ensures failures { W.failures output.new ≡ W.failures output.old + failed_write result }
-    {
-        self.draw_told(told, output)?;
-        self.summary.count(told);
-        Ok(())
-    }
-
-    /// Draws what a turn tells.
     fn draw_told<W: Sink>(&mut self, told: &Told, output: &mut W) -> Result<(), Fault>
-        requires { W.failures output.old < 2 ^ 64 - 1 }
-        ensures ok { OnOk result (DrawsTold self.old self.new told.now (W.taken output.old) (W.taken output.new)) }
-        ensures source { self.new.source ≡ self.old.source }
-        ensures summary { self.new.summary ≡ self.old.summary }
+        requires writes { W.failures output.old < 2 ^ 64 - 1 }
+        requires events { self.old.drawing.entries < 2 ^ 64 - 1 }
+        requires refused { self.old.refused < 2 ^ 64 - 1 }
+        ensures drawn { OnOk result (DrawsTold self.old self.new told.now (W.taken output.old) (W.taken output.new)) }
+        ensures source { self.new.drawing.source ≡ self.old.drawing.source }
+        ensures count { OnOk result (tally self.new ≡ counted told.now (tally self.old)) }
         ensures fault { IfErr result IsWriteFault }
         ensures failures { W.failures output.new ≡ W.failures output.old + failed_write result }
     {
         let _nested: NestedTypes = None;
         match told {
-            Told::Accepted(made) => {
-                let at = self.summary.events;
-                self.canvas.hear(at, made.access, made.overlapped)?;
-                let process = made.event.process();
-                let marks = made.marks(self.alloc);
-                self.canvas.draw_marks(
-                    &mut self.store,
-                    self.source,
-                    at,
-                    process,
-                    marks.as_slice(),
-                    output,
-                )
-            }
+            Told::Accepted(made) => self.draw_made(made, output),
             Told::Refused { process, refusal } => {
-                let line = self.line(Saying::Refused {
+                self.refused += 1;
+                let saying = Saying::Refused {
                     process: *process,
                     refusal: *refusal,
-                });
-                self.canvas.draw(line, output)
+                };
+                self.drawing.draw_line(saying, output)
             }
-            Told::Tired(process) => {
-                let line = self.line(Saying::Tired(*process));
-                self.canvas.draw(line, output)
-            }
+            Told::Tired(process) => self.drawing.draw_line(Saying::Tired(*process), output),
             Told::Shown(store) => {
                 let words = newest_words(self.alloc, store)?;
-                let line = self.line(Saying::Shown(words));
-                self.canvas.draw(line, output)
+                self.drawing.draw_line(Saying::Shown(words), output)
             }
         }
     }
 
-    /// The next line, where it says this.
-    fn line(&self, saying: Saying) -> RunLine
-        ensures { result ≡ record { source = self.now.source; at = self.now.summary.events; saying = saying } }
-    {
-        RunLine {
-            source: self.source,
-            at: self.summary.events,
-            saying,
-        }
-    }
-
-    /// Draws the last line, and writes what is held back; answers the heights of the bands.
-    fn end<W: Sink>(&mut self, output: &mut W) -> Result<u64, Fault>
-        requires { W.failures output.old < 2 ^ 64 - 1 }
-        ensures ok { IfOk result (DrawsLast self.old.canvas (W.taken output.old) (W.taken output.new) self.old.source self.old.summary.events (says_end self.old.summary ∷ [])) }
-        ensures summary { self.new.summary ≡ self.old.summary }
+    /// Draws the entry of an accepted event.
+    fn draw_made<W: Sink>(&mut self, made: &Accepted, output: &mut W) -> Result<(), Fault>
+        requires writes { W.failures output.old < 2 ^ 64 - 1 }
+        requires events { self.old.drawing.entries < 2 ^ 64 - 1 }
+        ensures drawn { OnOk result (DrawsTold self.old self.new (told_variants.Accepted made.now) (W.taken output.old) (W.taken output.new)) }
+        ensures source { self.new.drawing.source ≡ self.old.drawing.source }
+        ensures entries { OnOk result (self.new.drawing.entries ≡ self.old.drawing.entries + 1) }
+        ensures refused { self.new.refused ≡ self.old.refused }
         ensures fault { IfErr result IsWriteFault }
         ensures failures { W.failures output.new ≡ W.failures output.old + failed_write result }
     {
-        let Summary {
+        let _nested: NestedTypes = None;
+        let process = made.event.process();
+        let marks = made.marks(self.alloc);
+        self.drawing.draw_entry(
+            process,
+            made.access,
+            marks.as_slice(),
+            made.overlapped,
+            output,
+        )
+    }
+
+    /// Draws the last line, writes what is held back, and returns the run's numbers and the heights of the bands.
+    fn end<W: Sink>(&mut self, taken: u64, output: &mut W) -> Result<(Summary, u64), Fault>
+        requires { W.failures output.old < 2 ^ 64 - 1 }
+        ensures drawn { IfOk result (λ answer. DrawsLast self.old.drawing.canvas
+            (W.taken output.old) (W.taken output.new) self.old.drawing.source self.old.drawing.entries (says_end answer.0 ∷ []) answer.1) }
+        ensures summary { IfOk result (λ answer. answer.0 ≡ record (tally self.old) { taken = taken }) }
+        ensures fault { IfErr result IsWriteFault }
+        ensures failures { W.failures output.new ≡ W.failures output.old + failed_write result }
+    {
+        let events = self.drawing.entries;
+        let refused = self.refused;
+        let saying = Saying::Ended {
             events,
             taken,
             refused,
-        } = self.summary;
-        let line = self.line(Saying::Ended {
+        };
+        let height = self.drawing.end(saying, output)?;
+        let summary = Summary {
             events,
             taken,
             refused,
-        });
-        self.canvas.end(line, output)
+        };
+        Ok((summary, height))
     }
 }

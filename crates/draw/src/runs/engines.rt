@@ -1,4 +1,4 @@
-//! The two engines.
+//! The commands `draw` and `draw-svg` for scenarios.
 ghost use Rattle.std.specs.Prelude.{◌≡◌, ◌+◌, ◌-◌, ◌^◌, ◌<◌, [], IfErr, IfOk, Ok, OnOk, Some};
 ghost use Rattle.plain_store.specs.{checked, opening_store};
 ghost use Rattle.draw.specs.StoreChanges.{store_words as store_words_of};
@@ -21,11 +21,17 @@ use scenario::progress::{Again, Onlooker};
 use scenario::{Fault, Scenario, Sink, Source, read_input, read_scenario};
 use std::alloc::Global;
 
-/// Reads a whole file, and writes the page of its run: a picture in bands, each written when it is full. Where it ends
-/// well, what was written is the page of what the run gives, item by item, and nothing else: of its lines, each with the
-/// line of the scenario that makes it and with what its command changed, and, if they are to be shown, of the reads that
-/// writes overlapped. It lists the lines of the file, as they are. The titles of the marks, read back, are the lines that
-/// `replay` writes for the file; and the tags fit, and no element is open at the end.
+/// Reads a scenario file, and writes the page of its run: a picture in bands, each of which is written when it is full.
+///
+/// If it succeeds, the output is the page of the items that the run gives, and nothing else. These items are the lines of
+/// the run, each with the line of the scenario that makes it and with what its command changed, and the overlapped reads, if
+/// they are to be shown. The page lists the lines of the file as they are. The titles of the marks, read back, are the lines
+/// that `replay` writes for the file. The tags match, and no element is open at the end.
+///
+/// # Errors
+///
+/// Returns a fault of the input as `replay` does, before it writes anything. Returns [`Fault::Write`] if a call of the sink
+/// fails, and [`Fault::Memory`] if memory is lacking.
 pub fn draw<R: Source, W: Sink, L: Onlooker>(
     alloc: Global,
     reads: Reads,
@@ -44,7 +50,7 @@ pub fn draw<R: Source, W: Sink, L: Onlooker>(
     draw_file(alloc, Form::Page, reads, input, output, onlooker)
 }
 
-/// Writes the page of the run of a file's scenario.
+/// Writes the page of a scenario's run.
 fn draw_page<W: Sink, L: Onlooker>(
     alloc: Global,
     reads: Reads,
@@ -71,7 +77,7 @@ fn draw_page<W: Sink, L: Onlooker>(
     draw_framed(alloc, &frame, scenario, output, onlooker)
 }
 
-/// What the bands of a picture stand in: its form, and what stands before and behind them.
+/// The markup before and after the bands of a picture, with the form of the picture.
 #[derive(Drop)]
 struct Frame {
     form: Form,
@@ -80,8 +86,8 @@ struct Frame {
     end: Markup,
 }
 
-/// Draws the bands of the run of a file's scenario in a frame, lent it: values that are dropped at each way out of a function
-/// are dear to prove.
+/// Draws the bands of a scenario's run in a frame. It borrows the frame, because a value that is dropped at each way out of
+/// a function takes long to prove.
 fn draw_framed<W: Sink, L: Onlooker>(
     alloc: Global,
     frame: &Frame,
@@ -101,8 +107,12 @@ fn draw_framed<W: Sink, L: Onlooker>(
     Ok(summary)
 }
 
-/// Reads a whole file, and writes one picture of its run, which tells the same. The run is made twice, since a picture
-/// begins with its height.
+/// Reads a scenario file, and writes one picture of its run, with the items of its page. The run is made twice, because a
+/// picture begins with its height.
+///
+/// # Errors
+///
+/// Returns the faults of [`draw`].
 pub fn draw_svg<R: Source, W: Sink, L: Onlooker>(
     alloc: Global,
     reads: Reads,
@@ -122,7 +132,7 @@ pub fn draw_svg<R: Source, W: Sink, L: Onlooker>(
     draw_file(alloc, form, reads, input, output, onlooker)
 }
 
-/// Reads a whole file, and draws its run in this form.
+/// Reads a scenario file, and draws its run in this form.
 fn draw_file<R: Source, W: Sink, L: Onlooker>(
     alloc: Global,
     form: Form,
@@ -152,7 +162,7 @@ fn draw_file<R: Source, W: Sink, L: Onlooker>(
     )
 }
 
-/// Draws the run of a file's scenario in this form.
+/// Draws a scenario's run in this form.
 fn draw_scenario<W: Sink, L: Onlooker>(
     alloc: Global,
     form: Form,
@@ -174,7 +184,7 @@ fn draw_scenario<W: Sink, L: Onlooker>(
     }
 }
 
-/// Writes one picture of the run of a file's scenario, whose first band begins at this height.
+/// Writes one picture of a scenario's run, whose first band begins at the height `top`.
 fn draw_picture<W: Sink, L: Onlooker>(
     alloc: Global,
     top: u64,

@@ -2,7 +2,7 @@ ghost use Rattle.std.specs.Prelude.{None};
 
 use scenario::{Failed, Sink};
 
-/// Where bytes go that nobody wants: a picture is drawn once to learn its height.
+/// A sink that drops its bytes: a picture is drawn once to learn its height.
 #[derive(Drop)]
 pub(crate) struct Nowhere;
 

@@ -10,7 +10,7 @@ use Rattle.judge.specs.record_file.{Progress, line_read}
 use Rattle.draw.specs.{failed_write}
 use Rattle.draw.specs.{DrawnEntry, DrawsAllBands, EndsAt, IsDrawFault, Stands}
 use Rattle.judge.proofs.Ends.{if_err, none_told}
-use Rattle.draw.proofs.RecordEnds.{drawing_read, next_wrote, no_value, onwards_drawn, onwards_fault, onwards_none, onwards_on, onwards_start, onwards_stop, reading_same, read_some}
+use Rattle.draw.proofs.RecordEnds.{drawing_read, next_wrote, no_value, onwards_drawn, onwards_fault, onwards_few, onwards_none, onwards_on, onwards_start, onwards_stop, reading_same, read_some}
 use Rattle.draw.proofs.Written.{failed_same}
 use Rattle.draw.proofs.records.engines.draw_lines.Goals as goal
 
@@ -116,3 +116,11 @@ returns-in-Some g c =
       read_failures = omega (arith, c.in_ok-next.ensures.failures, c.lines.invariant.whole);
       write_failures = omega (arith, ended.failures, c.lines.invariant.wrote);
     }
+
+pub read-requires-clause-few : goal.read-requires-clause-few
+read-requires-clause-few g c =
+    let mid = coming c.lines.lines.ahead (g.R.Source.to_come c.lines.input) in
+    let rest = coming c.next.new.self.ahead (g.R.Source.to_come c.next.new.input) in
+    let takes = subst (λ (b : Bool). GoesToNext (Ok b) c.lines.lines c.next.new.self mid rest) c.if-branch.true c.in_ok-next.ensures.next in
+    let few = onwards_few (g.R.Source.to_come c.args.input.now) mid c.lines.lines.taken c.lines.sheet (g.W.Sink.taken c.args.output.now) (g.W.Sink.taken c.lines.output) c.lines.invariant.onwards in
+    omega (arith, few, takes.taken, c.taken.ensures.taken, c.taken.ensures.few)

@@ -4,7 +4,7 @@ use Rattle.draw.proofs.runs.drawing.draw_bands.Goals as goal
 
 pub returns : goal.returns
 returns g c =
-    let begun = c.in_ok-drawing.ensures in
+    let begun = c.in_ok-run.ensures in
     let plan = plan_of c.args.form c.args.scenario.now.setup in
     let drawn = c.draw_lines.ensures in
     record {

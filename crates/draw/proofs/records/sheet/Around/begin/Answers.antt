@@ -1,5 +1,5 @@
 use Rattle.std.proofs.Common.{refl}
-use Rattle.draw.proofs.Sheeted.{drawn_none}
+use Rattle.draw.proofs.Sheeted.{drawn_first}
 use Rattle.draw.proofs.Written.{ok_then}
 use Rattle.draw.proofs.records.sheet.Around.begin.Goals as goal
 
@@ -9,8 +9,8 @@ returns g c =
     let heads = c.write_head.ensures.heads in
     record {
       some = ok_then c.write_head.result (λ _. refl) heads;
-      drawn = ok_then c.write_head.result (λ heads. drawn_none c.args.self.reads c.args.self.form c.args.setup.now c.in_ok-begun.begun (g.W.Sink.taken c.args.output.now) (g.W.Sink.taken c.write_head.new.output) begun.last begun.recalls begun.first heads) heads;
-      few = ok_then c.write_head.result (λ _. begun.few) heads;
+      drawn = ok_then c.write_head.result (λ heads. drawn_first c.args.self.reads c.args.self.form c.args.setup.now c.in_ok-begun.begun (g.W.Sink.taken c.args.output.now) (g.W.Sink.taken c.write_head.new.output) begun.source begun.recalls begun.first heads) heads;
+      few = ok_then c.write_head.result (λ _. begun.recalls.drawing.entries) heads;
       fault = c.write_head.ensures.fault;
       failures = c.write_head.ensures.failures;
     }

@@ -21,4 +21,4 @@ returns-in-Some-clause-drawn g c =
           (subst (λ (m : Option (List ℕ)). DrawsPast reads form c.args.drawing.now s past first m) (sym (ap g.W.Sink.taken w.output-is)) drawn)
     ] in
     drawn_end reads form s past d c.args.told.now first _ _ height was last)
-    c.end.ensures.ok
+    c.end.ensures.drawn

@@ -2,36 +2,35 @@ use Rattle.std.proofs.Common.{◌∙◌, ap, subst, sym}
 use Rattle.course.proofs.Endings.{if_err, ok_with}
 use Rattle.course.proofs.Written.{ok_then}
 use Rattle.course.specs.{CanCount, run_after}
-use Rattle.draw.specs.{kept}
-use Rattle.draw.specs.{Drawing, HasDrawn}
+use Rattle.draw.specs.{HasDrawnRun, RunDrawing, kept, parts_of, tally}
 use Rattle.draw.proofs.RunEnds.{failures_by}
-use Rattle.draw.proofs.Marked.{drawn_from}
+use Rattle.draw.proofs.Turning.{run_none}
 use Rattle.draw.proofs.runs.drawing.listening.draw_line.Goals as goal
 
 pub returns-clause-ok : goal.returns-clause-ok
 returns-clause-ok g c = ok_then c.play.result (λ plays mode run follows counts recalls.
     let s = c.args.course.now.world.setup in
-    let old = c.args.drawing.now in
+    let old = c.args.run.now in
     let taken = g.W.Sink.taken c.args.output.now in
     let played = plays run follows in
     let after = (run_after s c.args.line.now run).happened in
     record {
       follows = played.follows;
       setup = played.setup;
-      drawn = subst (λ w. HasDrawn mode s run.happened (kept old.canvas) taken after c.drawing-1.given.0 (g.W.Sink.taken w)) (sym (c.output-1.given.1 (sym played.hears.0)))
-          (subst (λ (d : Drawing). HasDrawn mode s run.happened (kept old.canvas) taken after d (g.W.Sink.taken c.play.new.listener.output.now)) (sym (c.drawing-1.given.1 (sym played.hears.1)))
-          (played.hears.4 mode run.happened (kept old.canvas) taken (drawn_from mode s run.happened old taken counts recalls)));
+      drawn = subst (λ w. HasDrawnRun mode s (parts_of s run.happened) (kept old.drawing.canvas) taken after c.run-1.given.0 (g.W.Sink.taken w)) (sym (c.output-1.given.1 (sym played.hears.0)))
+          (subst (λ (d : RunDrawing). HasDrawnRun mode s (parts_of s run.happened) (kept old.drawing.canvas) taken after d (g.W.Sink.taken c.play.new.listener.output.now)) (sym (c.run-1.given.1 (sym played.hears.1)))
+          (played.hears.4 mode (parts_of s run.happened) (kept old.drawing.canvas) taken (run_none mode s run.happened old taken counts recalls)));
     }) c.play.ensures.ok
 
 pub returns-clause-source : goal.returns-clause-source
 returns-clause-source g c =
     let (run, follows) = c.play.ensures.runs in
-    ok_then c.play.result (λ plays. ap (λ (d : Drawing). d.source) (c.drawing-1.given.1 (sym (plays run follows).hears.1)) ∙ (plays run follows).hears.2) c.play.ensures.ok
+    ok_then c.play.result (λ plays. ap (λ (d : RunDrawing). d.drawing.source) (c.run-1.given.1 (sym (plays run follows).hears.1)) ∙ (plays run follows).hears.2) c.play.ensures.ok
 
 pub returns-clause-room : goal.returns-clause-room
 returns-clause-room g c =
     let (run, follows) = c.play.ensures.runs in
-    ok_then c.play.result (λ both more has. subst (λ (d : Drawing). CanCount d.summary more) (sym (c.drawing-1.given.1 (sym (both.0 run follows).hears.1))) (both.1 more (has, c.requires.writes)).0) (ok_with c.play.result _ _ c.play.ensures.ok c.play.ensures.room)
+    ok_then c.play.result (λ both more has. subst (λ (d : RunDrawing). CanCount (tally d) more) (sym (c.run-1.given.1 (sym (both.0 run follows).hears.1))) (both.1 more (has, c.requires.writes)).0) (ok_with c.play.result _ _ c.play.ensures.ok c.play.ensures.room)
 
 pub returns-clause-fault : goal.returns-clause-fault
 returns-clause-fault g c =

@@ -1,0 +1,63 @@
+-- The lines and the marks of what parts give.
+use Rattle.std.proofs.Common.{◌≡◌, ℕ, List, [], ◌∷◌, ◌++◌, flat_map, length, map, refl, ap, sym, subst, ◌∙◌, append-nil, append_assoc}
+use Rattle.plain_store.specs.{Setup}
+use Rattle.record.specs.{Mark}
+use Rattle.picture.specs.columns.run_lines.{marked_text}
+use Rattle.picture.specs.declared.reads.Reads.{Reads as Mode}
+use Rattle.draw.specs.{Gives, Part, PartEntry, PartLine, entries_among, given_all, given_last, given_of, marks_back, marks_given, marks_says, overlapped_by, reads_since, says_marks, says_text, texts_given}
+use Rattle.draw.proofs.Giving.{marks_of_lines, marks_of_says, texts_of_lines}
+
+-- What is read of what is given, part by part.
+module _ {A : Type 0} (of : List Gives → List A) (none : of [] ≡ []) (both : (gives more : List Gives) → of (gives ++ more) ≡ of gives ++ of more) (mode : Mode) (s : Setup) (so_far : List Part → List A)
+    (at : (n : ℕ) (before : List Part) (part : Part) → so_far (part ∷ before) ≡ so_far before ++ of (given_of mode s n before part)) where
+  pub of_none : (xs : List A) → xs ≡ xs ++ of []
+  of_none xs = sym (append-nil xs) ∙ ap (λ l. xs ++ l) (sym none)
+
+  pub of_more : (xs ys zs : List A) (gives more : List Gives) → ys ≡ xs ++ of gives → zs ≡ ys ++ of more → zs ≡ xs ++ of (gives ++ more)
+  of_more xs ys zs gives more one two = two ∙ ap (λ l. l ++ of more) one ∙ append_assoc xs (of gives) (of more) ∙ ap (λ l. xs ++ l) (sym (both gives more))
+
+  -- of the last parts
+  pub of_last : (n : ℕ) (more before : List Part) → so_far (more ++ before) ≡ so_far before ++ of (given_last mode s n (length more) (more ++ before))
+  of_last n [] before = of_none (so_far before)
+  of_last n (part ∷ more) before = of_more (so_far before) (so_far (more ++ before)) (so_far (part ∷ more ++ before)) (given_last mode s n (length more) (more ++ before)) (given_of mode s n (more ++ before) part) (of_last n more before) (at n (more ++ before) part)
+
+  -- of all parts
+  pub of_all : (n : ℕ) (parts : List Part) → so_far parts ≡ so_far [] ++ of (given_all mode s n parts)
+  of_all n parts = subst (λ (l : List Part). so_far l ≡ so_far [] ++ of (given_last mode s n (length parts) l)) (append-nil parts) (of_last n parts [])
+
+-- The lines.
+
+texts_of_marks : (s : Setup) (at p : ℕ) (before : List (ℕ × Mark)) (marks : List Mark) → map (says_text at) (says_marks s p before marks) ≡ map (marked_text at p) marks
+texts_of_marks s at p before [] = refl
+texts_of_marks s at p before (m ∷ marks) = ap (λ l. marked_text at p m ∷ l) (texts_of_marks s at p ((p, m) ∷ before) marks)
+
+-- the lines of parts, without their ends
+abbrev pub part_texts : ℕ → Part → List (List ℕ)
+part_texts at (PartEntry e) = map (marked_text at e.process) e.marks
+part_texts at (PartLine says) = says_text at says ∷ []
+
+abbrev pub parts_texts : List Part → List (List ℕ)
+parts_texts [] = []
+parts_texts (part ∷ before) = parts_texts before ++ part_texts (length (entries_among before)) part
+
+pub texts_at : (mode : Mode) (s : Setup) (n : ℕ) (before : List Part) (part : Part) → parts_texts (part ∷ before) ≡ parts_texts before ++ texts_given (given_of mode s n before part)
+texts_at mode s n before (PartEntry e) =
+    ap (λ l. parts_texts before ++ l) (sym (texts_of_lines mode n (length (entries_among before)) (reads_since s before ++ overlapped_by s (entries_among before) e) (says_marks s e.process (marks_back (entries_among before)) e.marks)
+    ∙ texts_of_marks s (length (entries_among before)) e.process (marks_back (entries_among before)) e.marks))
+texts_at mode s n before (PartLine says) = ap (λ l. parts_texts before ++ l) (sym (texts_of_lines mode n (length (entries_among before)) (reads_since s before) (says ∷ [])))
+
+-- The marks.
+
+abbrev pub part_marks : Part → List (ℕ × Mark)
+part_marks (PartEntry e) = map {B = ℕ × Mark} (λ (mark : Mark). (e.process, mark)) e.marks
+part_marks (PartLine says) = flat_map marks_says (says ∷ [])
+
+abbrev pub parts_marks : List Part → List (ℕ × Mark)
+parts_marks [] = []
+parts_marks (part ∷ before) = parts_marks before ++ part_marks part
+
+pub marks_at : (mode : Mode) (s : Setup) (n : ℕ) (before : List Part) (part : Part) → parts_marks (part ∷ before) ≡ parts_marks before ++ marks_given (given_of mode s n before part)
+marks_at mode s n before (PartEntry e) =
+    ap (λ l. parts_marks before ++ l) (sym (marks_of_lines mode n (length (entries_among before)) (reads_since s before ++ overlapped_by s (entries_among before) e) (says_marks s e.process (marks_back (entries_among before)) e.marks)
+    ∙ marks_of_says s e.process (marks_back (entries_among before)) e.marks))
+marks_at mode s n before (PartLine says) = ap (λ l. parts_marks before ++ l) (sym (marks_of_lines mode n (length (entries_among before)) (reads_since s before) (says ∷ [])))
