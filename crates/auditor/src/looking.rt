@@ -7,8 +7,16 @@ ghost use Rattle.auditor.specs.Hearing.{IsAddedByStep, OfHeard};
 use crate::auditor::Auditor;
 use plain_store::NestedTypes;
 use record::{Entry, Event, Refusal, Stage};
+use world::Core;
 
 impl Auditor {
+    /// Borrows the core of the world that shows the entries observed.
+    pub fn core(&self) -> &Core
+        ensures { result.now ≡ self.now.core }
+    {
+        &self.core
+    }
+
     /// Returns the stage of a process, or `None` if there is no such process.
     pub fn stage(&self, process: u8) -> Option<Stage>
         ensures { OfHeard self.now (λ s past. result ≡ stage_in s past process) }

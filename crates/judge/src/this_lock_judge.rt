@@ -9,7 +9,7 @@ ghost use Rattle.judge.specs.ThisLockVerdicts.{newest_is_bad, none_is_bad, stays
 
 use crate::reasons::push_reasons;
 use crate::record_judge::RecordJudge;
-use auditor::{Audited, Auditor, Law, Verdict, Watch};
+use auditor::{Audited, Auditor, Core, Law, Verdict, Watch};
 use plain_store::{NestedTypes, Setup};
 use record::{Access, Entry, Mark};
 use std::alloc::{AllocError, Global};
@@ -33,6 +33,20 @@ impl Model for ThisLockJudge {
 }
 
 impl ThisLockJudge {
+    /// Borrows the core of the world that shows the entries before the first bad one, or all entries if none is bad.
+    pub fn core(&self) -> &Core
+        ensures { result.now ≡ self.now.auditor.core }
+    {
+        self.auditor.core()
+    }
+
+    /// Returns how many entries it has observed.
+    pub fn entries(&self) -> u64
+        ensures { result ≡ self.now.entries }
+    {
+        self.entries
+    }
+
     /// Returns the verdict with one more entry, where that on the entries before it is good.
     #[inline]
     fn verdict_with(&mut self, process: u8, access: &Option<Access>, marks: &[Mark]) -> Verdict
