@@ -20,6 +20,7 @@ use engines::{
 use race::{RunFault, run_fault_status, run_race};
 use run_state::{
     FileKind, KeptFile, KeptInput, events_said, explanation, list_record, run_calls, run_state,
+    state_record,
 };
 use std::alloc::Global;
 use std::cell::Cell;
@@ -272,14 +273,16 @@ struct Wanted {
     at: u64,
 }
 
-/// Opens a source. The engines of `calls`, `draw` and `draw-svg` take scenarios and records, and the file's first word decides
-/// which it is.
+/// Opens a source. The engines of `state`, `calls`, `draw` and `draw-svg` take scenarios and records, and the file's first word
+/// decides which it is.
 fn opened<R: Source + Drop>(alloc: Global, engine: Engine, source: R) -> Result<Opened<R>, Fault>
     requires { R.failures source < 2 ^ 64 - 1 }
     ensures { IfOk result (λ opened. ⟦<Opened<R> as Source>⟧.failures opened ≡ R.failures source) }
 {
     match engine {
-        Engine::Calls | Engine::Draw | Engine::DrawSvg => Opened::new(alloc, source),
+        Engine::State | Engine::Calls | Engine::Draw | Engine::DrawSvg => {
+            Opened::new(alloc, source)
+        }
         _ => Ok(Opened::unseen(alloc, source)),
     }
 }
@@ -338,6 +341,7 @@ fn run_engine<T: AllocGlobal + Threads + Wait + Sync, R: Source, W: Sink, L: Onl
         Engine::Audit => run_audit(alloc, input, output, onlooker),
         Engine::Sweep => run_sweep(alloc, input, output, onlooker),
         Engine::Record => exit_status(run_record(alloc, input, output, onlooker)),
+        Engine::State if wanted.is_record => state_record(alloc, wanted.at, input, output),
         Engine::State => exit_status(run_state(alloc, wanted.at, input, output, onlooker)),
         Engine::Calls if wanted.is_record => list_record(alloc, input, output),
         Engine::Calls => exit_status(run_calls(alloc, input, output, onlooker)),

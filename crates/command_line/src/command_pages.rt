@@ -144,7 +144,11 @@ Makes the first events of a scenario's run, as many as --at gives (`end`: all), 
 prints the state after them: the stage of each process, its call and its ticket, which
 process it waits for, what it reads or writes, and `next`, what its next step adds with
 either flick; the registers that differ from their initial values; and the history.
+FILE may also be a record; its first word decides. An event is then an entry, and the
+entries are checked as by judge. If one of the first N is bad, the state before it is
+printed, and then `bad`, the number of that entry and the law, with status 3.
 The lines of a scenario: bakerystore help replay
+The lines of a record: docs/RECORDS.md
 
   $ printf 'bakery 2\ncall 0 read a\nstep 0 1\n' | bakerystore state --at end -
   events 2

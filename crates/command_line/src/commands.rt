@@ -23,7 +23,7 @@ pub enum Engine {
     Race,
     /// The record of a scenario's run, entry by entry.
     Record,
-    /// The state after the first events of a scenario's run.
+    /// The state after the first events of a scenario's run, or after the first entries of a record.
     State,
     /// What became of each call of a scenario's run, or of a record.
     Calls,
@@ -138,7 +138,7 @@ pub const COMMANDS: [(&str, Engine, Intake, &[&str], &str, &str); 12] = [
         Engine::State,
         Intake::Whole,
         &["at"],
-        "prints the state after the first events of a run",
+        "prints the state after the first events of a run or a record",
         "--at 820 examples/torn-commit.bakery",
     ),
     (

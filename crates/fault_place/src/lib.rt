@@ -12,6 +12,7 @@ mod near;
 mod places;
 
 pub use explaining::explanation;
-pub use files::progress;
+pub use files::{progress, read_any_line, source_lines};
 pub use kept::{KeptFile, KeptInput};
 pub use kinds::FileKind;
+pub use record_file::RecordReader;

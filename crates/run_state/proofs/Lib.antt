@@ -7,6 +7,8 @@ pub mod FirstAccesses
 pub mod OfCalls
 pub mod Stand
 pub mod Makers
+pub mod Observed
+pub mod RecordTexts
 pub mod Played
 pub mod Seeing
 pub mod WholeInputs

@@ -8,7 +8,7 @@ use Rattle.record.specs.{Access, Entry, Field, Past, Stage, entry_of, field_word
 use Rattle.record.specs.declared.access.Field.TheVariants.{Ticket}
 use Rattle.record.specs.declared.events.Event.TheVariants.{Step}
 use Rattle.record.specs.declared.stages.Stage.TheVariants.{Doorway, Waiting, Inside, Settling}
-use Rattle.record_file.specs.scenario.{bit_word}
+use Rattle.judge.specs.record_file.scenario.{bit_word}
 use Rattle.calls.specs.{Called, holds_up, is_read_end, open_call}
 use Rattle.run_state.specs.declared.kept.FinishedRead.{FinishedRead}
 use Rattle.calls.specs.world.laws.{Doing, doing, steps_alone}

@@ -6,7 +6,7 @@ use Rattle.plain_store.specs.{Setup}
 use Rattle.record.specs.declared.events.Event.TheVariants.{Step}
 use Rattle.record.specs.{Entry, Past, Stage, calls_in, entry_of, history, own, stage, stage_word}
 use Rattle.record.specs.declared.stages.Stage.TheVariants.{Idle, Down}
-use Rattle.record_file.specs.{entry_line}
+use Rattle.judge.specs.record_file.{entry_line}
 use Rattle.calls.specs.{open_call}
 use Rattle.run_state.specs.Doing.{doing_lines}
 use Rattle.run_state.specs.Lines.{open_lines, process_line}
@@ -62,6 +62,10 @@ lines_at s past p stage = cond (is_resting stage) (rest_line p stage (calls_in (
 -- the lines of p
 abbrev pub process_lines : Setup → Past → ℕ → List ℕ
 process_lines s past p = lines_at s past p (stage p past)
+
+-- the line of how many entries there were
+abbrev pub count_line : ℕ → List ℕ
+count_line entries = codes "events " ++ (decimal entries ++ codes "\n")
 
 -- the line of the newest entry, if there is one
 abbrev pub newest_line : Past → List ℕ

@@ -8,7 +8,7 @@ use Rattle.calls.specs.scenario.files.{FaultKind, LineFault, text_by}
 use Rattle.calls.specs.scenario.{Script, line_numbers, number_at, scenario_of}
 use Rattle.calls.specs.course.{Happening, IsMarked, Told, entry_made, happenings, past_after, run_at_start}
 use Rattle.calls.specs.world.process.{left_at, process_after}
-use Rattle.run_state.specs.Processes.{newest_line}
+use Rattle.run_state.specs.Processes.{count_line, newest_line}
 use Rattle.run_state.specs.Snapshots.{HasHeard, state_lines}
 use Rattle.run_state.specs.Making.{making_line}
 use Rattle.calls.specs.Tables.{IsInTurn, past_with}
@@ -22,7 +22,7 @@ first_of n past = drop (length past - n) past
 
 -- how many events there were, and the newest
 abbrev pub head_lines : Past → List ℕ
-head_lines past = (codes "events " ++ (decimal (length past) ++ codes "\n")) ++ newest_line past
+head_lines past = count_line (length past) ++ newest_line past
 
 -- the state after a past; `made`: the line that made the newest event
 abbrev pub state_after : List ℕ → Setup → Past → List ℕ

@@ -2,7 +2,7 @@
 //! which access is open.
 ghost use Rattle.std.specs.Prelude.{◌≡◌, IfOk, option_map};
 ghost use Rattle.std.specs.String.{string_bytes};
-ghost use Rattle.record_file.specs.scenario.{bit_word};
+ghost use Rattle.judge.specs.record_file.scenario.{bit_word};
 ghost use Rattle.run_state.specs.Copies.{is_image};
 ghost use Rattle.run_state.specs.Doing.{access_in, awaited, chosen_words, cut_access, cut_open, doorway_ticket, failed_words, is_cut_open, open_by, opened_words, progress_words, read_word, reads_words, settles_words, so_far, ticket_at, ticket_words, torn_words, waiting_ticket, waits_at, waits_by, writes_words, written_word};
 

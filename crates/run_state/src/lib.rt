@@ -1,7 +1,8 @@
 //! The state of a run after its first events: where each process is and what it does next, what the registers hold, and the
 //! history. A snapshot observes the entries of a run that have marks or end a register access, and counts the others, in memory
 //! of a fixed size. All else that it prints it asks of the run's core. The engine `state` makes the first events of a scenario's
-//! run, and writes the state after them. The crate re-exports the engine `calls`, and what finds the place of a fault in a file.
+//! run, and writes the state after them. Another engine does the same for the first entries of a record, which a judge checks. The
+//! crate re-exports the engines `calls`, and what finds the place of a fault in a file.
 //!
 //! ```rust
 //! snapshot.print(alloc, core, course.history(), &mut text)?;
@@ -13,9 +14,12 @@ mod copies;
 mod doing;
 mod kept;
 mod laws_of_lines;
+mod laws_of_records;
 mod next_lines;
 mod observer;
 mod process_lines;
+mod record_observer;
+mod record_stating;
 mod register_lines;
 mod register_text;
 mod snapshot;
@@ -25,5 +29,7 @@ mod stores;
 pub use calls::{list_record, run_calls};
 pub use fault_place::{FileKind, KeptFile, KeptInput, explanation};
 pub use laws_of_lines::lines_make_events;
+pub use laws_of_records::records_have_states_of_runs;
+pub use record_stating::state_record;
 pub use snapshot::Snapshot;
 pub use stating::{events_said, run_state};

@@ -1,11 +1,11 @@
 //! The lines of what comes next of a process, and the line of the newest entry.
 ghost use Rattle.std.specs.Prelude.{◌≡◌, ◌+◌, ◌++◌, codes, drop, IfOk, OnOk};
-ghost use Rattle.record_file.specs.{entry_line};
+ghost use Rattle.judge.specs.record_file.{entry_line};
 ghost use Rattle.run_state.specs.Processes.{behind_process, lines_of_two, next_line, words_added};
 
 use crate::called::push_head;
+use judge::print_entry;
 use record::Entry;
-use record_file::print_entry;
 use std::alloc::{AllocError, Global};
 
 /// Writes what a step of a process adds with either flick: these entries.

@@ -108,9 +108,7 @@ impl StateObserver {
         ensures { OnOk result (InEachCorePast core.now (λ s past. HasSeen s past self.now
             → text.new.items ≡ text.old.items ++ head_lines past)) }
     {
-        let events = self.snapshot.entries();
-        let head = format!(in self.alloc; "events {events}\n")?;
-        text.extend_from_slice(head.as_bytes())?;
+        self.snapshot.print_count(self.alloc, text)?;
         self.print_entry(core, text)
     }
 

@@ -3,7 +3,7 @@ ghost use Rattle.std.specs.Prelude.{◌≡◌, ◌+◌, ◌-◌, ◌^◌, ◌<�
 ghost use Rattle.plain_store.specs.{checked};
 ghost use Rattle.record.specs.{Entry as Noted, Past, processes};
 ghost use Rattle.run_state.specs.Keeping.{Passes, TellsNumber, kept as kept_of};
-ghost use Rattle.run_state.specs.Processes.{is_resting as rests, newest_line, process_lines, rest_line};
+ghost use Rattle.run_state.specs.Processes.{count_line, is_resting as rests, newest_line, process_lines, rest_line};
 ghost use Rattle.run_state.specs.Snapshots.{HasHeard, Stands, state_lines};
 
 use crate::called::{push_line, push_words};
@@ -127,6 +127,15 @@ impl Snapshot {
         ensures { (past : Past) → HasHeard self.now past → result ≡ kept_of self.now.setup process past }
     {
         self.kept[usize::from(process)]
+    }
+
+    /// Appends the line of how many entries there were.
+    pub fn print_count(&self, alloc: Global, text: &mut Vec<u8>) -> Result<(), AllocError>
+        ensures { OnOk result (text.new.items ≡ text.old.items ++ count_line self.now.entries) }
+    {
+        let entries = self.entries;
+        let line = format!(in alloc; "events {entries}\n")?;
+        text.extend_from_slice(line.as_bytes())
     }
 
     /// Appends the line of the newest entry.
