@@ -1,11 +1,11 @@
 -- A picture is drawn part by part.
-use Rattle.std.proofs.Common.{◌≡◌, ◌+◌, ℕ, false, suc, List, [], ◌∷◌, ◌++◌, is_some, length, Option, None, Some, sym, subst, ◌∙◌, arith, true≢false}
+use Rattle.std.proofs.Common.{◌≡◌, ◌+◌, ℕ, false, suc, List, [], ◌∷◌, ◌++◌, is_some, length, Option, None, Some, sym, subst, arith, true≢false}
 use Rattle.plain_store.specs.{Setup}
 use Rattle.record.specs.{Access, Entry, Mark, Past}
 use Rattle.judge.specs.read_law.{entry_by}
 use Rattle.picture.specs.columns.{OverlappedRead}
 use Rattle.picture.specs.declared.reads.Reads.{Reads as Mode}
-use Rattle.draw.specs.{Canvas, Drawing, DrawsLines, DrawsMarks, DrawsOn, DrawsPart, HasDrawn, IsAfterMarks, Kept, Overhears, OverlapsHeard, Part, PartEntry, PartLine, Recalls, Says, entries_among, given_last, given_of, kept, lines_given, marks_back, overlapped_by, reads_since, says_marks}
+use Rattle.draw.specs.{Canvas, Drawing, DrawsMarks, DrawsOn, DrawsPart, HasDrawn, Kept, Overhears, OverlapsHeard, Part, PartEntry, Recalls, entries_among, given_last, given_of, kept, lines_given, marks_back, overlapped_by, reads_since, says_marks}
 use Rattle.draw.proofs.Drawn.{draws_on_both, draws_on_none}
 use Rattle.draw.proofs.Giving.{waiting_says}
 use Rattle.draw.proofs.Overhearing.{overhears_nothing}
@@ -28,16 +28,6 @@ entry_drawn mode s parts e d d' seen a b p marks process are same recalls waits 
         store = its.1;
         waits = subst (λ (l : List OverlappedRead). Overhears mode s (e ∷ past) l d'.canvas.overlaps) (waiting_says s e.process (marks_back past) e.marks all) drawn.1;
       },
-    )
-
--- a line that comes from no entry
-pub line_drawn : (mode : Mode) (s : Setup) (parts : List Part) (says : Says) (d d' : Drawing) (a b : Option (List ℕ)) → DrawsLines d.canvas d'.canvas a b d.source d.entries (says ∷ []) → d'.store ≡ d.store → d'.entries ≡ d.entries →
-    Recalls mode s parts d → DrawsPart mode s parts (PartLine says) d d' a b
-line_drawn mode s parts says d d' a b drew store entries recalls =
-    let past : Past = entries_among parts in
-    let its = drew mode s past (reads_since s parts) recalls.waits in (
-      subst (λ (n : ℕ). DrawsOn (kept d.canvas) (kept d'.canvas) a b (lines_given mode d.source n (reads_since s parts) (says ∷ []))) recalls.entries its.0,
-      record { entries = entries ∙ recalls.entries; store = subst (IsAfterMarks s (marks_back past)) (sym store) recalls.store; waits = its.1 },
     )
 
 -- Entries without a mark, where no reads are shown.

@@ -4,7 +4,7 @@ use Rattle.plain_store.specs.{Setup}
 use Rattle.record.specs.{Mark}
 use Rattle.picture.specs.columns.run_lines.{marked_text}
 use Rattle.picture.specs.declared.reads.Reads.{Reads as Mode}
-use Rattle.draw.specs.{Gives, Part, PartEntry, PartLine, entries_among, given_all, given_last, given_of, marks_back, marks_given, marks_says, overlapped_by, reads_since, says_marks, says_text, texts_given}
+use Rattle.draw.specs.{Gives, Part, PartEntry, PartLine, entries_among, given_all, given_last, given_of, marks_back, marks_given, marks_says, overlapped_by, parts_texts, reads_since, says_marks, says_text, texts_given}
 use Rattle.draw.proofs.Giving.{marks_of_lines, marks_of_says, texts_of_lines}
 
 -- What is read of what is given, part by part.
@@ -30,15 +30,6 @@ module _ {A : Type 0} (of : List Gives → List A) (none : of [] ≡ []) (both :
 texts_of_marks : (s : Setup) (at p : ℕ) (before : List (ℕ × Mark)) (marks : List Mark) → map (says_text at) (says_marks s p before marks) ≡ map (marked_text at p) marks
 texts_of_marks s at p before [] = refl
 texts_of_marks s at p before (m ∷ marks) = ap (λ l. marked_text at p m ∷ l) (texts_of_marks s at p ((p, m) ∷ before) marks)
-
--- the lines of parts, without their ends
-abbrev pub part_texts : ℕ → Part → List (List ℕ)
-part_texts at (PartEntry e) = map (marked_text at e.process) e.marks
-part_texts at (PartLine says) = says_text at says ∷ []
-
-abbrev pub parts_texts : List Part → List (List ℕ)
-parts_texts [] = []
-parts_texts (part ∷ before) = parts_texts before ++ part_texts (length (entries_among before)) part
 
 pub texts_at : (mode : Mode) (s : Setup) (n : ℕ) (before : List Part) (part : Part) → parts_texts (part ∷ before) ≡ parts_texts before ++ texts_given (given_of mode s n before part)
 texts_at mode s n before (PartEntry e) =

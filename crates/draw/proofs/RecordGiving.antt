@@ -4,12 +4,11 @@ use Rattle.plain_store.specs.{Setup}
 use Rattle.record.specs.{Mark, Past}
 use Rattle.judge.specs.record_file.{Said}
 use Rattle.picture.specs.{Item, sayings}
-use Rattle.picture.specs.columns.run_lines.{marked_text}
 use Rattle.picture.specs.columns.{judged_text, marks_in, marks_said}
 use Rattle.picture.specs.declared.reads.Reads.{Reads as Mode}
-use Rattle.draw.specs.{Says, SaysEnd, bad_process, entries_among, entry_parts, given, given_all, lines_of_past, marks_back, marks_given, marks_says, reads_since, record_end, record_gives, record_lines, say_judged, says_judged, says_text, source_of, taken_by, texts_given, told_lines}
+use Rattle.draw.specs.{Says, SaysEnd, bad_process, entries_among, entry_parts, given, given_all, marks_back, marks_given, marks_says, parts_texts, reads_since, record_end, record_gives, record_lines, say_judged, says_judged, says_text, source_of, taken_by, texts_given, told_lines}
 use Rattle.draw.proofs.Giving.{marks_append, marks_of_items, marks_of_lines, texts_append, texts_of_lines}
-use Rattle.draw.proofs.PartsRead.{marks_at, of_all, parts_marks, parts_texts, texts_at}
+use Rattle.draw.proofs.PartsRead.{marks_at, of_all, parts_marks, texts_at}
 
 -- the entries among its parts are all
 pub entries_of_record : (past : Past) → entries_among (entry_parts past) ≡ past
@@ -17,10 +16,6 @@ entries_of_record [] = refl
 entries_of_record (e ∷ past) = ap (λ (l : Past). e ∷ l) (entries_of_record past)
 
 -- The lines.
-
-texts_so_far : (past : Past) → parts_texts (entry_parts past) ≡ lines_of_past past
-texts_so_far [] = refl
-texts_so_far (e ∷ past) = λ i. texts_so_far past i ++ map (marked_text (length (entries_of_record past i)) e.process) e.marks
 
 texts_of_told : (at : ℕ) (bad : Option ℕ) (lines : List (List ℕ)) (last : Says) → map (says_text at) (say_judged bad lines ++ last ∷ []) ≡ map judged_text lines ++ says_text at last ∷ []
 texts_of_told at bad [] last = refl
@@ -32,7 +27,7 @@ texts_of_record mode said told =
     let past : Past = reverse said.entries in
     let last : Says = SaysEnd (length past) (taken_by (marks_back past)) 0 in
     texts_append (given_all mode s (source_of s) (entry_parts past)) (record_end mode s (source_of s) past told)
-    ∙ (λ i. (sym (of_all texts_given refl texts_append mode s parts_texts (texts_at mode s) (source_of s) (entry_parts past)) ∙ texts_so_far past) i
+    ∙ (λ i. sym (of_all texts_given refl texts_append mode s parts_texts (texts_at mode s) (source_of s) (entry_parts past)) i
     ++ (texts_of_lines mode (source_of s + 1) (length past) (reads_since s (entry_parts past)) (says_judged told ++ last ∷ []) ∙ texts_of_told (length past) (bad_process (told_lines told)) (told_lines told) last) i)
 
 -- The marks.

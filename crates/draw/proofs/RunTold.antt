@@ -12,9 +12,9 @@ use Rattle.course.proofs.Grows.{Grows, line_grows}
 use Rattle.picture.specs.{Item, Reads, Tells, sayings}
 use Rattle.picture.specs.columns.{marks_in, marks_said}
 use Rattle.picture.specs.declared.reads.Reads.{Reads as Mode}
-use Rattle.draw.specs.{Gives, GivesLine, GivesRead, Part, ended_lines, entries_among, first_line, given, given_at_end, given_by, given_from, given_last, given_of, lines_told, marks_given, part_of_event, parts_at, parts_of, reads_since, run_given, says_end, says_of, texts_given}
+use Rattle.draw.specs.{Gives, GivesLine, GivesRead, Part, ended_lines, entries_among, first_line, given, given_at_end, given_by, given_from, given_last, given_of, lines_told, marks_given, part_of_event, parts_at, parts_of, parts_texts, reads_since, run_given, says_end, says_of, texts_given}
 use Rattle.draw.proofs.Giving.{marks_append, marks_of_items, marks_of_lines, text_of_saying, texts_append, texts_of_lines}
-use Rattle.draw.proofs.PartsRead.{marks_at, of_last, of_more, of_none, parts_marks, parts_texts, texts_at}
+use Rattle.draw.proofs.PartsRead.{marks_at, of_last, of_more, of_none, parts_marks, texts_at}
 
 -- The parts of a run.
 

@@ -129,3 +129,13 @@ given_last mode s source (suc count) (part ∷ before) = given_last mode s sourc
 -- the items that all of them give
 abbrev pub given_all : Mode → Setup → ℕ → List Part → List Gives
 given_all mode s source parts = given_last mode s source (length parts) parts
+
+-- the lines of a part that comes after `at` entries, without their ends
+abbrev pub part_texts : ℕ → Part → List (List ℕ)
+part_texts at (PartEntry e) = map (marked_text at e.process) e.marks
+part_texts at (PartLine says) = says_text at says ∷ []
+
+-- the lines of parts, in their order
+abbrev pub parts_texts : List Part → List (List ℕ)
+parts_texts [] = []
+parts_texts (part ∷ before) = parts_texts before ++ part_texts (length (entries_among before)) part

@@ -21,7 +21,7 @@ pub mod Judgings
 pub mod Sheets
 pub use Around.{IsAround}
 pub use Canvases.{Draws, DrawsBands, DrawsLast, DrawsLines, DrawsMarks, DrawsOn, DrawsRest, Fills, Kept, Writes, kept, kept_at_first, plan_of}
-pub use Items.{Gives, GivesLine, GivesRead, Part, PartEntry, PartLine, Says, SaysEnd, SaysJudged, SaysMark, SaysRefusal, SaysStore, SaysTired, entries_among, given, given_all, given_last, given_of, lines_given, mark_given, marks_after, marks_back, marks_given, marks_says, reads_since, says_marks, says_of, says_text, text_given, texts_given, waiting}
+pub use Items.{Gives, GivesLine, GivesRead, Part, PartEntry, PartLine, Says, SaysEnd, SaysJudged, SaysMark, SaysRefusal, SaysStore, SaysTired, entries_among, given, given_all, given_last, given_of, lines_given, mark_given, marks_after, marks_back, marks_given, marks_says, part_texts, parts_texts, reads_since, says_marks, says_of, says_text, text_given, texts_given, waiting}
 pub use Overlaps.{Hears, Overhears, TellsEnd, TellsOver, Watches, begun_with, ended_of, first_three, is_begin, is_there, overlapped_by, overlapped_with, read_begun, read_ended, shown_of}
 pub use StoreChanges.{Changed, change_by, changed, store_words, words_by}
 pub use TakenStores.{IsAfterMarks, after_call, call_after, called_by, change_by_call, change_of, change_with, next_number, no_call, store_by, store_with, taken_by}
@@ -42,7 +42,7 @@ pub use RunItems.{first_line, given_at_end, given_by, given_from, part_of_event,
 pub use Pictures.{ended_lines, lines_told}
 pub use declared.runs.drawing.RunDrawing.{RunDrawing}
 pub use RecordDrawings.{RecordRecalls}
-pub use RecordItems.{entry_parts, judged_with, lines_of_past, record_end, record_gives, record_lines, say_judged, says_judged, source_of}
+pub use RecordItems.{entry_parts, judged_with, record_end, record_gives, record_lines, say_judged, says_judged, source_of}
 pub use Judged.{bad_process, number_from, told_lines}
 pub use Judges.{DrewJudgedBy}
 pub use Judgings.{HasRead, HasStopped, IsShown, SaysAll, TellsOfLines}

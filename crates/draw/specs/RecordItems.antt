@@ -3,10 +3,10 @@ use Rattle.std.specs.Prelude.{ℕ, ◌+◌, List, [], ◌∷◌, ◌++◌, lengt
 use Rattle.plain_store.specs.{Setup}
 use Rattle.record.specs.{Past}
 use Rattle.judge.specs.record_file.{Said, head_words}
-use Rattle.picture.specs.columns.run_lines.{ended_text, marked_text}
+use Rattle.picture.specs.columns.run_lines.{ended_text}
 use Rattle.picture.specs.columns.{judged_text}
 use Rattle.picture.specs.declared.reads.Reads.{Reads as Mode}
-use Rattle.draw.specs.Items.{Gives, Part, PartEntry, Says, SaysEnd, SaysJudged, given_all, lines_given, marks_back, reads_since}
+use Rattle.draw.specs.Items.{Gives, Part, PartEntry, Says, SaysEnd, SaysJudged, given_all, lines_given, marks_back, parts_texts, reads_since}
 use Rattle.draw.specs.TakenStores.{taken_by}
 use Rattle.draw.specs.Judged.{bad_process, lane_told, told_lines}
 
@@ -37,9 +37,5 @@ abbrev pub record_gives : Mode → Said → List ℕ → List Gives
 record_gives mode said told = given_all mode said.setup (source_of said.setup) (entry_parts (reverse said.entries)) ++ record_end mode said.setup (source_of said.setup) (reverse said.entries) told
 
 -- the lines of a record, without their ends: one for each mark of its entries, in their order, those of a judge, and a last one
-abbrev pub lines_of_past : Past → List (List ℕ)
-lines_of_past [] = []
-lines_of_past (e ∷ past) = lines_of_past past ++ map (marked_text (length past) e.process) e.marks
-
 abbrev pub record_lines : Said → List ℕ → List (List ℕ)
-record_lines said told = lines_of_past (reverse said.entries) ++ (map judged_text (told_lines told) ++ ended_text (length (reverse said.entries)) (taken_by (marks_back (reverse said.entries))) 0 ∷ [])
+record_lines said told = parts_texts (entry_parts (reverse said.entries)) ++ (map judged_text (told_lines told) ++ ended_text (length (reverse said.entries)) (taken_by (marks_back (reverse said.entries))) 0 ∷ [])

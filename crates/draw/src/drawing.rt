@@ -23,7 +23,7 @@ use std::alloc::{AllocError, Global};
 #[derive(Drop)]
 pub(crate) struct Drawing {
     canvas: Canvas,
-    store: TakenStore,
+    pub store: TakenStore,
     /// The number of entries.
     pub entries: u64,
     /// The line of the page's list that makes what is drawn next.
@@ -75,13 +75,6 @@ impl Drawing {
         ensures { result ≡ is_some self.now.canvas.overlaps }
     {
         self.canvas.shows_reads()
-    }
-
-    /// Returns the number of commands taken, or 2^64 - 1 if there were more.
-    pub fn taken(&self) -> u64
-        ensures { result ≡ self.now.store.taken }
-    {
-        self.store.taken()
     }
 
     /// Draws the marks of an entry, which has these parts. If reads are shown, `overlapped` is whether its access ends an

@@ -1,4 +1,4 @@
-//! What the commands taken change in the one-thread store of a picture, and how a picture shows it.
+//! The changes that the commands taken make in the one-thread store of a picture, and how a picture shows them.
 ghost use Rattle.std.specs.Prelude.{◌≡◌, Ok, IfOk, OnOk, option_map};
 ghost use Rattle.std.specs.String.{string_bytes};
 ghost use Rattle.plain_store.specs.{after, changes, name_of, value_at};

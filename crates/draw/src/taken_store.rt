@@ -96,7 +96,7 @@ impl TakenStore {
         }
     }
 
-    /// Returns the last call of a process, if the process is there.
+    /// Returns the last call of a process, or `None` if the process does not exist.
     fn call_of(&self, process: u8) -> Option<LastCall>
         ensures { result ≡ slice_get self.now.calls.items process }
     {

@@ -27,7 +27,7 @@ use std::alloc::{AllocError, Global};
 #[derive(Drop)]
 pub(crate) struct RecordDrawing {
     alloc: Global,
-    drawing: Drawing,
+    pub drawing: Drawing,
     watch: ReadWatch,
 }
 
@@ -60,14 +60,6 @@ impl RecordDrawing {
             drawing: Drawing::new(alloc, setup, form, reads, line_of_entries(setup))?,
             watch,
         })
-    }
-
-    /// Returns whether no reads are shown.
-    #[inline(always)]
-    pub fn hides_reads(&self) -> bool
-        ensures { result ≡ not (is_some self.now.drawing.canvas.overlaps) }
-    {
-        !self.drawing.shows_reads()
     }
 
     /// Draws the marks of the next entry.
@@ -145,7 +137,7 @@ impl RecordDrawing {
         draw_judged(self.alloc, &mut self.drawing, told, output)?;
         let saying = Saying::Ended {
             events: self.drawing.entries,
-            taken: self.drawing.taken(),
+            taken: self.drawing.store.taken(),
             refused: 0,
         };
         self.drawing.end(saying, output)
@@ -176,7 +168,7 @@ fn draw_judged<W: Sink>(
     Ok(())
 }
 
-/// Returns what a judge's line says, which stands in the lane of `process`.
+/// Returns the saying of a judge's line in the lane of `process`.
 fn judged_saying(alloc: Global, process: Option<u8>, line: &[u8]) -> Result<Saying, AllocError>
     ensures { IfOk result (λ saying. says_of saying ≡ SaysJudged process line.now) }
 {

@@ -105,7 +105,7 @@ impl Sheet {
     #[inline(always)]
     fn hides_reads(&self) -> bool {
         match &self.drawing {
-            Some(drawing) => drawing.hides_reads(),
+            Some(record) => !record.drawing.shows_reads(),
             None => false,
         }
     }

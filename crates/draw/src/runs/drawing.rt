@@ -10,12 +10,11 @@ ghost use Rattle.scenario.specs.{script};
 ghost use Rattle.course.specs.{Follows, counted, happenings, run_at_start, summary_of};
 ghost use Rattle.draw.specs.RunDrawings.{DrawsTold, tally};
 ghost use Rattle.draw.specs.RunItems.{run_given, says_end};
-ghost use Rattle.course.specs.declared.told.Told.TheVariants as told_variants;
 
 mod listening;
 
 use crate::drawing::{Drawing, lines_of_setup};
-use course::{Accepted, Course, Summary, Told, newest_words};
+use course::{Course, Summary, Told, newest_words};
 use listening::draw_line;
 use picture::{Form, Reads, Saying};
 use plain_store::{NestedTypes, Setup};
@@ -122,7 +121,17 @@ impl RunDrawing {
     {
         let _nested: NestedTypes = None;
         match told {
-            Told::Accepted(made) => self.draw_made(made, output),
+            Told::Accepted(made) => {
+                let process = made.event.process();
+                let marks = made.marks(self.alloc);
+                self.drawing.draw_entry(
+                    process,
+                    made.access,
+                    marks.as_slice(),
+                    made.overlapped,
+                    output,
+                )
+            }
             Told::Refused { process, refusal } => {
                 self.refused += 1;
                 let saying = Saying::Refused {
@@ -137,29 +146,6 @@ impl RunDrawing {
                 self.drawing.draw_line(Saying::Shown(words), output)
             }
         }
-    }
-
-    /// Draws the entry of an accepted event.
-    fn draw_made<W: Sink>(&mut self, made: &Accepted, output: &mut W) -> Result<(), Fault>
-        requires writes { W.failures output.old < 2 ^ 64 - 1 }
-        requires events { self.old.drawing.entries < 2 ^ 64 - 1 }
-        ensures drawn { OnOk result (DrawsTold self.old self.new (told_variants.Accepted made.now) (W.taken output.old) (W.taken output.new)) }
-        ensures source { self.new.drawing.source ≡ self.old.drawing.source }
-        ensures entries { OnOk result (self.new.drawing.entries ≡ self.old.drawing.entries + 1) }
-        ensures refused { self.new.refused ≡ self.old.refused }
-        ensures fault { IfErr result IsWriteFault }
-        ensures failures { W.failures output.new ≡ W.failures output.old + failed_write result }
-    {
-        let _nested: NestedTypes = None;
-        let process = made.event.process();
-        let marks = made.marks(self.alloc);
-        self.drawing.draw_entry(
-            process,
-            made.access,
-            marks.as_slice(),
-            made.overlapped,
-            output,
-        )
     }
 
     /// Draws the last line, writes what is held back, and returns the run's numbers and the heights of the bands.

@@ -1,0 +1,14 @@
+use Rattle.std.proofs.Common.{refl, subst, sym, ◌∙◌}
+use Rattle.course.specs.{Told, entry_made}
+use Rattle.draw.specs.{DrawsTold}
+use Rattle.draw.proofs.Written.{ok_then}
+use Rattle.draw.proofs.runs.drawing.RunDrawing.draw_told.Goals as goal
+
+pub returns-in-Accepted-clause-drawn : goal.returns-in-Accepted-clause-drawn
+returns-in-Accepted-clause-drawn g c =
+    let self = c.args.self.now in
+    let made = c.in-Accepted.made in
+    ok_then c.draw_entry.result
+    (λ drew. subst (λ (t : Told). DrawsTold self (record self { drawing = c.draw_entry.new.self }) t (g.W.Sink.taken c.args.output.now) (g.W.Sink.taken c.draw_entry.new.output)) (sym c.in-Accepted.is)
+    (λ mode s parts tells recalls. drew mode s parts (entry_made made) (sym c.process-process.ensures) refl (sym (c.as_slice.ensures ∙ c.marks-marks.ensures)) tells recalls))
+    c.draw_entry.ensures.drawn
