@@ -1,0 +1,102 @@
+-- If no entry breaks a law, no two processes are inside together, and none enters while another is ahead.
+use Rattle.std.proofs.Common.{◌≡◌, ◌≢◌, ℕ, suc, zero, ◌<◌, ◌≤◌, ◌==◌, Bool, true, false, not, ◌&&◌, ◌||◌, cond, List, [], ◌∷◌, Option, None, Some, fold, length, refl, sym, ap, ◌∙◌, subst, arith, true≢false, inl, inr, eq-eqb, ne_eqb}
+use Rattle.std.specs.List.{list_any}
+use Rattle.std.proofs.lemmas.Bool.{and_from, and_parts, cases_Bool, cases_eq, cases_lt, false_from_ne_true}
+use Rattle.trace.specs.{LockMark}
+use Rattle.trace.specs.declared.marks.LockMark.TheVariants.{Call, Wait, Enter, Leave, Answer}
+use Rattle.lock_stages.specs.declared.states.LockStage.TheVariants.{Idle}
+use Rattle.lock_stages.specs.{EntersAlone, EntersInTurn, IsAloneInside, LockEntry, LockPast, LockStage, any_below, breaks_overtaken, breaks_together, doorway, has_mark, is_ahead, is_enter, is_inside, is_other_inside, is_wait, is_waiting, latest, lock_stage, precedes, stage_after}
+use Rattle.lock_stages.proofs.Others.{one_below}
+
+-- only these processes have entries
+abbrev pub AreBelow : ℕ → LockPast → Type 0
+AreBelow n past = (q : ℕ) → n ≤ q → lock_stage q past ≡ Idle
+
+pub none-below : (n : ℕ) → AreBelow n []
+none-below n q above = refl
+
+stage-other : (q : ℕ) (e : LockEntry) (past : LockPast) → q ≢ e.process → lock_stage q (e ∷ past) ≡ lock_stage q past
+stage-other q e past apart = ap (λ b. cond b (fold stage_after (lock_stage q past) e.marks) (lock_stage q past)) (ne_eqb e.process q (λ h. apart (sym h)))
+
+stage-mine : (e : LockEntry) (past : LockPast) → lock_stage e.process (e ∷ past) ≡ fold stage_after (lock_stage e.process past) e.marks
+stage-mine e past = ap (λ b. cond b (fold stage_after (lock_stage e.process past) e.marks) (lock_stage e.process past)) (eq-eqb e.process e.process refl)
+
+pub more-below : (n : ℕ) (e : LockEntry) (past : LockPast) → e.process < n → AreBelow n past → AreBelow n (e ∷ past)
+more-below n e past below are q above = stage-other q e past (λ h. absurd (omega (arith, h))) ∙ are q above
+
+-- a process that is inside, or waits, is one of these
+inside-below : (n : ℕ) (past : LockPast) (q : ℕ) → AreBelow n past → is_inside (lock_stage q past) ≡ true → q < n
+inside-below n past q are inside = elim (cases_lt q n) [
+  | inl below ↦ below
+  | inr above ↦ absurd (true≢false (sym inside ∙ ap is_inside (are q above)))
+]
+
+waiting-below : (n : ℕ) (past : LockPast) (q : ℕ) → AreBelow n past → is_waiting (lock_stage q past) ≡ true → q < n
+waiting-below n past q are waits = elim (cases_lt q n) [
+  | inl below ↦ below
+  | inr above ↦ absurd (true≢false (sym waits ∙ ap is_waiting (are q above)))
+]
+
+-- without an enter a process is inside only if it was
+or_right : (b : Bool) (c : Bool) → (b || c) ≡ false → c ≡ false
+or_right false c h = h
+or_right true c h = absurd (true≢false h)
+
+was-inside : (ms : List LockMark) (at : LockStage) → list_any is_enter ms ≡ false → is_inside (fold stage_after at ms) ≡ true → is_inside at ≡ true
+was-inside [] at none inside = inside
+was-inside (m ∷ ms) at none inside = by m none (was-inside ms (stage_after at m) (or_right (is_enter m) (list_any is_enter ms) none) inside)
+  where
+    by : (m : LockMark) → (is_enter m || list_any is_enter ms) ≡ false → is_inside (stage_after at m) ≡ true → is_inside at ≡ true
+    by Call none h = absurd (true≢false (sym h))
+    by Wait none h = absurd (true≢false (sym h))
+    by Enter none h = absurd (true≢false none)
+    by Leave none h = absurd (true≢false (sym h))
+    by Answer none h = absurd (true≢false (sym h))
+
+-- An entry that enters does so alone.
+pub enters-alone : (n : ℕ) (past : LockPast) (e : LockEntry) → AreBelow n past → breaks_together n past e ≡ false → EntersAlone past e
+enters-alone n past e are keeps enters q inside = elim (cases_eq q e.process) [
+  | inl same ↦ same
+  | inr apart ↦
+      let other : is_other_inside past e.process q ≡ true = and_from (not (q == e.process)) (is_inside (lock_stage q past)) (ap not (ne_eqb q e.process apart)) inside in
+      let any : any_below n (is_other_inside past e.process) ≡ true = one_below n q (is_other_inside past e.process) other (inside-below n past q are inside) in
+      absurd (true≢false (sym (and_from (has_mark is_enter e) (any_below n (is_other_inside past e.process)) enters any) ∙ keeps))
+]
+
+-- No two are inside after it.
+pub alone-on : (n : ℕ) (past : LockPast) (e : LockEntry) → AreBelow n past → breaks_together n past e ≡ false → IsAloneInside past → IsAloneInside (e ∷ past)
+alone-on n past e are keeps alone p q p_inside q_inside = elim (cases_eq p e.process) [
+  | inl p_mine ↦ elim (cases_eq q e.process) [
+    | inl q_mine ↦ p_mine ∙ sym q_mine
+    | inr q_other ↦ p_mine ∙ mine q (inside p p_mine p_inside) q_other (was q q_other q_inside)
+  ]
+  | inr p_other ↦ elim (cases_eq q e.process) [
+    | inl q_mine ↦ sym (q_mine ∙ mine p (inside q q_mine q_inside) p_other (was p p_other p_inside))
+    | inr q_other ↦ alone p q (was p p_other p_inside) (was q q_other q_inside)
+  ]
+]
+  where
+    was : (r : ℕ) → r ≢ e.process → is_inside (lock_stage r (e ∷ past)) ≡ true → is_inside (lock_stage r past) ≡ true
+    was r other h = sym (ap is_inside (stage-other r e past other)) ∙ h
+
+    inside : (r : ℕ) → r ≡ e.process → is_inside (lock_stage r (e ∷ past)) ≡ true → is_inside (fold stage_after (lock_stage e.process past) e.marks) ≡ true
+    inside r mine h = ap is_inside (sym (stage-mine e past)) ∙ ap (λ n. is_inside (lock_stage n (e ∷ past))) (sym mine) ∙ h
+
+    mine : (r : ℕ) → is_inside (fold stage_after (lock_stage e.process past) e.marks) ≡ true → r ≢ e.process → is_inside (lock_stage r past) ≡ true → e.process ≡ r
+    mine r h other there = elim (cases_Bool (has_mark is_enter e)) [
+      | inl enters ↦ absurd (other (enters-alone n past e are keeps enters r there))
+      | inr none ↦ alone e.process r (was-inside e.marks (lock_stage e.process past) none h) there
+    ]
+
+waits_ahead : (past : LockPast) (p q : ℕ) → is_ahead past p q ≡ true → is_waiting (lock_stage q past) ≡ true
+waits_ahead past p q ahead = (and_parts _ _ (and_parts _ _ ahead).0).1
+
+-- An entry that enters overtakes no process.
+pub enters-in-turn : (n : ℕ) (past : LockPast) (e : LockEntry) → AreBelow n past → breaks_overtaken n past e ≡ false → EntersInTurn past e
+enters-in-turn n past e are keeps enters q = false_from_ne_true (is_ahead past e.process q) none
+  where
+    none : is_ahead past e.process q ≡ true → ⊥
+    none ahead =
+        let waits : is_waiting (lock_stage q past) ≡ true = waits_ahead past e.process q ahead in
+        let any : any_below n (is_ahead past e.process) ≡ true = one_below n q (is_ahead past e.process) ahead (waiting-below n past q are waits) in
+        true≢false (sym (and_from (has_mark is_enter e) (any_below n (is_ahead past e.process)) enters any) ∙ keeps)
