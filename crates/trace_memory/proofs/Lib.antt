@@ -1,0 +1,9 @@
+pub mod CellPlaces
+pub mod Few
+pub mod Made
+pub mod Opening
+pub mod Overlaps
+pub mod ReadValues
+pub mod Seeing
+pub mod Sets
+pub mod SetupFacts
