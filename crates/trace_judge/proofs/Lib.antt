@@ -1,0 +1,12 @@
+pub mod Alike
+pub mod InTwo
+pub mod LongForms
+pub mod MayValues
+pub mod Mays
+pub mod Sound
+pub mod OneMore
+pub mod TwoLaws
+pub mod Unbroken
+pub mod Weaker
+pub mod Whole
+pub mod WholeReasons

@@ -1,0 +1,93 @@
+ghost use Rattle.std.specs.Prelude.{◌≡◌, ◌+◌, ◌-◌, ◌^◌, ◌<◌, [], IfOk, length, true};
+ghost use Rattle.trace.specs.{is_trace_setup, trace_entry};
+ghost use Rattle.trace_judge.specs.Judging.{HasJudged, IsExplained, JudgesOn, OfJudged};
+ghost use Rattle.trace_judge.specs.Soundness.{MeansSound};
+ghost use Rattle.trace_judge.specs.Verdicts.{verdict_of, verdict_with};
+
+use crate::reasons::TraceReasons;
+use crate::state::TraceState;
+use crate::verdicts::{TraceJudged, TraceLaw, TraceVerdict};
+use std::alloc::{AllocError, Global};
+use std::marker::Model;
+use trace::{CellAccess, LockMark, TraceSetup};
+
+/// A judge of traces, which observes entries one by one. It keeps the stored value and the open write of each cell; the
+/// stage, the open access, its allowed values and four entry numbers of each process; and the verdict with its reasons.
+/// So it needs the same memory however long the trace is.
+#[derive(Drop)]
+pub struct TraceJudge {
+    state: TraceState,
+    verdict: TraceVerdict,
+    entries: u64,
+    reasons: Option<TraceReasons>,
+}
+
+impl Model for TraceJudge {
+    ghost use Rattle.std.specs.Prelude.{◌≤◌};
+    ghost use Rattle.trace_judge.specs.Judging.{JudgeState};
+
+    ghost Value = { JudgeState };
+
+    ghost view = { λ j. record { state = j.state; verdict = j.verdict; entries = j.entries; reasons = j.reasons } };
+
+    ghost invariant = { λ j. j.state.stages.entries ≤ j.entries };
+}
+
+impl TraceJudge {
+    /// Creates a judge of a trace with this setup, before the first entry. No later call allocates.
+    ///
+    /// # Errors
+    ///
+    /// Returns [`AllocError`] if memory runs out.
+    pub fn new(alloc: Global, setup: &TraceSetup) -> Result<TraceJudge, AllocError>
+        requires { is_trace_setup setup.now ≡ true }
+        ensures { IfOk result (λ judge. HasJudged judge setup.now []) }
+    {
+        Ok(TraceJudge {
+            state: TraceState::new(alloc, setup.copy(alloc)?)?,
+            verdict: TraceVerdict::Good,
+            entries: 0,
+            reasons: None,
+        })
+    }
+
+    /// Observes the next entry, by its parts.
+    pub fn observe(&mut self, process: u8, access: &Option<CellAccess>, marks: &[LockMark])
+        requires { self.old.entries < 2 ^ 64 - 1 }
+        ensures observed { JudgesOn self.old (trace_entry process access.now marks.now) self.new }
+        ensures count { self.new.entries ≡ self.old.entries + 1 }
+    {
+        let number = self.entries;
+        self.entries += 1;
+        if let TraceVerdict::Bad(..) = self.verdict {
+            return;
+        }
+        if let Some(law) = self.state.broken(process, access, marks) {
+            self.reasons = Some(self.state.reasons(law, process, access, marks));
+            self.verdict = TraceVerdict::Bad(number, law);
+        } else {
+            self.state.take(process, access, marks);
+        }
+    }
+
+    /// Returns the verdict on the entries so far, and their number. If it is good, no two processes were inside together, and
+    /// none entered while another was ahead of it.
+    pub fn judged(&self) -> TraceJudged
+        ensures now { result.verdict ≡ self.now.verdict }
+        ensures verdict { OfJudged self.now (λ s entries. result.verdict ≡ verdict_of s entries) }
+        ensures sound { OfJudged self.now (λ _ entries. MeansSound result.verdict entries) }
+        ensures entries { OfJudged self.now (λ _ entries. result.entries ≡ length entries) }
+    {
+        TraceJudged {
+            verdict: self.verdict,
+            entries: self.entries,
+        }
+    }
+
+    /// Returns the reasons of the verdict on the entries so far; a good one has none.
+    pub fn reasons(&self) -> Option<TraceReasons>
+        ensures { OfJudged self.now (IsExplained result) }
+    {
+        self.reasons
+    }
+}
