@@ -1,4 +1,4 @@
--- What marks are refused for.
+-- The refusals of marks.
 use Rattle.std.specs.Prelude.{ℕ, ◌==◌, Bool, true, false, not, ◌&&◌, ◌||◌, List, [], ◌∷◌, length, Option, None, Some, if◌then◌else◌}
 use Rattle.trace.specs.{LockMark, first_that}
 use Rattle.trace.specs.declared.marks.LockMark.TheVariants as mark
@@ -53,7 +53,7 @@ first_refusal stage is_open (m ∷ marks) = elim (mark_refusal stage is_open m) 
   | None ↦ first_refusal (stage_after stage m) is_open marks
 ]
 
--- a call is made beside an access or another mark
+-- a call is made with an access or another mark
 abbrev pub is_crowded : LockEntry → Bool
 is_crowded e = has_mark is_call e && (e.accesses || not (length e.marks == 1))
 

@@ -1,4 +1,4 @@
--- What it means that a lock excludes others, and that it is first come, first served.
+-- Mutual exclusion, and first come, first served, of a trace.
 use Rattle.std.specs.Prelude.{◌≡◌, ℕ, IsFalse, IsTrue}
 use Rattle.lock_stages.specs.Entries.{LockEntry, LockPast, has_mark, is_enter}
 use Rattle.lock_stages.specs.Order.{is_ahead}

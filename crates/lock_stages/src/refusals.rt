@@ -1,4 +1,4 @@
-//! What marks are refused for.
+//! The refusals of marks.
 ghost use Rattle.std.specs.Prelude.{◌≡◌};
 ghost use Rattle.std.specs.List.{list_any};
 ghost use Rattle.lock_stages.specs.Entries.{is_call as begins_call, is_enter as enters_inside};
@@ -13,7 +13,7 @@ use trace::LockMark;
 /// Why the marks of an entry are refused: the first refusal of the first refused mark.
 #[derive(Clone, Copy, PartialEq, Eq)]
 pub enum LockMarkRefusal {
-    /// A call beside an access or another mark.
+    /// A call with an access or another mark.
     NotAlone,
     /// A call: the process has one.
     Busy,

@@ -1,4 +1,4 @@
--- What moves do.
+-- The properties of moves.
 use Rattle.std.specs.Prelude.{ℕ, ◌^◌, nat_lt, Bool, true, false, List, [], ◌∷◌, Option, None, Some}
 use Rattle.std.specs.List.{list_all}
 use Rattle.trace.specs.declared.accesses.CellAccess.{CellAccess}
@@ -45,7 +45,7 @@ value_written (Write v) = Some v
 value_written (Set v) = Some v
 value_written _ = None
 
--- the value that a move says it read
+-- the value that a move read, as the trace states it
 abbrev pub value_read : CellMove → Option ℕ
 value_read (Value v) = Some v
 value_read (Get v) = Some v

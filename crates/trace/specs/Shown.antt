@@ -34,7 +34,7 @@ move_text (Cas expected new gives) = codes "cas " ++ decimal expected ++ codes "
 abbrev pub register_name : List TraceRegister → ℕ → List ℕ
 register_name registers i = elim (slice_get registers i) [ None ↦ [] | Some r ↦ r.name ]
 
--- a cell: its register's name, and its index behind that, if it has one
+-- a cell: the name of its register, and then its index, if it has one
 abbrev pub cell_text : List TraceRegister → Cell → List ℕ
 cell_text registers c = elim c.index [
   | None ↦ register_name registers c.register
@@ -49,7 +49,7 @@ abbrev pub access_if : List TraceRegister → Option CellAccess → List ℕ
 access_if registers None = []
 access_if registers (Some a) = access_text registers a
 
--- marks, each behind its sign
+-- marks, each after its sign
 abbrev pub marks_text : List LockMark → List ℕ
 marks_text [] = []
 marks_text (m ∷ marks) = (codes " : " ++ lock_mark_text m) ++ marks_text marks

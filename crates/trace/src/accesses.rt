@@ -7,7 +7,7 @@ pub struct Cell {
     pub index: Option<u8>,
 }
 
-/// What an access does to its cell.
+/// The effect of an access on its cell.
 #[derive(Clone, Copy, PartialEq, Eq)]
 pub enum CellMove {
     /// A write of this value begins.

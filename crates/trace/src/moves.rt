@@ -1,4 +1,4 @@
-//! What moves do.
+//! The properties of moves.
 ghost use Rattle.std.specs.Prelude.{◌≡◌, ◌≤◌, ◌^◌, nat_lt};
 ghost use Rattle.trace.specs.Moves.{access_reading, begins, changes, ends, fits, is_part, move_reading, only_writes, value_read, value_written};
 
@@ -74,7 +74,7 @@ impl CellMove {
         }
     }
 
-    /// Returns the value that the move says it read.
+    /// Returns the value that the move read, as the trace states it.
     #[inline]
     pub fn value_read(self) -> Option<u32>
         ensures { result ≡ value_read self }

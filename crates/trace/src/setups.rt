@@ -4,7 +4,7 @@ use crate::names::CellName;
 use std::alloc::{AllocError, Global};
 use std::marker::Model;
 
-/// What a read may give while a write of its cell is open.
+/// The rule for reads that a write of their cell overlaps.
 #[derive(Clone, Copy, PartialEq, Eq)]
 pub enum TraceMemory {
     /// Any value of the width.
@@ -27,7 +27,7 @@ pub struct TraceRegister {
     pub is_shared: bool,
 }
 
-/// What a trace states before its entries. Contracts see the list of its registers.
+/// The part of a trace before its entries. Contracts see the list of its registers.
 #[derive(Drop)]
 pub struct TraceSetup {
     /// The number of processes, 1 to 16.

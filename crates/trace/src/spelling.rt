@@ -103,7 +103,7 @@ fn push_move(alloc: Global, how: CellMove, text: &mut Vec<u8>) -> Result<(), All
     text.extend_from_slice(words.as_bytes())
 }
 
-/// Writes marks, each behind its sign.
+/// Writes marks, each after its sign.
 fn push_marks(alloc: Global, marks: &[LockMark], text: &mut Vec<u8>) -> Result<(), AllocError>
     ensures { OnOk result (text.new.items ≡ text.old.items ++ marks_text marks.now) }
 {

@@ -11,9 +11,9 @@ use std::alloc::{AllocError, Global};
 use std::marker::Model;
 use trace::{CellAccess, LockMark, TraceSetup};
 
-/// A judge of traces, which observes entries one by one. It keeps the stored value and the open write of each cell; the
-/// stage, the open access, its allowed values and four entry numbers of each process; and the verdict with its reasons.
-/// So it needs the same memory however long the trace is.
+/// A judge of traces, which observes entries one by one. It keeps the stored value and the open write of each cell. Of
+/// each process it keeps the stage, the open access with its allowed values, and four entry numbers. So it needs the same
+/// memory however long the trace is.
 #[derive(Drop)]
 pub struct TraceJudge {
     state: TraceState,

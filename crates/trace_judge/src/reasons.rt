@@ -1,4 +1,4 @@
-//! The reasons of a verdict: what is looked up for the bad entry.
+//! The reasons of a verdict.
 ghost use Rattle.std.specs.Prelude.{◌≡◌, ◌<◌, Some, filter, option_to_list};
 ghost use Rattle.trace.specs.{TraceEntry as Entry, trace_entry};
 ghost use Rattle.trace_judge.specs.Keeping.{OfSeen};
@@ -23,7 +23,7 @@ pub enum TraceRefused {
 /// The most processes of a trace.
 const MOST_PROCESSES: usize = 16;
 
-/// What is looked up for an entry that breaks a law. Entries are given by their numbers, from 0.
+/// The reasons of an entry that breaks a law. Entries are given by their numbers, from 0.
 #[derive(Clone, Copy)]
 pub struct TraceReasons {
     /// `Memory`: if at most two values are allowed, those with which the entry keeps all laws, ascending.
@@ -34,9 +34,9 @@ pub struct TraceReasons {
     pub stage: Option<LockStage>,
     /// The entry with which the access began that its process has open.
     pub opened: Option<u64>,
-    /// `Together`: of each other process that is inside the entry with which it entered.
+    /// `Together`: for each other process that is inside, the entry with which it entered.
     pub inside: [Option<u64>; MOST_PROCESSES],
-    /// `Overtaken`: of each process that is ahead the entry with which it began to wait.
+    /// `Overtaken`: for each process that is ahead, the entry with which it began to wait.
     pub waits: [Option<u64>; MOST_PROCESSES],
     /// `Overtaken`: the entry with which the doorway of its process began, in the past or this one.
     pub doorway: Option<u64>,

@@ -1,4 +1,4 @@
-//! What a judge keeps of the entries that it has observed.
+//! The state that a judge keeps of the entries that it has observed.
 ghost use Rattle.std.specs.Prelude.{◌≡◌, ◌<◌, List, ◌+◌, ◌-◌, ◌^◌, ◌∷◌, [], IfOk, IfSome, IsTrue, None, is_some, true};
 ghost use Rattle.trace.specs.{LockMark as Mark, is_trace_setup, trace_entry};
 ghost use Rattle.trace_memory.specs.{has_cell};

@@ -5,7 +5,7 @@ ghost use Rattle.trace_memory.specs.Cells.{same_cell, same_index, state_after};
 
 use trace::{Cell, CellMove, values_of_width};
 
-/// What a cell stores, and the value of the write that is open.
+/// The stored value of a cell, and the value of the write that is open.
 #[derive(Clone, Copy)]
 pub struct CellState {
     pub stored: u32,

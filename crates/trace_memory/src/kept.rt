@@ -12,7 +12,7 @@ pub struct OpenAccess {
     /// The number of the entry with which it began, from 0.
     pub entry: u64,
     pub cell: Cell,
-    /// What it may give, if it is a read; `None` of a write.
+    /// The values that it may give, if it is a read; `None` for a write.
     pub allowed: Option<Allowed>,
 }
 

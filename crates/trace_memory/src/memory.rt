@@ -12,9 +12,9 @@ use trace::{Cell, TraceMemory, TraceRegister, TraceSetup};
 /// The most processes.
 pub(crate) const MOST_PROCESSES: usize = 16;
 
-/// The cells of a trace and the access that each process has open. It observes entries one by one and needs the same
-/// memory however many there are: of a cell what it stores and the write that is open; of a process its open access and
-/// what that may give. Contracts see what it keeps of them.
+/// The cells of a trace and the access that each process has open. It observes entries one by one, and keeps the stored
+/// value and the open write of each cell, and the open access of each process with the values that it may give. So it
+/// needs the same memory however many entries there are. Contracts see what it keeps.
 #[derive(Drop)]
 pub struct CellMemory {
     pub(crate) setup: TraceSetup,

@@ -1,4 +1,4 @@
-//! What reads may give.
+//! The values that reads may give.
 ghost use Rattle.std.specs.Prelude.{◌≡◌, ◌<◌, Bool, IsTrue, None};
 ghost use Rattle.trace_memory.specs.AllowedValues.{allowed_by};
 ghost use Rattle.trace_memory.specs.Cells.{has_cell, register_of};

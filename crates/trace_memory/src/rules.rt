@@ -1,4 +1,4 @@
-//! What an access is refused for.
+//! The refusals of accesses.
 ghost use Rattle.std.specs.Prelude.{◌≡◌, ◌<◌, ◌≤◌, IsTrue, None};
 ghost use Rattle.trace.specs.{first_that};
 ghost use Rattle.trace_memory.specs.Cells.{has_cell};
