@@ -1,8 +1,8 @@
 -- Which processes are ahead, entry by entry, without the numbers of entries.
-use Rattle.std.proofs.Common.{◌≡◌, ℕ, suc, ◌<◌, ◌==◌, Bool, true, false, not, ◌&&◌, ◌||◌, cond, List, [], ◌∷◌, Option, None, Some, is_some, length, nat_lt, refl, sym, ap, ◌∙◌, arith}
+use Rattle.std.proofs.Common.{◌≡◌, ℕ, suc, ◌<◌, ◌==◌, Bool, true, false, not, ◌&&◌, ◌||◌, cond, List, [], ◌∷◌, Option, None, Some, is_some, length, refl, sym, ap, ◌∙◌, arith}
 use Rattle.std.proofs.lemmas.Bool.{le-ltb, lt-ltb}
 use Rattle.trace.specs.{LockMark}
-use Rattle.lock_stages.specs.{LockEntry, LockPast, doorway, doorway_after, first_of, has_mark, is_ahead, is_call, is_wait, is_waiting, latest, lock_entry, lock_stage, precedes, stage_after}
+use Rattle.lock_stages.specs.{LockEntry, LockPast, doorway, doorway_after, first_of, has_mark, is_call, is_wait, latest, lock_entry, precedes}
 
 -- Numbers are below the number of entries.
 abbrev pub Below : ℕ → Option ℕ → Type 0

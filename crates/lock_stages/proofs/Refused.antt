@@ -1,5 +1,5 @@
 -- The first refusal, mark by mark.
-use Rattle.std.proofs.Common.{◌≡◌, ℕ, suc, ◌+◌, ◌<◌, Bool, List, ◌∷◌, Option, None, Some, drop, get_or, length, sym, ap, ◌∙◌, add-one, drop-cons}
+use Rattle.std.proofs.Common.{◌≡◌, ℕ, suc, ◌+◌, ◌<◌, Bool, List, Option, None, Some, drop, get_or, length, sym, ap, ◌∙◌, add-one, drop-cons}
 use Rattle.trace.specs.{LockMark}
 use Rattle.lock_stages.specs.{LockMarkRefusal, LockStage, first_refusal, mark_refusal, stage_after}
 

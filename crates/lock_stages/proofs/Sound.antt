@@ -1,11 +1,11 @@
 -- If no entry breaks a law, no two processes are inside together, and none enters while another is ahead.
-use Rattle.std.proofs.Common.{◌≡◌, ◌≢◌, ℕ, suc, zero, ◌<◌, ◌≤◌, ◌==◌, Bool, true, false, not, ◌&&◌, ◌||◌, cond, List, [], ◌∷◌, Option, None, Some, fold, length, refl, sym, ap, ◌∙◌, subst, arith, true≢false, inl, inr, eq-eqb, ne_eqb}
+use Rattle.std.proofs.Common.{◌≡◌, ◌≢◌, ℕ, ◌<◌, ◌≤◌, ◌==◌, Bool, true, false, not, ◌||◌, cond, List, [], ◌∷◌, fold, refl, sym, ap, ◌∙◌, arith, true≢false, inl, inr, eq-eqb, ne_eqb}
 use Rattle.std.specs.List.{list_any}
 use Rattle.std.proofs.lemmas.Bool.{and_from, and_parts, cases_Bool, cases_eq, cases_lt, false_from_ne_true}
 use Rattle.trace.specs.{LockMark}
 use Rattle.trace.specs.declared.marks.LockMark.TheVariants.{Call, Wait, Enter, Leave, Answer}
 use Rattle.lock_stages.specs.declared.states.LockStage.TheVariants.{Idle}
-use Rattle.lock_stages.specs.{EntersAlone, EntersInTurn, IsAloneInside, LockEntry, LockPast, LockStage, any_below, breaks_overtaken, breaks_together, doorway, has_mark, is_ahead, is_enter, is_inside, is_other_inside, is_wait, is_waiting, latest, lock_stage, precedes, stage_after}
+use Rattle.lock_stages.specs.{EntersAlone, EntersInTurn, IsAloneInside, LockEntry, LockPast, LockStage, any_below, breaks_overtaken, breaks_together, has_mark, is_ahead, is_enter, is_inside, is_other_inside, is_waiting, lock_stage, stage_after}
 use Rattle.lock_stages.proofs.Others.{one_below}
 
 -- only these processes have entries

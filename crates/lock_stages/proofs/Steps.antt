@@ -3,7 +3,7 @@ use Rattle.std.proofs.Common.{◌≡◌, ℕ, ◌==◌, Bool, true, false, ◌&&
 use Rattle.std.specs.List.{list_any}
 use Rattle.trace.specs.{LockMark}
 use Rattle.trace.specs.declared.marks.LockMark.TheVariants.{Call, Wait, Enter, Leave, Answer}
-use Rattle.lock_stages.specs.{LockEntry, LockPast, LockStage, ProcessState, accessed, at_rest, doorway, doorway_after, has_mark, is_call, is_enter, is_wait, latest, lock_stage, process_state, marked, stage_after, process_state_after}
+use Rattle.lock_stages.specs.{LockEntry, LockPast, ProcessState, accessed, doorway, doorway_after, has_mark, is_call, is_enter, is_wait, latest, lock_stage, process_state, marked, stage_after, process_state_after}
 
 -- states with the same fields are equal
 pub state_by : (k m : ProcessState) → k.stage ≡ m.stage → k.doorway ≡ m.doorway → k.waits ≡ m.waits → k.enters ≡ m.enters → k ≡ m

@@ -2,7 +2,7 @@
 use Rattle.std.specs.Prelude.{ℕ, Bool, true, false, List}
 use Rattle.std.specs.List.{list_any}
 use Rattle.trace.specs.{LockMark}
-use Rattle.trace.specs.declared.marks.LockMark.TheVariants.{Call, Wait, Enter, Leave, Answer}
+use Rattle.trace.specs.declared.marks.LockMark.TheVariants.{Call, Wait, Enter}
 
 -- a process, whether it makes an access, and its marks in their order; the access precedes the marks
 pub record LockEntry : Type 0 where

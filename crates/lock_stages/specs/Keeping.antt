@@ -1,5 +1,5 @@
 -- What is kept of the entries so far, and what it becomes with one more entry.
-use Rattle.std.specs.Prelude.{◌≡◌, ℕ, ◌<◌, ◌≤◌, Bool, List, length, slice_get, slice_index_or, fold, cond, Option, None, Some}
+use Rattle.std.specs.Prelude.{◌≡◌, ℕ, ◌<◌, Bool, List, length, slice_get, slice_index_or, fold, cond, Option, None, Some}
 use Rattle.trace.specs.{LockMark}
 use Rattle.trace.specs.declared.marks.LockMark.TheVariants as mark
 use Rattle.lock_stages.specs.declared.states.LockStage.TheVariants.{Idle, Doorway, Waiting, Inside, Leaving}

@@ -1,5 +1,5 @@
 -- The refusals of marks.
-use Rattle.std.specs.Prelude.{ℕ, ◌==◌, Bool, true, false, not, ◌&&◌, ◌||◌, List, [], ◌∷◌, length, Option, None, Some, if◌then◌else◌}
+use Rattle.std.specs.Prelude.{◌==◌, Bool, true, false, not, ◌&&◌, ◌||◌, List, [], ◌∷◌, length, Option, None, Some, if◌then◌else◌}
 use Rattle.trace.specs.{LockMark, first_that}
 use Rattle.trace.specs.declared.marks.LockMark.TheVariants as mark
 use Rattle.lock_stages.specs.declared.refusals.LockMarkRefusal.{LockMarkRefusal}

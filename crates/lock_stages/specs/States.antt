@@ -1,5 +1,5 @@
 -- The stage of a process, and the entries since which it waits or is inside, by looking back over a past.
-use Rattle.std.specs.Prelude.{ℕ, ◌==◌, Bool, true, false, ◌&&◌, [], ◌∷◌, fold, length, cond, Option, None, Some}
+use Rattle.std.specs.Prelude.{ℕ, ◌==◌, Bool, ◌&&◌, [], ◌∷◌, fold, length, cond, Option, None, Some}
 use Rattle.trace.specs.{LockMark}
 use Rattle.trace.specs.declared.marks.LockMark.TheVariants as mark
 use Rattle.lock_stages.specs.declared.states.LockStage.{LockStage}

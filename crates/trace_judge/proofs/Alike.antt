@@ -1,18 +1,18 @@
 -- Pasts that are alike: they leave the same cells, open accesses, stages and order.
-use Rattle.std.proofs.Common.{◌≡◌, ◌≢◌, if◌then◌else◌, ℕ, zero, suc, ◌==◌, Bool, true, false, not, ◌&&◌, ◌||◌, cond, List, [], ◌∷◌, ◌++◌, Option, None, Some, fold, is_none, is_some, length, nat_lt, option_map, refl, sym, ap, ◌∙◌, subst, true≢false, inl, inr}
+use Rattle.std.proofs.Common.{◌≡◌, if◌then◌else◌, ℕ, zero, suc, ◌==◌, Bool, true, false, not, ◌&&◌, ◌||◌, cond, List, [], ◌∷◌, ◌++◌, Option, None, Some, fold, is_some, length, nat_lt, option_map, refl, sym, ap, ◌∙◌, inl, inr}
 use Rattle.std.proofs.lemmas.Bool.{cases_eq, not-false}
 use Rattle.trace.proofs.Tables.{neither_table, none_applies}
 use Rattle.trace.specs.{Cell, CellAccess, CellMove, LockMark, TraceEntry, TraceMemory, TracePast, TraceSetup, begins, ends, first_that, is_trace_setup, trace_entry, value_read}
-use Rattle.trace.specs.declared.accesses.CellMove.TheVariants.{Write, End, Read, Value, Set, Get, Swap, Add, Cas}
-use Rattle.lock_stages.specs.{LockMarkRefusal, LockPast, any_below, first_refusal, has_mark, is_ahead, is_call, is_crowded, is_enter, is_idle, is_inside, is_other_inside, is_wait, is_waiting, lock_stage, precedes, stage_after}
+use Rattle.trace.specs.declared.accesses.CellMove.TheVariants.{Value}
+use Rattle.lock_stages.specs.{any_below, first_refusal, has_mark, is_ahead, is_crowded, is_enter, is_idle, is_inside, is_other_inside, is_waiting, lock_stage, stage_after}
 use Rattle.lock_stages.specs.declared.refusals.LockMarkRefusal.TheVariants as mark
-use Rattle.lock_stages.proofs.Ahead.{AlikeOrder, alike-more, alike-two}
+use Rattle.lock_stages.proofs.Ahead.{AlikeOrder, alike-more}
 use Rattle.trace_memory.specs.{CellRefusal, CellState, OpenAccess, allowed_first, allowed_open, cell_after, cell_refusal, cell_state, ends_kept, has_cell, is_end_of, kept_access, kept_open, move_on, moves_on, open_refusals, opened, opened_by, reads_wrongly, register_of, same_cell, seen, setup_refusals, state_after, with_move}
 use Rattle.trace_memory.specs.declared.refusals.CellRefusal.TheVariants as refusal
 use Rattle.trace_memory.proofs.Made.{cell-with}
 use Rattle.trace_memory.proofs.Overlaps.{ends-open, open-mine, open-other, open-still, some-map}
 use Rattle.trace_memory.proofs.ReadValues.{kept_or_first, read-kept, right-kept, wrong-kept}
-use Rattle.trace_judge.specs.{breaks_access, breaks_marks, breaks_memory, breaks_overtaken, breaks_together, first_broken, leaves_open, lock_part, lock_past, refusal_of_access, refusal_of_marks, stage}
+use Rattle.trace_judge.specs.{breaks_access, breaks_marks, breaks_memory, breaks_overtaken, breaks_together, first_broken, leaves_open, lock_part, lock_past, refusal_of_access, stage}
 use Rattle.trace_judge.proofs.Unbroken.{broken_none, is_none_of, keeps}
 use Rattle.trace_judge.proofs.Whole.{access_of}
 

@@ -1,19 +1,16 @@
 -- An access in one entry, and its begin and end in two.
-use Rattle.std.proofs.Common.{◌≡◌, ◌≢◌, ℕ, ◌==◌, Bool, true, false, not, ◌&&◌, cond, List, [], ◌∷◌, ◌++◌, Option, None, Some, fold, is_some, length, nat_lt, option_map, refl, sym, ap, ◌∙◌, subst, true≢false, inl, inr, eq-eqb, if◌then◌else◌}
+use Rattle.std.proofs.Common.{◌≡◌, ℕ, ◌==◌, Bool, true, false, ◌&&◌, cond, List, [], ◌∷◌, Option, None, Some, fold, length, option_map, refl, sym, ap, ◌∙◌, inl, inr, eq-eqb}
 use Rattle.std.proofs.lemmas.Bool.{cases_eq}
-use Rattle.trace.proofs.Tables.{first_of_two, neither_table, none_applies, none_first}
-use Rattle.trace.specs.{Cell, CellAccess, CellMove, LockMark, TraceEntry, TraceMemory, TracePast, TraceSetup, begins, ends, first_that, is_atomic, is_part, trace_entry, value_written}
+use Rattle.trace.specs.{Cell, CellAccess, CellMove, LockMark, TraceEntry, TraceMemory, TracePast, TraceSetup, trace_entry, value_written}
 use Rattle.trace.specs.declared.accesses.CellMove.TheVariants.{Write, End, Read, Value, Set, Get}
-use Rattle.lock_stages.specs.{LockPast, doorway, first_refusal, LockStage, has_mark, is_ahead, is_crowded, is_enter, is_idle, is_inside, is_other_inside, is_wait, is_waiting, latest, lock_entry, lock_stage, precedes, stage_after}
-use Rattle.lock_stages.specs.declared.refusals.LockMarkRefusal.TheVariants as mark
-use Rattle.lock_stages.proofs.Ahead.{alike-two, first-keeps}
-use Rattle.trace_memory.specs.{CellRefusal, CellState, MadeAccess, OpenAccess, allowed_after, cell_after, cell_refusal, cell_state, ends_move, if_begun, is_end_of, kept_open, latest_access, may_give, move_on, moves_on, one_later, open_refusals, opened, opened_by, read_ended, read_since, reads_wrongly, register_of, same_cell, seen, setup_refusals, state_after, whole_read, with_move}
+use Rattle.lock_stages.specs.{LockStage, lock_stage, stage_after}
+use Rattle.lock_stages.proofs.Ahead.{alike-two}
+use Rattle.trace_memory.specs.{CellState, MadeAccess, OpenAccess, allowed_after, cell_after, ends_move, if_begun, is_end_of, kept_open, latest_access, one_later, opened, opened_by, register_of, same_cell, seen, state_after}
 use Rattle.trace_memory.proofs.CellPlaces.{same_cell-refl}
 use Rattle.trace_memory.proofs.Made.{cell-with}
-use Rattle.trace_memory.proofs.Overlaps.{open-mine, open-other, opens}
-use Rattle.trace_judge.specs.{breaks_access, breaks_marks, breaks_memory, breaks_overtaken, breaks_together, first_broken, leaves_open, lock_part, lock_past, refusal_of_access, stage}
-use Rattle.trace_judge.proofs.Alike.{Alike, any-agree, bare}
-use Rattle.trace_judge.proofs.Unbroken.{Keeps, broken_none, is_none_of, keeps}
+use Rattle.trace_memory.proofs.Overlaps.{open-mine, open-other}
+use Rattle.trace_judge.specs.{lock_past, stage}
+use Rattle.trace_judge.proofs.Alike.{Alike, bare}
 
 -- a write or a read of a value in one entry, its begin and its end
 abbrev pub whole_move : Bool → ℕ → CellMove

@@ -1,9 +1,9 @@
 -- A trace is good exactly if its long form is.
-use Rattle.std.proofs.Common.{◌≡◌, ℕ, Bool, true, false, List, [], ◌∷◌, ◌++◌, Option, None, Some, length, reverse, refl, sym, ap, ◌∙◌, subst, append_assoc, append-nil}
+use Rattle.std.proofs.Common.{◌≡◌, ℕ, Bool, true, false, List, [], ◌∷◌, ◌++◌, Option, None, Some, length, reverse, refl, sym, ap, ◌∙◌, append_assoc, append-nil}
 use Rattle.std.proofs.lemmas.List.{reverse-append}
 use Rattle.trace.specs.{CellAccess, CellMove, LockMark, TraceEntry, TracePast, TraceSetup, is_atomic, is_trace_setup, trace_entry}
-use Rattle.trace.specs.declared.accesses.CellMove.TheVariants.{Write, End, Read, Value, Set, Get, Swap, Add, Cas}
-use Rattle.trace_judge.specs.{LongFormIsSame, TraceLaw, TraceVerdict, begin_of, end_of, first_broken, in_two, long_form, verdict_after, verdict_with, with_move_of}
+use Rattle.trace.specs.declared.accesses.CellMove.TheVariants.{Set, Get}
+use Rattle.trace_judge.specs.{LongFormIsSame, TraceVerdict, first_broken, in_two, long_form, verdict_after, verdict_with, with_move_of}
 use Rattle.trace_judge.specs.declared.verdicts.TraceVerdict.TheVariants.{Good, Bad}
 use Rattle.trace_judge.proofs.Alike.{Alike, alike-on, alike-refl, alike-sym, alike-trans, unbroken-alike}
 use Rattle.trace_judge.proofs.InTwo.{access_to, alike-of, begin_move, end_move, whole_move}

@@ -6,10 +6,10 @@ use Rattle.std.proofs.lemmas.Bool.{not-true}
 use Rattle.std.proofs.lemmas.List.Elements.{filter-append}
 use Rattle.trace.specs.{CellAccess, LockMark, TraceEntry, TracePast, TraceSetup, first_that, is_trace_setup, trace_entry, value_read}
 use Rattle.trace_memory.specs.declared.allowed.Allowed.{Allowed}
-use Rattle.trace_memory.specs.{allowed_by, allowed_values, has_cell, if_few, may_give, present, read_ended, reads_wrongly, register_of, values_in}
+use Rattle.trace_memory.specs.{allowed_by, has_cell, if_few, may_give, present, read_ended, reads_wrongly, register_of, values_in}
 use Rattle.trace_memory.proofs.ReadValues.{values-kept}
 use Rattle.trace_memory.proofs.SetupFacts.{few_numbers}
-use Rattle.trace_judge.specs.{TraceLaw, breaks_access, breaks_marks, breaks_memory, breaks_overtaken, breaks_together, first_broken, keeps_with, mays_of}
+use Rattle.trace_judge.specs.{breaks_access, breaks_marks, breaks_memory, breaks_overtaken, breaks_together, first_broken, keeps_with, mays_of}
 use Rattle.trace_judge.specs.declared.verdicts.TraceLaw.TheVariants as law
 
 -- an entry that breaks the law of memory first

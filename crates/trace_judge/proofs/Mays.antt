@@ -1,5 +1,5 @@
 -- Each value that the reasons name keeps all laws.
-use Rattle.std.proofs.Common.{◌≡◌, ℕ, Bool, true, List, [], Option, None, Some, is_none, refl, sym, ap, ◌∙◌, subst}
+use Rattle.std.proofs.Common.{◌≡◌, ℕ, true, List, [], Option, None, Some, is_none, refl}
 use Rattle.std.specs.List.{All, filter}
 use Rattle.std.proofs.lemmas.List.Elements.{All-nil, All-same, All-weaker, filter_passes}
 use Rattle.trace.specs.{CellAccess, TraceEntry, TracePast, TraceSetup}

@@ -1,5 +1,5 @@
 -- The verdict with one more entry.
-use Rattle.std.proofs.Common.{◌≡◌, ℕ, ◌+◌, ◌++◌, [], ◌∷◌, List, length, reverse, Option, Some, None, refl, ap, sym, subst, ◌∙◌}
+use Rattle.std.proofs.Common.{◌≡◌, ℕ, ◌+◌, ◌++◌, [], ◌∷◌, List, length, reverse, Some, None, refl, ap, sym, subst, ◌∙◌}
 use Rattle.std.proofs.lemmas.List.{length-append, length-reverse, reverse-append}
 use Rattle.trace.specs.{TraceEntry, TracePast, TraceSetup}
 use Rattle.trace_judge.specs.{AreReasons, AreReasonsAt, AreReasonsOf, HasJudged, HasSeen, JudgeState, TraceLaw, TraceReasons, TraceState, TraceVerdict, first_broken, verdict_after, verdict_of, verdict_with}

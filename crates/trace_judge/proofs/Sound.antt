@@ -1,5 +1,5 @@
 -- Each entry of a good trace is sound.
-use Rattle.std.proofs.Common.{◌≡◌, ℕ, List, [], ◌∷◌, ◌++◌, Option, None, Some, length, refl, reverse, sym, ap, ◌∙◌, subst}
+use Rattle.std.proofs.Common.{◌≡◌, ℕ, List, [], ◌∷◌, ◌++◌, Option, None, Some, length, refl, reverse, sym, ap, ◌∙◌}
 use Rattle.trace.specs.{TraceEntry, TracePast, TraceSetup}
 use Rattle.lock_stages.specs.{IsAloneInside}
 use Rattle.lock_stages.proofs.Sound.{AreBelow, alone-on, enters-alone, enters-in-turn, more-below, none-below}

@@ -1,14 +1,14 @@
 -- An access in one entry breaks a law exactly if its begin or its end does.
 use Rattle.std.proofs.Common.{◌≡◌, ℕ, ◌==◌, Bool, true, false, not, ◌&&◌, List, [], ◌∷◌, ◌++◌, Option, None, Some, is_some, refl, sym, ap, ◌∙◌, if◌then◌else◌}
 use Rattle.trace.proofs.Tables.{first_of_two, neither_table, none_applies, none_first}
-use Rattle.trace.specs.{Cell, CellAccess, CellMove, LockMark, TraceEntry, TracePast, TraceSetup, begins, first_that, is_atomic, is_part, trace_entry}
+use Rattle.trace.specs.{Cell, LockMark, TraceEntry, TracePast, TraceSetup, begins, first_that, is_atomic, trace_entry}
 use Rattle.trace.specs.declared.accesses.CellMove.TheVariants.{Write, End, Read, Value, Set, Get}
 use Rattle.lock_stages.specs.{first_refusal, has_mark, is_ahead, is_crowded, is_enter, is_idle, is_inside, is_other_inside, is_waiting, lock_entry}
 use Rattle.lock_stages.specs.declared.refusals.LockMarkRefusal.TheVariants as mark
 use Rattle.lock_stages.proofs.Ahead.{first-keeps}
-use Rattle.trace_memory.specs.{CellRead, CellRefusal, MadeAccess, cell_refusal, is_end_of, may_give, open_refusals, opened, read_since, reads_wrongly, register_of, setup_refusals, whole_read}
+use Rattle.trace_memory.specs.{CellRead, CellRefusal, cell_refusal, is_end_of, may_give, open_refusals, opened, read_since, reads_wrongly, register_of, setup_refusals, whole_read}
 use Rattle.trace_memory.proofs.Overlaps.{opens}
-use Rattle.trace_judge.specs.{breaks_access, breaks_marks, breaks_memory, breaks_overtaken, breaks_together, first_broken, leaves_open, lock_part, lock_past, stage}
+use Rattle.trace_judge.specs.{breaks_marks, breaks_memory, breaks_overtaken, breaks_together, first_broken, leaves_open, lock_past, stage}
 use Rattle.trace_judge.proofs.Alike.{any-agree}
 use Rattle.trace_judge.proofs.InTwo.{access_to, begin_move, end_move, ends-first, opened-first, stage-first, whole_move}
 use Rattle.trace_judge.proofs.Unbroken.{broken_none, is_none_of, keeps}

@@ -1,5 +1,5 @@
 -- What an entry keeps that breaks no law.
-use Rattle.std.proofs.Common.{◌≡◌, ℕ, ◌<◌, Bool, true, false, not, List, [], ◌∷◌, Option, None, Some, is_some, nat_lt, refl, sym, ap, ◌∙◌}
+use Rattle.std.proofs.Common.{◌≡◌, ℕ, ◌<◌, Bool, false, not, [], ◌∷◌, Option, None, Some, is_some, nat_lt, refl}
 use Rattle.std.proofs.lemmas.Bool.{ltb-true, not-false}
 use Rattle.trace.specs.{CellAccess, TraceEntry, TracePast, TraceSetup, first_that}
 use Rattle.trace.proofs.Tables.{neither_table, none_applies, none_first}

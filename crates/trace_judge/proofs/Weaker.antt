@@ -1,6 +1,5 @@
 -- In a weaker memory an entry breaks no law that it keeps in a stronger one.
-use Rattle.std.proofs.Common.{◌≡◌, ℕ, ◌<◌, ◌≤◌, Bool, true, false, not, ◌&&◌, ◌||◌, ◌==◌, List, [], ◌∷◌, ◌++◌, Option, None, Some, is_some, length, nat_lt, refl, sym, ap, ◌∙◌, subst, arith}
-use Rattle.std.specs.List.{list_any}
+use Rattle.std.proofs.Common.{◌≡◌, ℕ, ◌<◌, Bool, true, false, not, ◌&&◌, ◌||◌, ◌==◌, List, [], ◌∷◌, Option, None, Some, is_some, length, nat_lt, refl, ap, ◌∙◌, arith}
 use Rattle.std.proofs.lemmas.Bool.{ne_eqb, not-false, or_left, or_right}
 use Rattle.trace.proofs.Tables.{first_of_two, neither_table, none_applies, none_first}
 use Rattle.trace.specs.{CellAccess, TraceEntry, TraceMemory, TracePast, TraceRegister, TraceSetup, first_that, is_atomic, is_part, value_read}
@@ -8,7 +7,7 @@ use Rattle.trace.specs.declared.setups.TraceMemory.TheVariants.{Safe, Regular, A
 use Rattle.lock_stages.specs.{is_idle}
 use Rattle.trace_memory.specs.{CellRead, CellRefusal, cell_refusal, is_among, is_undisturbed, may_give, open_refusals, opened, overlapping, read_ended, reads_wrongly, register_of, setup_refusals, stored}
 use Rattle.trace_memory.specs.declared.refusals.CellRefusal.TheVariants as refusal
-use Rattle.trace_judge.specs.{IsNotEarlier, IsWeaker, TraceLaw, TraceVerdict, breaks_access, breaks_marks, breaks_memory, breaks_overtaken, breaks_together, first_broken, refusal_of_access, stage, verdict_after, verdict_with, with_memory}
+use Rattle.trace_judge.specs.{IsNotEarlier, IsWeaker, TraceLaw, TraceVerdict, breaks_access, breaks_memory, first_broken, stage, verdict_after, verdict_with, with_memory}
 use Rattle.trace_judge.specs.declared.verdicts.TraceVerdict.TheVariants.{Good, Bad}
 use Rattle.trace_judge.proofs.Unbroken.{broken_none, is_none_of, keeps}
 

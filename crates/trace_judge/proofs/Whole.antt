@@ -1,16 +1,15 @@
 -- If all accesses are whole, all memories judge alike.
-use Rattle.std.proofs.Common.{◌≡◌, ◌≢◌, ℕ, zero, suc, ◌+◌, ◌^◌, ◌<◌, ◌≤◌, ◌==◌, Bool, true, false, not, ◌&&◌, ◌||◌, cond, List, [], ◌∷◌, ◌++◌, Option, None, Some, is_none, is_some, length, nat_lt, refl, sym, ap, ◌∙◌, subst, arith, true≢false, inl, inr, eq-eqb, ne_eqb}
-use Rattle.std.specs.List.{filter, list_all, list_any, range_with_len}
+use Rattle.std.proofs.Common.{◌≡◌, ℕ, ◌==◌, Bool, true, false, not, ◌&&◌, ◌||◌, cond, List, [], ◌∷◌, ◌++◌, Option, None, Some, is_some, length, nat_lt, refl, sym, ap, ◌∙◌, true≢false}
+use Rattle.std.specs.List.{list_all, list_any}
 use Rattle.std.specs.Option.{option_to_list}
-use Rattle.std.proofs.lemmas.Bool.{and_parts, cases_Bool, cases_eq, ltb-true}
-use Rattle.std.proofs.lemmas.List.Elements.{filter_agree}
-use Rattle.trace.specs.{Cell, CellAccess, CellMove, TraceEntry, TraceMemory, TracePast, TraceRegister, TraceSetup, access_reading, changes, first_that, fits, is_atomic, is_part, is_trace_setup, only_writes, value_read}
-use Rattle.trace.specs.declared.accesses.CellMove.TheVariants.{Write, End, Read, Value, Set, Get, Swap, Add, Cas}
+use Rattle.std.proofs.lemmas.Bool.{and_parts}
+use Rattle.trace.specs.{Cell, CellAccess, CellMove, TraceEntry, TraceMemory, TracePast, TraceRegister, TraceSetup, changes, first_that, fits, is_atomic, is_part, only_writes, value_read}
+use Rattle.trace.specs.declared.accesses.CellMove.TheVariants.{Set, Get}
 use Rattle.trace.specs.declared.setups.TraceMemory.TheVariants.{Safe, Regular, Atomic}
 use Rattle.lock_stages.specs.{is_idle}
-use Rattle.trace_memory.specs.{CellRead, CellRefusal, allowed_values, cell_refusal, has_cell, if_few, is_own, may_give, move_on, moves_on, open_refusals, open_write, opened, read_ended, reads_wrongly, register_of, same_cell, setup_refusals, stored, whole_read, with_move}
+use Rattle.trace_memory.specs.{CellRefusal, cell_refusal, has_cell, is_own, may_give, move_on, moves_on, open_refusals, open_write, opened, read_ended, reads_wrongly, register_of, same_cell, stored, whole_read, with_move}
 use Rattle.trace_memory.specs.declared.refusals.CellRefusal.TheVariants as refusal
-use Rattle.trace_judge.specs.{AreReasons, SameJudgement, TraceLaw, TraceReasons, TraceVerdict, breaks_access, breaks_marks, breaks_memory, breaks_overtaken, breaks_together, entry_reading, first_broken, has_whole, is_whole, keeps_with, laws_broken, mays_by, mays_of, refusal_of_access, stage, verdict_after, verdict_with, with_memory}
+use Rattle.trace_judge.specs.{TraceVerdict, breaks_marks, breaks_overtaken, breaks_together, first_broken, has_whole, is_whole, stage, verdict_after, verdict_with, with_memory}
 use Rattle.trace_judge.specs.declared.verdicts.TraceLaw.TheVariants as law
 use Rattle.trace_judge.specs.declared.verdicts.TraceVerdict.TheVariants.{Good, Bad}
 

@@ -1,13 +1,13 @@
 -- If all accesses are whole, all memories give the same reasons.
-use Rattle.std.proofs.Common.{◌≡◌, ◌≢◌, ℕ, zero, suc, ◌+◌, ◌^◌, ◌<◌, ◌≤◌, ◌==◌, Bool, true, false, cond, List, [], ◌∷◌, ◌++◌, Option, None, Some, is_none, is_some, option_map, nat_lt, refl, sym, ap, ◌∙◌, subst, arith, true≢false, add-one, inl, inr, eq-eqb, ne_eqb}
+use Rattle.std.proofs.Common.{◌≡◌, ℕ, zero, suc, ◌^◌, ◌<◌, ◌≤◌, ◌==◌, Bool, true, false, cond, List, [], ◌∷◌, ◌++◌, Option, None, Some, is_none, option_map, nat_lt, refl, sym, ap, ◌∙◌, subst, arith, true≢false, add-one, inl, inr, eq-eqb, ne_eqb}
 use Rattle.std.specs.List.{filter, list_all, range_with_len}
 use Rattle.std.proofs.lemmas.Bool.{and_parts, cases_eq, ltb-true}
 use Rattle.std.proofs.lemmas.List.Elements.{filter_agree}
 use Rattle.trace.specs.{Cell, CellAccess, CellMove, LockMark, TraceEntry, TraceMemory, TracePast, TraceRegister, TraceSetup, access_reading, fits, is_trace_setup, move_reading}
-use Rattle.trace.specs.declared.accesses.CellMove.TheVariants.{Write, End, Read, Value, Set, Get, Swap, Add, Cas}
+use Rattle.trace.specs.declared.accesses.CellMove.TheVariants.{Set, Get}
 use Rattle.trace.specs.declared.setups.TraceMemory.TheVariants.{Safe, Regular, Atomic}
 use Rattle.lock_stages.specs.{AreSince, is_idle}
-use Rattle.trace_memory.specs.{CellRefusal, allowed_values, if_few, may_give, move_on, moves_on, open_write, read_ended, register_of, same_cell, stored, whole_read, with_move}
+use Rattle.trace_memory.specs.{allowed_values, if_few, may_give, move_on, moves_on, open_write, read_ended, register_of, same_cell, stored, whole_read, with_move}
 use Rattle.trace_memory.proofs.CellPlaces.{same_cell-eq}
 use Rattle.trace_memory.proofs.Few.{filter-more}
 use Rattle.trace_memory.proofs.ReadValues.{not_refused}

@@ -1,5 +1,5 @@
 -- The laws that an entry of a trace keeps, by looking back over the entries before it.
-use Rattle.std.specs.Prelude.{ℕ, nat_lt, Bool, false, not, List, [], ◌∷◌, map, Option, None, Some, is_some, if◌then◌else◌}
+use Rattle.std.specs.Prelude.{ℕ, nat_lt, Bool, false, not, List, [], ◌∷◌, map, Option, None, Some, is_some}
 use Rattle.trace.specs.{TraceEntry, TracePast, TraceSetup, first_that}
 use Rattle.lock_stages.specs.{LockEntry, LockMarkRefusal, LockPast, LockStage, breaks_overtaken as overtakes, breaks_together as joins, is_idle, lock_entry, lock_stage, refusal_of_marks as marks_refused}
 use Rattle.trace_memory.specs.{CellRefusal, cell_refusal, opened, reads_wrongly}

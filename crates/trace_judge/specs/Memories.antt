@@ -1,5 +1,5 @@
 -- Traces in several memories.
-use Rattle.std.specs.Prelude.{◌≡◌, ◌≤◌, Bool, true, false, IsTrue, List, Option, None, Some}
+use Rattle.std.specs.Prelude.{◌≡◌, ◌≤◌, Bool, true, false, IsTrue, List, None, Some}
 use Rattle.std.specs.List.{list_all}
 use Rattle.trace.specs.{CellMove, TraceEntry, TraceMemory, TracePast, TraceSetup, is_trace_setup}
 use Rattle.trace.specs.declared.accesses.CellMove.TheVariants.{Set, Get}

@@ -1,5 +1,5 @@
 -- The reasons of an entry that breaks a law, by looking back.
-use Rattle.std.specs.Prelude.{◌≡◌, ℕ, nat_lt, nat_le, Bool, true, false, ◌++◌, List, [], ◌∷◌, filter, length, cond, option_map, option_to_list, Option, None, Some, is_none, is_some}
+use Rattle.std.specs.Prelude.{◌≡◌, ℕ, nat_lt, Bool, List, [], filter, length, cond, option_map, Option, None, Some, is_none, is_some}
 use Rattle.trace.specs.{TraceEntry, TracePast, TraceSetup, access_reading}
 use Rattle.lock_stages.specs.{AreSince, LockStage, ahead_since, doorway, first_of, inside_since}
 use Rattle.trace_memory.specs.{allowed_values, if_few, number_of, opened, present, read_ended, register_of}

@@ -1,10 +1,10 @@
 -- What is kept goes on with an entry.
-use Rattle.std.proofs.Common.{◌≡◌, ◌≢◌, ℕ, ◌*◌, ◌<◌, Bool, true, false, cond, List, [], ◌∷◌, Option, None, Some, length, map, slice_get, slice_set, option_map, refl, sym, ap, ◌∙◌, subst, inl, inr, true≢false}
+use Rattle.std.proofs.Common.{◌≡◌, ◌≢◌, ℕ, ◌<◌, Bool, true, false, cond, List, ◌∷◌, None, Some, length, map, slice_get, slice_set, option_map, refl, sym, ap, ◌∙◌, subst, inl, inr, true≢false}
 use Rattle.std.proofs.lemmas.Bool.{cases_Bool, cases_eq}
 use Rattle.std.proofs.lemmas.Option.{slice_get-map}
 use Rattle.std.proofs.lemmas.List.{length-map}
-use Rattle.trace.proofs.Lists.{slice_get-replicate, slice_get-set_other, slice_get-set_same}
-use Rattle.trace.specs.{Cell, CellAccess, CellMove, LockMark, TraceEntry, TracePast, TraceSetup, is_trace_setup, trace_entry}
+use Rattle.trace.proofs.Lists.{slice_get-set_other, slice_get-set_same}
+use Rattle.trace.specs.{Cell, CellAccess, CellMove, LockMark, TracePast, TraceSetup, trace_entry}
 use Rattle.trace_memory.specs.{CellState, HasMade, IsMemory, MemoryState, cell_after, cell_state, has_cell, kept_open, moves_on, opened_by, place_of, register_of, same_cell, seen, state_after, state_with, with_move}
 use Rattle.trace_memory.proofs.CellPlaces.{place_within, places_apart, same_cell-eq, same_cell-refl, state-move}
 use Rattle.trace_memory.proofs.Overlaps.{open-mine, open-other, open-still}

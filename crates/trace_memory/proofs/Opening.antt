@@ -1,5 +1,5 @@
 -- The memory before the first entry.
-use Rattle.std.proofs.Common.{◌≡◌, true, ℕ, zero, suc, ◌+◌, ◌*◌, ◌<◌, List, [], ◌∷◌, ◌++◌, Option, None, Some, drop, get_or, length, replicate, slice_get, refl, sym, ap, ◌∙◌, subst, arith, add-one, append_assoc, drop-cons, length-append}
+use Rattle.std.proofs.Common.{◌≡◌, true, ℕ, zero, suc, ◌+◌, ◌*◌, ◌<◌, List, [], ◌∷◌, ◌++◌, Option, None, Some, length, replicate, slice_get, refl, sym, ap, ◌∙◌, arith, length-append}
 use Rattle.std.proofs.lemmas.List.{length-replicate}
 use Rattle.trace.proofs.Lists.{slice_get-replicate}
 use Rattle.trace.specs.{TraceRegister, TraceSetup, is_trace_setup}

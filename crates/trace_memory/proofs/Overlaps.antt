@@ -1,10 +1,10 @@
 -- Open accesses, and what one entry more makes of them.
-use Rattle.std.proofs.Common.{◌≡◌, ◌≢◌, ℕ, ◌==◌, Bool, true, false, ◌&&◌, cond, List, [], ◌∷◌, ◌++◌, Option, None, Some, is_none, is_some, option_map, length, refl, sym, ap, ◌∙◌, eq-eqb, ne_eqb, true≢false}
+use Rattle.std.proofs.Common.{◌≡◌, ◌≢◌, ℕ, ◌==◌, Bool, true, false, ◌&&◌, cond, List, [], ◌∷◌, ◌++◌, Option, None, Some, is_some, option_map, length, refl, sym, ap, ◌∙◌, eq-eqb, ne_eqb, true≢false}
 use Rattle.std.specs.Option.{option_to_list}
-use Rattle.trace.specs.{Cell, CellAccess, CellMove, LockMark, TraceEntry, TraceMemory, TracePast, TraceSetup, begins, trace_entry, value_written}
-use Rattle.trace.specs.declared.accesses.CellMove.TheVariants.{Write, End, Read, Value, Set, Get, Swap, Add, Cas}
+use Rattle.trace.specs.{Cell, CellAccess, CellMove, LockMark, TraceMemory, TracePast, TraceSetup, begins, trace_entry, value_written}
+use Rattle.trace.specs.declared.accesses.CellMove.TheVariants.{Write, End, Read, Value}
 use Rattle.trace.specs.declared.setups.TraceMemory.TheVariants.{Safe, Regular, Atomic}
-use Rattle.trace_memory.specs.{Allowed, MadeAccess, OpenAccess, access_by, allowed_after, allowed_in, allowed_of, cell_after, ends_kept, ends_move, if_begun, is_end_of, kept_access, kept_open, latest_access, move_on, moves_on, one_later, open_write, opened, opened_by, overlapped, register_of, same_cell, seen, stored, values_written, with_move}
+use Rattle.trace_memory.specs.{MadeAccess, OpenAccess, allowed_after, allowed_in, allowed_of, cell_after, ends_kept, ends_move, if_begun, is_end_of, kept_access, kept_open, latest_access, moves_on, one_later, open_write, opened, opened_by, overlapped, register_of, same_cell, seen, stored, values_written, with_move}
 
 -- What a read may give.
 

@@ -1,14 +1,13 @@
 -- What an access that is not refused may read.
-use Rattle.std.proofs.Common.{◌≡◌, ℕ, ◌^◌, ◌<◌, ◌≤◌, ◌==◌, ◌||◌, Bool, true, false, not, ◌&&◌, List, [], ◌∷◌, Option, None, Some, is_some, nat_lt, option_map, refl, sym, ap, ◌∙◌, subst, arith, true≢false, length}
-use Rattle.std.specs.List.{list_all}
+use Rattle.std.proofs.Common.{◌≡◌, ℕ, ◌^◌, ◌<◌, ◌≤◌, ◌==◌, ◌||◌, Bool, true, false, not, ◌&&◌, List, [], ◌∷◌, Option, None, Some, nat_lt, option_map, refl, sym, ap, ◌∙◌, arith, true≢false, length}
 use Rattle.std.specs.Option.{option_to_list}
 use Rattle.std.proofs.lemmas.Bool.{and_parts, ltb-true, ne_eqb, not-false}
 use Rattle.trace.proofs.Tables.{neither_table, none_applies}
 use Rattle.trace.specs.{CellAccess, CellMove, TraceMemory, TracePast, TraceRegister, TraceSetup, ends, fits, is_trace_setup, value_read, values}
-use Rattle.trace.specs.declared.accesses.CellMove.TheVariants.{Write, End, Read, Value, Set, Get, Swap, Add, Cas}
+use Rattle.trace.specs.declared.accesses.CellMove.TheVariants.{Read, Value, Get, Swap, Add, Cas}
 use Rattle.trace.specs.declared.setups.TraceMemory.TheVariants.{Safe, Regular, Atomic}
 use Rattle.trace_memory.specs.declared.allowed.Allowed.{Allowed}
-use Rattle.trace_memory.specs.{CellRead, CellRefusal, CellState, MadeAccess, allowed_by, allowed_in, allowed_of, allowed_open, allowed_values, allows, cell_after, cell_refusal, ends_move, has_cell, is_end_of, kept_access, kept_open, may_give, open_refusals, opened, overlapping, read_ended, read_since, reads_wrongly, register_of, same_cell, setup_refusals, stored, values_in, whole_read}
+use Rattle.trace_memory.specs.{CellRead, CellState, MadeAccess, allowed_by, allowed_in, allowed_of, allowed_open, allowed_values, allows, cell_after, cell_refusal, ends_move, has_cell, is_end_of, kept_access, kept_open, may_give, open_refusals, opened, overlapping, read_ended, read_since, reads_wrongly, register_of, same_cell, setup_refusals, stored, values_in, whole_read}
 use Rattle.trace_memory.proofs.CellPlaces.{same_cell-eq}
 use Rattle.trace_memory.proofs.Few.{filter-agree}
 use Rattle.trace_memory.proofs.Sets.{allows-may}

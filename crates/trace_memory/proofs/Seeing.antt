@@ -1,7 +1,6 @@
 -- An access that writes nothing overlaps nothing.
-use Rattle.std.proofs.Common.{◌≡◌, Bool, true, false, cond, List, [], ◌∷◌, ◌++◌, Option, None, Some, is_some, map, option_map, refl, sym, ap, ◌∙◌}
+use Rattle.std.proofs.Common.{◌≡◌, Bool, true, false, cond, List, [], ◌∷◌, Option, None, Some, is_some, map, option_map, refl, ap, ◌∙◌}
 use Rattle.trace.specs.{CellAccess, TraceMemory, value_written}
-use Rattle.trace_memory.specs.declared.allowed.Allowed.{Allowed}
 use Rattle.trace_memory.specs.{OpenAccess, allowed_after, same_cell, seen}
 
 unseen : (m : TraceMemory) (a : CellAccess) (k : OpenAccess) → value_written a.how ≡ None → seen m a k ≡ k

@@ -1,6 +1,6 @@
 -- A cell after the moves made on it.
 use Rattle.std.specs.Prelude.{ℕ, ◌==◌, ◌+◌, ◌%◌, ◌^◌, nat_lt, Bool, true, false, not, ◌&&◌, List, [], ◌∷◌, slice_get, slice_index_or, cond, unwrap_or, Option, None, Some}
-use Rattle.trace.specs.{Cell, CellAccess, CellMove, TraceEntry, TracePast, TraceRegister, TraceSetup}
+use Rattle.trace.specs.{Cell, CellAccess, CellMove, TracePast, TraceRegister, TraceSetup}
 use Rattle.trace.specs.declared.accesses.CellMove.TheVariants.{Write, End, Read, Value, Set, Get, Swap, Add, Cas}
 use Rattle.trace_memory.specs.declared.cells.CellState.{CellState}
 

@@ -1,6 +1,6 @@
 -- What is kept of the entries so far, and how that goes on.
-use Rattle.std.specs.Prelude.{◌≡◌, ℕ, ◌+◌, ◌*◌, ◌<◌, ◌≤◌, Bool, true, false, ◌&&◌, IsTrue, List, [], ◌∷◌, ◌++◌, length, map, replicate, slice_get, slice_set, cond, option_map, option_to_list, Option, None, Some, is_none, is_some}
-use Rattle.trace.specs.{Cell, CellAccess, CellMove, TraceEntry, TraceMemory, TracePast, TraceRegister, TraceSetup, begins, is_trace_setup, value_written}
+use Rattle.std.specs.Prelude.{◌≡◌, ℕ, ◌+◌, ◌*◌, ◌<◌, Bool, true, false, ◌&&◌, IsTrue, List, [], ◌∷◌, ◌++◌, length, map, replicate, slice_get, slice_set, cond, option_map, option_to_list, Option, None, Some, is_none, is_some}
+use Rattle.trace.specs.{Cell, CellAccess, CellMove, TraceMemory, TracePast, TraceRegister, TraceSetup, begins, is_trace_setup, value_written}
 use Rattle.trace.specs.declared.accesses.CellMove.TheVariants.{End, Read, Value}
 use Rattle.trace_memory.specs.declared.allowed.Allowed.{Allowed}
 use Rattle.trace_memory.specs.declared.cells.CellState.{CellState}

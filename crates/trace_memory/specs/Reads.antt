@@ -1,7 +1,7 @@
 -- What a read may give, in three memories.
-use Rattle.std.specs.Prelude.{ℕ, ◌==◌, ◌^◌, Bool, true, false, not, ◌&&◌, ◌||◌, List, [], ◌∷◌, ◌++◌, option_to_list, length, filter, Option, None, Some}
+use Rattle.std.specs.Prelude.{ℕ, ◌==◌, ◌^◌, Bool, false, not, ◌||◌, List, [], ◌∷◌, ◌++◌, option_to_list, length, filter, None, Some}
 use Rattle.std.specs.List.{list_any, range_with_len}
-use Rattle.trace.specs.{Cell, CellAccess, CellMove, TraceEntry, TraceMemory, TracePast, TraceRegister, TraceSetup, value_read, value_written}
+use Rattle.trace.specs.{Cell, CellAccess, CellMove, TraceMemory, TracePast, TraceRegister, TraceSetup, value_read, value_written}
 use Rattle.trace.specs.declared.accesses.CellMove.TheVariants.{Value}
 use Rattle.trace.specs.declared.setups.TraceMemory.TheVariants.{Safe, Regular, Atomic}
 use Rattle.trace_memory.specs.Cells.{moves_on, open_write, register_of, stored}

@@ -1,6 +1,6 @@
 -- What an access is refused for: the first row of a table that applies.
-use Rattle.std.specs.Prelude.{ℕ, ◌==◌, ◌^◌, nat_lt, Bool, true, false, not, ◌&&◌, List, [], ◌∷◌, ◌++◌, Option, None, Some, is_some}
-use Rattle.trace.specs.{Cell, CellAccess, CellMove, TracePast, TraceSetup, changes, ends, first_that, fits, is_atomic, is_part, only_writes}
+use Rattle.std.specs.Prelude.{ℕ, ◌==◌, nat_lt, Bool, true, not, ◌&&◌, List, [], ◌∷◌, ◌++◌, Option, None, Some, is_some}
+use Rattle.trace.specs.{CellAccess, TracePast, TraceSetup, changes, ends, first_that, fits, is_atomic, is_part, only_writes}
 use Rattle.trace_memory.specs.declared.refusals.CellRefusal.{CellRefusal}
 use Rattle.trace_memory.specs.declared.refusals.CellRefusal.TheVariants as refusal
 use Rattle.trace_memory.specs.Cells.{has_cell, register_of}

@@ -1,4 +1,4 @@
-use Rattle.std.proofs.Common.{◌≡◌, ◌<◌, [], ◌∷◌, ◌++◌, Option, None, Some, sym, ap, ◌∙◌, subst}
+use Rattle.std.proofs.Common.{◌≡◌, ◌<◌, [], ◌∷◌, None, Some, sym, ◌∙◌, subst}
 use Rattle.trace_memory.specs.{has_value, present}
 use Rattle.trace_memory.proofs.Few.{none-more, one-more, three-found}
 use Rattle.trace_memory.proofs.allowed.few_of.Goals as goal

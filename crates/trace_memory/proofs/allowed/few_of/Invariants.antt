@@ -1,4 +1,4 @@
-use Rattle.std.proofs.Common.{◌≡◌, ◌≤◌, ◌^◌, [], ◌∷◌, None, is_some}
+use Rattle.std.proofs.Common.{◌≡◌, [], ◌∷◌, None}
 use Rattle.std.specs.List.{filter, range_with_len}
 use Rattle.trace_memory.specs.{has_value, present}
 use Rattle.trace_memory.proofs.allowed.few_of.Given as goal

@@ -1,7 +1,7 @@
-use Rattle.std.proofs.Common.{◌≡◌, ◌<◌, Option, None, Some, length, option_map, slice_set, sym, ap, ◌∙◌, subst}
+use Rattle.std.proofs.Common.{◌<◌, None, Some, length, option_map, slice_set, sym, ap, ◌∙◌, subst}
 use Rattle.std.proofs.lemmas.List.Edits.{map_over_more}
 use Rattle.trace.proofs.Lists.{any_default}
-use Rattle.trace_memory.specs.{OpenAccess, seen}
+use Rattle.trace_memory.specs.{seen}
 use Rattle.trace_memory.proofs.taking.see_all.Goals as goal
 use Rattle.trace_memory.proofs.taking.see_all.Goals.{in-Some, in_default}
 

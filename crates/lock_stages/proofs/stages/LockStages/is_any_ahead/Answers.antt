@@ -1,4 +1,4 @@
-use Rattle.std.proofs.Common.{◌≡◌, ◌<◌, sym, subst, ◌∙◌}
+use Rattle.std.proofs.Common.{◌<◌, sym, subst, ◌∙◌}
 use Rattle.lock_stages.specs.{is_ahead}
 use Rattle.lock_stages.proofs.Others.{one_below}
 use Rattle.lock_stages.proofs.stages.LockStages.is_any_ahead.Goals as goal

@@ -1,4 +1,4 @@
-use Rattle.std.proofs.Common.{◌∷◌, sym, subst}
+use Rattle.std.proofs.Common.{sym, subst}
 use Rattle.lock_stages.specs.{HasObserved, StagesState}
 use Rattle.lock_stages.proofs.Observed.{observes_on}
 use Rattle.lock_stages.proofs.stages.LockStages.take.Goals as goal

@@ -1,8 +1,8 @@
-use Rattle.std.proofs.Common.{◌≡◌, [], ◌∷◌, ◌++◌, None, Some, reverse, sym, ap, subst, ◌∙◌}
+use Rattle.std.proofs.Common.{◌≡◌, Some, reverse, sym, subst, ◌∙◌}
 use Rattle.trace.specs.{TraceEntry, TraceSetup, trace_entry}
-use Rattle.trace_judge.specs.{AreReasons, HasJudged, HasSeen, JudgeState, TraceVerdict, first_broken}
+use Rattle.trace_judge.specs.{AreReasons, HasJudged, JudgeState, first_broken}
 use Rattle.trace_judge.specs.declared.verdicts.TraceVerdict.TheVariants.{Good, Bad}
-use Rattle.trace_judge.proofs.OneMore.{finds, goes_on, stays_bad}
+use Rattle.trace_judge.proofs.OneMore.{finds, stays_bad}
 use Rattle.trace_judge.proofs.judge.TraceJudge.observe.Goals as goal
 
 pub returns-in-Bad-clause-observed : goal.returns-in-Bad-clause-observed

@@ -1,4 +1,4 @@
-use Rattle.std.proofs.Common.{◌≡◌, true, cond, Some, None, ap, refl, sym, subst, ◌∙◌}
+use Rattle.std.proofs.Common.{◌≡◌, true, cond, Some, None, ap, sym, subst, ◌∙◌}
 use Rattle.trace.specs.{trace_entry, is_trace_setup}
 use Rattle.lock_stages.specs.{is_idle}
 use Rattle.trace_memory.specs.{HasMade, allowed_by, cell_refusal, has_cell, read_ended, register_of}

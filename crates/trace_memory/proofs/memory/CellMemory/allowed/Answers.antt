@@ -1,4 +1,4 @@
-use Rattle.std.proofs.Common.{◌≡◌, None, sym, ap, ◌∙◌}
+use Rattle.std.proofs.Common.{sym, ap, ◌∙◌}
 use Rattle.std.specs.Option.{option_to_list}
 use Rattle.trace_memory.specs.{allowed_of, cell_after}
 use Rattle.trace_memory.proofs.ReadValues.{kept_or_first, read-kept}

@@ -1,4 +1,4 @@
-use Rattle.std.proofs.Common.{sym, ap, ◌∙◌}
+use Rattle.std.proofs.Common.{sym, ◌∙◌}
 use Rattle.trace_memory.proofs.Seeing.{all_unseen, none_of}
 use Rattle.trace_memory.proofs.memory.CellMemory.see.Goals as goal
 

@@ -1,8 +1,8 @@
-use Rattle.std.proofs.Common.{◌≡◌, ◌∷◌, true, Option, Some, sym, subst}
+use Rattle.std.proofs.Common.{◌∷◌, Option, Some, sym, subst}
 use Rattle.std.specs.Prelude.{IfSome, IsTrue}
 use Rattle.trace.specs.{CellAccess, trace_entry}
 use Rattle.trace_memory.specs.{HasMade, IsMemory, MemoryState, has_cell}
-use Rattle.trace_memory.proofs.Made.{made-on, made-still}
+use Rattle.trace_memory.proofs.Made.{made-on}
 use Rattle.trace_memory.proofs.memory.CellMemory.take.Goals as goal
 
 pub returns-in-Some-clause-made : goal.returns-in-Some-clause-made
