@@ -10,3 +10,4 @@ mod Tables
 pub mod Opening
 -- The first words of files that are read without a fault
 mod Recognizing
+mod RecognizingTraces

@@ -67,14 +67,14 @@ lines_open n (line ∷ rest) entries read is =
     (λ none. lines_open (n + 1) rest (entries ++ []) read (subst (λ (now : Option Progress). lines_read (n + 1) rest (cleared now) (entries ++ entry_in now) ≡ Ok read) (sym none) a.next))
 
 -- where all bytes are looked at
-looked_at : (text : List ℕ) (w : FirstWord) → length text ≤ input_limit → word_opened (said_words text) ≡ Some w → first_word text ≡ w
+pub looked_at : (text : List ℕ) (w : FirstWord) → length text ≤ input_limit → word_opened (said_words text) ≡ Some w → first_word text ≡ w
 looked_at text w few opens = ap (λ t. unwrap_or (word_opened (said_words t)) Other) (take_all input_limit text few) ∙ ap (λ o. unwrap_or o Other) opens
 
 -- or the line that tells
 cut_behind : (n k : ℕ) (front rest : List ℕ) → n ≡ length front + suc k → take n (front ++ 10 ∷ rest) ≡ front ++ 10 ∷ take k rest
 cut_behind n k front rest all = ap (λ n. take n (front ++ 10 ∷ rest)) all ∙ take-append-add front (10 ∷ rest) (suc k)
 
-line_looked_at : (front rest : List ℕ) → length front < input_limit → is_some (word_opened (said_words (front ++ 10 ∷ []))) ≡ true → word_opened (said_words (take input_limit (front ++ 10 ∷ rest))) ≡ word_opened (said_words (front ++ 10 ∷ rest))
+pub line_looked_at : (front rest : List ℕ) → length front < input_limit → is_some (word_opened (said_words (front ++ 10 ∷ []))) ≡ true → word_opened (said_words (take input_limit (front ++ 10 ∷ rest))) ≡ word_opened (said_words (front ++ 10 ∷ rest))
 line_looked_at front rest few some =
     let k : ℕ = input_limit - length front - 1 in
     let all : input_limit ≡ length front + suc k = omega (arith, few) in

@@ -5,6 +5,7 @@ use Rattle.std.specs.Str.{bytes_eq}
 use Rattle.files.specs.{Grammar, input_limit, said_words}
 use Rattle.record_file.specs.{Said, record_of}
 use Rattle.record_file.specs.scenario.{Script, scenario_of}
+use Rattle.trace_file.specs.{TraceSaid, trace_said}
 use Rattle.command_line.specs.declared.first_word.FirstWord.{FirstWord}
 use Rattle.command_line.specs.declared.first_word.FirstWord.TheVariants.{Record, Trace, Other}
 
@@ -38,6 +39,10 @@ pub data IsLookedAt (text : List ℕ) : Type 0 where
 -- What is read as a record, without a fault, has the first word `record`.
 abbrev pub RecordsAreRecognized : Type 0
 RecordsAreRecognized = (text : List ℕ) (said : Said) → record_of text ≡ Ok said → IsLookedAt text → first_word text ≡ Record
+
+-- What is read as a trace, without a fault, has the first word `trace`.
+abbrev pub TracesAreRecognized : Type 0
+TracesAreRecognized = (text : List ℕ) (said : TraceSaid) → trace_said text ≡ Ok said → IsLookedAt text → first_word text ≡ Trace
 
 -- What is read as a scenario, without a fault, has another first word.
 abbrev pub ScenariosHaveAnotherWord : Type 0

@@ -27,7 +27,9 @@ pub use notices::{Notice, USAGE_STATUS, shown_word};
 pub use opened::Opened;
 pub use pages::HelpPage;
 pub use progress::{WatchedInput, Watcher};
-pub use recognized::{records_are_recognized, scenarios_have_another_first_word};
+pub use recognized::{
+    records_are_recognized, scenarios_have_another_first_word, traces_are_recognized,
+};
 pub use retries::Uninterrupted;
 pub use terminal::{Output, Terminals};
 pub use words::{Invocation, Request, all_words, each_file_runs, read_words};
