@@ -32,6 +32,7 @@ use std::process::ExitCode;
 use std::sync::Wait;
 use std::thread::Threads;
 use std::time::Clock;
+use trace_engine::judge_trace;
 
 /// What is told at a terminal where there are no words.
 const NO_WORDS: &str =
@@ -197,12 +198,13 @@ fn run_between<
 {
     let wanted = Wanted {
         is_record: wanted.is_record | (source.first_word == FirstWord::Record),
+        is_trace: source.first_word == FirstWord::Trace,
         ..wanted
     };
     let has_place = !terminals.output || wanted.engine == Engine::Sweep;
     let shows = terminals.error && has_place && !wanted.quiet;
     let from_input = wanted.is_streamed || wanted.is_record;
-    let explains = terminals.error || wanted.explain;
+    let explains = (terminals.error || wanted.explain) && !wanted.is_trace;
     let watched = WatchedInput::new(source, rt, shows && from_input);
     let mut input = KeptInput::new(rt.alloc(), watched, explains);
     let mut watcher = Watcher::new(rt, shows && !from_input);
@@ -269,18 +271,20 @@ struct Wanted {
     is_streamed: bool,
     /// Whether the file is a record, where the engine takes scenarios too.
     is_record: bool,
+    /// Whether the file is a trace, which only `judge` reads.
+    is_trace: bool,
     /// After how many events the state is told.
     at: u64,
 }
 
-/// Opens a source. The engines of `state`, `calls`, `draw` and `draw-svg` take scenarios and records, and the file's first word
-/// decides which it is.
+/// Opens a source. The engines of `state`, `calls`, `draw` and `draw-svg` read scenarios and records, and that of `judge` reads
+/// records and traces. The file's first word decides which it is.
 fn opened<R: Source + Drop>(alloc: Global, engine: Engine, source: R) -> Result<Opened<R>, Fault>
     requires { R.failures source < 2 ^ 64 - 1 }
     ensures { IfOk result (λ opened. ⟦<Opened<R> as Source>⟧.failures opened ≡ R.failures source) }
 {
     match engine {
-        Engine::State | Engine::Calls | Engine::Draw | Engine::DrawSvg => {
+        Engine::State | Engine::Calls | Engine::Draw | Engine::DrawSvg | Engine::Judge => {
             Opened::new(alloc, source)
         }
         _ => Ok(Opened::unseen(alloc, source)),
@@ -312,6 +316,7 @@ fn wanted_by(request: &Request<'_>, at: u64) -> Wanted {
         explain: request.explain,
         is_streamed: request.command.intake == Intake::Streamed,
         is_record: judge,
+        is_trace: false,
         at,
     }
 }
@@ -345,6 +350,7 @@ fn run_engine<T: AllocGlobal + Threads + Wait + Sync, R: Source, W: Sink, L: Onl
         Engine::State => exit_status(run_state(alloc, wanted.at, input, output, onlooker)),
         Engine::Calls if wanted.is_record => list_record(alloc, input, output),
         Engine::Calls => exit_status(run_calls(alloc, input, output, onlooker)),
+        Engine::Judge if wanted.is_trace => judge_trace(alloc, input, output, wanted.why),
         Engine::Judge if wanted.any_lock => judge_any_lock(alloc, input, output, wanted.why),
         Engine::Judge => run_judge(alloc, input, output, wanted.why),
         Engine::Race => return run_race(rt, alloc, input, output),

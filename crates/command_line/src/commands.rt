@@ -154,7 +154,7 @@ pub const COMMANDS: [(&str, Engine, Intake, &[&str], &str, &str); 12] = [
         Engine::Judge,
         Intake::Streamed,
         &["any-lock", "why"],
-        "judges a record of this lock or of any lock",
+        "judges a record of this lock or of any lock, or a trace",
         "examples/failed-read.record",
     ),
     (
