@@ -78,9 +78,9 @@ def try_folder(counter, folder):
 
 def try_block(counter, kind, text, told):
     first = told.partition(b"\n")[0] + b"\n"
-    # `calls`, `draw` and `draw-svg` take records as well
+    # `state`, `calls`, `draw` and `draw-svg` take records as well
     is_record = re.match(rb"record [12]\n", text)
-    for command in [it for it in COMMANDS[kind] if not (is_record and it.startswith(("calls", "draw")))]:
+    for command in [it for it in COMMANDS[kind] if not (is_record and it.startswith(("state", "calls", "draw")))]:
         name = f"{command} {text[:60]}"
         counter.compare(f"{name}, explained", ran([*command.split(), "--explain", "-"], text), (b"", told, 1))
         counter.compare(f"{name}, not explained", ran([*command.split(), "-"], text), (b"", first, 1))

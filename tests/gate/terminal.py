@@ -329,9 +329,11 @@ def progress(counter, interrupter):
     words = ["sweep", "-"]
     ran, *_ = interrupter.run(words, "bakery 1\ncall 0 read a\nstep 0 31\n", tick=100, stdout=terminal.end, stderr=terminal.end)
     counter.compare("progress of sweep at one terminal", (ran.status, terminal.text()), (0, shown + swept))
-    # it reads blocks of 8,192 bytes, of which each has 64 of these lines; a pipe would give it fewer at a time
+    # it reads blocks of 8,192 bytes, of which each has 64 of these lines; a pipe would give it fewer at a time. The first 1,024 bytes,
+    # in which the first word is looked for, are a read of their own, so it is one block behind, and takes one read more
     comments = "".join(f"{line:127}\n" for line in ["record 1", *["# a line"] * 2047])
-    shown = "".join(f"\r{64 * blocks} lines read so far, 640 a second\x1b[K" for blocks in times) + CLEAR
+    shown = "".join(f"\r{64 * (asked - 1)} lines read so far, {640 * (asked - 1) // asked} a second\x1b[K" for asked in times)
+    shown += f"\r2048 lines read so far, {20480 // 34} a second\x1b[K" + CLEAR
     terminal = Terminal()
     with tempfile.NamedTemporaryFile("w") as file:
         file.write(comments)
