@@ -49,6 +49,16 @@ impl Process {
         made
     }
 
+    /// Returns the access that its next step would make on the memory by this flick. Nothing changes.
+    #[inline]
+    pub fn next_access(&self, memory: &BitMemory, flick: bool) -> Access
+        requires goes { may_step self.now.doing ≡ true }
+        requires memory { AreOf self.now.setup memory.now }
+        ensures { result ≡ answered_at self.now memory.now flick }
+    {
+        memory.next_access(&self.cursor, flick)
+    }
+
     /// Returns the access that its next step would make on the memory by this flick, and what that would lead to. Nothing
     /// changes, and it does not allocate.
     pub fn next_step(&self, memory: &BitMemory, flick: bool) -> (Access, StepTold)
@@ -57,7 +67,7 @@ impl Process {
         ensures access { result.0 ≡ answered_at self.now memory.now flick }
         ensures marks { marks_told result.1 ≡ marks_on self.now flick (value_of result.0.how) }
     {
-        let access = memory.answered(&self.called.setup(), &self.next(flick), flick);
+        let access = self.next_access(memory, flick);
         let told = self.copied().advance(flick, given(access.how));
         (access, told)
     }

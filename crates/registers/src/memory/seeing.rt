@@ -2,19 +2,20 @@
 ghost use Rattle.std.specs.Prelude.{◌≡◌, ◌<◌, ◌≤◌, IfNone, IfSome, Ok, OnSome, false, length, true};
 ghost use Rattle.plain_store.specs.{checked};
 ghost use Rattle.record.specs.{width};
-ghost use Rattle.registers.specs.Accesses.{answered};
+ghost use Rattle.registers.specs.Accesses.{next_answered};
 ghost use Rattle.registers.specs.BitCopies.{cell_of_copy};
 ghost use Rattle.registers.specs.CopyBytes.{copies_in, copy_bytes, has_open_write, values_in};
+ghost use Rattle.registers.specs.Cursors.{Fits};
 ghost use Rattle.registers.specs.Openings.{AreOf};
 ghost use Rattle.reader_copies.specs.{bit_seen, bits_of_words};
 
 use super::BitMemory;
-use crate::cursor::lane_number;
+use crate::cursor::{Cursor, NumberRun, lane_number};
 use crate::fields::{BitCopy, RegisterName};
 use crate::word_bytes::register_bytes;
 use plain_store::Setup;
 use reader_copies::{BitSeen, Copies};
-use record::{Access, Move, width_of};
+use record::{Access, width_of};
 
 impl BitMemory {
     /// Returns the state of a copy of a bit.
@@ -30,23 +31,19 @@ impl BitMemory {
         self.lanes[lane].seen(usize::from(copy.bit))
     }
 
-    /// Returns an access as the memory answers it: the end of a read has the value of its copy, or `flick` if a write
-    /// overlapped the read.
-    pub fn answered(&self, setup: &Setup, access: &Access, flick: bool) -> Access
-        requires good { checked setup.now ≡ Ok tt }
-        requires memory { AreOf setup.now self.now }
-        requires owner { access.now.owner < setup.now.processes }
-        requires reader { access.now.reader < setup.now.processes }
-        requires bit { access.now.bit < width setup.now access.now.field }
-        ensures { result ≡ answered setup.now.processes self.now flick access.now }
+    /// Returns the access that [`step`](BitMemory::step) would make with this flick. Nothing changes.
+    #[inline]
+    pub fn next_access(&self, cursor: &Cursor, flick: bool) -> Access
+        requires going { cursor.now.bit < cursor.now.width }
+        requires fits { Fits self.now cursor.now }
+        ensures { result ≡ next_answered cursor.now self.now flick }
     {
-        let seen = self.bit_seen(setup, BitCopy::of(access));
-        let value = if seen.touched { flick } else { seen.value };
-        let how = match access.how {
-            Move::EndRead(_) => Move::EndRead(value),
-            how => how,
+        let NumberRun::Reads = cursor.run() else {
+            return cursor.next(flick);
         };
-        Access { how, ..*access }
+        let seen = self.lanes[cursor.lane].seen(usize::from(cursor.bit));
+        let value = if seen.touched { flick } else { seen.value };
+        cursor.made(cursor.read_move(value), false).access
     }
 
     /// Returns the copy that a reader has of a register as bytes, with zeros after its bits; `None` while a write of one

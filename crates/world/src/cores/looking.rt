@@ -11,7 +11,7 @@ ghost use Rattle.world.specs.Walks.{left_in};
 use super::Core;
 use crate::marks::step_marks;
 use process::{BitCopy, BitSeen, Process, RegisterName, StepTold};
-use record::{Access, Act, Entry, Refusal};
+use record::{Access, Act, Entry, Move, Refusal};
 use std::alloc::Global;
 
 impl Core {
@@ -69,8 +69,13 @@ impl Core {
         requires { 0 < left_in self.now.seats process }
         ensures { CoreAddsQuietly self.now process flick result }
     {
-        let next = self.seats[usize::from(process)].process.next(flick);
-        self.registers.answered(&self.setup, &next, flick)
+        let seat = &self.seats[usize::from(process)];
+        let next = seat.process.next(flick);
+        match next.how {
+            // Only the end of a read depends on the memory.
+            Move::EndRead(_) => seat.process.next_access(&self.registers, flick),
+            _ => next,
+        }
     }
 
     /// Returns the access that the next step of a process makes by this flick, and what the step leads to. Nothing changes,

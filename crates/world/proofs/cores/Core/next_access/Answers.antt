@@ -1,61 +1,74 @@
-use Rattle.std.proofs.Common.{◌≡◌, ◌<◌, sym, ap, subst, ◌∙◌, arith}
+use Rattle.std.proofs.Common.{◌≡◌, ◌<◌, ℕ, Bool, List, ap, refl, subst, sym, ◌∙◌, arith}
 use Rattle.plain_store.specs.{Setup}
-use Rattle.record.specs.{width}
-use Rattle.process.specs.registers.{answered}
-use Rattle.process.specs.{answered_at, left_at, next_at}
+use Rattle.record.specs.{Access, ended}
+use Rattle.record.specs.safe_bit.{Move}
+use Rattle.record.specs.safe_bit.Cell.{Cell, read_answer}
+use Rattle.record.specs.safe_bit.declared.moves.Move.TheVariants.{BeginWrite, EndWrite, BeginRead, EndRead, Settle}
+use Rattle.process.specs.registers.{answered, cell_at, lane_of_access}
+use Rattle.process.specs.{ProcessState, answered_at, left_at}
 use Rattle.world.specs.{CoreAddsQuietly, CoreState}
 use Rattle.world.proofs.CoreCode.{IsLeft, is-left, left-there, seated}
-use Rattle.world.proofs.CoreCopies.{registers-are}
 use Rattle.world.proofs.CoreNext.{quiet-next}
 use Rattle.world.proofs.WorldOpen.{IsSeated}
 use Rattle.world.proofs.WorldStages.{left-may}
 use Rattle.world.proofs.cores.Core.next_access.Goals as goal
-use Rattle.world.proofs.cores.Core.next_access.Goals.{After-index}
+use Rattle.world.proofs.cores.Core.next_access.Goals.{After-index-seat}
 
-pub index-requires : goal.index-requires
-index-requires c =
+pub index-seat-requires : goal.index-seat-requires
+index-seat-requires c =
     let i = c.self.inside in
     let core : CoreState = record { setup = i.setup; registers = i.registers; seats = i.seats.items } in
     let inside = left-there core c.args.self.now c.args.process 1 c.self.view_is (omega arith) c.requires in
     omega (arith, inside, c.from.ensures, i.seats.ok.0)
 
-abbrev core : After-index → CoreState
+abbrev core : After-index-seat → CoreState
 core c = let i = c.self.inside in record { setup = i.setup; registers = i.registers; seats = i.seats.items }
 
 -- its seat is there, and an access is left
-left : (c : After-index) → IsLeft (core c) c.args.process 1 c.index.result.now
-left c = is-left (core c) c.args.self.now c.args.process c.from.result 1 c.index.result.now c.self.view_is (omega arith) c.requires c.from.ensures c.index.ensures
+left : (c : After-index-seat) → IsLeft (core c) c.args.process 1 c.index-seat.result.now
+left c = is-left (core c) c.args.self.now c.args.process c.from.result 1 c.index-seat.result.now c.self.view_is (omega arith) c.requires c.from.ensures c.index-seat.ensures
 
-own : (c : After-index) → IsSeated (core c) c.args.process c.index.result.now
-own c = seated (core c) c.args.process c.index.result.now c.self.invariant (left c).there
+own : (c : After-index-seat) → IsSeated (core c) c.args.process c.index-seat.result.now
+own c = seated (core c) c.args.process c.index-seat.result.now c.self.invariant (left c).there
 
 -- an access is left
-some : (c : After-index) → 0 < left_at c.index.result.now.process
+some : (c : After-index-seat) → 0 < left_at c.index-seat.result.now.process
 some c = let within = (left c).within in omega (arith, within)
 
 pub next-next-requires : goal.next-next-requires
-next-next-requires c = let a = (goal.at.next-next-requires c).After-index in record { goes = left-may a.index.result.now.process (some a) }
+next-next-requires c = let a = (goal.at.next-next-requires c).After-index-seat in record { goes = left-may a.index-seat.result.now.process (some a) }
 
-pub answered-requires-clause-memory : goal.answered-requires-clause-memory
-answered-requires-clause-memory c = registers-are _ c.self.invariant
+pub next_access-requires-clause-goes : goal.next_access-requires-clause-goes
+next_access-requires-clause-goes c = let a = (goal.at.next_access-requires-clause-goes c).After-index-seat in left-may a.index-seat.result.now.process (some a)
 
-pub answered-requires-clause-owner : goal.answered-requires-clause-owner
-answered-requires-clause-owner c = let a = (goal.at.answered-requires-clause-owner c).After-index in subst (λ (s : Setup). c.next-next.result.owner < s.processes) (own a).setup c.next-next.ensures.there.owner
+pub next_access-requires-clause-memory : goal.next_access-requires-clause-memory
+next_access-requires-clause-memory c = (own (goal.at.next_access-requires-clause-memory c).After-index-seat).registers
 
-pub answered-requires-clause-reader : goal.answered-requires-clause-reader
-answered-requires-clause-reader c = let a = (goal.at.answered-requires-clause-reader c).After-index in subst (λ (s : Setup). c.next-next.result.reader < s.processes) (own a).setup c.next-next.ensures.there.reader
+-- its next step makes this access, if its memory answers so
+quietly : (c : After-index-seat) (a : Access) → a ≡ answered_at c.index-seat.result.now.process c.self.inside.registers c.args.flick → CoreAddsQuietly c.args.self.now c.args.process c.args.flick a
+quietly c a is =
+    subst (λ (d : CoreState). CoreAddsQuietly d c.args.process c.args.flick a) c.self.view_is
+    (quiet-next (core c) c.args.process c.args.flick c.index-seat.result.now a (left c).there (some c) is)
 
-pub answered-requires-clause-bit : goal.answered-requires-clause-bit
-answered-requires-clause-bit c = let a = (goal.at.answered-requires-clause-bit c).After-index in subst (λ (s : Setup). c.next-next.result.bit < width s c.next-next.result.field) (own a).setup c.next-next.ensures.there.bit
+-- the memory answers the end of a read alone
+plain : (v : Bool) (how : Move) → ((w : Bool) → how ≡ EndRead w → ⊥) → how ≡ ended v how
+plain v (EndRead w) other = absurd (other w refl)
+plain v BeginRead other = refl
+plain v (BeginWrite w) other = refl
+plain v EndWrite other = refl
+plain v (Settle w) other = refl
 
-pub returns : goal.returns
-returns c =
-    let a = (goal.at.returns c).After-index in
-    let i = c.self.inside in
-    let seat = c.index.result.now in
-    let flick = c.args.flick in
-    let access : c.answered.result ≡ answered_at seat.process i.registers flick =
-    c.answered.ensures ∙ ap (answered i.setup.processes i.registers flick) c.next-next.ensures.access
-    ∙ ap (λ (s : Setup). answered s.processes i.registers flick (next_at seat.process flick)) (sym (own a).setup) in
-    subst (λ (d : CoreState). CoreAddsQuietly d c.args.process flick c.answered.result) c.self.view_is
-    (quiet-next (core a) c.args.process flick seat c.answered.result (left a).there (some a) access)
+answered-plain : (n : ℕ) (memory : List (List Cell)) (flick : Bool) (a : Access) → ((w : Bool) → a.how ≡ EndRead w → ⊥) → a ≡ answered n memory flick a
+answered-plain n memory flick a other = λ i. record { owner = a.owner; field = a.field; bit = a.bit; reader = a.reader; how = plain (read_answer (cell_at memory (lane_of_access n a) a.bit) flick) a.how other i }
+
+pub returns-in-EndRead : goal.returns-in-EndRead
+returns-in-EndRead c = quietly (goal.at.returns-in-EndRead c).After-index-seat c.next_access.result c.next_access.ensures
+
+pub returns-in_default : goal.returns-in_default
+returns-in_default c =
+    let a = (goal.at.returns-in_default c).After-index-seat in
+    let now : ProcessState = c.index-seat.result.now.process in
+    let memory = c.self.inside.registers in
+    let n : ℕ = now.setup.processes in
+    quietly a c.next-next.result
+    (answered-plain n memory c.args.flick c.next-next.result c.in_default.not-EndRead ∙ ap (answered n memory c.args.flick) c.next-next.ensures.access)
