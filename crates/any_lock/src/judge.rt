@@ -92,6 +92,7 @@ impl Judge {
     #[inline]
     pub fn judged(&self) -> Audited<AnyLockLaw>
         ensures now { result.verdict ≡ self.now.verdict }
+        ensures count { result.entries ≡ self.now.entries }
         ensures verdict { OfJudged self.now (λ s entries. result.verdict ≡ verdict_of s entries) }
         ensures entries { OfJudged self.now (λ _ entries. result.entries ≡ length entries) }
         ensures headline { OfJudged self.now (SaysHeadline result.verdict) }

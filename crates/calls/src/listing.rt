@@ -28,5 +28,5 @@ pub fn list_record<R: Source, W: Sink>(
         (streams ⟦<R as Source>⟧ ⟦<W as Sink>⟧ input.old output.old)
         (streams ⟦<R as Source>⟧ ⟦<W as Sink>⟧ input.new output.new) }
 {
-    run_trial::<RecordCalls, R, W>(alloc, input, output)
+    run_trial::<RecordCalls, R, W>(alloc, None, input, output)
 }

@@ -52,6 +52,10 @@ impl Hearer for RecordCalls {
         self.hear(alloc, process, access, marks)
     }
 
+    fn entries(&self) -> u64 {
+        self.table.entries()
+    }
+
     fn tell(&self, alloc: Global) -> Result<Telling, AllocError> {
         let mut text = Vec::new(alloc);
         text.extend_from_slice(self.lines.as_slice())?;

@@ -8,6 +8,7 @@ pub mod Lines
 pub mod Trials
 -- The engine
 pub mod Ends
+pub mod Firsts
 pub mod EngineEnds
 -- Texts
 pub mod Texts

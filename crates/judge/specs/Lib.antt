@@ -7,6 +7,7 @@ pub use Rattle.record_file.specs as record_file
 pub mod Numbers
 pub mod Trials
 pub mod Ends
+pub mod Firsts
 pub mod ReasonLines
 -- What is told of a record, whoever judges
 pub mod Explanations
@@ -23,6 +24,7 @@ pub mod AnyReasons
 pub mod Good
 pub use AnyReasons.{AreAnyLockReasons, any_reason_lines, wait_line, waits_from}
 pub use Ends.{IsInputFault, IsOfRecord}
+pub use Firsts.{HasHeardFirsts, TellsFirsts}
 pub use Explanations.{AreLinesOf, GivesReasons, HasExplained}
 pub use Good.{DoorwaysAreOne, GoodIsGood, GoodKeepsOfAny}
 pub use Judgements.{JudgeEnds, TellsReasons, TellsVerdict, status_of_verdict, verdict_line}

@@ -3,6 +3,7 @@ ghost use Rattle.std.specs.Prelude.{◌≡◌, ◌+◌, ◌-◌, ◌^◌, ◌<�
 ghost use Rattle.std.specs.Io.KnownBytes.{IsAtEnd};
 ghost use Rattle.files.specs.{failed_reading, streams};
 ghost use Rattle.judge.specs.Ends.{IsInputFault, IsOfRecord, TrialEnds};
+ghost use Rattle.judge.specs.Firsts.{HasHeardFirsts, TellsFirsts};
 
 use crate::hearers::Hearer;
 use crate::trial::Trial;
@@ -10,30 +11,40 @@ use files::source_lines::Lines;
 use files::{Fault, FaultKind, Sink, Source, write_all};
 use std::alloc::Global;
 
-/// Reads a whole record file, line by line, and then writes what is told of the record that it says; answers the exit
-/// status. It holds a line, a block and what hears the entries, however long the file is. A file of 2^64 - 1 lines or more,
-/// whose numbers want more than 64 bits, ends with `Memory`.
+/// Reads a whole record file, line by line, and then writes what is told of its record, or of the first `limit` entries if
+/// there is a limit. Returns the exit status. It stores a line, a block and what hears the entries, however long the file is.
+///
+/// # Errors
+///
+/// Returns the first fault of the file, with its line, or [`Fault::Read`], [`Fault::Memory`] or [`Fault::Write`]. Only after
+/// [`Fault::Write`] may a part of the text be written. A file of 2^64 - 1 lines or more, whose numbers need more than 64 bits,
+/// ends with [`Fault::Memory`].
 pub fn run_trial<H: Hearer, R: Source, W: Sink>(
     alloc: Global,
+    limit: Option<u64>,
     input: &mut R,
     output: &mut W,
 ) -> Result<u8, Fault>
     requires reads { R.failures input.old < 2 ^ 64 - 1 }
     requires writes { W.failures output.old < 2 ^ 64 - 1 }
-    ensures { TrialEnds H.Tells result
+    ensures { TrialEnds (TellsFirsts limit H.Tells) result
         (streams ⟦<R as Source>⟧ ⟦<W as Sink>⟧ input.old output.old)
         (streams ⟦<R as Source>⟧ ⟦<W as Sink>⟧ input.new output.new) }
 {
-    let hearer: H = hear_file(alloc, input)?;
+    let hearer: H = hear_file(alloc, limit, input)?;
     let telling = hearer.tell(alloc)?;
     write_all(output, telling.text.as_slice())?;
     Ok(telling.status)
 }
 
-/// Reads a whole record file; answers who has heard its entries.
-fn hear_file<H: Hearer, R: Source>(alloc: Global, input: &mut R) -> Result<H, Fault>
+/// Reads a whole record file, and returns who has heard its entries, or the first `limit` of them.
+fn hear_file<H: Hearer, R: Source>(
+    alloc: Global,
+    limit: Option<u64>,
+    input: &mut R,
+) -> Result<H, Fault>
     requires { R.failures input.old < 2 ^ 64 - 1 }
-    ensures heard { IfOk result (λ hearer. IfSome (R.to_come input.old) (IsOfRecord (H.HasHeard hearer))) }
+    ensures heard { IfOk result (λ hearer. IfSome (R.to_come input.old) (IsOfRecord (HasHeardFirsts limit H.HasHeard hearer))) }
     ensures end { IfOk result (λ _. IsAtEnd (R.to_come input.new)) }
     ensures fault { IfErr result (λ fault. IsInputFault fault (R.to_come input.old)) }
     ensures failures { R.failures input.new ≡ R.failures input.old + failed_reading result }
@@ -41,7 +52,7 @@ fn hear_file<H: Hearer, R: Source>(alloc: Global, input: &mut R) -> Result<H, Fa
     let mut lines = Lines::new(alloc);
     let mut trial: Trial<H> = Trial::new(alloc);
     'lines: while lines.next(input)? {
-        if let Err(kind) = trial.line(lines.taken(), lines.line()) {
+        if let Err(kind) = trial.line_within(limit, lines.taken(), lines.line()) {
             return Err(lines.here(kind));
         }
     }

@@ -53,6 +53,10 @@ impl<J: RecordJudge> Hearer for Explaining<J> {
         Ok(())
     }
 
+    fn entries(&self) -> u64 {
+        self.judge.judged().entries
+    }
+
     fn tell(&self, alloc: Global) -> Result<Telling, AllocError> {
         let judged = self.judge.judged();
         let mut text = verdict_line(alloc, &judged)?.into_bytes();

@@ -49,6 +49,10 @@ pub trait Hearer: Sized + Drop {
         requires { count self.old < 2 ^ 64 - 1 }
         ensures { OnOk result ((s : Given) (entries : List Noted) (numbers : List ℕ) → HasHeard self.old s entries numbers → HasHeard self.new s (entries ++ entry_by process access.now marks.now ∷ []) (numbers ++ number ∷ [])) };
 
+    /// Returns the number of entries that it has heard.
+    fn entries(&self) -> u64
+        ensures { result ≡ count self.now };
+
     /// What is told of the entries so far. The one fault is want of memory.
     fn tell(&self, alloc: Global) -> Result<Telling, AllocError>
         ensures { IfOk result (λ telling. (s : Given) (entries : List Noted) (numbers : List ℕ) → HasHeard self.now s entries numbers → Tells s entries numbers telling.text.items telling.status) };

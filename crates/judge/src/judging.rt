@@ -66,8 +66,8 @@ fn run_judged<J: RecordJudge, R: Source, W: Sink>(
         (streams ⟦<R as Source>⟧ ⟦<W as Sink>⟧ input.new output.new) }
 {
     if asked {
-        run_trial::<Explaining<J>, R, W>(alloc, input, output)
+        run_trial::<Explaining<J>, R, W>(alloc, None, input, output)
     } else {
-        run_trial::<Plain<J>, R, W>(alloc, input, output)
+        run_trial::<Plain<J>, R, W>(alloc, None, input, output)
     }
 }

@@ -35,6 +35,7 @@ pub use files::{DONE, Fault, Sink, Source, read_any_line, source_lines};
 pub use hearers::{Hearer, Judging, Telling};
 pub use judging::{judge_any_lock, run_judge};
 pub use laws_of_reasons::only_steps_keep_all_laws;
+pub use reason_lines::entry_of_parts;
 pub use record_file::{RecordReader, StepLine, print_entry, print_setup, read_step};
 pub use record_judge::RecordJudge;
 pub use this_lock_judge::ThisLockJudge;

@@ -40,6 +40,10 @@ impl<J: RecordJudge> Hearer for Plain<J> {
         Ok(())
     }
 
+    fn entries(&self) -> u64 {
+        self.judge.judged().entries
+    }
+
     fn tell(&self, alloc: Global) -> Result<Telling, AllocError> {
         let judged = self.judge.judged();
         Ok(Telling {

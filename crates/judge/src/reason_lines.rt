@@ -15,7 +15,7 @@ use std::alloc::{AllocError, Global};
 /// # Errors
 ///
 /// Returns [`AllocError`] if memory runs out, which it does not for up to three marks.
-pub(crate) fn entry_of_parts(
+pub fn entry_of_parts(
     alloc: Global,
     process: u8,
     access: &Option<Access>,

@@ -51,6 +51,7 @@ pub trait RecordJudge: Sized + Drop {
     /// Returns the verdict on the entries so far, and their number.
     fn judged(&self) -> Audited<Self::Law>
         ensures now { result.verdict ≡ verdict self.now }
+        ensures count { result.entries ≡ count self.now }
         ensures verdict { (s : Given) (entries : List Noted) → HasJudged self.now s entries → IsVerdict s entries result.verdict }
         ensures entries { (s : Given) (entries : List Noted) → HasJudged self.now s entries → result.entries ≡ length entries };
 

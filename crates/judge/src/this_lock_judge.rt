@@ -1,5 +1,7 @@
 //! The judge of records of this project's lock.
-ghost use Rattle.std.specs.Prelude.{◌≡◌};
+ghost use Rattle.std.specs.Prelude.{◌≡◌, ◌+◌, ◌-◌, ◌^◌, ◌<◌, ◌∷◌, ◌++◌, [], List};
+ghost use Rattle.plain_store.specs.declared.setups.Setup.{Setup as Given};
+ghost use Rattle.record.specs.{Entry as Noted};
 ghost use Rattle.auditor.specs.read_law.{entry_by};
 ghost use Rattle.auditor.specs.{IsVerdict as IsTheVerdict};
 ghost use Rattle.auditor.proofs.Unique.{one_verdict};
@@ -47,11 +49,27 @@ impl ThisLockJudge {
         self.entries
     }
 
+    /// Observes one more entry, whatever it is, by its parts. The setup of its core stays.
+    #[inline]
+    pub fn observe(&mut self, process: u8, access: &Option<Access>, marks: &[Mark])
+        requires { self.old.entries < 2 ^ 64 - 1 }
+        ensures heard { (s : Given) (entries : List Noted) → HasHeardAll self.old s entries →
+            HasHeardAll self.new s (entries ++ entry_by process access.now marks.now ∷ []) }
+        ensures entries { self.new.entries ≡ self.old.entries + 1 }
+        ensures setup { self.new.auditor.core.setup ≡ self.old.auditor.core.setup }
+    {
+        if self.verdict.is_good() {
+            self.verdict = self.verdict_with(process, access, marks);
+        }
+        self.entries += 1;
+    }
+
     /// Returns the verdict with one more entry, where that on the entries before it is good.
     #[inline]
     fn verdict_with(&mut self, process: u8, access: &Option<Access>, marks: &[Mark]) -> Verdict
         ensures verdict { self.new.verdict ≡ self.old.verdict }
         ensures entries { self.new.entries ≡ self.old.entries }
+        ensures setup { self.new.auditor.core.setup ≡ self.old.auditor.core.setup }
         ensures heard { IsNextVerdict self.old (entry_by process access.now marks.now) result }
         ensures goes_on { BothHearOneMore self.old (entry_by process access.now marks.now) result self.new }
         ensures stays { StaysBefore self.old (entry_by process access.now marks.now) result self.new }
@@ -86,10 +104,7 @@ impl RecordJudge for ThisLockJudge {
 
     #[inline]
     fn hear(&mut self, process: u8, access: &Option<Access>, marks: &[Mark]) {
-        if self.verdict.is_good() {
-            self.verdict = self.verdict_with(process, access, marks);
-        }
-        self.entries += 1;
+        self.observe(process, access, marks);
     }
 
     fn judged(&self) -> Audited {

@@ -2,6 +2,7 @@ ghost use Rattle.std.specs.Prelude.{◌≡◌, ◌-◌, ◌^◌, ◌<◌, ◌≤
 ghost use Rattle.plain_store.specs.{checked};
 ghost use Rattle.record.specs.{Entry as Noted};
 ghost use Rattle.record_file.specs.{Progress};
+ghost use Rattle.judge.specs.Firsts.{HasHeardFirsts};
 ghost use Rattle.judge.specs.Trials.{GoesOn, Hears, IsHeard, LineEnds, Stands, count_in, good_in};
 
 use crate::hearers::{Hearer, Judging};
@@ -44,6 +45,62 @@ impl<H: Hearer> Trial<H> {
         self.any_line(number, line)
     }
 
+    /// Reads one more line, with its number, which is not too long. Its entry, if it has one, is heard unless `limit` entries
+    /// were heard.
+    #[inline(always)]
+    pub(crate) fn line_within(
+        &mut self,
+        limit: Option<u64>,
+        number: u64,
+        line: &[u8],
+    ) -> Result<(), FaultKind>
+        requires short { length line.now ≤ 128 }
+        requires few { count_in H.count self.old.hearer < 2 ^ 64 - 1 }
+        ensures { (before : Option Progress) (entries : List Noted) (numbers : List ℕ) →
+            Stands (HasHeardFirsts limit H.HasHeard) self.old.reader self.old.hearer before entries numbers →
+            LineEnds (HasHeardFirsts limit H.HasHeard) result number line.now before self.new.reader self.new.hearer entries numbers }
+    {
+        let Some(limit) = limit else {
+            return self.line(number, line);
+        };
+        if self.heard() < limit {
+            return self.line(number, line);
+        }
+        self.pass(limit, number, line)
+    }
+
+    /// Returns the number of entries that were heard.
+    fn heard(&self) -> u64
+        ensures { result ≡ count_in H.count self.now.hearer }
+    {
+        match &self.hearer {
+            Some(hearer) => hearer.entries(),
+            None => 0,
+        }
+    }
+
+    /// Reads one more line, with its number, and hears no entry, because `limit` entries were heard.
+    fn pass(&mut self, limit: u64, number: u64, line: &[u8]) -> Result<(), FaultKind>
+        requires short { length line.now ≤ 128 }
+        requires full { limit ≤ count_in H.count self.old.hearer }
+        ensures { (before : Option Progress) (entries : List Noted) (numbers : List ℕ) →
+            Stands (HasHeardFirsts (Some limit) H.HasHeard) self.old.reader self.old.hearer before entries numbers →
+            LineEnds (HasHeardFirsts (Some limit) H.HasHeard) result number line.now before self.new.reader self.new.hearer entries numbers }
+    {
+        let _nested: NestedTypes = None;
+        if self.hearer.is_some() && read_step(line).is_some() {
+            return Ok(());
+        }
+        read_any_line(self.alloc, line, &mut self.reader)?;
+        if let Some(reader) = &mut self.reader {
+            if let Some(_entry) = reader.last_entry() {
+                pass_entry(self.alloc, limit, reader.setup(), &mut self.hearer)?;
+                reader.forget_entry();
+            }
+        }
+        Ok(())
+    }
+
     /// Whether behind an entry the line is as it is printed for a Step with an access and no mark, as most lines are: then
     /// that was heard. Else nothing is changed, and nothing is known of the line.
     fn hears_step(&mut self, number: u64, line: &[u8]) -> Result<bool, AllocError>
@@ -81,7 +138,9 @@ impl<H: Hearer> Trial<H> {
 
     /// Who has heard the entries of the lines so far, unless all of these were skipped. The one fault is want of memory.
     pub fn into_hearer(self) -> Result<Option<H>, AllocError>
-        ensures { IfOk result (λ heard. (before : Option Progress) (entries : List Noted) (numbers : List ℕ) → Stands H.HasHeard self.reader self.hearer before entries numbers → IsHeard H.HasHeard heard before entries numbers) }
+        ensures { IfOk result (λ heard. (limit : Option ℕ) (before : Option Progress) (entries : List Noted) (numbers : List ℕ) →
+            Stands (HasHeardFirsts limit H.HasHeard) self.reader self.hearer before entries numbers →
+            IsHeard (HasHeardFirsts limit H.HasHeard) heard before entries numbers) }
     {
         let Trial {
             alloc,
@@ -129,6 +188,26 @@ fn hear<H: Hearer>(
     if let Some(hearer) = hearer {
         let (process, access, marks) = parts(entry);
         hearer.take(alloc, number, process, access, marks)?;
+    }
+    Ok(())
+}
+
+/// Passes by one more entry. With the first entry there is who hears, even if no entry is to be heard.
+fn pass_entry<H: Hearer>(
+    alloc: Global,
+    limit: u64,
+    setup: &Setup,
+    hearer: &mut Option<H>,
+) -> Result<(), AllocError>
+    requires good { checked setup.now ≡ Ok tt }
+    requires full { limit ≤ count_in H.count hearer.old }
+    ensures some { OnOk result (IsSome hearer.new) }
+    ensures heard { OnOk result ((e : Noted) (number : ℕ) (entries : List Noted) (numbers : List ℕ) →
+        Hears (HasHeardFirsts (Some limit) H.HasHeard) hearer.old setup.now entries numbers →
+        Hears (HasHeardFirsts (Some limit) H.HasHeard) hearer.new setup.now (entries ++ e ∷ []) (numbers ++ number ∷ [])) }
+{
+    if hearer.is_none() {
+        begin(alloc, setup, hearer)?;
     }
     Ok(())
 }

@@ -1,5 +1,6 @@
 use Rattle.std.proofs.Common.{◌≡◌, ◌-◌, ◌^◌}
 use Rattle.files.specs.{EndHolds, coming}
+use Rattle.judge.specs.{HasHeardFirsts}
 use Rattle.judge.proofs.Ends.{Onwards}
 use Rattle.judge.proofs.engine.hear_file.Given as goal
 
@@ -7,7 +8,7 @@ use Rattle.judge.proofs.engine.hear_file.Given as goal
 -- it, and no call has failed
 abbrev pub invariant-lines : goal.invariant-lines
 invariant-lines g l = record {
-  onwards : Onwards g.H.Hearer.HasHeard (g.R.Source.to_come l.fn.input) (coming l.lines.ahead (g.R.Source.to_come l.input)) l.lines.taken l.trial.reader l.trial.hearer;
+  onwards : Onwards (HasHeardFirsts l.fn.limit g.H.Hearer.HasHeard) (g.R.Source.to_come l.fn.input) (coming l.lines.ahead (g.R.Source.to_come l.input)) l.lines.taken l.trial.reader l.trial.hearer;
   holds : EndHolds l.lines.ahead (g.R.Source.to_come l.input);
   whole : g.R.Source.failures l.input ≡ g.R.Source.failures l.fn.input;
 }

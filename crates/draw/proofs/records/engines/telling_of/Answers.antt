@@ -1,4 +1,4 @@
-use Rattle.std.proofs.Common.{Option, subst}
+use Rattle.std.proofs.Common.{None, Option, subst}
 use Rattle.judge.specs.Trials.{IsHeard}
 use Rattle.draw.proofs.RecordEnds.{no_value}
 use Rattle.draw.proofs.records.engines.telling_of.Goals as goal
@@ -7,12 +7,12 @@ pub returns-in_err-into_hearer : goal.returns-in_err-into_hearer
 returns-in_err-into_hearer g c = no_value _ _ _ c.from_residual.ensures.1
 
 pub returns-in-None : goal.returns-in-None
-returns-in-None g c = λ before entries numbers stands. subst (λ (h : Option g.row.H.Denot). IsHeard g.H.Hearer.HasHeard h before entries numbers) c.in-None.is (c.in_ok-into_hearer.ensures before entries numbers stands)
+returns-in-None g c = λ before entries numbers stands. subst (λ (h : Option g.row.H.Denot). IsHeard g.H.Hearer.HasHeard h before entries numbers) c.in-None.is (c.in_ok-into_hearer.ensures None before entries numbers stands)
 
 pub returns-in_err-tell-in-Some : goal.returns-in_err-tell-in-Some
 returns-in_err-tell-in-Some g c = no_value _ _ _ c.from_residual-in_err-tell-in-Some.ensures.1
 
 pub returns-in_ok-tell-in-Some : goal.returns-in_ok-tell-in-Some
 returns-in_ok-tell-in-Some g c = λ before entries numbers stands.
-    let is = subst (λ (h : Option g.row.H.Denot). IsHeard g.H.Hearer.HasHeard h before entries numbers) c.in-Some.is (c.in_ok-into_hearer.ensures before entries numbers stands) in
+    let is = subst (λ (h : Option g.row.H.Denot). IsHeard g.H.Hearer.HasHeard h before entries numbers) c.in-Some.is (c.in_ok-into_hearer.ensures None before entries numbers stands) in
     (is.0, is.1, c.in_ok-tell-in-Some.ensures is.0.head.setup entries numbers is.2)

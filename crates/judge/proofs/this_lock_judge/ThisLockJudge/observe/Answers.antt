@@ -5,8 +5,8 @@ use Rattle.auditor.specs.read_law.{entry_by}
 use Rattle.auditor.proofs.read_law.GoodVerdicts.{bad_is, good_is}
 use Rattle.judge.specs.{JudgeState}
 use Rattle.judge.proofs.JudgedRecords.{HearsOn, hears_bad, hears_good}
-use Rattle.judge.proofs.this_lock_judge.ThisLockJudgeRecordJudge.hear.Goals as goal
-use Rattle.judge.proofs.this_lock_judge.ThisLockJudgeRecordJudge.hear.Goals.{then-is_good, else-is_good}
+use Rattle.judge.proofs.this_lock_judge.ThisLockJudge.observe.Goals as goal
+use Rattle.judge.proofs.this_lock_judge.ThisLockJudge.observe.Goals.{then-is_good, else-is_good}
 
 pub returns-clause-heard : goal.returns-clause-heard
 returns-clause-heard c =
