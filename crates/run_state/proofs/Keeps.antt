@@ -8,7 +8,7 @@ use Rattle.std.specs.Prelude.{is_none, is_some, slice_index_or}
 use Rattle.plain_store.specs.{Command, Setup}
 use Rattle.record.specs.{Access, Entry, Mark, Past, called_in, calls_in, has, is_failed, own, width}
 use Rattle.run_state.specs.{FinishedRead, HasHeard, Passes, ProcessKept, SnapshotState, TellsNumber, failed_at, has_accessed, kept, kept_marked, kept_stepped, nothing_kept, opened_if, read_after, read_last, read_with, without_accesses}
-use Rattle.calls.specs.{CallStanding, EntryKnown, accessed_by, begun, ends_number, first_if, heard, marked_all, number_after, standing}
+use Rattle.calls.specs.{CallStanding, EntryKnown, accessed_by, begun, ends_number, first_if, heard, marked_all, standing}
 use Rattle.calls.specs.world.laws.{doing}
 use Rattle.calls.proofs.Folds.{marked_all-is}
 use Rattle.calls.proofs.Heard.{slice_get-set_other, slice_get-set_same}

@@ -1,15 +1,10 @@
 -- What an observer of a record stores, with one more entry.
-use Rattle.std.proofs.Common.{◌≡◌, ℕ, zero, suc, ◌+◌, ◌<◌, ◌≤◌, ◌==◌, Bool, true, false, true≢false, eqb-true, List, [], ◌∷◌, ◌++◌, length, map, reverse, take, Option, None, Some, Ok, refl, ap, sym, subst, ◌∙◌, arith, append-nil, append_assoc, inl, inr}
-use Rattle.std.specs.Prelude.{IfSome, IsErrAnd, OnOk, Result, Err, is_some, min}
-use Rattle.judge.specs.files.{Fault, failed_reading}
-use Rattle.judge.specs.files.declared.faults.Fault.TheVariants as fault
-use Rattle.judge.specs.Trials.{Hears, HearsAt}
-use Rattle.judge.specs.record_file.{Progress}
+use Rattle.std.proofs.Common.{◌≡◌, ℕ, ◌<◌, ◌==◌, true, false, true≢false, eqb-true, List, [], ◌∷◌, ◌++◌, length, reverse, take, Option, None, Some, Ok, refl, ap, sym, subst, ◌∙◌, arith, append-nil, append_assoc}
+use Rattle.std.specs.Prelude.{OnOk, Result, Err, min}
 use Rattle.std.specs.Prelude.{option_map}
 use Rattle.std.specs.Option.{option_to_list}
 use Rattle.std.proofs.Math.Seq.{take-append_seam, take-nil}
-use Rattle.std.proofs.lemmas.List.{length-append, length-reverse, length-take, length-take-le, reverse-append, reverse-reverse, take-append-le, take_all, take_at}
-use Rattle.std.proofs.lemmas.Bool.{cases_lt}
+use Rattle.std.proofs.lemmas.List.{length-append, length-reverse, length-take, reverse-append, reverse-reverse, take-append-le, take_at}
 use Rattle.plain_store.specs.{Reply, Setup, checked}
 use Rattle.record.specs.{Access, Entry, Event, Mark, Past, Taken, entry_of, history, past_of, reply_taken}
 use Rattle.record.proofs.Width.{is_good}
@@ -18,21 +13,21 @@ use Rattle.calls.specs.world.process.{number_read, process_after}
 use Rattle.calls.specs.world.{CoreState, InEachCorePast}
 use Rattle.calls.proofs.world_proofs.laws_proofs.Frame.{Happens, a_call, a_closing, a_failure, a_restart, a_step, a_withdrawal}
 use Rattle.calls.proofs.world_proofs.laws_proofs.FrameEvents.{accepted}
-use Rattle.judge.specs.{BothHeard, HasAudited, HasJudged, JudgeState}
+use Rattle.judge.specs.{HasAudited, HasJudged, JudgeState}
 use Rattle.judge.specs.ThisLockVerdicts.{newest_first, newest_is_bad, stays_bad}
-use Rattle.judge.specs.auditor.{AllKeep, HasHeard as HasAuditedPast, IsAt, IsBadAt, IsOfEvent, IsVerdict, KeepsAll, Law, Verdict}
+use Rattle.judge.specs.auditor.{AllKeep, IsAt, IsOfEvent, IsVerdict, Law, Verdict}
 use Rattle.judge.specs.read_law.declared.verdicts.Verdict.TheVariants.{Good, Bad}
 use Rattle.judge.proofs.auditor.Recovers.{recovers}
 use Rattle.judge.proofs.auditor.Unique.{one_verdict}
 use Rattle.judge.proofs.auditor.Whole.{of_events}
-use Rattle.run_state.specs.{CoreShows, Fits, HasHeard, HasObserved, IsNext, NewestEntry, RecordObserver, IsStored, StoresNext, TellsNumber, good_ones, newest_stored, taken_with}
+use Rattle.run_state.specs.{CoreShows, GoodEntries, HasHeard, HasObserved, IsNext, IsStored, RecordObserver, StoresNext, TellsNumber, good_ones, newest_stored, taken_with}
 
 -- The good ones.
 
 -- none of no items
-pub good_none : {A : Type 0} (v : Verdict Law) (n : ℕ) → let none : List A = [] in good_ones v (take n none) ≡ none
-good_none Good n = take-nil n
-good_none (Bad k l) n = ap (take k) (take-nil n) ∙ take-nil k
+pub good_none : {A : Type 0} (v : Verdict Law) → let none : List A = [] in good_ones v none ≡ none
+good_none Good = refl
+good_none (Bad k l) = take-nil k
 
 -- a bad entry is one of the entries
 bad_within : (s : Setup) (entries : List Entry) (k : ℕ) (l : Law) → IsVerdict s entries (Bad k l) → k < length entries
@@ -93,130 +88,45 @@ shows_good j s entries judged =
     let heard = (audited j s entries judged).heard in
     record { taken = history j.auditor.core.setup (reverse (good_ones j.verdict entries)); events = heard.events; shows = heard.shows; is = heard.past_is }
 
--- The first entries.
-
--- fewer than n of them are taken, so all are
-under : {A : Type 0} (n : ℕ) (xs : List A) → length (take n xs) < n → length xs < n
-under n xs few = elim (cases_lt (length xs) n) [
-  | inl less ↦ less
-  | inr more ↦ let all = length-take-le n xs more in absurd (omega (arith, all, few))
-]
-
--- n of them are taken, so no more are
-limit : {A : Type 0} (n : ℕ) (xs : List A) → n ≤ length (take n xs) → n ≤ length xs
-limit n xs full = elim (cases_lt (length xs) n) [
-  | inl less ↦ let all = ap length (take_all n xs (omega arith)) in omega (arith, all, full)
-  | inr more ↦ more
-]
+-- As many items.
 
 same_length : {A B : Type 0} (n : ℕ) (xs : List A) (ys : List B) → length xs ≡ length ys → length (take n xs) ≡ length (take n ys)
 same_length n xs ys same = length-take n xs ∙ ap (min n) same ∙ sym (length-take n ys)
 
-good_length : {A B : Type 0} (v : Verdict Law) (xs : List A) (ys : List B) → length xs ≡ length ys → length (good_ones v xs) ≡ length (good_ones v ys)
+pub good_length : {A B : Type 0} (v : Verdict Law) (xs : List A) (ys : List B) → length xs ≡ length ys → length (good_ones v xs) ≡ length (good_ones v ys)
 good_length Good xs ys same = same
 good_length (Bad k l) xs ys same = same_length k xs ys same
 
-pub counted_good : {A B : Type 0} (v : Verdict Law) (n : ℕ) (xs : List A) (ys : List B) → length xs ≡ length ys → length (good_ones v (take n xs)) ≡ length (good_ones v (take n ys))
-counted_good v n xs ys same = good_length v (take n xs) (take n ys) (same_length n xs ys same)
-
--- as many numbers as entries
-more_counted : (entries : List Entry) (numbers : List ℕ) (e : Entry) (m : ℕ) → length numbers ≡ length entries → length (numbers ++ m ∷ []) ≡ length (entries ++ e ∷ [])
-more_counted entries numbers e m same = length-append numbers (m ∷ []) ∙ ap (λ k. k + 1) same ∙ sym (length-append entries (e ∷ []))
-
 -- One more entry.
 
--- Enough entries were judged.
-pub limit_stays : (n : ℕ) (o : RecordObserver) (s : Setup) (entries : List Entry) (numbers : List ℕ) (e : Entry) (m : ℕ) → n ≤ o.judge.entries → HasObserved n o s entries numbers → HasObserved n o s (entries ++ e ∷ []) (numbers ++ m ∷ [])
-limit_stays n o s entries numbers e m full h = record {
-  setup = h.setup;
-  counted = more_counted entries numbers e m h.counted;
-  judged = subst (HasJudged o.judge s) (sym first) h.judged;
-  stores = subst (λ (l : List Entry). IsStored o s (good_ones o.judge.verdict l) (good_ones o.judge.verdict (take n (numbers ++ m ∷ [])))) (sym first)
-      (subst (λ (l : List ℕ). IsStored o s (good_ones o.judge.verdict (take n entries)) (good_ones o.judge.verdict l)) (sym second) h.stores);
-}
-  where
-    long : n ≤ length entries
-    long = limit n entries (omega (arith, full, h.judged.count))
-
-    first : take n (entries ++ e ∷ []) ≡ take n entries
-    first = take-append-le n entries (e ∷ []) long
-
-    second : take n (numbers ++ m ∷ []) ≡ take n numbers
-    second = take-append-le n numbers (m ∷ []) (omega (arith, long, h.counted))
-
 -- One more is judged.
-module _ (n : ℕ) (o : RecordObserver) (s : Setup) (entries : List Entry) (numbers : List ℕ) (e : Entry) (m : ℕ) (few : o.judge.entries < n) (h : HasObserved n o s entries numbers) where
-  short : length entries < n
-  short = under n entries (omega (arith, few, h.judged.count))
-
-  first : take n entries ≡ entries
-  first = take_all n entries (omega (arith, short))
-
-  numbers_first : take n numbers ≡ numbers
-  numbers_first = take_all n numbers (omega (arith, short, h.counted))
-
-  longer : length (entries ++ e ∷ []) ≡ length entries + 1
-  longer = length-append entries (e ∷ [])
-
-  then : take n (entries ++ e ∷ []) ≡ entries ++ e ∷ []
-  then = take_all n (entries ++ e ∷ []) (omega (arith, short, longer))
-
-  numbers_then : take n (numbers ++ m ∷ []) ≡ numbers ++ m ∷ []
-  numbers_then = take_all n (numbers ++ m ∷ []) (omega (arith, short, longer, more_counted entries numbers e m h.counted))
-
-  pub judged_so_far : HasJudged o.judge s entries
-  judged_so_far = subst (HasJudged o.judge s) first h.judged
-
-  stores_so_far : IsStored o s (good_ones o.judge.verdict entries) (good_ones o.judge.verdict numbers)
-  stores_so_far =
-      subst (λ (l : List Entry). IsStored o s (good_ones o.judge.verdict l) (good_ones o.judge.verdict numbers)) first
-      (subst (λ (l : List ℕ). IsStored o s (good_ones o.judge.verdict (take n entries)) (good_ones o.judge.verdict l)) numbers_first h.stores)
-
-  -- what was judged and is stored then
-  observed_then : (o' : RecordObserver) → o'.setup ≡ s → HasJudged o'.judge s (entries ++ e ∷ []) → IsStored o' s (good_ones o'.judge.verdict (entries ++ e ∷ [])) (good_ones o'.judge.verdict (numbers ++ m ∷ [])) →
-      HasObserved n o' s (entries ++ e ∷ []) (numbers ++ m ∷ [])
-  observed_then o' setup judged stores = record {
-    setup = setup;
-    counted = more_counted entries numbers e m h.counted;
-    judged = subst (HasJudged o'.judge s) (sym then) judged;
-    stores = subst (λ (l : List Entry). IsStored o' s (good_ones o'.judge.verdict l) (good_ones o'.judge.verdict (take n (numbers ++ m ∷ [])))) (sym then)
-        (subst (λ (l : List ℕ). IsStored o' s (good_ones o'.judge.verdict (entries ++ e ∷ [])) (good_ones o'.judge.verdict l)) (sym numbers_then) stores);
-  }
-
+module _ (o : RecordObserver) (s : Setup) (entries : List Entry) (numbers : List ℕ) (e : Entry) (m : ℕ) (h : HasObserved o s entries numbers) where
   module _ (j : JudgeState) (judged : HasJudged j s (entries ++ e ∷ [])) where
-    -- the record is bad
-    pub bad_stays : (j.verdict ≡ Good → ⊥) → HasObserved n (record o { judge = j }) s (entries ++ e ∷ []) (numbers ++ m ∷ [])
-    bad_stays bad =
-        let were = judged_so_far.verdict in
-        let same_entries = bad_same s entries e o.judge.verdict j.verdict entries e refl were judged.verdict bad in
-        let same_numbers = bad_same s entries e o.judge.verdict j.verdict numbers m h.counted were judged.verdict bad in
-        let was : IsStored (record o { judge = j }) s (good_ones o.judge.verdict entries) (good_ones o.judge.verdict numbers) =
-        record { snapshot = stores_so_far.snapshot; heard = stores_so_far.heard; newest = stores_so_far.newest; taken = stores_so_far.taken } in
-        observed_then (record o { judge = j }) h.setup judged
-        (subst (λ (l : List Entry). IsStored (record o { judge = j }) s l (good_ones j.verdict (numbers ++ m ∷ []))) (sym same_entries)
-        (subst (λ (l : List ℕ). IsStored (record o { judge = j }) s (good_ones o.judge.verdict entries) l) (sym same_numbers) was))
-
-    -- it is good, and so it was
+    -- It is good, and so it was.
     pub was_good : j.verdict ≡ Good → o.judge.verdict ≡ Good
-    was_good good = good_before s entries e o.judge.verdict j.verdict judged_so_far.verdict judged.verdict good
+    was_good good = good_before s entries e o.judge.verdict j.verdict h.judged.verdict judged.verdict good
 
     pub all_keep : j.verdict ≡ Good → AllKeep s (e ∷ reverse entries)
     all_keep good = subst (AllKeep s) (newest_first entries e) (subst (IsVerdict s (entries ++ e ∷ [])) good judged.verdict)
 
-    -- the core before it shows the entries before it
+    -- The core before it shows the entries before it.
     pub shown : j.verdict ≡ Good → CoreShows o.judge.auditor.core (reverse entries)
-    shown good = subst (λ (v : Verdict Law). CoreShows o.judge.auditor.core (reverse (good_ones v entries))) (was_good good) (shows_good o.judge s entries judged_so_far)
+    shown good = subst (λ (v : Verdict Law). CoreShows o.judge.auditor.core (reverse (good_ones v entries))) (was_good good) (shows_good o.judge s entries h.judged)
 
-    -- and it is stored
-    pub good_stored : (read : ℕ) (taken : Option Taken) (o' : RecordObserver) → j.verdict ≡ Good → IsNext s (reverse entries) e read → taken ≡ taken_with s (reverse entries) e.process e.marks → o'.setup ≡ o.setup → o'.judge ≡ j →
-        StoresNext (record o { judge = j }) o' m e read taken → HasObserved n o' s (entries ++ e ∷ []) (numbers ++ m ∷ [])
-    good_stored read taken o' good next takes setup same stores =
-        let before = stores_so_far in
-        let kept : IsStored o s entries numbers = subst (λ (v : Verdict Law). IsStored o s (good_ones v entries) (good_ones v numbers)) (was_good good) before in
-        let was : IsStored (record o { judge = j }) s entries numbers = record { snapshot = kept.snapshot; heard = kept.heard; newest = kept.newest; taken = kept.taken } in
-        let verdict : o'.judge.verdict ≡ Good = ap (λ (j : JudgeState). j.verdict) same ∙ good in
-        observed_then o' (setup ∙ h.setup) (subst (λ (j : JudgeState). HasJudged j s (entries ++ e ∷ [])) (sym same) judged)
-        (subst (λ (v : Verdict Law). IsStored o' s (good_ones v (entries ++ e ∷ [])) (good_ones v (numbers ++ m ∷ []))) (sym verdict) (stores s entries numbers next takes was))
+    -- If the record is bad, nothing more is stored.
+    pub bad_stays : (j.verdict ≡ Good → ⊥) → IsStored o.good s (good_ones j.verdict (entries ++ e ∷ [])) (good_ones j.verdict (numbers ++ m ∷ []))
+    bad_stays bad =
+        let same_entries = bad_same s entries e o.judge.verdict j.verdict entries e refl h.judged.verdict judged.verdict bad in
+        let same_numbers = bad_same s entries e o.judge.verdict j.verdict numbers m h.counted h.judged.verdict judged.verdict bad in
+        subst (λ (l : List Entry). IsStored o.good s l (good_ones j.verdict (numbers ++ m ∷ []))) (sym same_entries)
+        (subst (λ (l : List ℕ). IsStored o.good s (good_ones o.judge.verdict entries) l) (sym same_numbers) h.stores)
+
+    -- If it is good, the entry is stored.
+    pub good_stored : (read : ℕ) (taken : Option Taken) (stored : GoodEntries) → j.verdict ≡ Good → IsNext s (reverse entries) e read → taken ≡ taken_with s (reverse entries) e.process e.marks →
+        StoresNext o.good stored m e read taken → IsStored stored s (good_ones j.verdict (entries ++ e ∷ [])) (good_ones j.verdict (numbers ++ m ∷ []))
+    good_stored read taken stored good next takes stores =
+        let was : IsStored o.good s entries numbers = subst (λ (v : Verdict Law). IsStored o.good s (good_ones v entries) (good_ones v numbers)) (was_good good) h.stores in
+        subst (λ (v : Verdict Law). IsStored stored s (good_ones v (entries ++ e ∷ [])) (good_ones v (numbers ++ m ∷ []))) (sym good) (stores s entries numbers next takes was)
 
 -- A good entry.
 
@@ -258,7 +168,7 @@ newest_more : (entries : List Entry) (numbers : List ℕ) (e : Entry) (m : ℕ) 
 newest_more entries numbers e m = λ i. newest_stored (reverse-append numbers (m ∷ []) i) (reverse-append entries (e ∷ []) i)
 
 -- all of it is stored
-pub stored : (old new : RecordObserver) (m : ℕ) (e : Entry) (read : ℕ) (taken : Option Taken) → new.snapshot.setup ≡ old.snapshot.setup → ((past : Past) → IsNext old.snapshot.setup past e read → HasHeard old.snapshot past → HasHeard new.snapshot (e ∷ past)) →
+pub stored : (old new : GoodEntries) (m : ℕ) (e : Entry) (read : ℕ) (taken : Option Taken) → new.snapshot.setup ≡ old.snapshot.setup → ((past : Past) → IsNext old.snapshot.setup past e read → HasHeard old.snapshot past → HasHeard new.snapshot (e ∷ past)) →
     new.taken.items ≡ old.taken.items ++ option_to_list taken → new.newest ≡ Some (record { line = m; entry = e }) → StoresNext old new m e read taken
 stored old new m e read taken setup heard history_is newest s entries numbers next takes was =
     let past : Past = reverse entries in
@@ -273,31 +183,13 @@ stored old new m e read taken setup heard history_is newest s entries numbers ne
 -- The observer.
 
 -- nothing was observed yet
-pub observes_none : (n : ℕ) (o : RecordObserver) (s : Setup) → o.setup ≡ s → HasJudged o.judge s [] → o.snapshot.setup ≡ s → HasHeard o.snapshot [] → o.newest ≡ None → o.taken.items ≡ [] → HasObserved n o s [] []
-observes_none n o s setup judged snapshot heard newest taken = record {
+pub observes_none : (o : RecordObserver) (s : Setup) → o.setup ≡ s → HasJudged o.judge s [] → o.good.snapshot.setup ≡ s → HasHeard o.good.snapshot [] → o.good.newest ≡ None → o.good.taken.items ≡ [] → HasObserved o s [] []
+observes_none o s setup judged snapshot heard newest taken = record {
   setup = setup;
   counted = refl;
-  judged = subst (HasJudged o.judge s) (sym (take-nil n)) judged;
-  stores = subst (λ (l : List Entry). IsStored o s l (good_ones o.judge.verdict (take n []))) (sym (good_none o.judge.verdict n))
-      (subst (λ (l : List ℕ). IsStored o s [] l) (sym (good_none o.judge.verdict n)) (record { snapshot = snapshot; heard = heard; newest = newest; taken = taken }));
-}
-
-good_few : {A : Type 0} (v : Verdict Law) (items : List A) → length (good_ones v items) ≤ length items
-good_few Good items = omega arith
-good_few (Bad k l) items = elim (cases_lt (length items) k) [
-  | inl less ↦ let all = ap length (take_all k items (omega arith)) in omega (arith, all)
-  | inr more ↦ let all = length-take-le k items more in omega (arith, all)
-]
-
--- its parts fit
-pub fits : (n : ℕ) (o : RecordObserver) (s : Setup) (entries : List Entry) (numbers : List ℕ) → HasObserved n o s entries numbers → Fits o
-fits n o s entries numbers h = record {
-  core = core_setup o.judge s (take n entries) h.judged ∙ sym h.setup;
-  snapshot = h.stores.snapshot ∙ sym h.setup;
-  few =
-      let heard = h.stores.heard.entries in
-      let turned = length-reverse (good_ones o.judge.verdict (take n entries)) in
-      omega (arith, heard, turned, good_few o.judge.verdict (take n entries), h.judged.count);
+  judged = judged;
+  stores = subst (λ (l : List Entry). IsStored o.good s l (good_ones o.judge.verdict [])) (sym (good_none o.judge.verdict))
+      (subst (λ (l : List ℕ). IsStored o.good s [] l) (sym (good_none o.judge.verdict)) (record { snapshot = snapshot; heard = heard; newest = newest; taken = taken }));
 }
 
 -- Parts of what the code finds.
@@ -324,28 +216,3 @@ tells_read s past e a read next none is =
     let two : Some unmarked.0 ≡ Some a = sym unmarked.1 ∙ is in
     let same : unmarked.0 ≡ a = cc in
     subst (λ (a : Access). TellsNumber s past e.process a read) same unmarked.2
-
--- The lines of a file.
-
--- an observer that was begun has observed what the one before it had
-pub begun : (n : ℕ) (o new : Option RecordObserver) (s : Setup) (entries : List Entry) (numbers : List ℕ) → is_some o ≡ false → Hears (HasObserved n) o s entries numbers → Hears (HasObserved n) new s [] [] → Hears (HasObserved n) new s entries numbers
-begun n None new s entries numbers none was heard =
-    subst (λ (l : List Entry). Hears (HasObserved n) new s l numbers) (sym was.0) (subst (λ (l : List ℕ). Hears (HasObserved n) new s [] l) (sym was.1) heard)
-begun n (Some o) new s entries numbers none was heard = absurd (true≢false none)
-
--- the parts of an observer fit, if there is one
-pub fit_in : (n : ℕ) (o : Option RecordObserver) (before : Option Progress) (entries : List Entry) (numbers : List ℕ) → HearsAt (HasObserved n) o before entries numbers → IfSome o Fits
-fit_in n None before entries numbers heard = tt
-fit_in n (Some o) None entries numbers heard = absurd heard
-fit_in n (Some o) (Some p) entries numbers heard = fits n o p.head.setup entries numbers heard.1
-
--- the same call has failed, whatever its result is of
-pub err_reads : {A : Type 0} (B : Type 0) (r : Result A Fault) (f : Fault) → IsErrAnd r (λ e. e ≡ f) → failed_reading {A = B} (Err f) ≡ failed_reading {A = A} r
-err_reads B (Ok a) f is = absurd is
-err_reads {A} B (Err e) f is = subst (λ (f : Fault). failed_reading {A = B} (Err f) ≡ failed_reading {A = A} (Err e)) is (by e)
-  where
-    by : (e : Fault) → failed_reading {A = B} (Err e) ≡ failed_reading {A = A} (Err e)
-    by (fault.Line at) = refl
-    by fault.Read = refl
-    by fault.Write = refl
-    by fault.Memory = refl

@@ -1,19 +1,19 @@
 -- The state of a record as text, and how it is that of a run.
-use Rattle.std.proofs.Common.{◌≡◌, ℕ, zero, suc, ◌-◌, ◌<◌, ◌≤◌, List, [], ◌∷◌, ◌++◌, length, reverse, take, drop, Option, None, Some, Ok, refl, ap, sym, subst, ◌∙◌, arith, append-nil, append_assoc, inl, inr}
+use Rattle.std.proofs.Common.{◌≡◌, ℕ, zero, suc, ◌-◌, List, [], ◌∷◌, ◌++◌, length, reverse, take, drop, refl, ap, sym, subst, ◌∙◌, arith, append-nil, append_assoc, inl, inr}
 use Rattle.std.proofs.lemmas.Bool.{cases_lt}
 use Rattle.std.proofs.lemmas.List.{length-drop, length-reverse, reverse-append, reverse-reverse, take-append-drop, take_all, take_at}
-use Rattle.plain_store.specs.{Setup, checked}
-use Rattle.record.specs.{AreGiven, Entry, Event, Past, Taken, history, past_of}
+use Rattle.plain_store.specs.{Setup}
+use Rattle.record.specs.{Entry, Past, Taken, history, past_of}
 use Rattle.calls.specs.world.{CoreState, with_history}
 use Rattle.calls.specs.world.Shows.{Shows}
 use Rattle.judge.specs.Judgements.{status_of_verdict}
-use Rattle.judge.specs.{HasAudited, HasJudged, JudgeState}
-use Rattle.judge.specs.auditor.{AllKeep, IsVerdict, Law, Verdict}
-use Rattle.judge.specs.read_law.declared.verdicts.Verdict.TheVariants.{Good, Bad}
+use Rattle.judge.specs.{HasAudited}
+use Rattle.judge.specs.auditor.{AllKeep, Law, Verdict}
+use Rattle.judge.specs.read_law.declared.verdicts.Verdict.TheVariants.{Good}
 use Rattle.judge.proofs.auditor.Unique.{one_verdict}
 use Rattle.judge.proofs.auditor.Whole.{good_of}
-use Rattle.run_state.specs.{HasObserved, NewestEntry, RecordObserver, RecordsHaveStatesOfRuns, SnapshotState, Stands, IsStored, TellsState, bad_line, count_line, first_of, good_ones, head_lines, line_of_newest, newest_line, newest_lines, newest_stored, recorded_state, state_after, state_lines}
-use Rattle.run_state.proofs.Observed.{audited, counted_good, fits}
+use Rattle.run_state.specs.{HasObserved, RecordObserver, RecordsHaveStatesOfRuns, Stands, IsStored, TellsState, bad_line, count_line, first_of, good_ones, line_of_newest, newest_line, newest_lines, newest_stored, recorded_state, state_after, state_lines}
+use Rattle.run_state.proofs.Observed.{audited, good_length}
 
 -- What is written.
 
@@ -29,11 +29,11 @@ in_order : (count newest made rest : List ℕ) → (count ++ (newest ++ made)) +
 in_order count newest made rest = ap (λ l. l ++ rest) (sym (append_assoc count newest made)) ∙ append_assoc (count ++ newest) made rest
 
 -- the snapshot has observed the past of the judge's core
-stands : (o : RecordObserver) (s : Setup) (entries : List Entry) (numbers : List ℕ) → HasAudited o.judge.auditor s (reverse entries) → IsStored o s entries numbers → Stands o.snapshot o.judge.auditor.core o.taken.items (reverse entries)
+stands : (o : RecordObserver) (s : Setup) (entries : List Entry) (numbers : List ℕ) → HasAudited o.judge.auditor s (reverse entries) → IsStored o.good s entries numbers → Stands o.good.snapshot o.judge.auditor.core o.good.taken.items (reverse entries)
 stands o s entries numbers heard stores =
     let core : CoreState = o.judge.auditor.core in
     let past : Past = reverse entries in
-    let taken : o.taken.items ≡ history core.setup past = stores.taken ∙ ap (λ (t : Setup). history t past) (sym heard.setup) in
+    let taken : o.good.taken.items ≡ history core.setup past = stores.taken ∙ ap (λ (t : Setup). history t past) (sym heard.setup) in
     record {
       heard = stores.heard;
       setup = heard.setup ∙ sym stores.snapshot;
@@ -43,10 +43,10 @@ stands o s entries numbers heard stores =
     }
 
 -- the text of an observer, from its parts
-pub told_is : (n : ℕ) (o : RecordObserver) (s : Setup) (entries : List Entry) (numbers : List ℕ) (counted newest lined told : List ℕ) (status : ℕ) → HasObserved n o s entries numbers →
-    counted ≡ count_line o.snapshot.entries → newest ≡ counted ++ newest_lines o.newest → ((past : Past) → Stands o.snapshot o.judge.auditor.core o.taken.items past → lined ≡ newest ++ state_lines o.snapshot.setup past) →
-    told ≡ lined ++ bad_line o.judge.verdict → status ≡ status_of_verdict o.judge.verdict → TellsState n s entries numbers told status
-told_is n o s entries numbers counted newest lined told status h first second third fourth answer = record {
+pub told_is : (o : RecordObserver) (s : Setup) (entries : List Entry) (numbers : List ℕ) (counted newest lined told : List ℕ) (status : ℕ) → HasObserved o s entries numbers →
+    counted ≡ count_line o.good.snapshot.entries → newest ≡ counted ++ newest_lines o.good.newest → ((past : Past) → Stands o.good.snapshot o.judge.auditor.core o.good.taken.items past → lined ≡ newest ++ state_lines o.good.snapshot.setup past) →
+    told ≡ lined ++ bad_line o.judge.verdict → status ≡ status_of_verdict o.judge.verdict → TellsState s entries numbers told status
+told_is o s entries numbers counted newest lined told status h first second third fourth answer = record {
   verdict = v;
   is = h.judged.verdict;
   state = fourth ∙ ap (λ l. l ++ bad_line v) (third past here ∙ (λ i. written i ++ state_lines (h.stores.snapshot i) past) ∙ in_order (count_line (length past)) (newest_line past) made (state_lines s past));
@@ -57,10 +57,10 @@ told_is n o s entries numbers counted newest lined told status h first second th
     v = o.judge.verdict
 
     good : List Entry
-    good = good_ones v (take n entries)
+    good = good_ones v entries
 
     lines : List ℕ
-    lines = good_ones v (take n numbers)
+    lines = good_ones v numbers
 
     past : Past
     past = reverse good
@@ -68,11 +68,11 @@ told_is n o s entries numbers counted newest lined told status h first second th
     made : List ℕ
     made = line_of_newest (reverse lines)
 
-    here : Stands o.snapshot o.judge.auditor.core o.taken.items past
-    here = stands o s good lines (audited o.judge s (take n entries) h.judged) h.stores
+    here : Stands o.good.snapshot o.judge.auditor.core o.good.taken.items past
+    here = stands o s good lines (audited o.judge s entries h.judged) h.stores
 
     same : length (reverse lines) ≡ length past
-    same = length-reverse lines ∙ counted_good v n numbers entries h.counted ∙ sym (length-reverse good)
+    same = length-reverse lines ∙ good_length v numbers entries h.counted ∙ sym (length-reverse good)
 
     written : newest ≡ count_line (length past) ++ (newest_line past ++ made)
     written = second ∙ (λ i. (first ∙ ap count_line h.stores.heard.entries) i ++ (ap newest_lines h.stores.newest ∙ newest_written (reverse lines) past same) i)

@@ -1,5 +1,5 @@
 -- An observer observes each report of a run.
-use Rattle.std.proofs.Common.{◌≡◌, ◌+◌, ◌<◌, Bool, true, false, List, [], ◌∷◌, ℕ, zero, suc, Option, None, Some, refl, ap, sym, subst, ◌∙◌, arith}
+use Rattle.std.proofs.Common.{◌≡◌, ◌<◌, Bool, true, List, [], ◌∷◌, ℕ, zero, suc, Option, None, Some, refl, ap, sym, subst, ◌∙◌, arith}
 use Rattle.plain_store.specs.{Setup}
 use Rattle.record.specs.{Access, Entry, Past, entry_of, width}
 use Rattle.record.specs.declared.events.Event.TheVariants.{Step}

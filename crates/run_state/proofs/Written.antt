@@ -1,5 +1,5 @@
 -- The value that a process writes: its next access and its cursor belong to one write, and the value is the one that the write leaves.
-use Rattle.std.proofs.Common.{◌≡◌, ℕ, zero, suc, ◌+◌, ◌-◌, ◌*◌, ◌/◌, ◌%◌, ◌<◌, ◌≤◌, ◌==◌, ◌≢◌, ◌||◌, Bool, true, false, cond, List, [], ◌∷◌, ◌++◌, Option, None, Some, get_or, length, map, refl, sym, ap, subst, ◌∙◌, arith, eqb-true}
+use Rattle.std.proofs.Common.{◌≡◌, ℕ, suc, ◌+◌, ◌-◌, ◌*◌, ◌/◌, ◌%◌, ◌<◌, ◌≤◌, ◌==◌, ◌≢◌, ◌||◌, Bool, true, false, cond, List, [], ◌∷◌, ◌++◌, Option, None, Some, get_or, length, map, refl, sym, ap, subst, ◌∙◌, arith, eqb-true}
 use Rattle.std.proofs.lemmas.Bool.{eqb-false}
 use Rattle.std.proofs.lemmas.Bool.Decides.{nat_tests}
 use Rattle.std.specs.Int.{is_in_range}
@@ -11,12 +11,12 @@ use Rattle.record.specs.safe_bit.declared.Move.TheVariants.{BeginRead, BeginWrit
 use Rattle.record.specs.safe_bit.Cell.{Cell}
 use Rattle.record.specs.safe_bit.{Move, read_value}
 use Rattle.record.specs.{Access, Call, Entry, Event, Field, Past, Reading, Run, Writing, access_at, access_of, bit_written, copy, ended, ended_with, entry_of, moves_of, next_written, opening_bit, past_of, valued, width}
-use Rattle.record.specs.Closings.{Withdraws, Settles, Frees, Lowers, Quit, Ended}
+use Rattle.record.specs.Closings.{Withdraws, Settles, Frees, Lowers}
 use Rattle.record.specs.declared.access.Field.TheVariants.{Choosing, Ticket, Commit, Stamp0, Stamp1, Image0, Image1}
 use Rattle.record.specs.declared.events.Event.TheVariants.{Step}
 use Rattle.record.proofs.Width.{IsGood, is_good}
 use Rattle.calls.specs.world.laws.Writes.{WritesFitTheirRegister, WritesLeaveTheirBits}
-use Rattle.calls.specs.world.laws.{Closes, CopiesHold, Doing, FitsItsRegister, HoldsBit, Lies, RegisterWrite, Rests, Runs, accesses_in_all, accesses_made, call, cell_held, doing, next_of, register_write, steps_alone, write_at, write_ended}
+use Rattle.calls.specs.world.laws.{Closes, CopiesHold, Doing, FitsItsRegister, HoldsBit, RegisterWrite, Runs, accesses_in_all, accesses_made, call, cell_held, doing, next_of, register_write, steps_alone, write_at, write_ended}
 use Rattle.calls.proofs.world_proofs.laws_proofs.Steps.{StepIs, step_is}
 use Rattle.calls.specs.{is_read_end}
 use Rattle.calls.specs.world.process.declared.looks.Settling.{Settling as Torn}

@@ -17,7 +17,7 @@ pub use Keeping.{Passes, TellsNumber, call_kept, failed_at, has_accessed, kept, 
 pub use Knowing.{AreGiven, AreOf, CoreShows}
 pub use Lines.{line_if, open_lines, process_line, taken_words}
 pub use Making.{EventsAreMade, IsMade, WritesMade, made_line, makes_event, making_line, number_in}
-pub use Observing.{Fits, HasObserved, IsNext, IsStored, StoresNext, newest_lines, newest_stored, taken_with}
+pub use Observing.{HasObserved, IsNext, IsStored, StoresNext, newest_lines, newest_stored, taken_with}
 pub use Processes.{count_line, is_resting, lines_at, lines_of_two, newest_line, process_lines, rest_line, running_lines, words_added}
 pub use RecordStates.{RecordsHaveStatesOfRuns, StateEnds, TellsState, bad_line, good_ones, line_of_newest, recorded_state}
 pub use Snapshots.{HasHeard, SnapshotState, Stands, state_lines}
@@ -26,6 +26,7 @@ pub use Stores.{history_lines, is_some_call, number_word, store_text}
 pub use declared.kept.FinishedRead.{FinishedRead}
 pub use declared.kept.ProcessKept.{ProcessKept}
 pub use declared.observer.StateObserver.{StateObserver}
+pub use declared.record_observer.GoodEntries.{GoodEntries}
 pub use declared.record_observer.NewestEntry.{NewestEntry}
 pub use declared.record_observer.RecordObserver.{RecordObserver}
 pub use declared.process_lines.ProcessLines.{ProcessLines}

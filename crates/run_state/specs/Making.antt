@@ -1,5 +1,5 @@
 -- The line of a scenario file that made an event, and how `state` writes it.
-use Rattle.std.specs.Prelude.{◌≡◌, ◌<◌, ◌≤◌, ℕ, suc, ◌+◌, ◌-◌, nat_le, nat_lt, Bool, true, false, ◌&&◌, List, [], ◌∷◌, ◌++◌, codes, length, slice_index, Option}
+use Rattle.std.specs.Prelude.{◌≡◌, ◌<◌, ◌≤◌, ℕ, suc, ◌-◌, nat_le, nat_lt, Bool, true, false, ◌&&◌, List, [], ◌∷◌, ◌++◌, codes, length, slice_index, Option}
 use Rattle.std.specs.Fmt.{decimal}
 use Rattle.plain_store.specs.{Setup}
 use Rattle.calls.specs.scenario.{Line, Script, line_words, spaced}

@@ -1,5 +1,5 @@
 -- What an observer of a record stores of its entries.
-use Rattle.std.specs.Prelude.{◌≡◌, ◌<◌, ◌≤◌, ℕ, List, [], ◌∷◌, ◌++◌, length, reverse, take, Option, None, Some, option_map}
+use Rattle.std.specs.Prelude.{◌≡◌, ◌<◌, ℕ, List, [], ◌∷◌, ◌++◌, length, reverse, Option, None, Some, option_map}
 use Rattle.plain_store.specs.{Reply, Setup}
 use Rattle.record.specs.{Access, Entry, Mark, Past, Taken, history, reply_taken}
 use Rattle.calls.specs.world.process.{process_after}
@@ -8,6 +8,7 @@ use Rattle.run_state.specs.Keeping.{TellsNumber}
 use Rattle.run_state.specs.Processes.{newest_line}
 use Rattle.run_state.specs.RecordStates.{good_ones, line_of_newest}
 use Rattle.run_state.specs.Snapshots.{HasHeard}
+use Rattle.run_state.specs.declared.record_observer.GoodEntries.{GoodEntries}
 use Rattle.run_state.specs.declared.record_observer.NewestEntry.{NewestEntry}
 use Rattle.run_state.specs.declared.record_observer.RecordObserver.{RecordObserver}
 
@@ -33,26 +34,20 @@ pub record IsNext (s : Setup) (past : Past) (e : Entry) (read : ℕ) : Type 0 wh
   pub unmarked : e.marks ≡ [] → (a : Access) × (e.access ≡ Some a) × TellsNumber s past e.process a read
 
 -- these entries, which are in the lines with these numbers, were observed
-pub record IsStored (o : RecordObserver) (s : Setup) (entries : List Entry) (numbers : List ℕ) : Type 0 where
-  pub snapshot : o.snapshot.setup ≡ s
-  pub heard : HasHeard o.snapshot (reverse entries)
-  pub newest : o.newest ≡ newest_stored (reverse numbers) (reverse entries)
-  pub taken : o.taken.items ≡ history s (reverse entries)
+pub record IsStored (g : GoodEntries) (s : Setup) (entries : List Entry) (numbers : List ℕ) : Type 0 where
+  pub snapshot : g.snapshot.setup ≡ s
+  pub heard : HasHeard g.snapshot (reverse entries)
+  pub newest : g.newest ≡ newest_stored (reverse numbers) (reverse entries)
+  pub taken : g.taken.items ≡ history s (reverse entries)
 
 -- One more entry, which is in line n, was stored: `read` was read before it, and with it its process takes this command.
-abbrev pub StoresNext : RecordObserver → RecordObserver → ℕ → Entry → ℕ → Option Taken → Type 0
+abbrev pub StoresNext : GoodEntries → GoodEntries → ℕ → Entry → ℕ → Option Taken → Type 0
 StoresNext old new n e read taken = (s : Setup) (entries : List Entry) (numbers : List ℕ) → IsNext s (reverse entries) e read →
     taken ≡ taken_with s (reverse entries) e.process e.marks → IsStored old s entries numbers → IsStored new s (entries ++ e ∷ []) (numbers ++ n ∷ [])
 
--- The first n of these entries were judged, and the good ones of them were observed.
-pub record HasObserved (n : ℕ) (o : RecordObserver) (s : Setup) (entries : List Entry) (numbers : List ℕ) : Type 0 where
+-- These entries were judged, and the good ones of them were stored.
+pub record HasObserved (o : RecordObserver) (s : Setup) (entries : List Entry) (numbers : List ℕ) : Type 0 where
   pub setup : o.setup ≡ s
   pub counted : length numbers ≡ length entries
-  pub judged : HasJudged o.judge s (take n entries)
-  pub stores : IsStored o s (good_ones o.judge.verdict (take n entries)) (good_ones o.judge.verdict (take n numbers))
-
--- the parts of an observer are of one setup, and it observes no more entries than it judges
-pub record Fits (o : RecordObserver) : Type 0 where
-  pub core : o.judge.auditor.core.setup ≡ o.setup
-  pub snapshot : o.snapshot.setup ≡ o.setup
-  pub few : o.snapshot.entries ≤ o.judge.entries
+  pub judged : HasJudged o.judge s entries
+  pub stores : IsStored o.good s (good_ones o.judge.verdict entries) (good_ones o.judge.verdict numbers)

@@ -19,6 +19,7 @@ mod next_lines;
 mod observer;
 mod process_lines;
 mod record_observer;
+mod record_observing;
 mod record_stating;
 mod register_lines;
 mod register_text;

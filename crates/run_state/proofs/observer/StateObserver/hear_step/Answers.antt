@@ -1,4 +1,4 @@
-use Rattle.std.proofs.Common.{◌<◌, [], Option, Some, ℕ, ap, arith, refl, sym, subst, ◌∙◌}
+use Rattle.std.proofs.Common.{◌<◌, Option, Some, ℕ, ap, arith, refl, sym, subst, ◌∙◌}
 use Rattle.std.specs.Option.{unwrap_or}
 use Rattle.plain_store.specs.{Setup}
 use Rattle.record.specs.{Entry, Past}

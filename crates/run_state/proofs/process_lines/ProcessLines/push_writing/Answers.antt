@@ -2,7 +2,7 @@ use Rattle.std.proofs.Common.{◌≡◌, ◌++◌, ◌≤◌, ap, ◌∙◌, ari
 use Rattle.std.specs.Prelude.{List, ℕ, slice_index_or, false, ◌<◌, length}
 use Rattle.record.specs.safe_number.{bit_in}
 use Rattle.calls.proofs.world_proofs.process_proofs.registers_proofs.MadeBytes.{register-bits}
-use Rattle.run_state.specs.{process_line, shown, writes_words}
+use Rattle.run_state.specs.{process_line, shown}
 use Rattle.run_state.proofs.Stand.{ok_then}
 use Rattle.run_state.proofs.Written.{width-most}
 use Rattle.run_state.proofs.process_lines.ProcessLines.push_writing.Goals as goal

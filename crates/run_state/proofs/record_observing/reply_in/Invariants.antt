@@ -1,6 +1,6 @@
 use Rattle.std.proofs.Common.{◌≡◌, drop}
 use Rattle.record.specs.{reply_taken}
-use Rattle.run_state.proofs.record_observer.reply_in.Given as goal
+use Rattle.run_state.proofs.record_observing.reply_in.Given as goal
 
 -- no mark so far takes a command
 abbrev pub invariant-loop-mark : goal.invariant-loop-mark

@@ -3,8 +3,8 @@ use Rattle.record.specs.{Entry}
 use Rattle.judge.specs.read_law.{entry_by}
 use Rattle.run_state.specs.{HasHeard, IsNext}
 use Rattle.run_state.proofs.Observed.{empty_is, marked_if_still, some_is, tells_read}
-use Rattle.run_state.proofs.record_observer.add_entry.Goals as goal
-use Rattle.run_state.proofs.record_observer.add_entry.Goals.{in_default-via-in-Some+else-is_empty, in_default-via-in_default}
+use Rattle.run_state.proofs.record_observing.add_entry.Goals as goal
+use Rattle.run_state.proofs.record_observing.add_entry.Goals.{in_default-via-in-Some+else-is_empty, in_default-via-in_default}
 
 pub returns-in-Some-clause-heard : goal.returns-in-Some-clause-heard
 returns-in-Some-clause-heard c = λ past next heard.
