@@ -1,8 +1,8 @@
 -- The lines after a verdict, as entries are observed.
-use Rattle.std.proofs.Common.{◌≡◌, ℕ, zero, suc, ◌==◌, Bool, true, false, ◌&&◌, List, [], ◌∷◌, ◌++◌, length, reverse, Option, None, Some, Result, Ok, Err, OnOk, slice_get, refl, ap, sym, subst, ◌∙◌, true≢false, append-nil, arith}
+use Rattle.std.proofs.Common.{◌≡◌, ℕ, zero, suc, Bool, true, false, ◌&&◌, List, [], ◌∷◌, ◌++◌, length, reverse, Option, None, Some, Result, Ok, Err, OnOk, slice_get, refl, ap, sym, subst, ◌∙◌, true≢false, append-nil, arith}
 use Rattle.std.proofs.lemmas.List.{length-append, length-reverse, reverse-append}
 use Rattle.trace.specs.{TraceEntry, TracePast, TraceSetup}
-use Rattle.trace_judge.specs.{AreReasons, AreReasonsAt, AreReasonsOf, HasJudged, TraceLaw, TraceReasons, TraceVerdict, first_broken, verdict_of, verdict_with}
+use Rattle.trace_judge.specs.{AreReasons, AreReasonsOf, HasJudged, TraceLaw, TraceReasons, TraceVerdict, first_broken, verdict_of, verdict_with}
 use Rattle.trace_judge.specs.declared.verdicts.TraceVerdict.TheVariants.{Good, Bad}
 use Rattle.trace_judge.proofs.OneMore.{newest_first, verdict_bad, verdict_good}
 use Rattle.trace_judge.proofs.Sound.{means-sound}

@@ -1,5 +1,5 @@
 -- What a line of a trace file leaves of what was read before it.
-use Rattle.std.proofs.Common.{◌≡◌, ℕ, ◌==◌, ◌<◌, ◌≤◌, ◌||◌, ◌&&◌, not, nat_lt, Bool, true, false, if◌then◌else◌, List, [], ◌∷◌, ◌++◌, length, codes, Option, Some, None, Result, Ok, Err, ◌⊎◌, inl, inr, refl, ap, sym, subst, ◌∙◌, arith, true≢false}
+use Rattle.std.proofs.Common.{◌≡◌, ℕ, ◌==◌, ◌<◌, ◌≤◌, ◌||◌, ◌&&◌, not, nat_lt, Bool, true, false, if◌then◌else◌, List, [], ◌∷◌, ◌++◌, length, codes, Option, Some, None, Result, Ok, Err, ◌⊎◌, inl, inr, refl, ap, sym, ◌∙◌, arith, true≢false}
 use Rattle.std.proofs.lemmas.Bool.{or_left, or_right}
 use Rattle.std.proofs.lemmas.Bool.Decides.{nat_tests}
 use Rattle.std.specs.Int.{is_in_range}
@@ -9,7 +9,7 @@ use Rattle.files.specs.{FaultKind, begins_with, counted, fault_if, known, statem
 use Rattle.files.specs.declared.faults.FaultKind.TheVariants.{BadSetup, NotFirst, TooLong, Words}
 use Rattle.files.proofs.Passing.{no_fault, passed}
 use Rattle.trace_file.specs.scenario.{number_at}
-use Rattle.trace.specs.{TraceEntry, TraceMemory, TraceRegister, TraceSetup}
+use Rattle.trace.specs.{TraceEntry, TraceMemory, TraceRegister}
 use Rattle.trace_file.specs.Keywords.{memory_of}
 use Rattle.trace_file.specs.Reading.{entry_of, key_at}
 use Rattle.trace_file.specs.TraceFiles.{TraceProgress, cell_name_of, cleared, declared_read, entry_in, entry_read, first_read, is_declared, kind_of, later_read, line_read, line_said, may_declare, memory_read, number_in, opening_of, processes_read, register_read, trace_begun, trace_grammar}

@@ -1,13 +1,13 @@
 -- What a line of a trace file leaves of what was observed before it.
-use Rattle.std.proofs.Common.{◌≡◌, ℕ, ◌≤◌, Bool, true, List, [], ◌∷◌, ◌++◌, length, IsSome, Option, Some, None, Ok, inl, inr, refl, ap, sym, subst, ◌∙◌, append-nil}
+use Rattle.std.proofs.Common.{◌≡◌, ℕ, ◌≤◌, Bool, List, [], ◌∷◌, ◌++◌, length, IsSome, Option, Some, None, Ok, inl, inr, ap, sym, subst, ◌∙◌, append-nil}
 use Rattle.std.specs.Option.{option_to_list}
 use Rattle.files.specs.{FaultKind, UnlessMemory, words_of, words_read}
 use Rattle.files.specs.declared.faults.FaultKind.TheVariants.{Memory}
 use Rattle.trace.specs.{TraceEntry, TraceSetup}
-use Rattle.trace_file.specs.TraceFiles.{TraceProgress, cleared, entry_in, line_read, number_in, trace_grammar}
+use Rattle.trace_file.specs.TraceFiles.{TraceProgress, cleared, entry_in, number_in, trace_grammar}
 use Rattle.trace_engine.specs.Reports.{HasReported, ReporterState}
 use Rattle.trace_engine.specs.Trials.{GoesOn, Observes, ObservesAt, IsReadUpTo}
-use Rattle.trace_engine.proofs.LineReads.{LeftEntry, LeftQuiet, clear_twice, empty, first_left, later_left, number_of_none, number_of_some, short_read}
+use Rattle.trace_engine.proofs.LineReads.{clear_twice, empty, first_left, later_left, number_of_none, number_of_some, short_read}
 
 -- what follows from a fact that is known unless memory ran out
 pub unless_then : (kind : FaultKind) {P Q : Type 0} → (P → Q) → UnlessMemory kind P → UnlessMemory kind Q

@@ -101,10 +101,28 @@ fn observe(
         Observes why reporter.new setup.now (entries ++ entry.now ∷ []) (numbers ++ number ∷ [])) }
 {
     if reporter.is_none() {
-        *reporter = Some(TraceReporter::new(alloc, setup, why)?);
+        begin(alloc, why, setup, reporter)?;
     }
     if let Some(reporter) = reporter {
         reporter.take(alloc, setup, number, entry)?;
     }
+    Ok(())
+}
+
+/// Creates the judge. It is never inlined, because the room in which a judge is made would otherwise be cleared before each
+/// entry.
+#[inline(never)]
+fn begin(
+    alloc: Global,
+    why: bool,
+    setup: &TraceSetup,
+    reporter: &mut Option<TraceReporter>,
+) -> Result<(), AllocError>
+    requires good { is_trace_setup setup.now ≡ true }
+    ensures some { OnOk result (IsSome reporter.new) }
+    ensures none { OnOk result (count_in reporter.new ≡ 0) }
+    ensures observed { OnOk result (Observes why reporter.new setup.now [] []) }
+{
+    *reporter = Some(TraceReporter::new(alloc, setup, why)?);
     Ok(())
 }
