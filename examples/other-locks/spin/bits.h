@@ -1,8 +1,8 @@
-/* Safe bits of two processes, each with one writer and one reader, for the models beside this file.
+/* Safe bits of two processes, each with one writer and one reader, for the models in this folder.
 
-   An access is two steps, its begin and its end. Each step is atomic, is one entry of a record, and prints it; what else happens at
-   it stands in its last word, and a mark prints a line that begins with a colon. A read that a write overlaps may end with either
-   value. A run ends where it breaks a law: with -DLAW=together or -DLAW=overtaken that law is looked for, else any of them. */
+   An access is two steps, its begin and its end. Each step is atomic and prints its entry of a trace. The last argument of a step is
+   what else happens at it; a mark prints a line that begins with a colon. A read that a write overlaps may end with either value.
+   A run ends at the first entry that breaks a law. With -DLAW=together or -DLAW=overtaken only that law counts. */
 
 #ifndef CALLS
 #define CALLS 2
@@ -11,46 +11,44 @@
 #define HE (1 - _pid)
 #define CELL(owner, at) ((owner) * BITS + (at))
 
-mtype = { choosing, ticket, commit, together, overtaken };
+mtype = { choosing, ticket0, ticket1, flag, turn, together, overtaken };
 
 bit value[2 * BITS];      /* what was written last, or is being written */
 bit written[2 * BITS];    /* a write is open */
 bit being_read[2 * BITS]; /* a read is open */
 bit overlapped[2 * BITS]; /* and a write has overlapped it */
-byte taken;               /* how many commands were taken */
 byte inside;              /* how many processes are inside */
 bit waiting[2];           /* the doorway is over, and the process not yet inside */
 bit is_behind[2];         /* the other one waited as this one's doorway began */
 mtype broken;             /* the law that was broken */
 
-/* A write of x to bit `at` of this model, which is bit k of a field. */
-#define WRITE(at, field, k, x, FIRST, LAST) \
-  atomic { !broken -> printf("%d %d.%e.%d.%d write %d\n", ME, ME, field, k, HE, x); \
+/* A write of x to bit `at` of this model, whose register has this name. */
+#define WRITE(at, name, x, FIRST, LAST) \
+  atomic { !broken -> printf("%d %e[%d] write %d\n", ME, name, ME, x); \
            value[CELL(ME, at)] = x; written[CELL(ME, at)] = 1; \
            overlapped[CELL(ME, at)] = being_read[CELL(ME, at)]; FIRST }; \
-  atomic { !broken -> printf("%d %d.%e.%d.%d end\n", ME, ME, field, k, HE); \
+  atomic { !broken -> printf("%d %e[%d] end\n", ME, name, ME); \
            written[CELL(ME, at)] = 0; LAST }
 
 /* A read of the other's bit: its begin, and its end with x. */
-#define BEGIN(at, field, k, FIRST) \
-  atomic { !broken -> printf("%d %d.%e.%d.%d read\n", ME, HE, field, k, ME); \
+#define BEGIN(at, name, FIRST) \
+  atomic { !broken -> printf("%d %e[%d] read\n", ME, name, HE); \
            being_read[CELL(HE, at)] = 1; overlapped[CELL(HE, at)] = written[CELL(HE, at)]; FIRST }
-#define GIVES(at, field, k, x, LAST) \
+#define GIVES(at, name, x, LAST) \
   atomic { !broken && (overlapped[CELL(HE, at)] || value[CELL(HE, at)] == x) -> \
-           printf("%d %d.%e.%d.%d value %d\n", ME, HE, field, k, ME, x); \
+           printf("%d %e[%d] value %d\n", ME, name, HE, x); \
            being_read[CELL(HE, at)] = 0; overlapped[CELL(HE, at)] = 0; LAST }
-#define READ(at, field, k, FIRST, ZERO, ONE) \
-  BEGIN(at, field, k, FIRST); \
+#define READ(at, name, FIRST, ZERO, ONE) \
+  BEGIN(at, name, FIRST); \
   if \
-  :: GIVES(at, field, k, 0, ZERO) \
-  :: GIVES(at, field, k, 1, ONE) \
+  :: GIVES(at, name, 0, ZERO) \
+  :: GIVES(at, name, 1, ONE) \
   fi
 
-#define CALL atomic { !broken && calls < CALLS -> printf("%d : call read a\n", ME); calls++ }
-#define TAKE atomic { !broken -> printf("%d : taken %d no-name\n", ME, taken); taken++ }
+#define CALL atomic { !broken && calls < CALLS -> printf("%d : call\n", ME); calls++ }
 
 inline begins() { is_behind[ME] = waiting[HE] }
-inline waits(number) { printf(": wait %d\n", number); waiting[ME] = 1 }
+inline waits() { printf(": wait\n"); waiting[ME] = 1 }
 inline enters() {
   printf(": enter\n");
   if
@@ -66,5 +64,4 @@ inline enters() {
 #endif
 }
 inline leaves() { printf(": leave\n"); inside-- }
-inline gives_up() { printf(": answer tickets-full %d\n", HE); is_behind[ME] = 0 }
-inline answers() { printf(": answer no-name\n"); is_behind[ME] = 0 }
+inline answers() { printf(": answer\n"); is_behind[ME] = 0 }

@@ -10,16 +10,15 @@ active [2] proctype process() {
   bit own;
   do
   :: CALL;
-     WRITE(FLAG, choosing, 0, 1, begins(), skip);
-     READ(TURN, commit, 0, skip, own = ME, own = 1 - ME);
-     WRITE(TURN, commit, 0, own, skip, waits(0));
+     WRITE(FLAG, flag, 1, begins(), skip);
+     READ(TURN, turn, skip, own = ME, own = 1 - ME);
+     WRITE(TURN, turn, own, skip, waits());
 look:
-     READ(FLAG, choosing, 0, skip, enters(); goto section, skip);
+     READ(FLAG, flag, skip, enters(); goto section, skip);
      /* 0 goes in while the turns differ, 1 while they are alike */
-     READ(TURN, commit, 0, skip, if :: own != ME -> enters() :: else -> goto look fi, if :: own == ME -> enters() :: else -> goto look fi);
+     READ(TURN, turn, skip, if :: own != ME -> enters() :: else -> goto look fi, if :: own == ME -> enters() :: else -> goto look fi);
 section:
-     TAKE;
-     WRITE(FLAG, choosing, 0, 0, leaves(), answers())
+     WRITE(FLAG, flag, 0, leaves(), answers())
   :: calls == CALLS -> break
   od
 }

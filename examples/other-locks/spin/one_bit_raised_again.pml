@@ -1,10 +1,10 @@
-/* The one-bit lock (Burns and Lynch; Lamport 1986) for two processes, which raises its flag, that is up, once more before it goes
-   in. With -DONCE it does not: the lock as it was published. */
+/* The one-bit lock (Burns and Lynch 1993; Lamport 1986b) for two processes. This form writes its raised flag once more before it
+   enters. With -DONCE it does not: that is the published lock. */
 #define BITS 1
 #include "bits.h"
 #define FLAG 0
-#define RAISE(FIRST, LAST) WRITE(FLAG, choosing, 0, 1, FIRST, LAST)
-#define LOWER(FIRST, LAST) WRITE(FLAG, choosing, 0, 0, FIRST, LAST)
+#define RAISE(FIRST, LAST) WRITE(FLAG, flag, 1, FIRST, LAST)
+#define LOWER(FIRST, LAST) WRITE(FLAG, flag, 0, FIRST, LAST)
 #ifdef ONCE
 #define GOES_IN enters()
 #define AGAIN
@@ -17,11 +17,10 @@ active proctype process0() {
   byte calls;
   do
   :: CALL;
-     RAISE(begins(), waits(0));
+     RAISE(begins(), waits());
 look:
-     READ(FLAG, choosing, 0, skip, GOES_IN, goto look);
+     READ(FLAG, flag, skip, GOES_IN, goto look);
      AGAIN
-     TAKE;
      LOWER(leaves(), answers())
   :: calls == CALLS -> break
   od
@@ -32,17 +31,16 @@ active proctype process1() {
   byte calls;
   do
   :: CALL;
-     RAISE(begins(), waits(0));
+     RAISE(begins(), waits());
 look:
-     READ(FLAG, choosing, 0, skip, GOES_IN; goto through, skip);
+     READ(FLAG, flag, skip, GOES_IN; goto through, skip);
      LOWER(skip, skip);
 gives_way:
-     READ(FLAG, choosing, 0, skip, skip, goto gives_way);
+     READ(FLAG, flag, skip, skip, goto gives_way);
      RAISE(skip, skip);
      goto look;
 through:
      AGAIN
-     TAKE;
      LOWER(leaves(), answers())
   :: calls == CALLS -> break
   od
