@@ -189,7 +189,7 @@ def try_atlas(counter):
 def try_examples(counter):
     """The examples of traces by their second reading."""
     content = lambda path, default: path.read_bytes() if path.exists() else default
-    folders = sorted(path for path in TRACES.iterdir() if path.is_dir())
+    folders = sorted(path.parent for path in TRACES.glob("*/trace"))
     counter.count(folders, "there are no examples of traces")
     for folder in folders:
         for name, why in [("judge", False), ("judge-why", True)]:

@@ -1,6 +1,6 @@
 #!/usr/bin/env python3
-"""Follows the README, that of examples/, the pages of lessons/, and those of docs/ that show commands: runs each command, and
-compares what it prints byte for byte. And the README is short enough to be read.
+"""Follows the README, that of examples/, the page on logs, the pages of lessons/, and those of docs/ that show commands: runs each
+command, and compares what it prints byte for byte. And the README is short enough to be read.
 
 A command stands behind `$ ` in a block of `console`, and what it prints, on both streams, on the lines below it. `bakerystore`
 is the proved program that `rt ci` or `rt run` leaves. A command by which rt or `./run` runs it, as `rt try -- WORDS`, is followed by
@@ -22,7 +22,7 @@ PAGES = [
     TOP / name
     for name in (
         *("README.md", "examples/README.md", "lessons/HOUR.md", "lessons/ANSWERS.md"),
-        *("docs/GUIDE.md", "docs/JUDGE_YOUR_LOCK.md", "docs/RECORDS.md", "docs/FORMATS.md", "docs/FAULTS.md"),
+        *("docs/GUIDE.md", "docs/JUDGE_YOUR_LOCK.md", "docs/RECORDS.md", "docs/FORMATS.md", "docs/FAULTS.md", "examples/traces/LOGS.md"),
     )
 ] + sorted(TOP.glob("lessons/[0-9]*.md"))
 # the most words of the README
