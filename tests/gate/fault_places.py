@@ -4,10 +4,17 @@
 Each folder examples/inspect/fault* has the words of a run (`args`, made in the folder), the file that they name, and what is
 written: `stdout`, `stderr`, `status`. The file examples/inspect/faults has a block for each fault: the kind of file and its
 text, and then what stands on standard error with `--explain`. Without it, and without a terminal, only the first line does.
-The program is the one that `rt run` leaves in crates/bakerystore.
+
+The positions of faults in traces are found a second time, by `second/trace_places.py`: for each block with a trace, for the
+faulty traces of examples/traces/, and for 1,000 of those that `lib/random_traces.py` spoils. Most of these have a fault, and each
+kind of fault must occur among them.
+
+tests/gate/fault_places.py [NUMBER]: the first of the traces that are made up, by default 1. The program is the one that `rt run`
+leaves in crates/bakerystore.
 """
 
 import ast
+import collections
 import contextlib
 import os
 import pathlib
@@ -21,12 +28,19 @@ sys.path.insert(0, str(pathlib.Path(__file__).resolve().parents[1]))
 
 from lib.counting import Counter
 from lib.places import PROGRAM, TOP
+from lib.random_traces import trace
+from lib.running import runner, workers
+from second.scenario_files import is_skipped, lines_of, words_of
+from second.trace_places import explained
 
-INSPECT = TOP / "examples" / "inspect"
+INSPECT, TRACES = TOP / "examples" / "inspect", TOP / "examples" / "traces"
+MANY, CHUNK = 1_000, 50
+TRACE_KINDS = ["too-long", "not-first", "unknown", "words", "number", "bad-name", "bad-setup"]
 COMMANDS = {
     "scenario": ["plain", "replay", "audit", "sweep", "race", "record", "state --at end", "calls", "draw", "draw-svg"],
     "bits": ["bits"],
     "record": ["judge"],
+    "trace": ["judge"],
 }
 
 
@@ -85,6 +99,49 @@ def try_block(counter, kind, text, told):
         counter.compare(f"{name}, explained", ran([*command.split(), "--explain", "-"], text), (b"", told, 1))
         counter.compare(f"{name}, not explained", ran([*command.split(), "-"], text), (b"", first, 1))
     counter.compare(f"{name}, at a terminal", at_a_terminal([*command.split(), "-"], text), (b"", told, 1))
+    if kind == "trace":
+        counter.compare(f"{text[:60]}, by the second reading", explained(text), told)
+
+
+def is_trace(text):
+    """Whether the first line that is not skipped begins with `trace`, so that `judge` reads the text as a trace."""
+    said = (words for line in lines_of(text) if not is_skipped(words := words_of(line)))
+    return next(said, [b""])[0] == b"trace"
+
+
+def explained_by_program(text):
+    return runner().run(["judge", "--explain", "-"], text).errors or None
+
+
+def try_kept_traces(counter):
+    """The faulty traces of examples/traces/."""
+    for file in sorted(TRACES.glob("fault*/trace")):
+        if is_trace(text := file.read_bytes()):
+            counter.compare(f"{file.parent.name}, a second time", explained_by_program(text), explained(text))
+
+
+def compare_numbers(numbers):
+    """The kinds of faults of the spoiled traces of these numbers, and where the program tells another position than the second reading."""
+    found, wrong = collections.Counter(), []
+    for number in numbers:
+        # (every third trace is spoiled)
+        if is_trace(text := trace(3 * number + 2)):
+            told, again = explained_by_program(text), explained(text)
+            found.update([again.split()[2].decode()] if again else [])
+            wrong += [] if told == again else [f"trace {number}: {told}, and the second reading has {again}"]
+    return found, wrong
+
+
+def try_made_up_traces(counter, first):
+    found = collections.Counter()
+    with workers() as pool:
+        for more, wrong in pool.imap(compare_numbers, (range(at, at + CHUNK) for at in range(first, first + MANY, CHUNK))):
+            found += more
+            counter.add(CHUNK - len(wrong), 0)
+            for why in wrong:
+                counter.count(False, why)
+    for kind in TRACE_KINDS:
+        counter.count(found[kind], f"no trace that is made up has this fault: {kind}")
 
 
 def without_words(counter):
@@ -106,15 +163,18 @@ def without_words(counter):
 
 
 def main():
-    counter = Counter()
+    counter, first = Counter(), int(sys.argv[1]) if len(sys.argv) > 1 else 1
     folders = sorted(path for path in INSPECT.glob("fault*") if path.is_dir())
     counter.count(folders, "there are folders")
     for folder in folders:
         try_folder(counter, folder)
     for kind, text, told in blocks():
         try_block(counter, kind, text, told)
+    try_kept_traces(counter)
+    try_made_up_traces(counter, first)
     without_words(counter)
     counter.end()
 
 
-main()
+if __name__ == "__main__":
+    main()

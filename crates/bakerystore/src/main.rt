@@ -204,7 +204,7 @@ fn run_between<
     let has_place = !terminals.output || wanted.engine == Engine::Sweep;
     let shows = terminals.error && has_place && !wanted.quiet;
     let from_input = wanted.is_streamed || wanted.is_record;
-    let explains = (terminals.error || wanted.explain) && !wanted.is_trace;
+    let explains = terminals.error || wanted.explain;
     let watched = WatchedInput::new(source, rt, shows && from_input);
     let mut input = KeptInput::new(rt.alloc(), watched, explains);
     let mut watcher = Watcher::new(rt, shows && !from_input);
@@ -251,6 +251,7 @@ fn told_with_place<T: Eprint + AllocGlobal>(
 fn file_kind(wanted: Wanted) -> FileKind {
     match wanted.engine {
         Engine::Bits => FileKind::Bits,
+        Engine::Judge if wanted.is_trace => FileKind::Trace,
         Engine::Judge => FileKind::Record,
         _ if wanted.is_record => FileKind::Record,
         _ => FileKind::Scenario,

@@ -4,14 +4,19 @@ use crate::kinds::FileKind;
 use crate::near::add_near;
 use scenario::forms::{Letter, Operand};
 use std::alloc::{AllocError, Global};
+use trace::TraceMemory;
+use trace_file::forms::TraceOperand;
+use trace_file::most_bits;
 
 /// Adds that one of these key words was expected, or another one of this text.
 pub(crate) fn add_keys(
-    keys: &[&'static str],
+    keys: &[&str],
     other: &'static str,
     text: &mut String,
 ) -> Result<(), AllocError> {
-    text.push_str("one of ")?;
+    if keys.len() > 1 {
+        text.push_str("one of ")?;
+    }
     add_between(keys, ", ", text)?;
     text.push_str(other)
 }
@@ -29,16 +34,13 @@ pub(crate) fn add_meant(
             let first = kind.word();
             write!(text, "; {key} stands behind {first} 2 alone")
         }
-        None => add_near(alloc, word, form.keys.as_slice(), text),
+        None if form.keys.len() > 1 => add_near(alloc, word, form.keys.as_slice(), text),
+        None => Ok(()),
     }
 }
 
 /// Adds words, with this between them.
-fn add_between(
-    words: &[&'static str],
-    between: &'static str,
-    text: &mut String,
-) -> Result<(), AllocError> {
+fn add_between(words: &[&str], between: &'static str, text: &mut String) -> Result<(), AllocError> {
     let mut front = "";
     for word in words {
         add_two(front, word, text)?;
@@ -63,6 +65,8 @@ pub(crate) fn add_form(form: &LineForm, text: &mut String) -> Result<(), AllocEr
             Item::Choice => add_between(form.keys.as_slice(), "|", text)?,
             Item::Operand(operand) => text.push_str(letters(operand))?,
             Item::Bit => text.push_str("bit")?,
+            Item::Cell => text.push_str("cell")?,
+            Item::OfTrace(operand) => text.push_str(trace_letters(operand))?,
         }
     }
     Ok(())
@@ -82,6 +86,49 @@ fn letters(operand: Operand) -> &'static str {
         Operand::Bit => "0|1",
         Operand::Name => "NAME",
         Operand::Value => "VALUE",
+    }
+}
+
+/// Returns an operand of a trace as a form shows it.
+fn trace_letters(operand: TraceOperand) -> &'static str {
+    match operand {
+        TraceOperand::Process => "process",
+        TraceOperand::Count => "n",
+        TraceOperand::Name => "NAME",
+        TraceOperand::Width => "width",
+        TraceOperand::Value => "v",
+        TraceOperand::Gives => "gives",
+    }
+}
+
+/// Adds that such an operand of a trace was expected, in a trace with this memory.
+pub(crate) fn add_trace_operand(
+    operand: TraceOperand,
+    memory: TraceMemory,
+    text: &mut String,
+) -> Result<(), AllocError> {
+    match operand {
+        TraceOperand::Process => add_number(0, 255, text),
+        TraceOperand::Count => add_number(1, 16, text),
+        TraceOperand::Name => text.push_str(
+            "a name of 1 to 8 of a to z, 0 to 9, _, the first not a digit",
+        ),
+        TraceOperand::Width => {
+            add_number(1, u64::from(most_bits(memory)), text)?;
+            let memory = memory_word(memory);
+            write!(text, ", in {memory} memory")
+        }
+        TraceOperand::Value => add_number(0, 4_294_967_295, text),
+        TraceOperand::Gives => text.push_str("gives"),
+    }
+}
+
+/// Returns the word of a memory.
+fn memory_word(memory: TraceMemory) -> &'static str {
+    match memory {
+        TraceMemory::Safe => "safe",
+        TraceMemory::Regular => "regular",
+        TraceMemory::Atomic => "atomic",
     }
 }
 
@@ -111,7 +158,7 @@ pub(crate) fn add_operand(
 }
 
 /// Adds that a number in this range was expected.
-fn add_number(least: u8, most: u64, text: &mut String) -> Result<(), AllocError> {
+pub(crate) fn add_number(least: u8, most: u64, text: &mut String) -> Result<(), AllocError> {
     write!(
         text,
         "a number from {least} to {most} without leading zeros"

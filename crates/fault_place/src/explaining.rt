@@ -1,8 +1,9 @@
 //! What is told of the place of a fault.
 use crate::kept::KeptFile;
 use crate::kinds::FileKind;
-use crate::lines::SplitLine;
+use crate::lines::{Span, SplitLine};
 use crate::places::Faulty;
+use crate::traces::FaultyTrace;
 use bstr::ByteSlice;
 use files::{FaultKind, FromLines, LineFault, read_any_line};
 use plain_store::{NestedTypes, Setup};
@@ -10,6 +11,7 @@ use record_file::RecordReader;
 use scenario::Reader;
 use scenario::bit_files::BitsReader;
 use std::alloc::{AllocError, Global};
+use trace_file::TraceReader;
 
 /// The lines that explain a fault of a file of this kind, of which this was kept: the line, carets under the word, and what
 /// was expected; the last alone where there is no such line. Nothing is told of a want of memory, nor where memory was
@@ -48,22 +50,28 @@ fn add_explanation(
     };
     let line = SplitLine::new(alloc, bytes)?;
     let mut what = String::new(alloc);
-    add_place(&faulty, &line, fault.line, &mut what, text)
+    let mut read: Option<TraceReader> = None;
+    if let FileKind::Trace = kind {
+        read_before(alloc, kept.front(), fault.line, &mut read)?;
+    }
+    let place = match &read {
+        Some(read) => FaultyTrace { faulty, read }.place(&line, fault.line, &mut what)?,
+        None => faulty.place(&line, fault.line, &mut what)?,
+    };
+    match place {
+        Some(span) => add_place(&line, span, what.as_str(), text),
+        None => Ok(()),
+    }
 }
 
-/// Adds the line of this number, carets, and what was expected in it, which comes together in `what`.
+/// Adds a line, carets under some of its bytes, and what was expected there.
 fn add_place(
-    faulty: &Faulty,
     line: &SplitLine<'_>,
-    number: u64,
-    what: &mut String,
+    span: Span,
+    what: &str,
     text: &mut String,
 ) -> Result<(), AllocError> {
-    let Some(span) = faulty.place(line, number, what)? else {
-        return Ok(());
-    };
     line.show(span, text)?;
-    let what = what.as_str();
     write!(text, "expected {what}\n")
 }
 
@@ -78,6 +86,7 @@ fn setup_before(
         FileKind::Scenario => scenario_setup(alloc, front, number),
         FileKind::Record => record_setup(alloc, front, number),
         FileKind::Bits => bits_setup(alloc, front, number),
+        FileKind::Trace => Ok(None),
     }
 }
 

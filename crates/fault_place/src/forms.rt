@@ -2,11 +2,15 @@
 ghost use Rattle.std.specs.Prelude.{◌≡◌, [], IfSome, Some, slice_get, slice_index_or};
 ghost use Rattle.files.specs.{texts};
 ghost use Rattle.scenario.specs.Forms.{fault_at};
+ghost use Rattle.trace_file.specs.Forms.{fault_at as trace_fault_at};
 
 use files::FaultKind;
 use record_file::forms::{MARKS, MOVES, PROCESS_OF_ENTRY};
 use scenario::forms::{BIT_LINES, HEADS, Operand, Pattern, Phrase, STATEMENTS, has_word};
 use std::alloc::{AllocError, Global};
+use trace_file::forms::{
+    CELL_MOVES, MARK_FORMS, TRACE_HEADS, TraceOperand, TracePattern, TracePhrase,
+};
 
 /// What stands at a place of a form.
 #[derive(Clone, Copy)]
@@ -19,6 +23,10 @@ pub(crate) enum Item {
     Operand(Operand),
     /// The bit of an entry.
     Bit,
+    /// The cell of an entry of a trace.
+    Cell,
+    /// An operand of a trace.
+    OfTrace(TraceOperand),
 }
 
 /// A form: its last item is a choice where the line has no such key word, and nothing is known of what is behind it.
@@ -84,6 +92,31 @@ pub(crate) fn access_form(alloc: Global, words: &[&[u8]]) -> Result<LineForm, Al
 pub(crate) fn mark_form(alloc: Global, words: &[&[u8]]) -> Result<LineForm, AllocError> {
     let mut form = LineForm::new(alloc, 2);
     form.add_form(&[&MARKS], words)?;
+    Ok(form)
+}
+
+/// Returns the form of a heading or a register of a trace.
+pub(crate) fn trace_head_form(alloc: Global, words: &[&[u8]]) -> Result<LineForm, AllocError> {
+    let mut form = LineForm::new(alloc, 2);
+    form.add_trace_form(&TRACE_HEADS, words)?;
+    Ok(form)
+}
+
+/// Returns the form of the words of an entry of a trace before its marks.
+pub(crate) fn trace_access_form(alloc: Global, words: &[&[u8]]) -> Result<LineForm, AllocError> {
+    let mut form = LineForm::new(alloc, 2);
+    form.items.push(Item::OfTrace(TraceOperand::Process))?;
+    if words.len() >= 2 {
+        form.items.push(Item::Cell)?;
+        form.add_trace_phrase(&CELL_MOVES, words)?;
+    }
+    Ok(form)
+}
+
+/// Returns the form of a mark of a trace, by the words after its sign.
+pub(crate) fn trace_mark_form(alloc: Global, words: &[&[u8]]) -> Result<LineForm, AllocError> {
+    let mut form = LineForm::new(alloc, 2);
+    form.add_trace_phrase(&MARK_FORMS, words)?;
     Ok(form)
 }
 
@@ -172,6 +205,64 @@ impl LineForm {
         }
         Ok(())
     }
+
+    /// Adds the form in this table of a trace whose key word the line has at the next place, or a choice.
+    fn add_trace_form(
+        &mut self,
+        table: &[(&'static str, TracePattern)],
+        words: &[&[u8]],
+    ) -> Result<(), AllocError> {
+        let word = word_at(words, self.items.len());
+        for row in table {
+            let (key, pattern) = *row;
+            if self.add_key(key, word)? {
+                self.add_trace_operands(pattern.operands)?;
+                if pattern.may_end && words.len() <= self.items.len() {
+                    return Ok(());
+                }
+                return self.add_trace_ending(pattern.phrases, words);
+            }
+        }
+        self.items.push(Item::Choice)?;
+        Ok(())
+    }
+
+    /// Adds a phrase of this table, unless it has none.
+    fn add_trace_ending(
+        &mut self,
+        table: &[TracePhrase],
+        words: &[&[u8]],
+    ) -> Result<(), AllocError> {
+        if table.is_empty() {
+            return Ok(());
+        }
+        self.add_trace_phrase(table, words)
+    }
+
+    /// Adds the phrase in this table of a trace whose key word the line has at the next place, or a choice.
+    fn add_trace_phrase(
+        &mut self,
+        table: &[TracePhrase],
+        words: &[&[u8]],
+    ) -> Result<(), AllocError> {
+        let word = word_at(words, self.items.len());
+        for row in table {
+            let (key, operands) = *row;
+            if self.add_key(key, word)? {
+                return self.add_trace_operands(operands);
+            }
+        }
+        self.items.push(Item::Choice)?;
+        Ok(())
+    }
+
+    /// Adds operands of a trace, in their order.
+    fn add_trace_operands(&mut self, operands: &[TraceOperand]) -> Result<(), AllocError> {
+        for operand in operands {
+            self.items.push(Item::OfTrace(*operand))?;
+        }
+        Ok(())
+    }
 }
 
 /// Returns the first operand of a form that refuses the word at its place with this fault, in a file of this version.
@@ -187,6 +278,25 @@ pub(crate) fn refused_operand(
     for place in 0..form.len().min(words.len()) {
         if let Item::Operand(operand) = form[place] {
             if operand.fault(version, words[place]) == Some(fault) {
+                return Some((place, operand));
+            }
+        }
+    }
+    None
+}
+
+/// Returns the first operand of a form of a trace that refuses the word at its place with this fault.
+pub(crate) fn refused_trace_operand(
+    form: &[Item],
+    words: &[&[u8]],
+    fault: FaultKind,
+) -> Option<(usize, TraceOperand)>
+    ensures item { IfSome result (λ r. slice_get form.now r.0 ≡ Some (Item.OfTrace r.1)) }
+    ensures word { IfSome result (λ r. trace_fault_at r.1 (slice_index_or (texts words.now) r.0 []) ≡ Some fault) }
+{
+    for place in 0..form.len().min(words.len()) {
+        if let Item::OfTrace(operand) = form[place] {
+            if operand.fault(words[place]) == Some(fault) {
                 return Some((place, operand));
             }
         }

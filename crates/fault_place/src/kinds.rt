@@ -2,6 +2,7 @@
 use record_file::forms::RECORD;
 use scenario::forms::{BITS, SCENARIO};
 use std::alloc::AllocError;
+use trace_file::forms::TRACE;
 
 /// A kind of file.
 #[derive(Clone, Copy)]
@@ -12,6 +13,8 @@ pub enum FileKind {
     Bits,
     /// The entries of a run.
     Record,
+    /// The entries of a run of any lock.
+    Trace,
 }
 
 impl FileKind {
@@ -21,6 +24,7 @@ impl FileKind {
             FileKind::Scenario => SCENARIO,
             FileKind::Bits => BITS,
             FileKind::Record => RECORD,
+            FileKind::Trace => TRACE,
         }
     }
 
@@ -30,13 +34,14 @@ impl FileKind {
             FileKind::Scenario => "a scenario",
             FileKind::Bits => "a bits file",
             FileKind::Record => "a record",
+            FileKind::Trace => "a trace",
         }
     }
 
     /// Returns its newest version.
     fn newest(self) -> u8 {
         match self {
-            FileKind::Bits => 1,
+            FileKind::Bits | FileKind::Trace => 1,
             FileKind::Scenario | FileKind::Record => 2,
         }
     }
@@ -63,7 +68,12 @@ impl FileKind {
 
 /// Returns the name of a file that begins with this word.
 pub(crate) fn name_of_file(first: &[u8]) -> Option<&'static str> {
-    for kind in [FileKind::Scenario, FileKind::Bits, FileKind::Record] {
+    for kind in [
+        FileKind::Scenario,
+        FileKind::Bits,
+        FileKind::Record,
+        FileKind::Trace,
+    ] {
         if first == kind.word().as_bytes() {
             return Some(kind.name());
         }

@@ -2,6 +2,7 @@
 //! the words, numbers or forms that may stand in its place.
 #![tactic(auto)]
 
+mod cells;
 mod expected;
 mod explaining;
 mod forms;
@@ -9,7 +10,10 @@ mod kept;
 mod kinds;
 mod lines;
 mod near;
+mod parts;
 mod places;
+mod registers;
+mod traces;
 
 pub use explaining::explanation;
 pub use files::{progress, read_any_line, source_lines};

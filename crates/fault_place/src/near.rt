@@ -7,7 +7,7 @@ use strsim::osa_distance;
 pub(crate) fn add_near(
     alloc: Global,
     word: &[u8],
-    keys: &[&'static str],
+    keys: &[&str],
     text: &mut String,
 ) -> Result<(), AllocError> {
     let small = small_letters(alloc, word)?;
@@ -18,7 +18,7 @@ pub(crate) fn add_near(
 fn add_nearest(
     alloc: Global,
     word: &str,
-    keys: &[&'static str],
+    keys: &[&str],
     text: &mut String,
 ) -> Result<(), AllocError> {
     let least = least_errors(alloc, word, keys)?;
@@ -30,7 +30,7 @@ fn add_nearest(
 }
 
 /// How many typing errors lie between a word and the nearest key words.
-fn least_errors(alloc: Global, word: &str, keys: &[&'static str]) -> Result<usize, AllocError> {
+fn least_errors(alloc: Global, word: &str, keys: &[&str]) -> Result<usize, AllocError> {
     let mut least = usize::MAX;
     for key in keys {
         least = least.min(errors(alloc, word, key)?);
@@ -42,7 +42,7 @@ fn least_errors(alloc: Global, word: &str, keys: &[&'static str]) -> Result<usiz
 fn add_those_at(
     alloc: Global,
     word: &str,
-    keys: &[&'static str],
+    keys: &[&str],
     distance: usize,
     text: &mut String,
 ) -> Result<(), AllocError> {

@@ -1,60 +1,22 @@
 //! Where in a line a fault is, by its kind.
-use crate::expected::{add_form, add_keys, add_meant, add_operand, add_two};
+use crate::expected::{add_keys, add_meant, add_operand, add_two};
 use crate::forms::{
-    Item, LineForm, access_form, bits_form, head_form, line_form, mark_form, refused_operand,
-    word_at,
+    Item, access_form, bits_form, head_form, line_form, mark_form, refused_operand,
+    trace_head_form, word_at,
 };
 use crate::kinds::{FileKind, name_of_file};
 use crate::lines::{Span, SplitLine, dotted_part};
 use crate::near::add_near;
+use crate::parts::{EntryFault, Found, Part, found, found_by};
 use files::FaultKind;
 use plain_store::{OpenFault, Setup, Value};
+use record_file::LineKind;
 use record_file::forms::{COPY_NUMBERS, PROCESS_OF_ENTRY};
 use record_file::keywords::FIELDS;
-use record_file::{LineKind, is_sign};
 use scenario::forms::{HEADS, Operand};
 use scenario::keywords::Opener;
 use scenario::operands::name;
 use std::alloc::{AllocError, Global};
-
-/// Where in a line a fault is, if it is there.
-type Found = Result<Option<Span>, AllocError>;
-
-/// A place, of which this was expected.
-fn found(place: Span, expected: &str, what: &mut String) -> Found {
-    found_by(place, what.push_str(expected))
-}
-
-/// A place, of which was added what was expected.
-fn found_by(place: Span, added: Result<(), AllocError>) -> Found {
-    added?;
-    Ok(Some(place))
-}
-
-/// Words of a line that follow one another, and the form that they should have.
-#[derive(Clone, Copy)]
-struct Part<'l, 'w> {
-    line: &'l SplitLine<'w>,
-    /// How many words stand before them.
-    at: usize,
-    words: &'l [&'w [u8]],
-    form: &'l LineForm,
-}
-
-impl<'l, 'w> Part<'l, 'w> {
-    /// Where the word of this place stands.
-    fn word(&self, place: usize) -> Span {
-        self.line.word(self.at.saturating_add(place))
-    }
-
-    /// The word of its bit, where an entry has one.
-    fn bit(&self) -> Option<&'w [u8]> {
-        match self.form.items.get(1) {
-            Some(Item::Bit) => self.words.get(1).copied(),
-            _ => None,
-        }
-    }
-}
 
 /// A file that has a fault.
 #[derive(Clone, Copy)]
@@ -95,7 +57,9 @@ impl Faulty {
         let most = match self.kind {
             FileKind::Scenario | FileKind::Bits if number > 4096 => "at most 4096 lines",
             FileKind::Scenario => "at most 4000 lines behind headings and open lines",
-            FileKind::Bits | FileKind::Record => "at most 4000 lines behind the first",
+            FileKind::Bits | FileKind::Record | FileKind::Trace => {
+                "at most 4000 lines behind the first"
+            }
         };
         found(line.word(0), most, what)
     }
@@ -173,6 +137,7 @@ impl Faulty {
                 Some(LineKind::Entry) => return self.in_entry(line, what),
                 _ => head_form(self.alloc, self.version(), words)?,
             },
+            FileKind::Trace => trace_head_form(self.alloc, words)?,
         };
         self.in_part(
             &Part {
@@ -185,57 +150,11 @@ impl Faulty {
         )
     }
 
-    /// Of an entry: the first part between signs that has the fault.
-    fn in_entry(&self, line: &SplitLine<'_>, what: &mut String) -> Found {
-        let words = line.words.as_slice();
-        let (mut at, mut marks) = (0_usize, 0_usize);
-        for place in 0..=words.len() {
-            if place < words.len() && !is_sign(word_at(words, place)) {
-                continue;
-            }
-            if let Some(span) = self.in_entry_part(line, at, place, marks, what)? {
-                return Ok(Some(span));
-            }
-            marks = marks.saturating_add(1);
-            at = place.saturating_add(1);
-        }
-        Ok(None)
-    }
-
-    /// Of its words from one place to another, behind so many signs.
-    fn in_entry_part(
-        &self,
-        line: &SplitLine<'_>,
-        at: usize,
-        end: usize,
-        marks: usize,
-        what: &mut String,
-    ) -> Found {
-        let words = line.words.get(at..end).unwrap_or(&[]);
-        let form = if marks == 0 {
-            access_form(self.alloc, words)?
-        } else {
-            mark_form(self.alloc, words)?
-        };
-        let part = Part {
-            line,
-            at,
-            words,
-            form: &form,
-        };
-        match self.in_part(&part, what)? {
-            None if marks > 3 && self.fault == FaultKind::Words => {
-                found(line.word(at.saturating_sub(1)), "at most three marks", what)
-            }
-            place => Ok(place),
-        }
-    }
-
     /// Of words that should have a form.
     fn in_part(&self, part: &Part<'_, '_>, what: &mut String) -> Found {
         match self.fault {
             FaultKind::Unknown => self.unknown(part, what),
-            FaultKind::Words => self.wrong_number(part, what),
+            FaultKind::Words => part.wrong_number(what),
             _ => self.refused(part, what),
         }
     }
@@ -245,13 +164,18 @@ impl Faulty {
         if let Some(span) = self.no_bit(part, what)? {
             return Ok(Some(span));
         }
+        self.unknown_key(part, what)
+    }
+
+    /// A word in the place of a choice.
+    pub fn unknown_key(&self, part: &Part<'_, '_>, what: &mut String) -> Found {
         let place = part.form.items.len().saturating_sub(1);
         let (Some(Item::Choice), Some(word)) = (part.form.items.last(), part.words.get(place))
         else {
             return Ok(None);
         };
         let other = match self.kind {
-            FileKind::Record if part.at == 0 && place == 0 => ", or a process",
+            FileKind::Record | FileKind::Trace if part.at == 0 && place == 0 => ", or a process",
             _ => "",
         };
         add_keys(part.form.keys.as_slice(), other, what)?;
@@ -278,24 +202,6 @@ impl Faulty {
         add_keys(names.as_slice(), "", what)?;
         let added = add_near(self.alloc, field, names.as_slice(), what);
         found_by(part.line.part(1, 1), added)
-    }
-
-    /// The words that are too many, or the column where one is missing.
-    fn wrong_number(&self, part: &Part<'_, '_>, what: &mut String) -> Found {
-        let (has, wants) = (part.words.len(), part.form.items.len());
-        if has == wants {
-            return Ok(None);
-        }
-        let last = part.at.saturating_add(has).saturating_sub(1);
-        let place = if has < wants {
-            part.line.behind(last)
-        } else {
-            Span {
-                from: part.word(wants).from,
-                to: part.line.word(last).to,
-            }
-        };
-        found_by(place, add_form(part.form, what))
     }
 
     /// The first operand that has the fault.
@@ -335,6 +241,36 @@ impl Faulty {
     /// Whether a word in the place of an operand has the fault.
     fn is_fault_of(&self, operand: Operand, word: &[u8]) -> bool {
         operand.fault(self.version(), word) == Some(self.fault)
+    }
+}
+
+impl EntryFault for Faulty {
+    fn in_entry_part(
+        &self,
+        line: &SplitLine<'_>,
+        at: usize,
+        end: usize,
+        marks: usize,
+        what: &mut String,
+    ) -> Found {
+        let words = line.words.get(at..end).unwrap_or(&[]);
+        let form = if marks == 0 {
+            access_form(self.alloc, words)?
+        } else {
+            mark_form(self.alloc, words)?
+        };
+        let part = Part {
+            line,
+            at,
+            words,
+            form: &form,
+        };
+        match self.in_part(&part, what)? {
+            None if marks > 3 && self.fault == FaultKind::Words => {
+                found(line.word(at.saturating_sub(1)), "at most three marks", what)
+            }
+            place => Ok(place),
+        }
     }
 }
 
