@@ -5,8 +5,8 @@ use Rattle.std.proofs.lemmas.Grind.{fold-append}
 use Rattle.std.proofs.lemmas.List.{length-set, get_or-set_same, get_or-set_other}
 use Rattle.record.specs.{Mark, Past, Stage, stage, stage_after}
 use Rattle.record.specs.declared.stages.Stage.TheVariants.{Idle}
-use Rattle.columns.specs.{Saying, StagesAreTheRecords, marks_in, marks_said, nothing_told, stage_among, stages_marked, stages_told}
-use Rattle.columns.specs.declared.told.Saying.TheVariants.{Marked, Refused, Tired, Shown, Judged, Ended}
+use Rattle.columns.specs.{Saying, StagesAreTheRecords, like, marks_in, marks_said, nothing_told, stage_among, stages_marked, stages_told}
+use Rattle.columns.specs.declared.told.Saying.TheVariants.{Marked, Refused, Tired, Shown, Judged, Ended, LockMarked, LockEnded}
 
 -- the stage of a process after a mark of one
 abbrev pub stage_told : ℕ → Stage → ℕ × Mark → Stage
@@ -16,17 +16,19 @@ stage_told p was said = cond (said.0 == p) (stage_after was said.1) was
 pub marked_length : (stages : List Stage) (q : ℕ) (mark : Mark) → length (stages_marked stages q mark) ≡ length stages
 marked_length stages q mark = length-set stages q (stage_after (stage_among stages q) mark)
 
+either_length : (b : Bool) (stages : List Stage) (q : ℕ) (mark : Mark) → length (cond b (stages_marked stages q mark) stages) ≡ length stages
+either_length true stages q mark = marked_length stages q mark
+either_length false stages q mark = refl
+
 pub told_length : (processes : ℕ) (stages : List Stage) (line : Saying) → length (stages_told processes stages line) ≡ length stages
-told_length processes stages (Marked q mark change) = go (nat_lt q processes)
-  where
-    go : (b : Bool) → length (cond b (stages_marked stages q mark) stages) ≡ length stages
-    go true = marked_length stages q mark
-    go false = refl
+told_length processes stages (Marked q mark change) = either_length (nat_lt q processes) stages q mark
 told_length processes stages (Refused q refusal) = refl
 told_length processes stages (Tired q) = refl
 told_length processes stages (Shown words) = refl
 told_length processes stages (Judged q words) = refl
 told_length processes stages (Ended events taken refused) = refl
+told_length processes stages (LockMarked q mark) = either_length (nat_lt q processes) stages q (like mark)
+told_length processes stages (LockEnded entries) = refl
 
 -- the stage of a process after a mark of one
 pub marked_stage : (stages : List Stage) (q : ℕ) (mark : Mark) (p : ℕ) → p < length stages → stage_among (stages_marked stages q mark) p ≡ stage_told p (stage_among stages p) (q, mark)
@@ -38,18 +40,24 @@ marked_stage stages q mark p within = go (cases_eq q p)
     go (inr other) = get_or-set_other stages q p (stage_after (stage_among stages q) mark) Idle (λ e. other (sym e))
         ∙ sym (cond-false (q == p) (stage_after (stage_among stages p) mark) (stage_among stages p) (ne_eqb q p other))
 
--- and after a line
-pub line_stage : (processes : ℕ) (stages : List Stage) (line : Saying) (p : ℕ) → p < processes → p < length stages → stage_among (stages_told processes stages line) p ≡ fold (stage_told p) (stage_among stages p) (marks_said line)
-line_stage processes stages (Marked q mark change) p is within = go (nat_lt q processes) refl
+-- and after a mark of a process that is there, or of one that is not
+either_stage : (processes : ℕ) (stages : List Stage) (q : ℕ) (mark : Mark) (p : ℕ) → p < processes → p < length stages → stage_among (cond (nat_lt q processes) (stages_marked stages q mark) stages) p ≡ stage_told p (stage_among stages p) (q, mark)
+either_stage processes stages q mark p is within = go (nat_lt q processes) refl
   where
     go : (b : Bool) → nat_lt q processes ≡ b → stage_among (cond b (stages_marked stages q mark) stages) p ≡ stage_told p (stage_among stages p) (q, mark)
     go true below = marked_stage stages q mark p within
     go false above = sym (cond-false (q == p) (stage_after (stage_among stages p) mark) (stage_among stages p) (ne_eqb q p (λ same. let past = ltb-false q processes above in omega (arith, same, past, is))))
+
+-- and after a line
+pub line_stage : (processes : ℕ) (stages : List Stage) (line : Saying) (p : ℕ) → p < processes → p < length stages → stage_among (stages_told processes stages line) p ≡ fold (stage_told p) (stage_among stages p) (marks_said line)
+line_stage processes stages (Marked q mark change) p is within = either_stage processes stages q mark p is within
 line_stage processes stages (Refused q refusal) p is within = refl
 line_stage processes stages (Tired q) p is within = refl
 line_stage processes stages (Shown words) p is within = refl
 line_stage processes stages (Judged q words) p is within = refl
 line_stage processes stages (Ended events taken refused) p is within = refl
+line_stage processes stages (LockMarked q mark) p is within = either_stage processes stages q (like mark) p is within
+line_stage processes stages (LockEnded entries) p is within = refl
 
 -- and after all lines
 pub lines_stage : (processes : ℕ) (stages : List Stage) (lines : List Saying) (p : ℕ) → p < processes → p < length stages → stage_among (fold (stages_told processes) stages lines) p ≡ fold (stage_told p) (stage_among stages p) (flat_map marks_said lines)

@@ -1,13 +1,15 @@
 -- Columns as lists, and what they are by the lines and the reads that they show.
-use Rattle.std.specs.Prelude.{◌≡◌, ℕ, ◌+◌, ◌*◌, max, min, Bool, true, false, ◌==◌, ◌&&◌, nat_le, nat_lt, cond, List, [], ◌∷◌, ◌++◌, codes, filter_map, find, is_some, length, map, string_bytes, take, IfOk, Result, Option, None, Some, option_map, option_and_then}
+use Rattle.std.specs.Prelude.{◌≡◌, ℕ, ◌+◌, ◌*◌, max, min, Bool, true, false, ◌==◌, ◌&&◌, not, ◌||◌, nat_le, nat_lt, cond, List, [], ◌∷◌, ◌++◌, codes, filter_map, find, is_some, length, map, string_bytes, take, IfOk, Result, Option, None, Some, option_map, option_and_then}
 use Rattle.std.specs.Fmt.{decimal}
 use Rattle.std.specs.Global.{Vec}
 use Rattle.std.specs.Option.{option_or, option_to_list}
 use Rattle.record.specs.{Mark, mark_text, refusal_text}
 use Rattle.record.specs.plain_store.{answer_text, command_text, reply_text}
 use Rattle.record.specs.declared.marks.Mark.TheVariants.{Answered, Called, Taken}
+use Rattle.trace.specs.{lock_mark_text}
+use Rattle.columns.specs.LockLines.{lock_ended_text}
 use Rattle.columns.specs.Overlaps.{bit_text, saw_text}
-use Rattle.columns.specs.Told.{change_told, event_told, mark_told, place_told, process_told}
+use Rattle.columns.specs.Told.{change_told, event_told, place_told, process_told, tells_lock_mark}
 use Rattle.columns.specs.declared.columns.Column.{Column}
 use Rattle.columns.specs.declared.columns.TextRow.{TextRow}
 use Rattle.columns.specs.declared.reads.OverlappedRead.{OverlappedRead}
@@ -15,7 +17,7 @@ use Rattle.columns.specs.declared.state.State.{State}
 use Rattle.columns.specs.declared.told.TakenChange.{TakenChange}
 use Rattle.columns.specs.declared.told.RunLine.{RunLine}
 use Rattle.columns.specs.declared.told.Saying.{Saying}
-use Rattle.columns.specs.declared.told.Saying.TheVariants.{Ended, Judged, Marked, Refused, Shown, Tired}
+use Rattle.columns.specs.declared.told.Saying.TheVariants.{Ended, Judged, LockEnded, LockMarked, Marked, Refused, Shown, Tired}
 
 -- words in one row: whether they stand out, their bytes, and how many characters they are
 pub record Wording : Type 0 where
@@ -113,10 +115,17 @@ rows_told in_lane (Tired p) = verb (codes "turns") ∷ []
 rows_told in_lane (Shown words) = rows_named (codes "show") (string_bytes words)
 rows_told in_lane (Judged p words) = rows_named (codes "judge") words.items
 rows_told in_lane (Ended events taken refused) = verb_and_rest (codes "end events " ++ decimal events) (counts_text taken refused)
+rows_told in_lane (LockMarked p mark) = verb (lock_mark_text mark) ∷ []
+rows_told in_lane (LockEnded entries) = verb (lock_ended_text entries) ∷ []
 
 -- the row of a line that shares its column
+abbrev pub row_by : Saying → Option Wording
+row_by (Marked p mark change) = Some (verb (mark_text mark))
+row_by (LockMarked p mark) = Some (verb (lock_mark_text mark))
+row_by _ = None
+
 abbrev pub row_shared : RunLine → Option Wording
-row_shared line = option_map (λ mark. verb (mark_text mark)) (mark_told line.saying)
+row_shared line = row_by line.saying
 
 -- it in a list, if the line tells a mark
 abbrev pub row_if_marked : RunLine → List Wording
@@ -162,9 +171,13 @@ is_same_event (Some e) (Some f) = e == f
 is_same_event (Some e) None = false
 is_same_event None event = false
 
--- whether a line is a mark of a column's event
+-- whether a column has a row for a line: marks of a trace stand two in a column
+abbrev pub has_row_for : Seen → RunLine → Bool
+has_row_for column line = not (tells_lock_mark line.saying) || nat_lt (length column.lines) 2
+
+-- whether a line is a mark of a column's event, for which it has a row
 abbrev pub joins : Seen → RunLine → Bool
-joins column line = elim column.read [ Some read ↦ false | None ↦ is_same_event column.event (event_told line) ]
+joins column line = elim column.read [ Some read ↦ false | None ↦ is_same_event column.event (event_told line) && has_row_for column line ]
 
 -- the column once the second mark of its event has joined it: each mark has a row
 abbrev pub joined : Seen → RunLine → Option ℕ → State → Seen

@@ -2,8 +2,9 @@
 use Rattle.std.specs.Prelude.{◌≡◌, ◌<◌, ℕ, cond, nat_lt, List, [], ◌∷◌, ◌++◌, flat_map, fold, get_or, map, replicate, set}
 use Rattle.record.specs.{Mark, Past, Stage, stage, stage_after}
 use Rattle.record.specs.declared.stages.Stage.TheVariants.{Idle}
+use Rattle.columns.specs.LockLines.{like}
 use Rattle.columns.specs.declared.told.Saying.{Saying}
-use Rattle.columns.specs.declared.told.Saying.TheVariants.{Marked}
+use Rattle.columns.specs.declared.told.Saying.TheVariants.{LockMarked, Marked}
 
 -- the stage of a process among those of all
 abbrev pub stage_among : List Stage → ℕ → Stage
@@ -20,15 +21,17 @@ stages_marked stages p mark = set stages p (stage_after (stage_among stages p) m
 -- after what a line of a run of so many processes says
 abbrev pub stages_told : ℕ → List Stage → Saying → List Stage
 stages_told processes stages (Marked p mark change) = cond (nat_lt p processes) (stages_marked stages p mark) stages
+stages_told processes stages (LockMarked p mark) = cond (nat_lt p processes) (stages_marked stages p (like mark)) stages
 stages_told processes stages _ = stages
 
 -- after all these lines
 abbrev pub stages_after : ℕ → List Saying → List Stage
 stages_after processes = fold (stages_told processes) nothing_told
 
--- the mark that a line says, with its process
+-- the mark that a line says, with its process; of a trace, the one that its mark is drawn like
 abbrev pub marks_said : Saying → List (ℕ × Mark)
 marks_said (Marked p mark change) = (p, mark) ∷ []
+marks_said (LockMarked p mark) = (p, like mark) ∷ []
 marks_said _ = []
 
 -- the marks of a record, each with its process, the oldest first

@@ -4,13 +4,16 @@ use Rattle.record.specs.{Mark, Stage}
 use Rattle.record.specs.declared.marks.Mark.TheVariants as mark
 use Rattle.record.specs.declared.stages.Stage.TheVariants as stage
 use Rattle.columns.specs.Stages.{nothing_told, stage_among, stages_marked, stages_told}
+use Rattle.trace.specs.{LockMark}
+use Rattle.trace.specs.declared.marks.LockMark.TheVariants as lock
+use Rattle.columns.specs.LockLines.{like}
 use Rattle.columns.specs.declared.state.Group.{Group}
 use Rattle.columns.specs.declared.seats.KnownProcess.{KnownProcess}
 use Rattle.columns.specs.declared.state.State.{State}
 use Rattle.columns.specs.declared.state.Word.{Word}
 use Rattle.columns.specs.declared.state.Word.TheVariants as word
 use Rattle.columns.specs.declared.told.Saying.{Saying}
-use Rattle.columns.specs.declared.told.Saying.TheVariants.{Marked}
+use Rattle.columns.specs.declared.told.Saying.TheVariants.{LockMarked, Marked}
 
 -- what is known of a process before it has a ticket
 abbrev pub no_seat : KnownProcess
@@ -159,6 +162,15 @@ state_marked state p mark = record {
   places = places_marked state.places mark;
 }
 
+-- the same without a ticket of a process, and without those that it awaits
+abbrev pub with_no_seat : State → ℕ → State
+with_no_seat state p = record state { seats = set state.seats p no_seat }
+
+-- after a mark of a process in a trace, which has no tickets: as after the mark that it is drawn like
+abbrev pub state_lock_marked : State → ℕ → LockMark → State
+state_lock_marked state p lock.Wait = with_no_seat (state_marked state p (like lock.Wait)) p
+state_lock_marked state p mark = state_marked state p (like mark)
+
 -- the stages after what a line says
 abbrev pub stages_next : State → Saying → List Stage
 stages_next state = stages_told state.processes state.stages
@@ -166,6 +178,7 @@ stages_next state = stages_told state.processes state.stages
 -- after what a line says
 abbrev pub state_told : State → Saying → State
 state_told state (Marked p mark change) = cond (nat_lt p state.processes) (state_marked state p mark) state
+state_told state (LockMarked p mark) = cond (nat_lt p state.processes) (state_lock_marked state p mark) state
 state_told state _ = state
 
 -- whether a mark lets the ticket of its process go

@@ -1,13 +1,14 @@
--- The lines of a run's text, as values.
+-- The lines of the text of a run or of a trace, as values.
 use Rattle.std.specs.Prelude.{ℕ, Bool, true, false, List, ◌++◌, codes, map, string_bytes, Option, None, Some, option_map}
 use Rattle.record.specs.{Mark}
 use Rattle.record.specs.declared.marks.Mark.TheVariants.{Taken}
 use Rattle.run_lines.specs.{ended_text, marked_text, refused_text, shown_text, tired_text}
+use Rattle.columns.specs.LockLines.{like, lock_ended_text, lock_marked_text}
 use Rattle.columns.specs.declared.columns.Column.{Column}
 use Rattle.columns.specs.declared.told.TakenChange.{TakenChange}
 use Rattle.columns.specs.declared.told.RunLine.{RunLine}
 use Rattle.columns.specs.declared.told.Saying.{Saying}
-use Rattle.columns.specs.declared.told.Saying.TheVariants.{Marked, Refused, Tired, Shown, Judged, Ended}
+use Rattle.columns.specs.declared.told.Saying.TheVariants.{Marked, Refused, Tired, Shown, Judged, Ended, LockMarked, LockEnded}
 
 -- what a judge tells
 abbrev pub judged_text : List ℕ → List ℕ
@@ -21,6 +22,8 @@ saying_text at (Tired p) = tired_text p
 saying_text at (Shown words) = shown_text (string_bytes words)
 saying_text at (Judged p words) = judged_text words.items
 saying_text at (Ended events taken refused) = ended_text events taken refused
+saying_text at (LockMarked p mark) = lock_marked_text at p mark
+saying_text at (LockEnded entries) = lock_ended_text entries
 
 -- a line, without its end
 abbrev pub text_of : RunLine → List ℕ
@@ -42,10 +45,13 @@ process_told (Tired p) = Some p
 process_told (Shown words) = None
 process_told (Judged p words) = p
 process_told (Ended events taken refused) = None
+process_told (LockMarked p mark) = Some p
+process_told (LockEnded entries) = None
 
--- the mark that is told
+-- the mark that is told; of a trace, the one that its mark is drawn like
 abbrev pub mark_told : Saying → Option Mark
 mark_told (Marked p mark change) = Some mark
+mark_told (LockMarked p mark) = Some (like mark)
 mark_told _ = None
 
 -- what the command changed that is told of
@@ -67,6 +73,11 @@ place_told _ = None
 abbrev pub tells_refusal : Saying → Bool
 tells_refusal (Refused p refusal) = true
 tells_refusal _ = false
+
+-- whether a mark of a trace is told
+abbrev pub tells_lock_mark : Saying → Bool
+tells_lock_mark (LockMarked p mark) = true
+tells_lock_mark _ = false
 
 -- the number of an event that has a mark
 abbrev pub event_told : RunLine → Option ℕ

@@ -115,11 +115,12 @@ impl Column {
         })
     }
 
-    /// Whether a line is a mark of this column's event.
+    /// Whether a line is a mark of this column's event, for which the column has a row.
     pub fn has_room_for(&self, line: &RunLine) -> bool
         ensures { result ≡ joins (seen self.now) line.now }
     {
-        self.read.is_none() && self.event.is_some() && self.event == line.event()
+        let has_row = !line.is_lock_mark() || self.lines.len() < 2;
+        self.read.is_none() && self.event.is_some() && self.event == line.event() && has_row
     }
 
     /// Adds the second mark of the event: now each mark has a row.
@@ -242,10 +243,13 @@ fn rows_shared(alloc: Global, lines: &[RunLine]) -> Result<Vec<TextRow>, AllocEr
 fn push_shared(alloc: Global, line: &RunLine, rows: &mut Vec<TextRow>) -> Result<(), AllocError>
     ensures { OnOk result (wordings rows.new ≡ wordings rows.old ++ row_if_marked line.now) }
 {
-    if let Some(mark) = line.mark() {
-        rows.push(TextRow::new(true, mark.to_string(alloc)?))?;
+    match &line.saying {
+        Saying::Marked { mark, .. } => Ok(rows.push(TextRow::new(true, mark.to_string(alloc)?))?),
+        Saying::LockMarked { mark, .. } => {
+            Ok(rows.push(TextRow::new(true, mark.to_string(alloc)?))?)
+        }
+        _ => Ok(()),
     }
-    Ok(())
 }
 
 /// The rows of a line alone in its column, in the lane of its process or in that of the history.
@@ -270,6 +274,11 @@ fn rows_alone(alloc: Global, line: &RunLine, in_lane: bool) -> Result<Vec<TextRo
             alloc,
             format!(in alloc; "end events {events}")?,
             counts(alloc, *taken, *refused)?,
+        ),
+        Saying::LockMarked { mark, .. } => one_row(alloc, mark.to_string(alloc)?),
+        Saying::LockEnded { entries } => one_row(
+            alloc,
+            format!(in alloc; "end entries {entries}")?,
         ),
     }
 }

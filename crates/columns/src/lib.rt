@@ -1,10 +1,11 @@
-//! The lines of a run as values, and the reads that writes overlapped; what the lines have told so far; the columns that
+//! The lines of a run or of a trace as values, and the reads that writes overlapped; what the lines have told so far; the columns that
 //! show them, where these stand in a band, and where its lanes lie. It draws nothing.
 #![tactic(auto)]
 
 mod columns;
 mod laws;
 mod layout;
+mod lock_lines;
 mod marks;
 mod measures;
 mod placing;
@@ -16,6 +17,7 @@ mod told;
 pub use columns::{Column, TextRow, cut};
 pub use laws::stages_are_the_records;
 pub use layout::{AXIS, Lane, Layout};
+pub use lock_lines::drawn_like;
 pub use measures::{DIGIT, LEFT, RIGHT, room};
 pub use placing::{ColumnPlace, Placing, event_place, stretch};
 pub use reads::OverlappedRead;

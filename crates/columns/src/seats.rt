@@ -1,6 +1,6 @@
 //! What is known of processes beside their stages.
-ghost use Rattle.std.specs.Prelude.{◌≡◌, map};
-ghost use Rattle.columns.specs.States.{not_awaiting};
+ghost use Rattle.std.specs.Prelude.{◌≡◌, map, set};
+ghost use Rattle.columns.specs.States.{no_seat, not_awaiting};
 
 /// What is known of a process beside its stage.
 #[derive(Clone, Copy)]
@@ -9,6 +9,28 @@ pub(crate) struct KnownProcess {
     pub ticket: u32,
     /// Whose doorways were open when its wait began, and are open still.
     pub awaits: [bool; 16],
+}
+
+impl KnownProcess {
+    /// What is known of a process before it has a ticket.
+    pub fn new() -> KnownProcess
+        ensures { result ≡ no_seat }
+    {
+        KnownProcess {
+            ticket: 0,
+            awaits: [false; 16],
+        }
+    }
+}
+
+/// A process has no ticket, and awaits nobody.
+pub(crate) fn clear_seat(seats: &mut [KnownProcess], process: u8)
+    ensures { seats.new ≡ set seats.old process no_seat }
+{
+    let place = usize::from(process);
+    if place < seats.len() {
+        seats[place] = KnownProcess::new();
+    }
 }
 
 /// Nobody awaits a process any more.

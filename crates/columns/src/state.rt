@@ -1,14 +1,17 @@
 //! What the lines have told so far: a fold over them.
-ghost use Rattle.std.specs.Prelude.{◌≡◌, ◌≤◌, [], ◌∷◌, cond, drop, insert, length, map, set, IfOk, OnOk};
+ghost use Rattle.std.specs.Prelude.{◌≡◌, ◌≤◌, [], ◌∷◌, cond, drop, insert, length, map, set, IfOk, None, OnOk};
 ghost use Rattle.record.specs.declared.marks.Mark.TheVariants as mark_variants;
+ghost use Rattle.columns.specs.declared.told.Saying.TheVariants.{LockMarked, Marked};
 ghost use Rattle.columns.specs.Stages.{stage_among, stages_marked, nothing_told};
 ghost use Rattle.columns.specs.States.{GroupGrows, IsWordOfWaiting, at_first, awaited_in, before_in, behind_in, first_waiting, freed_by, freed_in, group_of, is_in_doorway, lined_up, places_from, queue_of, stages_next, state_marked, state_told, ticket_in, is_waiting, ticket_set, with_seats_by, with_seats_marked, word_of};
 
+use crate::lock_lines::drawn_like;
 use crate::marks::{inside_after, leads_on, places_after, stage_after};
-use crate::seats::{KnownProcess, forget};
+use crate::seats::{KnownProcess, clear_seat, forget};
 use crate::told::{RunLine, Saying};
 use record::{Mark, Stage};
 use std::alloc::{AllocError, Global};
+use trace::LockMark;
 
 /// What the lines have told of all processes.
 #[derive(Clone, Copy)]
@@ -82,14 +85,10 @@ impl State {
         ensures processes { result.processes ≡ processes }
         ensures whole { result ≡ at_first processes }
     {
-        let seat = KnownProcess {
-            ticket: 0,
-            awaits: [false; 16],
-        };
         State {
             processes,
             stages: [Stage::Idle; 16],
-            seats: [seat; 16],
+            seats: [KnownProcess::new(); 16],
             inside: None,
             places: 0,
         }
@@ -181,18 +180,49 @@ impl State {
         ensures whole { OnOk result (self.new ≡ state_told self.old line.now.saying) }
         ensures frees { IfOk result (λ freed. freed ≡ freed_by self.old line.now.saying) }
     {
-        let Saying::Marked { process, mark, .. } = &line.saying else {
-            return Ok(None);
-        };
-        if *process >= self.processes {
+        match &line.saying {
+            Saying::Marked { process, mark, .. } => self.take_mark(alloc, *process, mark),
+            Saying::LockMarked { process, mark } => {
+                self.take_lock_mark(*process, *mark);
+                Ok(None)
+            }
+            _ => Ok(None),
+        }
+    }
+
+    /// Takes in a mark of a process, if there is one; answers whom it frees.
+    fn take_mark(
+        &mut self,
+        alloc: Global,
+        process: u8,
+        mark: &Mark,
+    ) -> Result<Option<u8>, AllocError>
+        ensures processes { self.new.processes ≡ self.old.processes }
+        ensures whole { OnOk result (self.new ≡ state_told self.old (Marked process mark.now None)) }
+        ensures frees { IfOk result (λ freed. freed ≡ freed_by self.old (Marked process mark.now None)) }
+    {
+        if process >= self.processes {
             return Ok(None);
         }
         let freed = match mark {
-            Mark::Left | Mark::Answered(_) | Mark::Down => self.freed(alloc, *process)?,
+            Mark::Left | Mark::Answered(_) | Mark::Down => self.freed(alloc, process)?,
             _ => None,
         };
-        self.mark(*process, mark);
+        self.mark(process, mark);
         Ok(freed)
+    }
+
+    /// Takes in a mark of a process in a trace, which has no tickets.
+    fn take_lock_mark(&mut self, process: u8, mark: LockMark)
+        ensures { self.new ≡ state_told self.old (LockMarked process mark) }
+    {
+        if process >= self.processes {
+            return;
+        }
+        self.mark(process, &drawn_like(mark));
+        if mark == LockMark::Wait {
+            clear_seat(&mut self.seats, process);
+        }
     }
 
     /// Whom a process frees that lets its ticket go: the first behind it in the line that waits.

@@ -1,11 +1,14 @@
 //! A line of a run's text, as a value.
 ghost use Rattle.std.specs.Prelude.{◌≡◌, IfOk, option_copied};
 ghost use Rattle.run_lines.specs.{line_text};
-ghost use Rattle.columns.specs.Told.{change_told, event_told, judged_text, mark_told, place_told, process_told, tells_refusal, text_of};
+ghost use Rattle.columns.specs.LockLines.{lock_ended_text, lock_marked_text};
+ghost use Rattle.columns.specs.Told.{change_told, event_told, judged_text, mark_told, place_told, process_told, tells_lock_mark, tells_refusal, text_of};
 
+use crate::lock_lines::{drawn_like, ended_line, marked_line};
 use record::{Mark, Refusal};
 use run_lines::ReplayLine;
 use std::alloc::{AllocError, Global};
+use trace::LockMark;
 
 /// What a command changed that was taken.
 #[derive(Drop)]
@@ -45,6 +48,15 @@ pub enum Saying {
         taken: u64,
         refused: u64,
     },
+    /// An entry of a trace has this mark of the process.
+    LockMarked {
+        process: u8,
+        mark: LockMark,
+    },
+    /// The trace has ended, with this number of entries.
+    LockEnded {
+        entries: u64,
+    },
 }
 
 /// A line of a run's text.
@@ -67,7 +79,8 @@ impl RunLine {
             Saying::Refused { process, .. } => Some(*process),
             Saying::Tired(process) => Some(*process),
             Saying::Judged { process, .. } => *process,
-            Saying::Shown(_) | Saying::Ended { .. } => None,
+            Saying::LockMarked { process, .. } => Some(*process),
+            Saying::Shown(_) | Saying::Ended { .. } | Saying::LockEnded { .. } => None,
         }
     }
 
@@ -76,17 +89,18 @@ impl RunLine {
         ensures { result ≡ event_told self.now }
     {
         match &self.saying {
-            Saying::Marked { .. } => Some(self.at),
+            Saying::Marked { .. } | Saying::LockMarked { .. } => Some(self.at),
             _ => None,
         }
     }
 
-    /// The mark that it tells.
+    /// The mark that it tells; of a trace, the one that its mark is drawn like.
     pub fn mark(&self) -> Option<Mark>
         ensures { result ≡ mark_told self.now.saying }
     {
         match &self.saying {
             Saying::Marked { mark, .. } => Some(*mark),
+            Saying::LockMarked { mark, .. } => Some(drawn_like(*mark)),
             _ => None,
         }
     }
@@ -119,6 +133,13 @@ impl RunLine {
         ensures { result ≡ tells_refusal self.now.saying }
     {
         matches!(&self.saying, Saying::Refused { .. })
+    }
+
+    /// Whether it tells a mark of a trace.
+    pub fn is_lock_mark(&self) -> bool
+        ensures { result ≡ tells_lock_mark self.now.saying }
+    {
+        matches!(&self.saying, Saying::LockMarked { .. })
     }
 
     /// The line, without its end.
@@ -156,6 +177,8 @@ impl RunLine {
                 };
                 printed(alloc, &line)
             }
+            Saying::LockMarked { process, mark } => marked_line(alloc, self.at, *process, *mark),
+            Saying::LockEnded { entries } => ended_line(alloc, *entries),
         }
     }
 }

@@ -1,0 +1,25 @@
+-- The lines of a trace, and the marks of a record that its marks are drawn like.
+use Rattle.std.specs.Prelude.{ℕ, List, ◌++◌, codes}
+use Rattle.std.specs.Fmt.{decimal}
+use Rattle.record.specs.{Mark}
+use Rattle.record.specs.declared.marks.Mark.TheVariants.{Answered, Called, Entered, Left, Waiting}
+use Rattle.record.specs.plain_store.declared.commands.Answer.TheVariants.{Withdrawn}
+use Rattle.record.specs.plain_store.declared.commands.Command.TheVariants.{Ask}
+use Rattle.trace.specs.{LockMark, lock_mark_text}
+use Rattle.trace.specs.declared.marks.LockMark.TheVariants as lock
+
+-- the mark of a record that leads to the same stage as a mark of a trace, and has the same sign
+abbrev pub like : LockMark → Mark
+like lock.Call = Called Ask
+like lock.Wait = Waiting 0
+like lock.Enter = Entered
+like lock.Leave = Left
+like lock.Answer = Answered Withdrawn
+
+-- the entry with this number has a mark of a process
+abbrev pub lock_marked_text : (entry p : ℕ) → LockMark → List ℕ
+lock_marked_text entry p mark = decimal entry ++ codes " " ++ decimal p ++ codes " " ++ lock_mark_text mark
+
+-- the trace has ended
+abbrev pub lock_ended_text : ℕ → List ℕ
+lock_ended_text entries = codes "end entries " ++ decimal entries
