@@ -1,6 +1,7 @@
 #!/usr/bin/env python3
 """The constant parts of a picture: the files of picture/, as the crate `picture` has them in src/constants.rt.
 
+The script of a trace's page is that of any page without the lines that tell of the store and of the line of processes.
 Compares the two; with `--write` it writes the files into the crate.
 """
 
@@ -17,11 +18,15 @@ PARTS = [
     ("style.css", "STYLE", "The style of all pictures."),
     ("page.css", "PAGE_STYLE", "The style of a page beside it."),
     ("script.js", "SCRIPT", "The script of a page."),
+    ("script.js", "TRACE_SCRIPT", "The same for a trace, which has no store and no line of processes."),
     ("defs.svg", "PATTERNS", "The patterns of the bars."),
     ("legend.svg", "LEGEND", "What the signs, bars and words mean."),
+    ("legend-trace.svg", "TRACE_LEGEND", "The same for a trace."),
     ("legend-reads.svg", "READS_LEGEND", "The same, with what shows a read that a write overlapped."),
 ]
 HEAD = "//! The constant parts of a picture, as the files of picture/ have them: tests/gate/picture_parts.py writes this.\n"
+# what is left out of the files for some constants
+LEFT_OUT = {"TRACE_SCRIPT": "line('store',stores[n]);\nline('in line',queues[n]||'nobody');"}
 # a line of the source that would be longer goes on below
 WIDTH = 100
 
@@ -34,7 +39,9 @@ def literal(text):
 
 def constant(file, name, meaning):
     """The constant of a file, laid out as the language's own tool does."""
-    value = literal((TOP / "picture" / file).read_text().rstrip("\n"))
+    text, part = (TOP / "picture" / file).read_text().rstrip("\n"), LEFT_OUT.get(name, "")
+    assert not part or text.count(part) == 1, f"{file} does not have once what {name} leaves out"
+    value = literal(text.replace(part, "") if part else text)
     before, first = f"pub(crate) const {name}: &str =", value.split("\n")[0]
     space = " " if len(before) + 1 + len(first) <= WIDTH else "\n    "
     return f"/// {meaning}\n{before}{space}{value};\n"

@@ -1,7 +1,8 @@
 -- What stands before and behind the bands begins elements, and ends them.
 use Rattle.std.proofs.Common.{◌≡◌, ℕ, Result, Ok, Err, IfOk, OnOk, List, [], ◌∷◌, codes, Some, refl, ap, ◌∙◌}
 use Rattle.markup.specs.{Reading, begun, group, opens_in, reading, with_begun, with_tags}
-use Rattle.picture.specs.{page_names, picture_names}
+use Rattle.picture.specs.{Subject, list_begun, page_names, picture_names, script_of}
+use Rattle.picture.specs.declared.subjects.Subject.TheVariants.{Run, Trace}
 
 -- the lines and the open elements of a part
 abbrev Leaves : Reading → List (List ℕ) → List (List ℕ) → Type 0
@@ -39,22 +40,29 @@ page_begun_read begun titled styled bodied p q r s =
     (s ∙ ap (with_tags (opens_in body_text)) (r ∙ ap (with_tags (opens_in style_text)) (q ∙ ap (with_tags (opens_in opening_text)) p)))
     (refl, refl)
 
-abbrev pub list_text : List ℕ
-list_text = codes "\n</svg>\n<details open><summary>The scenario</summary><ol>\n"
-
 abbrev pub list_end_text : List ℕ
 list_end_text = codes "</ol></details>\n"
 
+-- the list ends the legend, and ends itself, whatever is listed
+list_reads : (subject : Subject) → opens_in list_end_text (opens_in (list_begun subject) (begun (codes "svg") (Some page_names))) ≡ Some page_names
+list_reads Run = refl
+list_reads Trace = refl
+
+-- no script begins an element or ends one
+pub script_reads : (subject : Subject) → opens_in (script_of subject) (Some (codes "script" ∷ page_names)) ≡ Some (codes "script" ∷ page_names)
+script_reads Run = refl
+script_reads Trace = refl
+
 -- the elements that begin in the body before the bands end there too
-module _ {A E : Type 0} (r : Result A E) (old shown listed ended : Reading) (p : shown ≡ with_begun (codes "svg") old) (q : listed ≡ with_tags (opens_in list_text) shown) (is : OnOk r (ended ≡ with_tags (opens_in list_end_text) listed)) where
-  body_read : ended ≡ with_tags (opens_in list_end_text) listed → ended ≡ with_tags (opens_in list_end_text) (with_tags (opens_in list_text) (with_begun (codes "svg") old))
-  body_read is = is ∙ ap (with_tags (opens_in list_end_text)) (q ∙ ap (with_tags (opens_in list_text)) p)
+module _ {A E : Type 0} (subject : Subject) (r : Result A E) (old shown listed ended : Reading) (p : shown ≡ with_begun (codes "svg") old) (q : listed ≡ with_tags (opens_in (list_begun subject)) shown) (is : OnOk r (ended ≡ with_tags (opens_in list_end_text) listed)) where
+  body_read : ended ≡ with_tags (opens_in list_end_text) listed → ended ≡ with_tags (opens_in list_end_text) (with_tags (opens_in (list_begun subject)) (with_begun (codes "svg") old))
+  body_read is = is ∙ ap (with_tags (opens_in list_end_text)) (q ∙ ap (with_tags (opens_in (list_begun subject))) p)
 
   pub body_lines : OnOk r (ended.lines ≡ old.lines)
   body_lines = on_ok r (λ is. ap (λ (read : Reading). read.lines) (body_read is)) is
 
   pub body_elements : OnOk r (old.opens (Some []) ≡ Some page_names → ended.opens (Some []) ≡ Some page_names)
-  body_elements = on_ok r (λ is before. ap (λ (read : Reading). read.opens (Some [])) (body_read is) ∙ ap (λ stack. opens_in list_end_text (opens_in list_text (begun (codes "svg") stack))) before) is
+  body_elements = on_ok r (λ is before. ap (λ (read : Reading). read.opens (Some [])) (body_read is) ∙ ap (λ stack. opens_in list_end_text (opens_in (list_begun subject) (begun (codes "svg") stack))) before ∙ list_reads subject) is
 
 abbrev pub slider_text : List ℕ
 slider_text = codes "<div id=\"now\"><div>"

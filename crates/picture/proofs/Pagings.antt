@@ -6,8 +6,10 @@ use Rattle.std.proofs.lemmas.List.{length-map}
 use Rattle.markup.specs.{drawings}
 use Rattle.record.specs.{Mark}
 use Rattle.picture.specs.{Bands, BeginsColumn, DrawsBand, GivesRest, GoesOn, Item, MakesRoom, Places, Plan, Puts, Reads, SeenPage, Tells, band_shapes, band_text, bands_of, begun_by, behind_columns, columns_of, filled, framed, full_bytes, heights, held_in_64, layout_in, line_by, newest, newest_at, older, page_by, page_holding, placing_before, placing_in, room_by, state_after, with_line, with_placed, with_put, with_room}
-use Rattle.columns.specs.{Column, Layout, OverlappedRead, Placing, RunLine, Saying, Seen, State, alone, column_of_read, drawn_apart, end_of_words, freed_by, has_room_at, joined, joins, last_of, layout_of, moved_to, place_of, placing_at_first, put_at, seen, state_marked, state_told, stretched_all, widened}
-use Rattle.columns.specs.declared.told.Saying.TheVariants.{Ended, Judged, Marked, Refused, Shown, Tired}
+use Rattle.columns.specs.{Column, Layout, OverlappedRead, Placing, RunLine, Saying, Seen, State, alone, column_of_read, drawn_apart, end_of_words, freed_by, has_room_at, joined, joins, last_of, layout_of, moved_to, place_of, placing_at_first, put_at, seen, state_lock_marked, state_marked, state_told, stretched_all, widened}
+use Rattle.columns.specs.trace.{LockMark}
+use Rattle.columns.specs.trace.declared.marks.LockMark.TheVariants as lock
+use Rattle.columns.specs.declared.told.Saying.TheVariants.{Ended, Judged, LockEnded, LockMarked, Marked, Refused, Shown, Tired}
 
 -- a column is put behind the others
 abbrev pub put_page : Seen → SeenPage → SeenPage
@@ -48,6 +50,7 @@ drawn_by is_last processes page =
       layout = layout_in processes page.columns is_last;
       is_last = is_last;
       opens = page.opens;
+      subject = page.subject;
     })))
 
 pub draws_begun : (is_last : Bool) (old : SeenPage) (band : List ℕ) (new : SeenPage) → new ≡ filled_page old → band ≡ drawn_by is_last old.state.processes old → DrawsBand is_last old band new
@@ -74,14 +77,14 @@ stretched_within len items now fits is =
 pub draws_parts : (is_last : Bool) (old : SeenPage) (opens shown : List ℕ) (behind : State × ℕ) (placing : Placing) (columns apart : List Seen) (layout : Layout) (bands height : ℕ) (markup : List ℕ) →
     opens ≡ [] → shown ≡ old.opens → behind ≡ behind_columns old.columns (old.before, old.before_at) → placing ≡ placing_at_first 0 → columns ≡ [] → apart ≡ stretched_all old.columns → layout ≡ layout_of old.state.processes apart is_last →
     bands ≡ held_in_64 (old.bands + 1) → height ≡ held_in_64 (old.height + (layout.height + 16)) →
-    markup ≡ framed old.form bands old.height layout.height (drawings (band_shapes (record { columns = apart; before = old.before; before_at = old.before_at; layout = layout; is_last = is_last; opens = shown }))) →
+    markup ≡ framed old.form bands old.height layout.height (drawings (band_shapes (record { columns = apart; before = old.before; before_at = old.before_at; layout = layout; is_last = is_last; opens = shown; subject = old.subject }))) →
     DrawsBand is_last old markup (record old { opens = opens; before = behind.0; before_at = behind.1; placing = placing; columns = columns; bands = bands; height = height })
 draws_parts is_last old opens shown behind placing columns apart layout bands height markup none same stands new empty stretched laid count high drawn =
     let lies : layout ≡ layout_in old.state.processes old.columns is_last = laid ∙ ap (λ (c : List Seen). layout_of old.state.processes c is_last) stretched in
     let higher : height ≡ held_in_64 (old.height + ((layout_in old.state.processes old.columns is_last).height + 16)) = high ∙ ap (λ (l : Layout). held_in_64 (old.height + (l.height + 16))) lies in
     draws_begun is_last old markup (record old { opens = opens; before = behind.0; before_at = behind.1; placing = placing; columns = columns; bands = bands; height = height })
     (λ i. record old { opens = none i; before = (stands i).0; before_at = (stands i).1; placing = new i; columns = empty i; bands = count i; height = higher i })
-    (drawn ∙ (λ i. framed old.form (count i) old.height (lies i).height (drawings (band_shapes (record { columns = stretched i; before = old.before; before_at = old.before_at; layout = lies i; is_last = is_last; opens = same i })))))
+    (drawn ∙ (λ i. framed old.form (count i) old.height (lies i).height (drawings (band_shapes (record { columns = stretched i; before = old.before; before_at = old.before_at; layout = lies i; is_last = is_last; opens = same i; subject = old.subject })))))
 
 -- the column has room, or another band begins
 abbrev pub has_room_in : Seen → SeenPage → Bool
@@ -120,6 +123,11 @@ marked_processes : (b : Bool) (state : State) (p : ℕ) (mark : Mark) → (let s
 marked_processes true state p mark = refl
 marked_processes false state p mark = refl
 
+lock_marked_processes : (b : Bool) (state : State) (p : ℕ) (mark : LockMark) → (let s : State = cond b (state_lock_marked state p mark) state in s.processes) ≡ state.processes
+lock_marked_processes false state p mark = refl
+lock_marked_processes true state p lock.Wait = refl
+lock_marked_processes true state p mark = refl
+
 told_processes : (state : State) (saying : Saying) → (state_told state saying).processes ≡ state.processes
 told_processes state (Marked p mark change) = marked_processes (nat_lt p state.processes) state p mark
 told_processes state (Refused p refusal) = refl
@@ -127,6 +135,8 @@ told_processes state (Tired p) = refl
 told_processes state (Shown words) = refl
 told_processes state (Judged p words) = refl
 told_processes state (Ended events taken refused) = refl
+told_processes state (LockMarked p mark) = lock_marked_processes (nat_lt p state.processes) state p mark
+told_processes state (LockEnded entries) = refl
 
 pub processes_after : (n : ℕ) (items : List Item) → (state_after n items).processes ≡ n
 processes_after n [] = refl

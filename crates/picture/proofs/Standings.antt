@@ -4,8 +4,10 @@ use Rattle.std.proofs.lemmas.Grind.{fold-append}
 use Rattle.std.specs.List.{AllByRecursion}
 use Rattle.record.specs.{Mark, Stage}
 use Rattle.picture.specs.{BarsAreStages, Item, Reads, ShowsStages, Tells, columns_of, line_by, newest_at, sayings, state_after, with_line}
-use Rattle.columns.specs.{RunLine, Saying, Seen, State, alone, column_of_read, freed_by, joined, joins, nothing_told, stage_among, stages_after, stages_marked, stages_told, state_marked, state_told}
-use Rattle.columns.specs.declared.told.Saying.TheVariants.{Ended, Judged, Marked, Refused, Shown, Tired}
+use Rattle.columns.specs.{RunLine, Saying, Seen, State, alone, column_of_read, freed_by, joined, joins, like, nothing_told, stage_among, stages_after, stages_marked, stages_told, state_lock_marked, state_marked, state_told}
+use Rattle.columns.specs.trace.{LockMark}
+use Rattle.columns.specs.trace.declared.marks.LockMark.TheVariants as lock
+use Rattle.columns.specs.declared.told.Saying.TheVariants.{Ended, Judged, LockEnded, LockMarked, Marked, Refused, Shown, Tired}
 use Rattle.picture.proofs.Pagings.{processes_after}
 use Rattle.columns.proofs.Stages.{stages_are}
 
@@ -14,6 +16,11 @@ marked_stages : (b : Bool) (state : State) (p : ℕ) (mark : Mark) → (let s : 
 marked_stages true state p mark = refl
 marked_stages false state p mark = refl
 
+lock_marked_stages : (b : Bool) (state : State) (p : ℕ) (mark : LockMark) → (let s : State = cond b (state_lock_marked state p mark) state in s.stages) ≡ cond b (stages_marked state.stages p (like mark)) state.stages
+lock_marked_stages false state p mark = refl
+lock_marked_stages true state p lock.Wait = refl
+lock_marked_stages true state p mark = refl
+
 told_stages : (state : State) (saying : Saying) → (state_told state saying).stages ≡ stages_told state.processes state.stages saying
 told_stages state (Marked p mark change) = marked_stages (nat_lt p state.processes) state p mark
 told_stages state (Refused p refusal) = refl
@@ -21,6 +28,8 @@ told_stages state (Tired p) = refl
 told_stages state (Shown words) = refl
 told_stages state (Judged p words) = refl
 told_stages state (Ended events taken refused) = refl
+told_stages state (LockMarked p mark) = lock_marked_stages (nat_lt p state.processes) state p mark
+told_stages state (LockEnded entries) = refl
 
 -- and after all
 stages_of : (n : ℕ) (items : List Item) → (state_after n items).stages ≡ stages_after n (sayings items)

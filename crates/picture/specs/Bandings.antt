@@ -9,15 +9,17 @@ use Rattle.picture.specs.Drawings.{band_shapes}
 use Rattle.picture.specs.Sheets.{held_in_64, says, view_of}
 use Rattle.picture.specs.declared.page.Form.{Form}
 use Rattle.picture.specs.declared.page.Form.TheVariants as form
+use Rattle.picture.specs.declared.subjects.Subject.{Subject}
 
 -- what a picture is told
 pub data Item : Type 0 where
   Tells : RunLine → Item  -- a line of the run
   Reads : OverlappedRead → Item  -- a read that a write overlapped
 
--- what is known of a picture from the start: what its bands stand in, how many processes there are, and the opening store, with no byte if it is empty
+-- what is known of a picture from the start: what its bands stand in, what it is of, how many processes there are, and the opening store, with no byte if it is empty
 pub record Plan : Type 0 where
   pub form : Form
+  pub subject : Subject
   pub processes : ℕ
   pub opening : List ℕ
 
@@ -163,6 +165,7 @@ band_bytes plan is_last band full =
       layout = layout_in plan.processes band is_last;
       is_last = is_last;
       opens = opens_before plan.opening full;
+      subject = plan.subject;
     })))
 
 -- what is written of full bands

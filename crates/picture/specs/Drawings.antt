@@ -6,8 +6,10 @@ use Rattle.markup.specs.declared.names.Key.TheVariants as key
 use Rattle.picture.specs.Bars.{bars, lane_name, point, words_from}
 use Rattle.columns.specs.{Lane, Layout, OverlappedRead, RunLine, Seen, State, TakenChange, Wording, bar_of, bit_text, capped, chain_ends_of, change_told, event_stands, knot_of, lane_in, place_told, saw_text, seen, settles_and_takes_in, stage_among, taken_in, tells_refusal, text_of, title_text, word_of}
 use Rattle.picture.specs.Signs.{down_by, moved_by, sign}
+use Rattle.picture.specs.Subjects.{has_history}
 use Rattle.picture.specs.Words.{queue_text, row_class}
 use Rattle.picture.specs.declared.bands.Band.{Band}
+use Rattle.picture.specs.declared.subjects.Subject.{Subject}
 use Rattle.picture.specs.declared.words.Stretch.{Stretch}
 
 -- a band, with lists for what its fields hold: its columns, what stood before them, and where its lanes lie
@@ -18,6 +20,7 @@ pub record SeenBand : Type 0 where
   pub layout : Layout
   pub is_last : Bool
   pub opens : List ℕ
+  pub subject : Subject
 
 abbrev pub seen_band : Band → SeenBand
 seen_band band = record {
@@ -27,6 +30,7 @@ seen_band band = record {
   layout = band.layout;
   is_last = band.is_last;
   opens = band.opens.items;
+  subject = band.subject;
 }
 
 -- what is drawn for each process below a number, ascending
@@ -95,12 +99,17 @@ abbrev pub opening_words : ℕ → List ℕ → List Shape
 opening_words knot [] = []
 opening_words knot (b ∷ words) = Label (codes "store") (point 62 (knot + 4)) (b ∷ words) ∷ []
 
+-- the name of the lowest lane, if it is a history
+abbrev pub history_name : Bool → ℕ → List Shape
+history_name true knot = Label (codes "name") (point 8 (knot + 3)) (codes "history") ∷ []
+history_name false knot = []
+
 -- the lane of the history without its lines
 abbrev pub chain_shapes : SeenBand → List Shape
 chain_shapes band =
     line_from (codes "ground") (point 8 (band.layout.chain - 3)) (point 1188 (band.layout.chain - 3))
-    ∷ Label (codes "name") (point 8 (knot_of band.layout + 3)) (codes "history")
-    ∷ (opening_words (knot_of band.layout) band.opens
+    ∷ (history_name (has_history band.subject) (knot_of band.layout)
+    ++ opening_words (knot_of band.layout) band.opens
     ++ chain_line (knot_of band.layout) (chain_ends_of band.before.places band.is_last band.layout.end band.columns))
 
 -- an arrow from a place to the lane of a process that is freed: its line, up to five pixels before its tip, and its tip

@@ -7,6 +7,7 @@ use Rattle.picture.specs.Bandings.{Bands, Item, Plan, band_bytes, bands_of, band
 use Rattle.columns.specs.{Column, Placing, RunLine, Seen, State, alone, seen, told_in}
 use Rattle.picture.specs.declared.page.Form.{Form}
 use Rattle.picture.specs.declared.page.Page.{Page}
+use Rattle.picture.specs.declared.subjects.Subject.{Subject}
 
 -- the lines of these columns, and of one that is not placed yet
 abbrev pub lines_of : List Column → Option Column → List (List ℕ)
@@ -35,6 +36,7 @@ picture_names = codes "svg" ∷ []
 -- a page, with lists for what its fields hold
 pub record SeenPage : Type 0 where
   pub form : Form
+  pub subject : Subject
   pub opens : List ℕ
   pub state : State
   pub before : State
@@ -49,6 +51,7 @@ pub record SeenPage : Type 0 where
 abbrev pub seen_page : Page → SeenPage
 seen_page page = record {
   form = page.form;
+  subject = page.subject;
   opens = page.opens.items;
   state = page.state;
   before = page.before;
@@ -65,6 +68,7 @@ seen_page page = record {
 abbrev pub page_holding : Plan → State → Option Seen → ℕ → Bands → SeenPage
 page_holding plan state pending last_at bands = record {
   form = plan.form;
+  subject = plan.subject;
   opens = opens_before plan.opening bands.full;
   state = state;
   before = (before_band plan.processes bands.full).0;

@@ -6,10 +6,12 @@ use Rattle.record.specs.plain_store.{Setup}
 use Rattle.markup.specs.{Said, entering_by, lowering, said_text, standing_by, telling_by}
 use Rattle.markup.specs.declared.names.Key.TheVariants as key
 use Rattle.markup.specs.declared.names.Tag.TheVariants as tag
-use Rattle.picture.specs.declared.constants.TheConstants.{LEGEND, PAGE_STYLE, PATTERNS, READS_LEGEND, SCRIPT, STYLE}
+use Rattle.picture.specs.Subjects.{legend_of, list_begun, script_of, shown_by}
+use Rattle.picture.specs.declared.constants.TheConstants.{PAGE_STYLE, PATTERNS, STYLE}
 use Rattle.picture.specs.declared.reads.Reads.{Reads}
 use Rattle.picture.specs.declared.reads.Reads.TheVariants.{Hidden, Shown}
-use Rattle.picture.specs.declared.sheets.TheConstants.{DESCRIPTION}
+use Rattle.picture.specs.declared.subjects.Subject.{Subject}
+use Rattle.picture.specs.declared.subjects.Subject.TheVariants as subject
 
 -- a number, of which what 64 bits do not hold is not told apart
 abbrev pub held_in_64 : ℕ → ℕ
@@ -37,11 +39,7 @@ heading_of s =
 abbrev pub paper_of : ℕ → List ℕ
 paper_of processes = cond (nat_lt 10 processes) (codes "\n@page{size:A4 portrait;margin:10mm}\n") (codes "\n@page{size:A4 landscape;margin:10mm}\n")
 
--- the legend, and its height
-abbrev pub legend_of : Reads → List ℕ
-legend_of Hidden = LEGEND.now
-legend_of Shown = READS_LEGEND.now
-
+-- the height of the legend
 abbrev pub height_of_legend : Reads → ℕ
 height_of_legend Hidden = 104
 height_of_legend Shown = 122
@@ -51,8 +49,8 @@ abbrev pub legend_tag : Reads → List ℕ
 legend_tag reads = entering_by tag.Svg (says ((key.ViewBox, view_of (height_of_legend reads)) ∷ (key.Role, codes "img") ∷ (key.Label, codes "Legend") ∷ []))
 
 -- and that with what the legend shows
-abbrev pub legend_front : Reads → List ℕ
-legend_front reads = codes "\n" ++ legend_tag reads ++ codes "\n" ++ (PATTERNS.now ++ codes "\n") ++ legend_of reads
+abbrev pub legend_front : Subject → Reads → List ℕ
+legend_front subject reads = codes "\n" ++ legend_tag reads ++ codes "\n" ++ (PATTERNS.now ++ codes "\n") ++ legend_of subject reads
 
 -- a line of the scenario in the list of them, and all of them with their end
 abbrev pub item_of : List ℕ → List ℕ
@@ -75,17 +73,23 @@ page_begun processes heading =
     ++ codes "</style></head><body>\n"
 
 -- what the body of a page has before its bands
-abbrev pub body_front : List ℕ → List ℕ → Reads → List ℕ
-body_front heading printed reads =
+abbrev pub body_front : Subject → List ℕ → List ℕ → Reads → List ℕ
+body_front subject heading printed reads =
     telling_by tag.Heading [] heading
-    ++ legend_front reads
-    ++ codes "\n</svg>\n<details open><summary>The scenario</summary><ol>\n"
+    ++ legend_front subject reads
+    ++ list_begun subject
     ++ list_of printed
     ++ codes "</ol></details>\n"
 
--- what a page has before its bands
+-- what a page has before its bands: that of a run or of a record, and that of a trace under a heading
+abbrev pub page_front_by : Subject → ℕ → List ℕ → List ℕ → Reads → List ℕ
+page_front_by subject processes heading printed reads = page_begun processes heading ++ body_front subject heading printed reads
+
 abbrev pub page_front : Setup → List ℕ → Reads → List ℕ
-page_front s printed reads = page_begun s.processes (heading_of s) ++ body_front (heading_of s) printed reads
+page_front s = page_front_by subject.Run s.processes (heading_of s)
+
+abbrev pub trace_page_front : ℕ → List ℕ → List ℕ → List ℕ
+trace_page_front processes heading printed = page_front_by subject.Trace processes heading printed Hidden
 
 -- the slider, which shows the opening store at first
 abbrev pub slider_of : List ℕ → List ℕ
@@ -93,13 +97,19 @@ slider_of opening =
     codes "<input" ++ says ((key.Id, codes "at") ∷ (key.Type, codes "range") ∷ (key.Least, codes "0") ∷ (key.Value, codes "0") ∷ (key.Label, codes "Line of the run") ∷ (key.Store, opening) ∷ []) ++ codes ">"
 
 -- what it has behind them, which begins with the slider
-abbrev pub page_back : List ℕ → List ℕ
-page_back opening =
+abbrev pub page_back_by : Subject → List ℕ → List ℕ
+page_back_by subject opening =
     codes "<div id=\"now\"><div>"
     ++ slider_of opening
     ++ codes "<output id=\"said\" for=\"at\"></output></div></div>\n<script>"
-    ++ SCRIPT.now
+    ++ script_of subject
     ++ codes "</script>\n</body></html>\n"
+
+abbrev pub page_back : List ℕ → List ℕ
+page_back = page_back_by subject.Run
+
+abbrev pub trace_page_back : List ℕ
+trace_page_back = page_back_by subject.Trace []
 
 -- how high one picture is, whose bands' heights come to so much
 abbrev pub picture_height : ℕ → Reads → ℕ
@@ -117,11 +127,11 @@ svg_front height = codes "<?xml version=\"1.0\" encoding=\"UTF-8\"?>\n" ++ svg_t
 abbrev pub title_tag : List ℕ → List ℕ
 title_tag heading = telling_by tag.Title (says ((key.Id, codes "t") ∷ [])) heading
 
-abbrev pub description_tag : List ℕ
-description_tag = telling_by tag.Desc (says ((key.Id, codes "d") ∷ [])) DESCRIPTION.now
+abbrev pub description_tag : Subject → List ℕ
+description_tag subject = telling_by tag.Desc (says ((key.Id, codes "d") ∷ [])) (shown_by subject)
 
-abbrev pub titles_of : List ℕ → List ℕ
-titles_of heading = title_tag heading ++ codes "\n" ++ description_tag
+abbrev pub titles_of : Subject → List ℕ → List ℕ
+titles_of subject heading = title_tag heading ++ codes "\n" ++ description_tag subject
 
 -- its ground, and its heading
 abbrev pub ground_tag : ℕ → List ℕ
@@ -134,16 +144,28 @@ abbrev pub ground_of : ℕ → List ℕ → List ℕ
 ground_of height heading = ground_tag height ++ heading_tag heading ++ codes "\n"
 
 -- what one picture has before its bands
-abbrev pub picture_front : Setup → ℕ → Reads → List ℕ
-picture_front s bands reads =
+abbrev pub picture_front_by : Subject → List ℕ → ℕ → Reads → List ℕ
+picture_front_by subject heading bands reads =
     svg_front (picture_height bands reads)
-    ++ titles_of (heading_of s)
+    ++ titles_of subject heading
     ++ codes "\n<style>\n"
     ++ STYLE.now
     ++ codes "\n</style>\n"
     ++ (PATTERNS.now ++ codes "\n")
-    ++ ground_of (picture_height bands reads) (heading_of s)
+    ++ ground_of (picture_height bands reads) heading
+
+abbrev pub picture_front : Setup → ℕ → Reads → List ℕ
+picture_front s = picture_front_by subject.Run (heading_of s)
+
+abbrev pub trace_picture_front : List ℕ → ℕ → List ℕ
+trace_picture_front heading bands = picture_front_by subject.Trace heading bands Hidden
 
 -- what it has behind them: the legend
+abbrev pub picture_back_by : Subject → ℕ → Reads → List ℕ
+picture_back_by subject bands reads = lowering (held_in_64 (bands + 34)) ++ legend_of subject reads ++ codes "\n</g></svg>\n"
+
 abbrev pub picture_back : ℕ → Reads → List ℕ
-picture_back bands reads = lowering (held_in_64 (bands + 34)) ++ legend_of reads ++ codes "\n</g></svg>\n"
+picture_back = picture_back_by subject.Run
+
+abbrev pub trace_picture_back : ℕ → List ℕ
+trace_picture_back bands = picture_back_by subject.Trace bands Hidden

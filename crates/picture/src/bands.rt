@@ -5,6 +5,7 @@ ghost use Rattle.markup.specs.{reading};
 ghost use Rattle.columns.specs.{seen};
 ghost use Rattle.picture.specs.Drawings.{band_shapes, column_shapes, for_each, lane_shapes, lane_words, links, seen_band};
 
+use crate::subjects::Subject;
 use columns::{Column, Layout, State};
 use markup::Markup;
 use std::alloc::{AllocError, Global};
@@ -21,6 +22,7 @@ pub(crate) struct Band {
     pub is_last: bool,
     /// What the store opens with, in the first band.
     pub opens: Vec<u8>,
+    pub subject: Subject,
 }
 
 impl Band {

@@ -98,6 +98,63 @@ window.addEventListener('hashchange',function(){named(true);});\n\
 named(location.hash.length>1);\n\
 })();";
 
+/// The same for a trace, which has no store and no line of processes.
+pub(crate) const TRACE_SCRIPT: &str = "(function(){\n\
+var marks=[].slice.call(document.querySelectorAll('g.m')),at=document.getElementById('at'),\n\
+said=document.getElementById('said'),list=document.querySelector('ol'),items=[].slice.call(list.children),stores=[],queues=[],events=[],last=0,\n\
+store=at.getAttribute('data-s'),queue='',cur=document.createElementNS('http://www.w3.org/2000/svg','path'),k=-1,now=0,\n\
+lines=items.filter(function(item){return !/^[ \\t]*(#|$)/.test(item.textContent);});\n\
+marks.forEach(function(m){var s=m.getAttribute('data-s'),q=m.getAttribute('data-q'),t=text(m);\n\
+if(s!==null)store=s;if(q!==null)queue=q;stores.push(store);queues.push(queue);\n\
+if(/^[0-9]/.test(t))last=parseInt(t,10);events.push(last);});\n\
+cur.setAttribute('class','cur');\n\
+function text(m){return m.querySelector('title').textContent;}\n\
+function place(m){return +m.getAttribute('data-x');}\n\
+function source(m){return +m.getAttribute('data-l');}\n\
+function by(m){return lines[lines.length-1+source(m)-source(marks[marks.length-1])];}\n\
+function spelled(item){var words=item.textContent;return (words[0]==='('?'':items.indexOf(item)+1+': ')+words;}\n\
+function line(name,value){var b=document.createElement('b');b.textContent=name;said.appendChild(b);\n\
+said.appendChild(document.createTextNode(value+'\\n'));}\n\
+function cursor(svg,x){cur.setAttribute('d','M'+x+' 0V'+svg.viewBox.baseVal.height);svg.appendChild(cur);}\n\
+function go(n,look){if(n<0||n>=marks.length)return;if(k>=0){marks[k].classList.remove('on');\n\
+by(marks[k]).classList.remove('on');by(marks[k]).removeAttribute('aria-current');}\n\
+k=n;now=events[n];at.value=n;var m=marks[n],svg=m.ownerSVGElement,item=by(m);\n\
+m.classList.add('on');item.classList.add('on');item.setAttribute('aria-current','true');cursor(svg,place(m));\n\
+list.scrollTop=item.offsetTop-list.offsetTop-40;\n\
+said.textContent='';line('told',text(m));line('by line',spelled(item));at.setAttribute('aria-valuetext',text(m));\n\
+if(look)show(svg,place(m));}\n\
+function show(svg,x){var r=svg.getBoundingClientRect(),to=x*r.width/1200;\n\
+if(r.top<list.getBoundingClientRect().bottom||r.bottom>innerHeight-150)svg.scrollIntoView({block:'center'});\n\
+if(to<frame.scrollLeft+70||to>frame.scrollLeft+frame.clientWidth-40)frame.scrollLeft=to-frame.clientWidth/2;hold();}\n\
+function event(e){var n=0,m,then,x;e=Math.max(0,Math.min(e,last));\n\
+while(n<marks.length-1&&!(events[n+1]>e))n++;while(n>0&&events[n-1]===e)n--;go(n,true);\n\
+if(events[n]===e)return;now=e;m=marks[n];then=marks[n+1];x=place(m);\n\
+if(then&&then.ownerSVGElement===m.ownerSVGElement)x+=(place(then)-x)*(e-events[n])/(events[n+1]-events[n]);\n\
+cursor(m.ownerSVGElement,Math.round(x));show(m.ownerSVGElement,x);line('event',e+' has no mark: it is behind that line');\n\
+at.setAttribute('aria-valuetext','event '+e+', behind '+text(m));}\n\
+at.max=marks.length-1;at.addEventListener('input',function(){go(+at.value,true);});\n\
+at.addEventListener('keydown',function(k){var by={ArrowLeft:-1,ArrowRight:1}[k.key];\n\
+if(by){k.preventDefault();event(now+by);}});\n\
+marks.forEach(function(m,n){m.addEventListener('mouseenter',function(){go(n);});\n\
+m.addEventListener('click',function(){go(n);at.focus();history.replaceState(null,'','#e'+events[n]);});});\n\
+function named(look){var n=parseInt(location.hash.replace(/^#e?/,''),10);if(n>=0)event(n);else go(0,look);}\n\
+function framed(svgs){var f=document.createElement('div');f.className='frame';\n\
+svgs[0].parentNode.insertBefore(f,svgs[0]);svgs.forEach(function(svg){f.appendChild(svg);});return f;}\n\
+var bands=[].slice.call(document.querySelectorAll('.band')),frame=framed(bands),ends=new Map(),from=0,\n\
+names=frame.querySelectorAll('.lane,.thin,.name');\n\
+names.forEach(function(name){name.parentNode.appendChild(name);});\n\
+framed([document.querySelector('svg')]);\n\
+marks.forEach(function(m,n){ends.set(m.ownerSVGElement,events[n]);\n\
+if(/^[0-9]/.test(text(m))&&events[n]!==events[n-1])m.id='e'+events[n];});\n\
+bands.forEach(function(band,n){var h=document.createElement('h2'),to=ends.get(band)||0;\n\
+h.textContent='Part '+(n+1)+': events '+Math.min(from,to)+' to '+to;frame.insertBefore(h,band);from=to+1;});\n\
+function hold(){var moved='translate('+Math.round(frame.scrollLeft*1200/bands[0].getBoundingClientRect().width)+' 0)';\n\
+names.forEach(function(name){name.setAttribute('transform',moved);});}\n\
+frame.addEventListener('scroll',hold);\n\
+window.addEventListener('hashchange',function(){named(true);});\n\
+named(location.hash.length>1);\n\
+})();";
+
 /// The patterns of the bars.
 pub(crate) const PATTERNS: &str =
     "<defs><pattern id=\"doorway\" width=\"6\" height=\"6\" patternUnits=\"userSpaceOnUse\"><rect width=\"6\" height=\"6\" fill=\"#dceefb\"/><path d=\"M-1 1l2 -2M0 6l6 -6M5 7l2 -2\" style=\"stroke:#5aa5d6\"/></pattern><pattern id=\"waiting\" width=\"6\" height=\"6\" patternUnits=\"userSpaceOnUse\"><rect width=\"6\" height=\"6\" fill=\"#fff1cf\"/><circle cx=\"3\" cy=\"3\" r=\"1.1\" fill=\"#b57a10\"/></pattern><pattern id=\"settling\" width=\"6\" height=\"6\" patternUnits=\"userSpaceOnUse\"><rect width=\"6\" height=\"6\" fill=\"#fde0d4\"/><path d=\"M0 0l6 6M6 0l-6 6\" style=\"stroke:#d0592f\"/></pattern></defs>";
@@ -160,6 +217,33 @@ pub(crate) const LEGEND: &str = "<text class=\"name\" x=\"8\" y=\"19\">stages</t
 <text class=\"key\" x=\"752\" y=\"91\">number 0 of the history, reply done</text>\n\
 <text class=\"key strong\" x=\"984\" y=\"91\">380</text>\n\
 <text class=\"key\" x=\"1012\" y=\"91\">events between two columns</text>";
+
+/// The same for a trace.
+pub(crate) const TRACE_LEGEND: &str = "<text class=\"name\" x=\"8\" y=\"19\">stages</text>\n\
+<path class=\"idle\" d=\"M52 16L78 16\"/>\n\
+<text class=\"key\" x=\"84\" y=\"19\">idle</text>\n\
+<rect class=\"doorway\" x=\"126\" y=\"9\" width=\"26\" height=\"14\"/>\n\
+<text class=\"key\" x=\"158\" y=\"19\">doorway: gets in line</text>\n\
+<rect class=\"waiting\" x=\"314\" y=\"9\" width=\"26\" height=\"14\"/>\n\
+<text class=\"key\" x=\"346\" y=\"19\">waits</text>\n\
+<rect class=\"inside\" x=\"408\" y=\"4\" width=\"26\" height=\"24\"/>\n\
+<text class=\"key\" x=\"440\" y=\"19\">inside the critical section</text>\n\
+<rect class=\"leaving\" x=\"638\" y=\"12\" width=\"26\" height=\"8\"/>\n\
+<text class=\"key\" x=\"670\" y=\"19\">leaving</text>\n\
+<text class=\"name\" x=\"8\" y=\"45\">signs</text>\n\
+<path class=\"sign\" d=\"M54 37l8 5l-8 5z\"/>\n\
+<text class=\"key\" x=\"68\" y=\"45\">call</text>\n\
+<rect class=\"sign\" x=\"111\" y=\"38\" width=\"7\" height=\"8\"/>\n\
+<text class=\"key\" x=\"124\" y=\"45\">answer</text>\n\
+<path class=\"no-sign\" d=\"M188 34l8 14h-16z\"/>\n\
+<text class=\"key\" x=\"202\" y=\"45\">a line of the verdict</text>\n\
+<rect class=\"shade\" x=\"354\" y=\"34\" width=\"24\" height=\"16\"/>\n\
+<text class=\"key\" x=\"383\" y=\"45\">a process is inside</text>\n\
+<path class=\"far\" d=\"M521 42L545 42\"/>\n\
+<text class=\"key\" x=\"550\" y=\"45\">more entries than pixels</text>\n\
+<text class=\"name\" x=\"8\" y=\"69\">words</text>\n\
+<text class=\"key strong\" x=\"52\" y=\"69\">380</text>\n\
+<text class=\"key\" x=\"80\" y=\"69\">entries between two columns</text>";
 
 /// The same, with what shows a read that a write overlapped.
 pub(crate) const READS_LEGEND: &str = "<text class=\"name\" x=\"8\" y=\"19\">stages</text>\n\

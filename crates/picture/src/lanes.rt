@@ -3,7 +3,8 @@ ghost use Rattle.std.specs.Prelude.{◌≡◌, [], ◌∷◌, map, OnOk};
 ghost use Rattle.picture.specs.Adding.{Draws};
 ghost use Rattle.markup.specs.{reading};
 ghost use Rattle.columns.specs.{knot_of, seen};
-ghost use Rattle.picture.specs.Drawings.{axis, axis_line, axis_up_to, chain_shapes, first_inside, gap_words, inside_since, opening_words, seen_band, shade_of, shade_up_to, shades, tick};
+ghost use Rattle.picture.specs.Drawings.{axis, axis_line, axis_up_to, chain_shapes, first_inside, gap_words, history_name, inside_since, opening_words, seen_band, shade_of, shade_up_to, shades, tick};
+ghost use Rattle.picture.specs.Subjects.{has_history};
 
 use crate::bands::Band;
 use columns::{AXIS, Column, DIGIT, LEFT, RIGHT, room};
@@ -92,7 +93,7 @@ impl Band {
             Point::at(8, ground),
             Point::at(u32::from(RIGHT), ground),
         )?;
-        markup.label("name", Point::at(8, knot + 3), b"history")?;
+        self.draw_name(markup)?;
         self.draw_opening(markup)?;
         let ends = self
             .layout
@@ -102,6 +103,17 @@ impl Band {
         };
         let from = Point::at(u32::from(from), knot);
         markup.line("chain", from, Point::at(u32::from(to), knot))
+    }
+
+    /// Draws the name of the lowest lane, if it is a history.
+    fn draw_name(&self, markup: &mut Markup) -> Result<(), AllocError>
+        ensures draws { Draws result markup.old markup.new (history_name (has_history self.now.subject) (knot_of self.now.layout)) }
+        ensures read { OnOk result (reading markup.new ≡ reading markup.old) }
+    {
+        if !self.subject.has_history() {
+            return Ok(());
+        }
+        markup.label("name", Point::at(8, self.layout.knot() + 3), b"history")
     }
 
     /// Draws what the store opens with.

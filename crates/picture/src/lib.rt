@@ -1,4 +1,4 @@
-//! The picture of a run: what its lines tell, drawn as columns in bands, one below the other, from which the lines are
+//! The picture of a run or of a trace: what its lines tell, drawn as columns in bands, one below the other, from which the lines are
 //! read back. One band is held at a time.
 #![tactic(auto)]
 
@@ -13,6 +13,8 @@ mod page;
 mod reads;
 mod sheets;
 mod signs;
+mod subjects;
+mod trace_sheets;
 mod words;
 
 pub use columns::{OverlappedRead, RunLine, Saying, TakenChange, stages_are_the_records};
@@ -21,3 +23,5 @@ pub use markup::Markup;
 pub use page::{Form, Page};
 pub use reads::Reads;
 pub use sheets::{FIRST_BAND, page_end, page_head, picture_end, picture_head};
+pub use subjects::Subject;
+pub use trace_sheets::{trace_page_end, trace_page_head, trace_picture_end, trace_picture_head};

@@ -9,6 +9,7 @@ ghost use Rattle.picture.specs.declared.page.Form.TheVariants as form_variants;
 
 use crate::bands::Band;
 use crate::sheets::view;
+use crate::subjects::Subject;
 use columns::{Column, Layout, OverlappedRead, Placing, RunLine, State, cut, stretch};
 use markup::{Key, Markup, Tag, class, words};
 use std::alloc::{AllocError, Global};
@@ -22,11 +23,12 @@ pub enum Form {
     Picture(u64),
 }
 
-/// The picture of a run so far: the columns of the band that is begun, and what stands before it.
+/// The picture of a run or of a trace so far: the columns of the band that is begun, and what stands before it.
 #[derive(Drop)]
 pub struct Page {
     alloc: Global,
     form: Form,
+    subject: Subject,
     opens: Vec<u8>,
     state: State,
     before: State,
@@ -41,8 +43,14 @@ pub struct Page {
 
 impl Page {
     /// No line was told; `opening` is the opening store, if it is not empty.
-    pub fn new(alloc: Global, form: Form, processes: u8, opening: &[u8]) -> Result<Page, AllocError>
-        ensures page { IfOk result (λ page. seen_page page ≡ page_of (record { form = form; processes = processes; opening = opening.now }) []) }
+    pub fn new(
+        alloc: Global,
+        form: Form,
+        subject: Subject,
+        processes: u8,
+        opening: &[u8],
+    ) -> Result<Page, AllocError>
+        ensures page { IfOk result (λ page. seen_page page ≡ page_of (record { form = form; subject = subject; processes = processes; opening = opening.now }) []) }
         ensures lines { IfOk result (λ page. held page ≡ []) }
         ensures stages { IfOk result (λ page. stages_kept page ≡ nothing_told) }
         ensures processes { IfOk result (λ page. page.state.processes ≡ processes) }
@@ -52,6 +60,7 @@ impl Page {
         Ok(Page {
             alloc,
             form,
+            subject,
             state,
             before: state,
             before_at: 0,
@@ -207,6 +216,7 @@ impl Page {
             layout,
             is_last,
             opens: std::mem::replace(&mut self.opens, Vec::new(self.alloc)),
+            subject: self.subject,
         };
         self.bands = self.bands.saturating_add(1);
         let markup = self.markup_of(&band)?;

@@ -3,6 +3,7 @@ ghost use Rattle.std.specs.Prelude.{◌≡◌, OnOk};
 ghost use Rattle.picture.specs.Adding.{Draws};
 ghost use Rattle.markup.specs.{reading};
 ghost use Rattle.picture.specs.Drawings.{open_shapes, read_shapes, seen_band};
+ghost use Rattle.picture.specs.Sheets.{height_of_legend};
 
 use crate::bands::Band;
 use crate::signs::below;
@@ -15,6 +16,16 @@ use std::alloc::{AllocError, Global};
 pub enum Reads {
     Hidden,
     Shown,
+}
+
+/// The height of the legend.
+pub(crate) fn legend_height(reads: Reads) -> u64
+    ensures { result ≡ height_of_legend reads }
+{
+    match reads {
+        Reads::Hidden => 104,
+        Reads::Shown => 122,
+    }
 }
 
 /// Draws the words of a read. Its title is no line of the run.

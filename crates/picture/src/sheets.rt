@@ -5,10 +5,11 @@ ghost use Rattle.std.specs.String.{string_bytes};
 ghost use Rattle.markup.specs.{lines_in, opens_in, reading};
 ghost use Rattle.picture.specs.Pages.{page_names, picture_names};
 ghost use Rattle.picture.specs.declared.constants.TheConstants.{PATTERNS, STYLE};
-ghost use Rattle.picture.specs.Sheets.{body_front, ground_of, heading_of, height_of_legend, item_of, legend_front, legend_of, legend_tag, list_of, page_back, page_begun, page_front, paper_of, picture_back, picture_front, plural_of, slider_of, styles_of, svg_front, svg_tag, titles_of, view_of};
+ghost use Rattle.picture.specs.Sheets.{body_front, ground_of, heading_of, item_of, legend_front, legend_tag, list_of, page_back, page_back_by, page_begun, page_front, page_front_by, paper_of, picture_back, picture_back_by, picture_front, picture_front_by, plural_of, slider_of, styles_of, svg_front, svg_tag, titles_of, view_of};
 
-use crate::constants::{LEGEND, PAGE_STYLE, PATTERNS, READS_LEGEND, SCRIPT, STYLE};
-use crate::reads::Reads;
+use crate::constants::{PAGE_STYLE, PATTERNS, STYLE};
+use crate::reads::{Reads, legend_height};
+use crate::subjects::Subject;
 use bstr::ByteSlice;
 use markup::{Key, Markup, Tag, class, number, words};
 use record::Setup;
@@ -30,27 +31,34 @@ pub fn page_head(
 {
     let heading = heading(alloc, setup)?;
     let mut markup = Markup::new(alloc);
-    add_page_front(setup, heading.as_bytes(), printed, reads, &mut markup)?;
+    add_page_front(
+        Subject::Run,
+        setup.processes,
+        heading.as_bytes(),
+        printed,
+        reads,
+        &mut markup,
+    )?;
     Ok(markup)
 }
 
-/// Adds the same to fresh markup. It is a function of its own, since values that are dropped at each way out of a function are
-/// dear to prove.
-fn add_page_front(
-    setup: &Setup,
+/// Adds the same to fresh markup, under this heading. It is a function of its own, since values that are dropped at each way
+/// out of a function are dear to prove.
+pub(crate) fn add_page_front(
+    subject: Subject,
+    processes: u8,
     heading: &[u8],
     printed: &[u8],
     reads: Reads,
     markup: &mut Markup,
 ) -> Result<(), AllocError>
-    requires heading { heading.now ≡ heading_of setup.now }
     requires fresh { markup.old ≡ [] }
-    ensures draws { OnOk result (markup.new ≡ page_front setup.now printed.now reads) }
+    ensures draws { OnOk result (markup.new ≡ page_front_by subject processes heading.now printed.now reads) }
     ensures lines { OnOk result (lines_in markup.new ≡ []) }
     ensures elements { OnOk result (opens_in markup.new (Some []) ≡ Some page_names) }
 {
-    begin_page(setup.processes, heading, markup)?;
-    begin_body(heading, printed, reads, markup)
+    begin_page(processes, heading, markup)?;
+    begin_body(subject, heading, printed, reads, markup)
 }
 
 /// Adds what a page has before its body to fresh markup, and begins the body.
@@ -71,19 +79,20 @@ fn begin_page(processes: u8, heading: &[u8], markup: &mut Markup) -> Result<(), 
 
 /// Adds what the body of a page has before its bands.
 fn begin_body(
+    subject: Subject,
     heading: &[u8],
     printed: &[u8],
     reads: Reads,
     markup: &mut Markup,
 ) -> Result<(), AllocError>
-    ensures draws { OnOk result (markup.new ≡ markup.old ++ body_front heading.now printed.now reads) }
+    ensures draws { OnOk result (markup.new ≡ markup.old ++ body_front subject heading.now printed.now reads) }
     ensures lines { OnOk result (lines_in markup.new ≡ lines_in markup.old) }
     ensures elements { OnOk result (opens_in markup.old (Some []) ≡ Some page_names
         → opens_in markup.new (Some []) ≡ Some page_names) }
 {
     markup.tell(Tag::Heading, &[], heading)?;
-    begin_legend(reads, markup)?;
-    markup.frame("\n</svg>\n<details open><summary>The scenario</summary><ol>\n")?;
+    begin_legend(subject, reads, markup)?;
+    subject.begin_list(markup)?;
     list_lines(printed, markup)?;
     markup.frame("</ol></details>\n")
 }
@@ -129,15 +138,15 @@ fn add_paper(processes: u8, markup: &mut Markup) -> Result<(), AllocError>
 }
 
 /// Begins the picture of the legend in a page: what it shows, without its end.
-fn begin_legend(reads: Reads, markup: &mut Markup) -> Result<(), AllocError>
-    ensures draws { OnOk result (markup.new ≡ markup.old ++ legend_front reads) }
+fn begin_legend(subject: Subject, reads: Reads, markup: &mut Markup) -> Result<(), AllocError>
+    ensures draws { OnOk result (markup.new ≡ markup.old ++ legend_front subject reads) }
     ensures read { Begins result markup.old markup.new (codes "svg") }
 {
     markup.constant("\n")?;
     enter_legend(reads, markup)?;
     markup.constant("\n")?;
     add_patterns(markup)?;
-    add_legend(reads, markup)
+    subject.add_legend(reads, markup)
 }
 
 /// The tag of that picture.
@@ -154,27 +163,6 @@ fn enter_legend(reads: Reads, markup: &mut Markup) -> Result<(), AllocError>
             words(Key::Label, b"Legend"),
         ],
     )
-}
-
-/// What signs, bars and words mean.
-fn add_legend(reads: Reads, markup: &mut Markup) -> Result<(), AllocError>
-    ensures draws { OnOk result (markup.new ≡ markup.old ++ legend_of reads) }
-    ensures read { OnOk result (reading markup.new ≡ reading markup.old) }
-{
-    match reads {
-        Reads::Hidden => markup.constant(LEGEND),
-        Reads::Shown => markup.constant(READS_LEGEND),
-    }
-}
-
-/// The height of the legend.
-fn legend_height(reads: Reads) -> u64
-    ensures { result ≡ height_of_legend reads }
-{
-    match reads {
-        Reads::Hidden => 104,
-        Reads::Shown => 122,
-    }
 }
 
 /// Lists the lines of the printed scenario, and its end.
@@ -204,21 +192,25 @@ pub fn page_end(alloc: Global, opening: &[u8]) -> Result<Markup, AllocError>
     ensures elements { IfOk result (λ markup. opens_in markup (Some page_names) ≡ Some []) }
 {
     let mut markup = Markup::new(alloc);
-    add_page_end(opening, &mut markup)?;
+    add_page_end(Subject::Run, opening, &mut markup)?;
     Ok(markup)
 }
 
 /// Adds the same to fresh markup.
-fn add_page_end(opening: &[u8], markup: &mut Markup) -> Result<(), AllocError>
+pub(crate) fn add_page_end(
+    subject: Subject,
+    opening: &[u8],
+    markup: &mut Markup,
+) -> Result<(), AllocError>
     requires fresh { markup.old ≡ [] }
-    ensures draws { OnOk result (markup.new ≡ page_back opening.now) }
+    ensures draws { OnOk result (markup.new ≡ page_back_by subject opening.now) }
     ensures lines { OnOk result (lines_in markup.new ≡ []) }
     ensures elements { OnOk result (opens_in markup.new (Some page_names) ≡ Some []) }
 {
     markup.frame("<div id=\"now\"><div>")?;
     add_slider(opening, markup)?;
     markup.frame("<output id=\"said\" for=\"at\"></output></div></div>\n<script>")?;
-    markup.frame(SCRIPT)?;
+    subject.add_script(markup)?;
     markup.frame("</script>\n</body></html>\n")
 }
 
@@ -250,20 +242,20 @@ pub fn picture_head(
 {
     let heading = heading(alloc, setup)?;
     let mut markup = Markup::new(alloc);
-    add_picture_front(heading.as_bytes(), bands, reads, &mut markup)?;
+    add_picture_front(Subject::Run, heading.as_bytes(), bands, reads, &mut markup)?;
     Ok(markup)
 }
 
 /// Adds the same to fresh markup, under this heading.
-fn add_picture_front(
+pub(crate) fn add_picture_front(
+    subject: Subject,
     heading: &[u8],
     bands: u64,
     reads: Reads,
     markup: &mut Markup,
 ) -> Result<(), AllocError>
     requires fresh { markup.old ≡ [] }
-    ensures draws { OnOk result ((setup : _) → heading.now ≡ heading_of setup
-        → markup.new ≡ picture_front setup bands reads) }
+    ensures draws { OnOk result (markup.new ≡ picture_front_by subject heading.now bands reads) }
     ensures lines { OnOk result (lines_in markup.new ≡ []) }
     ensures elements { OnOk result (opens_in markup.new (Some []) ≡ Some picture_names) }
 {
@@ -271,7 +263,7 @@ fn add_picture_front(
         .saturating_add(legend_height(reads))
         .saturating_add(FIRST_BAND + 8);
     begin_picture(height, markup)?;
-    add_titles(heading, markup)?;
+    add_titles(subject, heading, markup)?;
     markup.frame("\n<style>\n")?;
     add_style(markup)?;
     markup.frame("\n</style>\n")?;
@@ -316,13 +308,13 @@ fn enter_picture(height: u64, markup: &mut Markup) -> Result<(), AllocError>
 }
 
 /// The title of one picture, and what it shows.
-fn add_titles(heading: &[u8], markup: &mut Markup) -> Result<(), AllocError>
-    ensures draws { OnOk result (markup.new ≡ markup.old ++ titles_of heading.now) }
+fn add_titles(subject: Subject, heading: &[u8], markup: &mut Markup) -> Result<(), AllocError>
+    ensures draws { OnOk result (markup.new ≡ markup.old ++ titles_of subject heading.now) }
     ensures read { OnOk result (reading markup.new ≡ reading markup.old) }
 {
     markup.tell(Tag::Title, &[words(Key::Id, b"t")], heading)?;
     markup.constant("\n")?;
-    markup.tell(Tag::Desc, &[words(Key::Id, b"d")], DESCRIPTION)
+    markup.tell(Tag::Desc, &[words(Key::Id, b"d")], subject.description())
 }
 
 /// The ground of one picture of this height, and its heading.
@@ -346,20 +338,30 @@ fn add_ground(height: u64, heading: &[u8], markup: &mut Markup) -> Result<(), Al
     markup.constant("\n")
 }
 
-/// What a picture shows.
-const DESCRIPTION: &[u8] =
-    b"A lane for each process, time to the right in events. A bar is the stage of the process. Each mark has its event number. The lowest lane is the one history of the commands taken.";
-
 /// What one picture has behind its bands, whose heights come to so much.
 pub fn picture_end(alloc: Global, bands: u64, reads: Reads) -> Result<Markup, AllocError>
     ensures draws { IfOk result (λ markup. markup ≡ picture_back bands reads) }
     ensures lines { IfOk result (λ markup. lines_in markup ≡ []) }
     ensures elements { IfOk result (λ markup. opens_in markup (Some picture_names) ≡ Some []) }
 {
+    end_picture(alloc, Subject::Run, bands, reads)
+}
+
+/// What one picture of a subject has behind its bands.
+pub(crate) fn end_picture(
+    alloc: Global,
+    subject: Subject,
+    bands: u64,
+    reads: Reads,
+) -> Result<Markup, AllocError>
+    ensures draws { IfOk result (λ markup. markup ≡ picture_back_by subject bands reads) }
+    ensures lines { IfOk result (λ markup. lines_in markup ≡ []) }
+    ensures elements { IfOk result (λ markup. opens_in markup (Some picture_names) ≡ Some []) }
+{
     let y = bands.saturating_add(FIRST_BAND);
     let mut markup = Markup::new(alloc);
     markup.lower(y)?;
-    add_legend(reads, &mut markup)?;
+    subject.add_legend(reads, &mut markup)?;
     markup.frame("\n</g></svg>\n")?;
     Ok(markup)
 }

@@ -4,7 +4,7 @@ ghost use Rattle.picture.specs.Adding.{Draws};
 ghost use Rattle.markup.specs.{reading};
 ghost use Rattle.picture.specs.Signs.{down_by, mark_sign, moved_by, settled_sign, sign, taken_sign};
 
-use columns::{DIGIT, RunLine, Saying, room};
+use columns::{DIGIT, RunLine, Saying, drawn_like, room};
 use markup::{Markup, Point};
 use record::Mark;
 use std::alloc::{AllocError, Global};
@@ -23,6 +23,9 @@ pub(crate) fn draw_sign(
         Saying::Marked { mark, change, .. } => {
             draw_mark(alloc, mark, change.is_some(), at, markup)
         }
+        Saying::LockMarked { mark, .. } => {
+            draw_mark(alloc, &drawn_like(*mark), false, at, markup)
+        }
         Saying::Refused { .. } => {
             let rest = "a6 6 0 1 0 12 0a6 6 0 1 0 -12 0m2 4l8 -8";
             markup.path("no-sign", moved(at, 6, 0), rest)
@@ -32,9 +35,10 @@ pub(crate) fn draw_sign(
             process: Some(_),
             ..
         } => markup.path("no-sign", moved(at, 0, 8), "l8 14h-16z"),
-        Saying::Judged { process: None, .. } | Saying::Shown(_) | Saying::Ended { .. } => {
-            markup.block("sign", moved(at, 2, 5), 4, 10)
-        }
+        Saying::Judged { process: None, .. }
+        | Saying::Shown(_)
+        | Saying::Ended { .. }
+        | Saying::LockEnded { .. } => markup.block("sign", moved(at, 2, 5), 4, 10),
     }
 }
 

@@ -1,6 +1,6 @@
 use Rattle.std.proofs.Common.{ℕ, ◌+◌, ◌≡◌, ◌∙◌, ap}
 use Rattle.markup.specs.{opens_in, reading, with_tags}
-use Rattle.picture.specs.{ground_of, held_in_64, picture_height, svg_front, titles_of}
+use Rattle.picture.specs.{ground_of, held_in_64, picture_height, svg_front}
 use Rattle.picture.proofs.Sheetings.{adds, adds_same}
 use Rattle.picture.proofs.Framing.{on_ok, picture_head_read, style_text, style_end_text}
 use Rattle.picture.proofs.sheets.add_picture_front.Goals as goal
@@ -17,8 +17,8 @@ returns-clause-elements c = on_ok c.add_ground.result (λ is. (picture_head_read
 
 pub returns-clause-draws : goal.returns-clause-draws
 returns-clause-draws c =
-    on_ok c.add_ground.result (λ is setup told. adds_same _ _ _ _ _ is (λ i. ground_of (high i) (told i)) (adds _ _ _ _ c.in_ok-add_patterns.ensures.draws (adds _ _ _ _ c.in_ok-frame-2.ensures.draws
-    (adds _ _ _ _ c.in_ok-add_style.ensures.draws (adds _ _ _ _ c.in_ok-frame.ensures.draws (adds_same _ _ _ _ _ c.in_ok-add_titles.ensures.draws (ap titles_of told)
+    on_ok c.add_ground.result (λ is. adds_same _ _ _ _ _ is (ap (λ n. ground_of n c.args.heading.now) high) (adds _ _ _ _ c.in_ok-add_patterns.ensures.draws (adds _ _ _ _ c.in_ok-frame-2.ensures.draws
+    (adds _ _ _ _ c.in_ok-add_style.ensures.draws (adds _ _ _ _ c.in_ok-frame.ensures.draws (adds _ _ _ _ c.in_ok-add_titles.ensures.draws
     (adds_same _ _ _ _ _ c.in_ok-begin_picture.ensures.draws (ap svg_front high) c.requires.fresh)))))))
     c.add_ground.ensures.draws
   where

@@ -17,7 +17,7 @@ returns-clause-page c =
     (c.saturating_add-self-2.ensures ∙ ap (λ (n : ℕ). held_in_64 (c.args.self.now.height + (n + 16))) c.from.ensures)
     (c.in_ok-markup.ensures.draws
     ∙ ap (λ (l : List Column). framed c.args.self.now.form c.saturating_add-self.result c.args.self.now.height c.new-layout.result.height
-    (drawings (band_shapes (record { columns = map seen l; before = c.args.self.now.before; before_at = c.args.self.now.before_at; layout = c.new-layout.result; is_last = c.args.is_last; opens = c.replace.result.items })))) within)
+    (drawings (band_shapes (record { columns = map seen l; before = c.args.self.now.before; before_at = c.args.self.now.before_at; layout = c.new-layout.result; is_last = c.args.is_last; opens = c.replace.result.items; subject = c.args.self.now.subject })))) within)
   where
     took : c.replace-columns.result.items ≡ c.args.self.now.columns.items
     took = ap (λ (v : Vec Column Global). v.items) c.replace-columns.ensures.value

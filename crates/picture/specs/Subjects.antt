@@ -1,0 +1,34 @@
+-- What a picture is of.
+use Rattle.std.specs.Prelude.{ℕ, Bool, true, false, List, codes}
+use Rattle.picture.specs.declared.constants.TheConstants.{LEGEND, READS_LEGEND, SCRIPT, TRACE_LEGEND, TRACE_SCRIPT}
+use Rattle.picture.specs.declared.reads.Reads.{Reads}
+use Rattle.picture.specs.declared.reads.Reads.TheVariants.{Hidden, Shown}
+use Rattle.picture.specs.declared.subjects.TheConstants.{DESCRIPTION, TRACE_DESCRIPTION}
+use Rattle.picture.specs.declared.subjects.Subject.{Subject}
+use Rattle.picture.specs.declared.subjects.Subject.TheVariants.{Run, Trace}
+
+-- whether the lowest lane is a history
+abbrev pub has_history : Subject → Bool
+has_history Run = true
+has_history Trace = false
+
+-- what one picture states that it shows
+abbrev pub shown_by : Subject → List ℕ
+shown_by Run = DESCRIPTION.now
+shown_by Trace = TRACE_DESCRIPTION.now
+
+-- the legend
+abbrev pub legend_of : Subject → Reads → List ℕ
+legend_of Run Hidden = LEGEND.now
+legend_of Run Shown = READS_LEGEND.now
+legend_of Trace reads = TRACE_LEGEND.now
+
+-- what stands in a page before the list of lines: the end of the legend, and what is listed
+abbrev pub list_begun : Subject → List ℕ
+list_begun Run = codes "\n</svg>\n<details open><summary>The scenario</summary><ol>\n"
+list_begun Trace = codes "\n</svg>\n<details open><summary>The trace</summary><ol>\n"
+
+-- the script of a page: that of a trace does not tell of a store, nor of a line of processes
+abbrev pub script_of : Subject → List ℕ
+script_of Run = SCRIPT.now
+script_of Trace = TRACE_SCRIPT.now
