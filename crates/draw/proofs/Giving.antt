@@ -4,7 +4,7 @@ use Rattle.std.proofs.lemmas.Grind.{flat_map-append}
 use Rattle.std.proofs.lemmas.List.{map-append, take_more}
 use Rattle.picture.specs.{Item, Reads, Tells, sayings}
 use Rattle.picture.specs.columns.{OverlappedRead, Saying, marks_said, saying_text}
-use Rattle.picture.specs.columns.declared.told.Saying.TheVariants.{Marked, Refused, Tired, Shown as ShowsStore, Judged, Ended}
+use Rattle.picture.specs.columns.declared.told.Saying.TheVariants.{Marked, Refused, Tired, Shown as ShowsStore, Judged, Ended, LockMarked, LockEnded}
 use Rattle.picture.specs.declared.reads.Reads.{Reads as Mode}
 use Rattle.picture.specs.declared.reads.Reads.TheVariants.{Hidden, Shown}
 use Rattle.plain_store.specs.{Setup}
@@ -63,6 +63,8 @@ text_of_saying at (Tired p) = refl
 text_of_saying at (ShowsStore words) = refl
 text_of_saying at (Judged p words) = refl
 text_of_saying at (Ended events taken refused) = refl
+text_of_saying at (LockMarked p mark) = refl
+text_of_saying at (LockEnded entries) = refl
 
 texts_of_reads : (reads : List OverlappedRead) → texts_given (map GivesRead reads) ≡ []
 texts_of_reads [] = refl
@@ -89,6 +91,8 @@ marks_of_saying (Tired p) = refl
 marks_of_saying (ShowsStore words) = refl
 marks_of_saying (Judged p words) = refl
 marks_of_saying (Ended events taken refused) = refl
+marks_of_saying (LockMarked p mark) = refl
+marks_of_saying (LockEnded entries) = refl
 
 pub marks_of_items : (items : List Item) → marks_given (given items) ≡ flat_map marks_said (sayings items)
 marks_of_items [] = refl

@@ -29,11 +29,11 @@ pub mod SeatTickets
 pub mod LineOrder
 pub mod InLine
 -- Records
-mod RecordGiving
-mod JudgedLines
+pub mod RecordGiving
+pub mod JudgedLines
 mod Lanes
 mod Lines
 mod Sheeted
 mod JudgedFile
-mod RecordEnds
-mod Whole
+pub mod RecordEnds
+pub mod Whole

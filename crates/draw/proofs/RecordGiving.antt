@@ -17,7 +17,7 @@ entries_of_record (e ∷ past) = ap (λ (l : Past). e ∷ l) (entries_of_record 
 
 -- The lines.
 
-texts_of_told : (at : ℕ) (bad : Option ℕ) (lines : List (List ℕ)) (last : Says) → map (says_text at) (say_judged bad lines ++ last ∷ []) ≡ map judged_text lines ++ says_text at last ∷ []
+pub texts_of_told : (at : ℕ) (bad : Option ℕ) (lines : List (List ℕ)) (last : Says) → map (says_text at) (say_judged bad lines ++ last ∷ []) ≡ map judged_text lines ++ says_text at last ∷ []
 texts_of_told at bad [] last = refl
 texts_of_told at bad (line ∷ lines) last = ap (λ l. judged_text line ∷ l) (texts_of_told at bad lines last)
 

@@ -6,8 +6,10 @@ use Rattle.std.proofs.lemmas.Grind.{fold-append}
 use Rattle.std.proofs.lemmas.List.{get_or-set_other, get_or-set_same, length-map, length-set}
 use Rattle.record.specs.{Mark, Stage}
 use Rattle.record.specs.declared.marks.Mark.TheVariants as mark
-use Rattle.picture.specs.columns.{KnownProcess, Saying, State, at_first, is_in_doorway, marks_said, no_seat, not_awaiting, seats_marked, stages_marked, stages_told, state_marked, state_told, ticket_in}
-use Rattle.picture.specs.columns.declared.told.Saying.TheVariants.{Marked}
+use Rattle.picture.specs.columns.{KnownProcess, Saying, State, at_first, is_in_doorway, like, marks_said, no_seat, not_awaiting, seats_marked, stages_marked, stages_told, state_lock_marked, state_marked, state_told, ticket_in}
+use Rattle.picture.specs.columns.declared.told.Saying.TheVariants.{LockMarked, Marked}
+use Rattle.picture.specs.columns.trace.{LockMark}
+use Rattle.picture.specs.columns.trace.declared.marks.LockMark.TheVariants as lock
 use Rattle.draw.proofs.TicketsShown.{shown_after, shown_told}
 
 -- Of one mark.
@@ -55,6 +57,55 @@ marked_ticket stages seats q (mark.Taken k r) p within = same_either (q == p) (g
 marked_ticket stages seats q (mark.Settled v) p within = same_either (q == p) (get_or seats p no_seat).ticket
 marked_ticket stages seats q m p within = forgotten q seats p ∙ same_either (q == p) (get_or seats p no_seat).ticket
 
+-- Of one mark of a trace.
+
+-- a seat is cleared that was given a ticket
+cleared_seat : (q : ℕ) (seats : List KnownProcess) (seat : KnownProcess) (p : ℕ) → p < length seats → (get_or (set (set (map (not_awaiting q) seats) q seat) q no_seat) p no_seat).ticket ≡ cond (q == p) 0 (get_or seats p no_seat).ticket
+cleared_seat q seats seat p within = go (cases_eq q p)
+  where
+    long : length (set (map (not_awaiting q) seats) q seat) ≡ length seats
+    long = length-set (map (not_awaiting q) seats) q seat ∙ length-map seats (not_awaiting q)
+
+    go : ((q ≡ p) ⊎ (q ≡ p → ⊥)) → (get_or (set (set (map (not_awaiting q) seats) q seat) q no_seat) p no_seat).ticket ≡ cond (q == p) 0 (get_or seats p no_seat).ticket
+    go (inl same) =
+        ap (λ i. (get_or (set (set (map (not_awaiting q) seats) q seat) i no_seat) p no_seat).ticket) same
+        ∙ ap (λ (x : KnownProcess). x.ticket) (get_or-set_same (set (map (not_awaiting q) seats) q seat) p no_seat no_seat (subst (λ n. p < n) (sym long) within))
+        ∙ sym (cond-true (q == p) 0 (get_or seats p no_seat).ticket (eq-eqb q p same))
+    go (inr other) =
+        ap (λ (x : KnownProcess). x.ticket) (get_or-set_other (set (map (not_awaiting q) seats) q seat) q p no_seat no_seat (λ e. other (sym e)))
+        ∙ ap (λ (x : KnownProcess). x.ticket) (get_or-set_other (map (not_awaiting q) seats) q p seat no_seat (λ e. other (sym e)))
+        ∙ forgotten q seats p
+        ∙ sym (cond-false (q == p) 0 (get_or seats p no_seat).ticket (ne_eqb q p other))
+
+-- what a mark of a trace leaves as it was, and what it tells
+record MarkLeads (state then : State) (q : ℕ) (m : Mark) : Type 0 where
+  pub processes : then.processes ≡ state.processes
+  pub seats : length then.seats ≡ length state.seats
+  pub stages : then.stages ≡ stages_marked state.stages q m
+  pub tickets : (p : ℕ) → p < length state.seats → ticket_in then p ≡ shown_told p (ticket_in state p) (q, m)
+
+mark_leads : (state : State) (q : ℕ) (m : Mark) → MarkLeads state (state_marked state q m) q m
+mark_leads state q m = record {
+  processes = refl;
+  seats = marked_seats (stages_marked state.stages q m) state.seats q m;
+  stages = refl;
+  tickets = λ p within. marked_ticket (stages_marked state.stages q m) state.seats q m p within;
+}
+
+lock_mark_leads : (state : State) (q : ℕ) (m : LockMark) → MarkLeads state (state_lock_marked state q m) q (like m)
+lock_mark_leads state q lock.Call = mark_leads state q (like lock.Call)
+lock_mark_leads state q lock.Wait =
+    let marked : State = state_marked state q (like lock.Wait) in
+    record {
+      processes = refl;
+      seats = length-set marked.seats q no_seat ∙ marked_seats (stages_marked state.stages q (like lock.Wait)) state.seats q (like lock.Wait);
+      stages = refl;
+      tickets = λ p within. cleared_seat q state.seats _ p within;
+    }
+lock_mark_leads state q lock.Enter = mark_leads state q (like lock.Enter)
+lock_mark_leads state q lock.Leave = mark_leads state q (like lock.Leave)
+lock_mark_leads state q lock.Answer = mark_leads state q (like lock.Answer)
+
 -- Of a line.
 
 -- what a line leaves as it was, and what it tells
@@ -80,6 +131,22 @@ line_leads state (Marked q m change) = go (nat_lt q state.processes) refl
       stages = ap (λ b. (cond b (state_marked state q m) state).stages) is ∙ sym (ap (λ b. cond b (stages_marked state.stages q m) state.stages) is);
       tickets = λ p is_process within. ap (λ b. ticket_in (cond b (state_marked state q m) state) p) is
           ∙ sym (cond-false (q == p) (shown_after (ticket_in state p) m) (ticket_in state p) (ne_eqb q p (λ same. let past = ltb-false q state.processes is in omega (arith, same, past, is_process))));
+    }
+line_leads state (LockMarked q m) = go (nat_lt q state.processes) refl
+  where
+    go : (b : Bool) → nat_lt q state.processes ≡ b → LeadsOn state (cond (nat_lt q state.processes) (state_lock_marked state q m) state) (LockMarked q m)
+    go true is = record {
+      processes = ap (λ b. (cond b (state_lock_marked state q m) state).processes) is ∙ (lock_mark_leads state q m).processes;
+      seats = ap (λ b. length (cond b (state_lock_marked state q m) state).seats) is ∙ (lock_mark_leads state q m).seats;
+      stages = ap (λ b. (cond b (state_lock_marked state q m) state).stages) is ∙ (lock_mark_leads state q m).stages ∙ sym (ap (λ b. cond b (stages_marked state.stages q (like m)) state.stages) is);
+      tickets = λ p is_process within. ap (λ b. ticket_in (cond b (state_lock_marked state q m) state) p) is ∙ (lock_mark_leads state q m).tickets p within;
+    }
+    go false is = record {
+      processes = ap (λ b. (cond b (state_lock_marked state q m) state).processes) is;
+      seats = ap (λ b. length (cond b (state_lock_marked state q m) state).seats) is;
+      stages = ap (λ b. (cond b (state_lock_marked state q m) state).stages) is ∙ sym (ap (λ b. cond b (stages_marked state.stages q (like m)) state.stages) is);
+      tickets = λ p is_process within. ap (λ b. ticket_in (cond b (state_lock_marked state q m) state) p) is
+          ∙ sym (cond-false (q == p) (shown_after (ticket_in state p) (like m)) (ticket_in state p) (ne_eqb q p (λ same. let past = ltb-false q state.processes is in omega (arith, same, past, is_process))));
     }
 line_leads state line = record { processes = refl; seats = refl; stages = refl; tickets = λ p is_process within. refl }
 

@@ -39,7 +39,7 @@ page_drawn reads said told drawn a b c ending bands back no_ending end last =
     (framed (plan_of form.Page said.setup) a bands.ends.mid b c h.head ending page_names (record_gives reads said told) drawn.height (record { no_head = h.lines; begins = h.opens; no_end = no_ending; ends = end }) h.writes bands.ends.bands last) is
 
 -- bytes that were held
-held_are : (bytes markup : List ℕ) → Appends (Some []) (Some bytes) markup → bytes ≡ markup
+pub held_are : (bytes markup : List ℕ) → Appends (Some []) (Some bytes) markup → bytes ≡ markup
 held_are bytes markup is = is
 
 -- one picture

@@ -6,6 +6,7 @@ use Rattle.record.specs.{Mark, Past}
 use Rattle.picture.specs.{Form, Item, Plan, SeenPage, bands_told, full_told, heights_told, held, page_of, seen_page}
 use Rattle.picture.specs.columns.{OverlappedRead}
 use Rattle.picture.specs.declared.reads.Reads.{Reads as Mode}
+use Rattle.picture.specs.declared.subjects.Subject.TheVariants.{Run, Trace}
 use Rattle.picture.specs.markup.{EndsAll, is_at_rest, lines_in, tags_of}
 use Rattle.draw.specs.Items.{Gives, Says, given, lines_given, marks_after, says_marks, texts_given, waiting}
 use Rattle.draw.specs.Overlaps.{Overhears}
@@ -16,7 +17,11 @@ use Rattle.draw.specs.declared.taken_store.TakenStore.{TakenStore}
 
 -- what is known of a picture from the start
 abbrev pub plan_of : Form → Setup → Plan
-plan_of form s = record { form = form; processes = s.processes; opening = words_by (opening_store s).pairs }
+plan_of form s = record { form = form; subject = Run; processes = s.processes; opening = words_by (opening_store s).pairs }
+
+-- and of the picture of a trace, which has no store
+abbrev pub trace_plan : Form → ℕ → Plan
+trace_plan form processes = record { form = form; subject = Trace; processes = processes; opening = [] }
 
 -- This markup was written. However it goes on, what is read of it stays as it is.
 pub record Writes (old new : Option (List ℕ)) (markup : List ℕ) : Type 0 where

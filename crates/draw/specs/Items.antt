@@ -3,9 +3,10 @@ use Rattle.std.specs.Prelude.{ℕ, zero, suc, List, [], ◌∷◌, ◌++◌, fla
 use Rattle.plain_store.specs.{Setup}
 use Rattle.record.specs.{Entry, Mark, Past, Refusal}
 use Rattle.picture.specs.{Item, Reads, Tells}
-use Rattle.picture.specs.columns.{OverlappedRead, Saying, judged_text}
+use Rattle.picture.specs.columns.{OverlappedRead, Saying, judged_text, like, lock_ended_text, lock_marked_text}
+use Rattle.picture.specs.columns.trace.{LockMark}
 use Rattle.picture.specs.columns.run_lines.{ended_text, marked_text, refused_text, shown_text, tired_text}
-use Rattle.picture.specs.columns.declared.told.Saying.TheVariants.{Marked, Refused, Tired, Shown, Judged, Ended}
+use Rattle.picture.specs.columns.declared.told.Saying.TheVariants.{Marked, Refused, Tired, Shown, Judged, Ended, LockMarked, LockEnded}
 use Rattle.picture.specs.declared.reads.Reads.{Reads as Mode}
 use Rattle.draw.specs.Overlaps.{overlapped_by, shown_of}
 use Rattle.draw.specs.StoreChanges.{Changed, changed}
@@ -19,6 +20,8 @@ pub data Says : Type 0 where
   SaysStore : List ℕ → Says  -- the newest store, by these words
   SaysJudged : Option ℕ → List ℕ → Says  -- a judge tells this line, which stands in the lane of that process
   SaysEnd : ℕ → ℕ → ℕ → Says  -- the end: so many events were accepted, so many commands taken, so many events refused
+  SaysLockMark : ℕ → LockMark → Says  -- an entry of a trace has this mark of the process
+  SaysLockEnd : ℕ → Says  -- the end of a trace of so many entries
 
 -- an item
 pub data Gives : Type 0 where
@@ -32,6 +35,8 @@ says_of (Tired p) = SaysTired p
 says_of (Shown words) = SaysStore (string_bytes words)
 says_of (Judged p words) = SaysJudged p words.items
 says_of (Ended events taken refused) = SaysEnd events taken refused
+says_of (LockMarked p mark) = SaysLockMark p mark
+says_of (LockEnded entries) = SaysLockEnd entries
 
 -- the items that a picture is told, of which the newest stands first; they stand in their order
 abbrev pub given : List Item → List Gives
@@ -47,6 +52,8 @@ says_text at (SaysTired p) = tired_text p
 says_text at (SaysStore words) = shown_text words
 says_text at (SaysJudged p line) = judged_text line
 says_text at (SaysEnd events taken refused) = ended_text events taken refused
+says_text at (SaysLockMark p mark) = lock_marked_text at p mark
+says_text at (SaysLockEnd entries) = lock_ended_text entries
 
 -- the lines of what is given, without their ends
 abbrev pub text_given : Gives → List (List ℕ)
@@ -56,9 +63,10 @@ text_given (GivesRead read) = []
 abbrev pub texts_given : List Gives → List (List ℕ)
 texts_given = flat_map text_given
 
--- the marks of what is given, each with its process
+-- the marks of what is given, each with its process; of a trace, those that its marks are drawn like
 abbrev pub marks_says : Says → List (ℕ × Mark)
 marks_says (SaysMark p mark change) = (p, mark) ∷ []
+marks_says (SaysLockMark p mark) = (p, like mark) ∷ []
 marks_says _ = []
 
 abbrev pub mark_given : Gives → List (ℕ × Mark)

@@ -1,22 +1,25 @@
 //! The canvas of a picture: a page that writes each band as soon as the band is full, and the overlapped reads that it
 //! shows.
-ghost use Rattle.std.specs.Prelude.{◌≡◌, ◌+◌, ◌-◌, ◌^◌, ◌<◌, List, [], ◌∷◌, ◌++◌, is_some, length, map, IfErr, IfOk, OnOk, Ok};
+ghost use Rattle.std.specs.Prelude.{◌≡◌, ◌+◌, ◌-◌, ◌^◌, ◌<◌, List, [], ◌∷◌, ◌++◌, is_some, length, map, IfErr, IfOk, None, OnOk, Ok};
 ghost use Rattle.plain_store.specs.{checked};
 ghost use Rattle.plain_store.specs.declared.setups.Setup.{Setup as Given};
 ghost use Rattle.record.specs.{Entry, Past};
 ghost use Rattle.picture.specs.columns.declared.reads.OverlappedRead.{OverlappedRead as Ended};
 ghost use Rattle.picture.specs.declared.reads.Reads.{Reads as Mode};
-ghost use Rattle.draw.specs.Canvases.{DrawsLast, DrawsLines, DrawsMarks, DrawsOn, kept, kept_at_first, plan_of};
-ghost use Rattle.draw.specs.Items.{GivesRead, says_of};
+ghost use Rattle.draw.specs.Canvases.{DrawsLast, DrawsLines, DrawsMarks, DrawsOn, kept, kept_at_first, plan_of, trace_plan};
+ghost use Rattle.draw.specs.Items.{GivesRead, SaysJudged, says_of};
 ghost use Rattle.draw.specs.Overlaps.{Overhears, TellsEnd, overlapped_by, shown_of};
+ghost use Rattle.draw.specs.RecordItems.{says_judged};
 ghost use Rattle.draw.specs.TakenStores.{IsAfterMarks};
 ghost use Rattle.draw.specs.Writing.{IsWriteFault, failed_write};
 
 use crate::overlaps::{OverlapsHeard, take_ended};
+use crate::records::judged::{bad_process, lane_of};
 use crate::store_changes::words_by_pairs;
 use crate::taken_store::TakenStore;
 use crate::writing::{write_band, write_last};
-use picture::{Form, OverlappedRead, Page, Reads, RunLine, Saying};
+use bstr::ByteSlice;
+use picture::{Form, OverlappedRead, Page, Reads, RunLine, Saying, Subject};
 use plain_store::{NestedTypes, Setup};
 use record::{Access, Mark};
 use scenario::{Fault, Sink};
@@ -51,11 +54,34 @@ impl Canvas {
     {
         let overlaps = OverlapsHeard::new(alloc, setup, reads)?;
         let opening = words_by_pairs(alloc, &store.store)?;
-        let page = Page::new(alloc, form, setup.processes, opening.as_slice())?;
+        let page = Page::new(
+            alloc,
+            form,
+            Subject::Run,
+            setup.processes,
+            opening.as_slice(),
+        )?;
         Ok(Canvas {
             alloc,
             page,
             overlaps,
+        })
+    }
+
+    /// Creates a canvas without lines for a trace of `processes`, which has no store, and whose reads are not shown.
+    ///
+    /// # Errors
+    ///
+    /// Returns [`AllocError`] if memory is lacking.
+    pub fn of_trace(alloc: Global, form: Form, processes: u8) -> Result<Canvas, AllocError>
+        ensures kept { IfOk result (λ canvas. kept canvas ≡ kept_at_first (trace_plan form processes)) }
+        ensures hears { IfOk result (λ canvas. canvas.overlaps ≡ None) }
+    {
+        let page = Page::new(alloc, form, Subject::Trace, processes, b"")?;
+        Ok(Canvas {
+            alloc,
+            page,
+            overlaps: None,
         })
     }
 
@@ -183,6 +209,32 @@ impl Canvas {
         write_band(&full, output)
     }
 
+    /// Draws the lines that a judge tells after `at` entries. The line `source` of the list makes them.
+    ///
+    /// # Errors
+    ///
+    /// Returns [`Fault::Write`] if a call of the sink fails, and [`Fault::Memory`] if memory is lacking.
+    pub fn draw_judged<W: Sink>(
+        &mut self,
+        source: u64,
+        at: u64,
+        told: &[u8],
+        output: &mut W,
+    ) -> Result<(), Fault>
+        requires { W.failures output.old < 2 ^ 64 - 1 }
+        ensures drawn { OnOk result (DrawsLines self.old self.new
+            (W.taken output.old) (W.taken output.new) source at (says_judged told.now)) }
+        ensures fault { IfErr result IsWriteFault }
+        ensures failures { W.failures output.new ≡ W.failures output.old + failed_write result }
+    {
+        let bad = bad_process(told);
+        for words in told.lines() {
+            let saying = judged_saying(self.alloc, lane_of(bad, words), words)?;
+            self.draw(RunLine { source, at, saying }, output)?;
+        }
+        Ok(())
+    }
+
     /// Draws the last line, writes what is held back, and returns the heights of all bands, with 16 more for each.
     pub fn end<W: Sink>(&mut self, line: RunLine, output: &mut W) -> Result<u64, Fault>
         requires { W.failures output.old < 2 ^ 64 - 1 }
@@ -195,4 +247,13 @@ impl Canvas {
         write_last(&full, &last, output)?;
         Ok(self.page.height())
     }
+}
+
+/// Returns the saying of a judge's line in the lane of `process`.
+fn judged_saying(alloc: Global, process: Option<u8>, line: &[u8]) -> Result<Saying, AllocError>
+    ensures { IfOk result (λ saying. says_of saying ≡ SaysJudged process line.now) }
+{
+    let mut words = Vec::new(alloc);
+    words.extend_from_slice(line)?;
+    Ok(Saying::Judged { process, words })
 }

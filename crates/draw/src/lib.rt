@@ -24,12 +24,15 @@ mod surroundings;
 mod taken_store;
 mod writing;
 
+pub use canvas::Canvas;
 pub use laws_of_pictures::{
     chain_is_the_history, changes_are_the_historys, one_is_inside, who_enters_is_first_in_line,
 };
 pub use picture::Reads;
 pub use records::engines::{
-    JudgedBy, draw_judged_record, draw_judged_record_svg, draw_record, draw_record_svg,
+    JudgedBy, draw_judged_record, draw_judged_record_svg, draw_record, draw_record_svg, held_fault,
 };
+pub use records::held::Held;
 pub use runs::engines::{draw, draw_svg};
 pub use scenario::progress;
+pub use writing::write_markup;

@@ -2,6 +2,6 @@
 
 mod drawing;
 pub(crate) mod engines;
-mod held;
-mod judged;
+pub(crate) mod held;
+pub(crate) mod judged;
 mod sheet;

@@ -5,9 +5,9 @@ ghost use Rattle.plain_store.specs.declared.setups.Setup.{Setup as Given};
 ghost use Rattle.record.specs.{Entry as Noted};
 ghost use Rattle.judge.specs.record_file.{step_entry};
 ghost use Rattle.picture.specs.declared.reads.Reads.{Reads as Mode};
-ghost use Rattle.draw.specs.Canvases.{DrawsLast, DrawsLines, kept, kept_at_first, plan_of};
+ghost use Rattle.draw.specs.Canvases.{DrawsLast, kept, kept_at_first, plan_of};
 ghost use Rattle.draw.specs.Drawings.{DrawsPart, Recalls};
-ghost use Rattle.draw.specs.Items.{Part, PartEntry, SaysEnd, SaysJudged, entries_among, says_of};
+ghost use Rattle.draw.specs.Items.{Part, PartEntry, SaysEnd, entries_among};
 ghost use Rattle.draw.specs.Overlaps.{TellsEnd, Watches};
 ghost use Rattle.draw.specs.RecordDrawings.{RecordRecalls};
 ghost use Rattle.draw.specs.RecordItems.{says_judged, source_of};
@@ -15,8 +15,6 @@ ghost use Rattle.draw.specs.Writing.{IsWriteFault, failed_write};
 
 use crate::drawing::{Drawing, lines_of_setup};
 use crate::read_watch::ReadWatch;
-use crate::records::judged::{bad_process, lane_of};
-use bstr::ByteSlice;
 use picture::{Form, Reads, Saying};
 use plain_store::{NestedTypes, Setup};
 use record::{Access, Entry};
@@ -26,7 +24,6 @@ use std::alloc::{AllocError, Global};
 /// The picture of a record so far.
 #[derive(Drop)]
 pub(crate) struct RecordDrawing {
-    alloc: Global,
     pub drawing: Drawing,
     watch: ReadWatch,
 }
@@ -56,7 +53,6 @@ impl RecordDrawing {
     {
         let watch = ReadWatch::new(alloc, setup, reads)?;
         Ok(RecordDrawing {
-            alloc,
             drawing: Drawing::new(alloc, setup, form, reads, line_of_entries(setup))?,
             watch,
         })
@@ -134,7 +130,7 @@ impl RecordDrawing {
         ensures failures { W.failures output.new ≡ W.failures output.old + failed_write result }
     {
         self.drawing.source = line_of_entries(setup) + 1;
-        draw_judged(self.alloc, &mut self.drawing, told, output)?;
+        self.drawing.draw_judged(told, output)?;
         let saying = Saying::Ended {
             events: self.drawing.entries,
             taken: self.drawing.store.taken(),
@@ -142,37 +138,4 @@ impl RecordDrawing {
         };
         self.drawing.end(saying, output)
     }
-}
-
-/// Draws the lines that a judge tells.
-fn draw_judged<W: Sink>(
-    alloc: Global,
-    drawing: &mut Drawing,
-    told: &[u8],
-    output: &mut W,
-) -> Result<(), Fault>
-    requires { W.failures output.old < 2 ^ 64 - 1 }
-    ensures drawn { OnOk result (DrawsLines drawing.old.canvas drawing.new.canvas (W.taken output.old) (W.taken output.new)
-        drawing.old.source drawing.old.entries (says_judged told.now)) }
-    ensures store { drawing.new.store ≡ drawing.old.store }
-    ensures entries { drawing.new.entries ≡ drawing.old.entries }
-    ensures source { drawing.new.source ≡ drawing.old.source }
-    ensures fault { IfErr result IsWriteFault }
-    ensures failures { W.failures output.new ≡ W.failures output.old + failed_write result }
-{
-    let bad = bad_process(told);
-    for words in told.lines() {
-        let saying = judged_saying(alloc, lane_of(bad, words), words)?;
-        drawing.draw_line(saying, output)?;
-    }
-    Ok(())
-}
-
-/// Returns the saying of a judge's line in the lane of `process`.
-fn judged_saying(alloc: Global, process: Option<u8>, line: &[u8]) -> Result<Saying, AllocError>
-    ensures { IfOk result (λ saying. says_of saying ≡ SaysJudged process line.now) }
-{
-    let mut words = Vec::new(alloc);
-    words.extend_from_slice(line)?;
-    Ok(Saying::Judged { process, words })
 }

@@ -388,7 +388,7 @@ fn telling_of<H: Judging>(alloc: Global, trial: Trial<H>) -> Result<Option<Telli
 }
 
 /// Returns the fault of a picture whose bands are stored: storing them fails only if memory is lacking.
-fn held_fault(fault: Fault) -> Fault
+pub fn held_fault(fault: Fault) -> Fault
     ensures { result ≡ without_write fault }
 {
     match fault {

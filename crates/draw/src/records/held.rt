@@ -6,7 +6,7 @@ use std::alloc::Global;
 
 /// The sink of the bands of one picture, until its height is known.
 #[derive(Drop)]
-pub(crate) struct Held {
+pub struct Held {
     bytes: Vec<u8>,
     failures: u64,
 }

@@ -8,7 +8,7 @@ use Rattle.draw.proofs.records.drawing.RecordDrawing.end.Goals as goal
 pub returns-clause-drawn : goal.returns-clause-drawn
 returns-clause-drawn g c =
     let d = c.args.self.now.drawing in
-    let mid = c.draw_judged.new.drawing in
+    let mid = c.draw_judged.new.self in
     let source = source_of c.args.setup.now + 1 in
     let a = g.W.Sink.taken c.args.output.now in
     let b = g.W.Sink.taken c.draw_judged.new.output in
