@@ -2,7 +2,7 @@
 use Rattle.std.proofs.Common.{◌≡◌, ℕ, ◌+◌, ◌++◌, [], ◌∷◌, List, length, reverse, Some, None, refl, ap, sym, subst, ◌∙◌}
 use Rattle.std.proofs.lemmas.List.{length-append, length-reverse, reverse-append}
 use Rattle.trace.specs.{TraceEntry, TracePast, TraceSetup}
-use Rattle.trace_judge.specs.{AreReasons, AreReasonsAt, AreReasonsOf, HasJudged, HasSeen, JudgeState, TraceLaw, TraceReasons, TraceState, TraceVerdict, first_broken, verdict_after, verdict_of, verdict_with}
+use Rattle.trace_judge.specs.{AreReasons, AreReasonsAt, AreReasonsOf, HasJudged, Explains, HasSeen, JudgeState, TraceLaw, TraceState, TraceVerdict, first_broken, verdict_after, verdict_of, verdict_with}
 use Rattle.trace_judge.specs.declared.verdicts.TraceVerdict.TheVariants.{Good, Bad}
 
 -- some entries and one more, the newest first
@@ -39,13 +39,14 @@ goes_on old state e s entries judged good unbroken same seen = record {
   seen = λ _. subst (λ (l : TracePast). HasSeen state l) (sym (newest_first entries e)) seen;
 }
 
--- a judge with a good verdict, and an entry that breaks a law
-pub finds : (old : JudgeState) (e : TraceEntry) (l : TraceLaw) (r : TraceReasons) (s : TraceSetup) (entries : List TraceEntry) → HasJudged old s entries → old.verdict ≡ Good →
-    first_broken s (reverse entries) e ≡ Some l → AreReasons s (reverse entries) e l r →
-    HasJudged (record { state = old.state; verdict = Bad old.entries l; entries = old.entries + 1; reasons = Some r }) s (entries ++ e ∷ [])
-finds old e l r s entries judged good broken are = record {
+-- a judge with a good verdict, and an entry that breaks a law, with its reasons
+pub finds : (old new : JudgeState) (e : TraceEntry) (l : TraceLaw) (s : TraceSetup) (entries : List TraceEntry) → HasJudged old s entries → old.verdict ≡ Good →
+    first_broken s (reverse entries) e ≡ Some l → Explains s (reverse entries) e l new.reasons →
+    new.state ≡ old.state → new.entries ≡ old.entries + 1 →
+    HasJudged (record { state = new.state; verdict = Bad old.entries l; entries = new.entries; reasons = new.reasons }) s (entries ++ e ∷ [])
+finds old new e l s entries judged good broken explains state count = record {
   good = judged.good;
-  count = more entries e old.entries judged.count;
+  count = count ∙ more entries e old.entries judged.count;
   verdict = (λ i. Bad (judged.count i) l) ∙ sym (verdict_good s entries e (sym judged.verdict ∙ good) ∙ ap (verdict_with (length entries)) broken);
   reasons = record {
     entry = e;
@@ -54,11 +55,11 @@ finds old e l r s entries judged good broken are = record {
     splits = newest_first entries e;
     number = length-reverse entries ∙ sym judged.count;
     broken = broken;
-    given = r;
-    is = refl;
-    are = are;
+    given = explains.given;
+    is = explains.is;
+    are = explains.are;
   };
-  setup = judged.setup;
+  setup = ap (λ (k : TraceState). k.memory.setup) state ∙ judged.setup;
   seen = λ h. absurd (let bad : Bad old.entries l ≡ Good = h in cc);
 }
 

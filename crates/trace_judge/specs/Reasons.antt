@@ -70,3 +70,9 @@ pub record AreReasons (s : TraceSetup) (past : TracePast) (e : TraceEntry) (l : 
   pub inside : AreSince r.inside (inside_by l s past e)
   pub waits : AreSince r.waits (waits_by l s past e)
   pub doorway : r.doorway ≡ doorway_by l s past e
+
+-- these are given as the reasons of such an entry
+pub record Explains (s : TraceSetup) (past : TracePast) (e : TraceEntry) (l : TraceLaw) (reasons : Option TraceReasons) : Type 0 where
+  pub given : TraceReasons
+  pub is : reasons ≡ Some given
+  pub are : AreReasons s past e l given

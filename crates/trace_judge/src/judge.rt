@@ -1,6 +1,9 @@
-ghost use Rattle.std.specs.Prelude.{◌≡◌, ◌+◌, ◌-◌, ◌^◌, ◌<◌, [], IfOk, length, true};
+ghost use Rattle.std.specs.Prelude.{◌≡◌, ◌+◌, ◌-◌, ◌^◌, ◌<◌, [], IfOk, Some, length, true};
 ghost use Rattle.trace.specs.{is_trace_setup, trace_entry};
 ghost use Rattle.trace_judge.specs.Judging.{HasJudged, IsExplained, JudgesOn, OfJudged};
+ghost use Rattle.trace_judge.specs.Keeping.{OfSeen};
+ghost use Rattle.trace_judge.specs.Laws.{first_broken};
+ghost use Rattle.trace_judge.specs.Reasons.{Explains};
 ghost use Rattle.trace_judge.specs.Soundness.{MeansSound};
 ghost use Rattle.trace_judge.specs.Verdicts.{verdict_of, verdict_with};
 
@@ -63,11 +66,31 @@ impl TraceJudge {
             return;
         }
         if let Some(law) = self.state.broken(process, access, marks) {
-            self.reasons = Some(self.state.reasons(law, process, access, marks));
+            self.explain(law, process, access, marks);
             self.verdict = TraceVerdict::Bad(number, law);
         } else {
             self.state.take(process, access, marks);
         }
+    }
+
+    /// Stores the reasons why this entry breaks this law. It is never inlined, because the room in which reasons are made would
+    /// otherwise be cleared before each entry.
+    #[inline(never)]
+    fn explain(
+        &mut self,
+        law: TraceLaw,
+        process: u8,
+        access: &Option<CellAccess>,
+        marks: &[LockMark],
+    )
+        ensures state { self.new.state ≡ self.old.state }
+        ensures verdict { self.new.verdict ≡ self.old.verdict }
+        ensures entries { self.new.entries ≡ self.old.entries }
+        ensures reasons { OfSeen self.old.state (λ past.
+            first_broken self.old.state.memory.setup past (trace_entry process access.now marks.now) ≡ Some law
+            → Explains self.old.state.memory.setup past (trace_entry process access.now marks.now) law self.new.reasons) }
+    {
+        self.reasons = Some(self.state.reasons(law, process, access, marks));
     }
 
     /// Returns the verdict on the entries so far, and their number. If it is good, no two processes were inside together, and
@@ -85,9 +108,10 @@ impl TraceJudge {
     }
 
     /// Returns the reasons of the verdict on the entries so far; a good one has none.
-    pub fn reasons(&self) -> Option<TraceReasons>
-        ensures { OfJudged self.now (IsExplained result) }
+    pub fn reasons(&self) -> &Option<TraceReasons>
+        ensures now { result.now ≡ self.now.reasons }
+        ensures explained { OfJudged self.now (IsExplained result.now) }
     {
-        self.reasons
+        &self.reasons
     }
 }

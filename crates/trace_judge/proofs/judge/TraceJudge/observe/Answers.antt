@@ -1,6 +1,6 @@
-use Rattle.std.proofs.Common.{◌≡◌, Some, reverse, sym, subst, ◌∙◌}
+use Rattle.std.proofs.Common.{◌≡◌, Some, ap, reverse, sym, subst, ◌∙◌}
 use Rattle.trace.specs.{TraceEntry, TraceSetup, trace_entry}
-use Rattle.trace_judge.specs.{AreReasons, HasJudged, JudgeState, first_broken}
+use Rattle.trace_judge.specs.{Explains, HasJudged, JudgeState, first_broken}
 use Rattle.trace_judge.specs.declared.verdicts.TraceVerdict.TheVariants.{Good, Bad}
 use Rattle.trace_judge.proofs.OneMore.{finds, stays_bad}
 use Rattle.trace_judge.proofs.judge.TraceJudge.observe.Goals as goal
@@ -19,8 +19,15 @@ returns-in-Some-clause-observed c = λ s entries judged.
     let old : JudgeState = record { state = i.state; verdict = i.verdict; entries = i.entries; reasons = i.reasons } in
     let e : TraceEntry = trace_entry c.args.process c.args.access.now c.args.marks.now in
     let before = subst (λ (j : JudgeState). HasJudged j s entries) (sym c.self.view_is) judged in
+    let after : JudgeState = c.explain.new.self in
+    let is = c.self-in-Some.view_is in
     let seen = before.seen c.in_default.is in
     let broken = sym (c.broken.ensures.law (reverse entries) seen) ∙ c.in-Some.is in
-    finds old e c.in-Some.law c.reasons.result s entries before c.in_default.is
-    (subst (λ (t : TraceSetup). first_broken t (reverse entries) e ≡ Some c.in-Some.law) before.setup broken)
-    (subst (λ (t : TraceSetup). AreReasons t (reverse entries) e c.in-Some.law c.reasons.result) before.setup (c.reasons.ensures (reverse entries) seen broken))
+    let law = ap (λ (t : TraceSetup). first_broken t (reverse entries) e) before.setup in
+    finds old (record { state = c.self-in-Some.inside.state; verdict = c.self-in-Some.inside.verdict; entries = c.self-in-Some.inside.entries; reasons = c.self-in-Some.inside.reasons }) e c.in-Some.law s entries before c.in_default.is
+    (sym law ∙ broken)
+    (subst (λ (j : JudgeState). Explains s (reverse entries) e c.in-Some.law j.reasons) (sym is)
+    (subst (λ (t : TraceSetup). Explains t (reverse entries) e c.in-Some.law after.reasons) before.setup
+    (c.explain.ensures.reasons (reverse entries) seen broken)))
+    (ap (λ (j : JudgeState). j.state) is ∙ c.explain.ensures.state)
+    (ap (λ (j : JudgeState). j.entries) is ∙ c.explain.ensures.entries)
