@@ -7,8 +7,8 @@ use Rattle.files.specs.declared.faults.Fault.TheVariants as fault
 use Rattle.files.specs.declared.faults.FaultKind.TheVariants.{NotFirst, TooLong}
 use Rattle.trace.specs.{TraceEntry, TraceSetup}
 use Rattle.trace_file.specs.TraceFiles.{TraceProgress, TraceRead, cleared, entry_in, line_read, lines_read, number_in, rest_read, said_by, trace_said}
-use Rattle.trace_engine.specs.Reports.{IsOfTrace, IsTraceFault, ReporterState}
-use Rattle.trace_engine.specs.Trials.{GoesOn, ObservesAt, IsObserved, IsReadUpTo, count_in}
+use Rattle.trace_engine.specs.Reports.{IsOfTrace, IsTraceFault}
+use Rattle.trace_engine.specs.Trials.{GoesOn, ObservesAt, IsObserved, IsReadUpTo, count_by}
 use Rattle.trace_engine.proofs.LineReads.{few_in, long_read}
 use Rattle.trace_engine.proofs.Trials.{unless_then}
 
@@ -73,36 +73,36 @@ goes_on_at_first (Some text) taken none = subst (λ n. GoesOnTo None [] [] n tex
 ended : (before : Option TraceProgress) (entries : List TraceEntry) (numbers : List ℕ) (taken : ℕ) (x y : List ℕ) → GoesOnTo before entries numbers taken x y → y ≡ [] → rest_read (taken + 1) [] (read_so_far before entries numbers) ≡ trace_said x
 ended before entries numbers taken x y so_far none = subst (λ y. GoesOnTo before entries numbers taken x y) none so_far
 
-module _ (why : Bool) where
+module _ {H : Type 0} (HasObserved : H → TraceSetup → List TraceEntry → List ℕ → Type 0) where
   -- what was read and observed, and that reading the rest gives what reading all gives
-  pub record Onwards (to_come rest : Option (List ℕ)) (taken : ℕ) (reader : Option TraceProgress) (reporter : Option ReporterState) : Type 0 where
+  pub record Onwards (to_come rest : Option (List ℕ)) (taken : ℕ) (reader : Option TraceProgress) (reporter : Option H) : Type 0 where
     pub before : Option TraceProgress
     pub entries : List TraceEntry
     pub numbers : List ℕ
-    pub read_up_to : IsReadUpTo why reader reporter before entries numbers
+    pub read_up_to : IsReadUpTo HasObserved reader reporter before entries numbers
     pub few : length entries ≤ taken
     pub goes_on : Told to_come rest (GoesOnTo before entries numbers taken)
 
   -- as many entries were observed as were read
-  observed_count : (h : Option ReporterState) (before : Option TraceProgress) (entries : List TraceEntry) (numbers : List ℕ) → ObservesAt why h before entries numbers → count_in h ≡ length entries
-  observed_count None before entries numbers observed = sym (ap (λ (l : List TraceEntry). length l) observed.0)
-  observed_count (Some h) None entries numbers observed = absurd observed
-  observed_count (Some h) (Some p) entries numbers observed = observed.1.judged.count
+  observed_count : (count : H → ℕ) → ((h : H) (s : TraceSetup) (entries : List TraceEntry) (numbers : List ℕ) → HasObserved h s entries numbers → count h ≡ length entries) → (h : Option H) (before : Option TraceProgress) (entries : List TraceEntry) (numbers : List ℕ) → ObservesAt HasObserved h before entries numbers → count_by count h ≡ length entries
+  observed_count count counts None before entries numbers observed = sym (ap (λ (l : List TraceEntry). length l) observed.0)
+  observed_count count counts (Some h) None entries numbers observed = absurd observed
+  observed_count count counts (Some h) (Some p) entries numbers observed = counts h p.setup entries numbers observed.1
 
-  pub onwards_few : (to_come rest : Option (List ℕ)) (taken : ℕ) (reader : Option TraceProgress) (h : Option ReporterState) → Onwards to_come rest taken reader h → count_in h ≤ taken
-  onwards_few to_come rest taken reader h u =
-      let few : length u.entries ≤ taken = u.few in let same = observed_count h u.before u.entries u.numbers u.read_up_to.observed in omega (arith, few, same)
+  pub onwards_few : (count : H → ℕ) → ((h : H) (s : TraceSetup) (entries : List TraceEntry) (numbers : List ℕ) → HasObserved h s entries numbers → count h ≡ length entries) → (to_come rest : Option (List ℕ)) (taken : ℕ) (reader : Option TraceProgress) (h : Option H) → Onwards to_come rest taken reader h → count_by count h ≤ taken
+  onwards_few count counts to_come rest taken reader h u =
+      let few : length u.entries ≤ taken = u.few in let same = observed_count count counts h u.before u.entries u.numbers u.read_up_to.observed in omega (arith, few, same)
 
   -- before the first line, where no bytes have come yet
-  pub onwards_start : (to_come : Option (List ℕ)) (ahead : Given) (taken : ℕ) (reader : Option TraceProgress) (h : Option ReporterState) → ahead.bytes ≡ [] → ahead.ended ≡ false → taken ≡ 0 → IsReadUpTo why reader h None [] [] → Onwards to_come (coming ahead to_come) taken reader h
+  pub onwards_start : (to_come : Option (List ℕ)) (ahead : Given) (taken : ℕ) (reader : Option TraceProgress) (h : Option H) → ahead.bytes ≡ [] → ahead.ended ≡ false → taken ≡ 0 → IsReadUpTo HasObserved reader h None [] [] → Onwards to_come (coming ahead to_come) taken reader h
   onwards_start to_come ahead taken reader h fresh open_yet none read_up_to =
       subst (λ (l : List ℕ). Onwards to_come (prepend_known l (unless_ended ahead.ended to_come)) taken reader h) (sym fresh)
       (subst (λ (b : Bool). Onwards to_come (prepend_known [] (unless_ended b to_come)) taken reader h) (sym open_yet)
       (record { before = None; entries = []; numbers = []; read_up_to = read_up_to; few = omega arith; goes_on = goes_on_at_first to_come taken none }))
 
   -- a line more
-  abbrev pub onwards_on : (to_come mid rest : Option (List ℕ)) (l l' : LineState) (reader reader' : Option TraceProgress) (h h' : Option ReporterState) (u : Onwards to_come mid l.taken reader h) → TakesNext l l' mid rest →
-      GoesOn why l'.taken l'.line u.before reader' h' u.entries u.numbers → Onwards to_come rest l'.taken reader' h'
+  abbrev pub onwards_on : (to_come mid rest : Option (List ℕ)) (l l' : LineState) (reader reader' : Option TraceProgress) (h h' : Option H) (u : Onwards to_come mid l.taken reader h) → TakesNext l l' mid rest →
+      GoesOn HasObserved l'.taken l'.line u.before reader' h' u.entries u.numbers → Onwards to_come rest l'.taken reader' h'
   onwards_on to_come mid rest l l' reader reader' h h' u takes on = record {
     before = cleared on.now;
     entries = u.entries ++ entry_in on.now;
@@ -114,7 +114,7 @@ module _ (why : Bool) where
   }
 
   -- a line with a fault
-  pub onwards_fault : (to_come mid rest : Option (List ℕ)) (l l' : LineState) (reader : Option TraceProgress) (h : Option ReporterState) (kind : FaultKind) (u : Onwards to_come mid l.taken reader h) → TakesNext l l' mid rest →
+  pub onwards_fault : (to_come mid rest : Option (List ℕ)) (l l' : LineState) (reader : Option TraceProgress) (h : Option H) (kind : FaultKind) (u : Onwards to_come mid l.taken reader h) → TakesNext l l' mid rest →
       UnlessMemory kind (line_read l'.line u.before ≡ Err kind) → IfSome to_come (λ text. UnlessMemory kind (trace_said text ≡ Err (record { line = l'.taken; kind = kind })))
   onwards_fault to_come mid rest l l' reader h kind u takes fault =
       of_input to_come mid (GoesOnTo u.before u.entries u.numbers l.taken) (λ y. (z : List ℕ) × TakesLine y l'.line z) (λ text. UnlessMemory kind (trace_said text ≡ Err (record { line = l'.taken; kind = kind }))) (λ x y so_far line. unless_then kind
@@ -127,27 +127,27 @@ module _ (why : Bool) where
       some_rest (Some y) (Some z) reported = (z, reported)
 
   -- a line that is too long
-  onwards_long : (to_come mid : Option (List ℕ)) (taken : ℕ) (reader : Option TraceProgress) (h : Option ReporterState) (u : Onwards to_come mid taken reader h) → IfSome mid IsTooLong → IfSome to_come (λ text. trace_said text ≡ Err (record { line = taken + 1; kind = TooLong }))
+  onwards_long : (to_come mid : Option (List ℕ)) (taken : ℕ) (reader : Option TraceProgress) (h : Option H) (u : Onwards to_come mid taken reader h) → IfSome mid IsTooLong → IfSome to_come (λ text. trace_said text ≡ Err (record { line = taken + 1; kind = TooLong }))
   onwards_long to_come mid taken reader h u long =
       of_input to_come mid (GoesOnTo u.before u.entries u.numbers taken) IsTooLong (λ text. trace_said text ≡ Err (record { line = taken + 1; kind = TooLong }))
       (λ x y so_far is. sym so_far ∙ line_fault (taken + 1) y is.line is.others u.before u.entries u.numbers TooLong is.is (long_read is.line u.before is.long)) u.goes_on long
 
   -- no line more, for a fault
-  pub next_fault : (to_come mid rest : Option (List ℕ)) (l l' : LineState) (reader : Option TraceProgress) (h : Option ReporterState) (f : Fault) (u : Onwards to_come mid l.taken reader h) → GoesToNext (Err f) l l' mid rest → IsTraceFault f to_come
+  pub next_fault : (to_come mid rest : Option (List ℕ)) (l l' : LineState) (reader : Option TraceProgress) (h : Option H) (f : Fault) (u : Onwards to_come mid l.taken reader h) → GoesToNext (Err f) l l' mid rest → IsTraceFault f to_come
   next_fault to_come mid rest l l' reader h (fault.Line f) u goes = subst (λ (f : LineFault). IsTraceFault (fault.Line f) to_come) (sym goes.0) (onwards_long to_come mid l.taken reader h u goes.1)
   next_fault to_come mid rest l l' reader h fault.Read u goes = tt
   next_fault to_come mid rest l l' reader h fault.Memory u goes = tt
   next_fault to_come mid rest l l' reader h fault.Write u goes = absurd goes
 
   -- all lines were skipped
-  pub onwards_none : (to_come mid : Option (List ℕ)) (taken : ℕ) (reader : Option TraceProgress) (h : Option ReporterState) (u : Onwards to_come mid taken reader h) → IsObserved why None u.before u.entries u.numbers → IsAtEnd mid →
+  pub onwards_none : (to_come mid : Option (List ℕ)) (taken : ℕ) (reader : Option TraceProgress) (h : Option H) (u : Onwards to_come mid taken reader h) → IsObserved HasObserved None u.before u.entries u.numbers → IsAtEnd mid →
       IfSome to_come (λ text. trace_said text ≡ Err (record { line = taken + 1; kind = NotFirst }))
   onwards_none to_come mid taken reader h u none end =
       of_input to_come mid (GoesOnTo u.before u.entries u.numbers taken) (λ y. y ≡ []) (λ text. trace_said text ≡ Err (record { line = taken + 1; kind = NotFirst }))
       (λ x y so_far is. sym (ended u.before u.entries u.numbers taken x y so_far is) ∙ ap (λ b. rest_read (taken + 1) [] (read_so_far b u.entries u.numbers)) none ∙ ap (λ n. Err (record { line = n; kind = NotFirst })) {y = taken + 1} (omega arith)) u.goes_on (at_end mid end)
 
   -- what holds of all that the text says
-  pub onwards_all : (P : TraceSetup → List TraceEntry → List ℕ → Type 0) (to_come mid : Option (List ℕ)) (taken : ℕ) (reader : Option TraceProgress) (h : Option ReporterState) (u : Onwards to_come mid taken reader h) (p : TraceProgress) → u.before ≡ Some p →
+  pub onwards_all : (P : TraceSetup → List TraceEntry → List ℕ → Type 0) (to_come mid : Option (List ℕ)) (taken : ℕ) (reader : Option TraceProgress) (h : Option H) (u : Onwards to_come mid taken reader h) (p : TraceProgress) → u.before ≡ Some p →
       P p.setup u.entries u.numbers → IsAtEnd mid → IfSome to_come (IsOfTrace P)
   onwards_all P to_come mid taken reader h u p read holds end =
       of_input to_come mid (GoesOnTo u.before u.entries u.numbers taken) (λ y. y ≡ []) (IsOfTrace P) (λ x y so_far is. record {

@@ -9,12 +9,12 @@ use Rattle.trace.specs.{TraceEntry, TraceSetup}
 use Rattle.trace_engine.specs.Reports.{HasReported, IsOfTrace, IsTraceFault, ReporterState, ReportsAll, ReportsFront, ReportsTrace, TraceEnds}
 
 -- what follows of the whole input, where it is known
-if_some : (o : Option (List ℕ)) (P Q : List ℕ → Type 0) → ((x : List ℕ) → P x → Q x) → IfSome o P → IfSome o Q
+pub if_some : (o : Option (List ℕ)) (P Q : List ℕ → Type 0) → ((x : List ℕ) → P x → Q x) → IfSome o P → IfSome o Q
 if_some None P Q then is = tt
 if_some (Some x) P Q then is = then x is
 
 -- nothing was written
-keeps : (old new : Option (List ℕ)) → new ≡ old → Keeps old new
+pub keeps : (old new : Option (List ℕ)) → new ≡ old → Keeps old new
 keeps old new same = subst (λ n. Keeps old n) (sym same) (kept old)
 
 -- what a call that writes answers where it failed

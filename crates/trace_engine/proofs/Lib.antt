@@ -1,3 +1,4 @@
+pub use Rattle.trace_judge.proofs as trace_judge
 pub mod Ends
 pub mod EngineEnds
 pub mod Explained

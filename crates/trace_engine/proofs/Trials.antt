@@ -4,8 +4,7 @@ use Rattle.std.specs.Option.{option_to_list}
 use Rattle.files.specs.{FaultKind, UnlessMemory, words_of, words_read}
 use Rattle.files.specs.declared.faults.FaultKind.TheVariants.{Memory}
 use Rattle.trace.specs.{TraceEntry, TraceSetup}
-use Rattle.trace_file.specs.TraceFiles.{TraceProgress, cleared, entry_in, number_in, trace_grammar}
-use Rattle.trace_engine.specs.Reports.{HasReported, ReporterState}
+use Rattle.trace_file.specs.TraceFiles.{TraceProgress, cleared, entry_in, line_read, number_in, trace_grammar}
 use Rattle.trace_engine.specs.Trials.{GoesOn, Observes, ObservesAt, IsReadUpTo}
 use Rattle.trace_engine.proofs.LineReads.{clear_twice, empty, first_left, later_left, number_of_none, number_of_some, short_read}
 
@@ -14,33 +13,33 @@ pub unless_then : (kind : FaultKind) {P Q : Type 0} → (P → Q) → UnlessMemo
 unless_then Memory leads p = p
 unless_then _ leads p = leads p
 
-module _ (why : Bool) where
+module _ {H : Type 0} (HasObserved : H → TraceSetup → List TraceEntry → List ℕ → Type 0) where
   -- what was observed with a setup was observed with an equal one
-  observed_at : (s t : TraceSetup) (h : ReporterState) (entries : List TraceEntry) (numbers : List ℕ) → s ≡ t → HasReported why h s entries numbers → HasReported why h t entries numbers
-  observed_at s t h entries numbers same observed = subst (λ s. HasReported why h s entries numbers) same observed
+  observed_at : (s t : TraceSetup) (h : H) (entries : List TraceEntry) (numbers : List ℕ) → s ≡ t → HasObserved h s entries numbers → HasObserved h t entries numbers
+  observed_at s t h entries numbers same observed = subst (λ s. HasObserved h s entries numbers) same observed
 
   -- with nothing more
-  with_none : (h : Option ReporterState) (before : Option TraceProgress) (entries more : List TraceEntry) (numbers at : List ℕ) → more ≡ [] → at ≡ [] → ObservesAt why h before entries numbers → ObservesAt why h before (entries ++ more) (numbers ++ at)
+  with_none : (h : Option H) (before : Option TraceProgress) (entries more : List TraceEntry) (numbers at : List ℕ) → more ≡ [] → at ≡ [] → ObservesAt HasObserved h before entries numbers → ObservesAt HasObserved h before (entries ++ more) (numbers ++ at)
   with_none h before entries more numbers at none zero observed =
-      subst (λ (l : List TraceEntry). ObservesAt why h before l (numbers ++ at)) (sym (ap (λ l. entries ++ l) none ∙ append-nil entries))
-      (subst (λ (l : List ℕ). ObservesAt why h before entries l) (sym (ap (λ l. numbers ++ l) zero ∙ append-nil numbers)) observed)
+      subst (λ (l : List TraceEntry). ObservesAt HasObserved h before l (numbers ++ at)) (sym (ap (λ l. entries ++ l) none ∙ append-nil entries))
+      (subst (λ (l : List ℕ). ObservesAt HasObserved h before entries l) (sym (ap (λ l. numbers ++ l) zero ∙ append-nil numbers)) observed)
 
   -- behind a line that says no entry
-  still_at : (line : List ℕ) (before now : Option TraceProgress) (h : Option ReporterState) (entries : List TraceEntry) (numbers : List ℕ) → words_read trace_grammar (words_of line) before ≡ Ok now → cleared before ≡ before → entry_in now ≡ [] →
-      ObservesAt why h before entries numbers → ObservesAt why h (cleared now) entries numbers
+  still_at : (line : List ℕ) (before now : Option TraceProgress) (h : Option H) (entries : List TraceEntry) (numbers : List ℕ) → words_read trace_grammar (words_of line) before ≡ Ok now → cleared before ≡ before → entry_in now ≡ [] →
+      ObservesAt HasObserved h before entries numbers → ObservesAt HasObserved h (cleared now) entries numbers
   still_at line before now None entries numbers read clear none observed = observed
   still_at line None now (Some h) entries numbers read clear none observed = absurd observed
   still_at line (Some p) now (Some h) entries numbers read clear none observed =
       let later = later_left (words_of line) p now read in
-      subst (λ (o : Option TraceProgress). ObservesAt why (Some h) (cleared o) entries numbers) (sym later.is)
+      subst (λ (o : Option TraceProgress). ObservesAt HasObserved (Some h) (cleared o) entries numbers) (sym later.is)
       (elim later.left [
         | inl quiet ↦ let stays = quiet.stays observed.0 in (stays.0, observed_at p.setup later.next.setup h entries numbers (sym stays.1) observed.1)
         | inr says ↦ absurd (let no : says.entry ∷ [] ≡ [] = sym (ap option_to_list says.is) ∙ sym (ap entry_in later.is) ∙ none in cc)
       ])
 
   -- after a line that is an entry, which was observed
-  more_at : (line : List ℕ) (before : Option TraceProgress) (now : TraceProgress) (e : TraceEntry) (n : ℕ) (h h' : Option ReporterState) (entries : List TraceEntry) (numbers : List ℕ) → words_read trace_grammar (words_of line) before ≡ Ok (Some now) → cleared before ≡ before → now.entry ≡ Some e →
-      IsSome h' → (Observes why h now.setup entries numbers → Observes why h' now.setup (entries ++ e ∷ []) (numbers ++ n ∷ [])) → ObservesAt why h before entries numbers → ObservesAt why h' (cleared (Some now)) (entries ++ e ∷ []) (numbers ++ n ∷ [])
+  more_at : (line : List ℕ) (before : Option TraceProgress) (now : TraceProgress) (e : TraceEntry) (n : ℕ) (h h' : Option H) (entries : List TraceEntry) (numbers : List ℕ) → words_read trace_grammar (words_of line) before ≡ Ok (Some now) → cleared before ≡ before → now.entry ≡ Some e →
+      IsSome h' → (Observes HasObserved h now.setup entries numbers → Observes HasObserved h' now.setup (entries ++ e ∷ []) (numbers ++ n ∷ [])) → ObservesAt HasObserved h before entries numbers → ObservesAt HasObserved h' (cleared (Some now)) (entries ++ e ∷ []) (numbers ++ n ∷ [])
   more_at line None now e n h h' entries numbers read clear says some observes observed =
       absurd (let no : e ∷ [] ≡ [] = sym (ap option_to_list says) ∙ first_left (words_of line) (Some now) read in cc)
   more_at line (Some p) now e n h None entries numbers read clear says some observes observed = absurd (cc)
@@ -54,18 +53,18 @@ module _ (why : Bool) where
             (ap (λ (q : TraceProgress). q.ended) same ∙ is.ended, observes (before_it h observed setup))
       ]
     where
-      before_it : (h : Option ReporterState) → ObservesAt why h (Some p) entries numbers → now.setup ≡ p.setup → Observes why h now.setup entries numbers
+      before_it : (h : Option H) → ObservesAt HasObserved h (Some p) entries numbers → now.setup ≡ p.setup → Observes HasObserved h now.setup entries numbers
       before_it None observed same = observed
       before_it (Some i) observed same = observed_at p.setup now.setup i entries numbers (sym same) observed.1
 
   -- what its words say, by what was read before it
-  read_at : (line : List ℕ) (reader : Option TraceProgress) (h : Option ReporterState) (before : Option TraceProgress) (entries : List TraceEntry) (numbers : List ℕ) → IsReadUpTo why reader h before entries numbers →
+  read_at : (line : List ℕ) (reader : Option TraceProgress) (h : Option H) (before : Option TraceProgress) (entries : List TraceEntry) (numbers : List ℕ) → IsReadUpTo HasObserved reader h before entries numbers →
       words_read trace_grammar (words_of line) reader ≡ words_read trace_grammar (words_of line) before
   read_at line reader h before entries numbers read_up_to = ap (λ (o : Option TraceProgress). words_read trace_grammar (words_of line) o) read_up_to.read
 
   -- How a line ends: it says no entry
-  pub ends_quiet : (n : ℕ) (line : List ℕ) (reader reader' now : Option TraceProgress) (h : Option ReporterState) (before : Option TraceProgress) (entries : List TraceEntry) (numbers : List ℕ) → length line ≤ 128 → IsReadUpTo why reader h before entries numbers →
-      words_read trace_grammar (words_of line) reader ≡ Ok now → reader' ≡ cleared now → entry_in now ≡ [] → GoesOn why n line before reader' h entries numbers
+  pub ends_quiet : (n : ℕ) (line : List ℕ) (reader reader' now : Option TraceProgress) (h : Option H) (before : Option TraceProgress) (entries : List TraceEntry) (numbers : List ℕ) → length line ≤ 128 → IsReadUpTo HasObserved reader h before entries numbers →
+      words_read trace_grammar (words_of line) reader ≡ Ok now → reader' ≡ cleared now → entry_in now ≡ [] → GoesOn HasObserved n line before reader' h entries numbers
   ends_quiet n line reader reader' now h before entries numbers short read_up_to read same none =
       let read' = sym (read_at line reader h before entries numbers read_up_to) ∙ read in
       record {
@@ -79,9 +78,9 @@ module _ (why : Bool) where
       }
 
   -- it is an entry, which was observed
-  pub ends_observed : (n : ℕ) (line : List ℕ) (reader reader' : Option TraceProgress) (now : TraceProgress) (e : TraceEntry) (h h' : Option ReporterState) (before : Option TraceProgress) (entries : List TraceEntry) (numbers : List ℕ) → length line ≤ 128 → IsReadUpTo why reader h before entries numbers →
+  pub ends_observed : (n : ℕ) (line : List ℕ) (reader reader' : Option TraceProgress) (now : TraceProgress) (e : TraceEntry) (h h' : Option H) (before : Option TraceProgress) (entries : List TraceEntry) (numbers : List ℕ) → length line ≤ 128 → IsReadUpTo HasObserved reader h before entries numbers →
       words_read trace_grammar (words_of line) reader ≡ Ok (Some now) → now.entry ≡ Some e → reader' ≡ cleared (Some now) → IsSome h' →
-      ((entries : List TraceEntry) (numbers : List ℕ) → Observes why h now.setup entries numbers → Observes why h' now.setup (entries ++ e ∷ []) (numbers ++ n ∷ [])) → GoesOn why n line before reader' h' entries numbers
+      ((entries : List TraceEntry) (numbers : List ℕ) → Observes HasObserved h now.setup entries numbers → Observes HasObserved h' now.setup (entries ++ e ∷ []) (numbers ++ n ∷ [])) → GoesOn HasObserved n line before reader' h' entries numbers
   ends_observed n line reader reader' now e h h' before entries numbers short read_up_to read says same some observes =
       let read' = sym (read_at line reader h before entries numbers read_up_to) ∙ read in
       record {
@@ -91,8 +90,8 @@ module _ (why : Bool) where
           read = same;
           clear = clear_twice (Some now);
           observed =
-              subst (λ (l : List TraceEntry). ObservesAt why h' (cleared (Some now)) (entries ++ l) (numbers ++ number_in n (Some now))) (sym (ap option_to_list says))
-              (subst (λ (l : List ℕ). ObservesAt why h' (cleared (Some now)) (entries ++ e ∷ []) (numbers ++ l)) (sym (number_of_some n now e says))
+              subst (λ (l : List TraceEntry). ObservesAt HasObserved h' (cleared (Some now)) (entries ++ l) (numbers ++ number_in n (Some now))) (sym (ap option_to_list says))
+              (subst (λ (l : List ℕ). ObservesAt HasObserved h' (cleared (Some now)) (entries ++ e ∷ []) (numbers ++ l)) (sym (number_of_some n now e says))
               (more_at line before now e n h h' entries numbers read' read_up_to.clear says some (observes entries numbers) read_up_to.observed));
         };
       }

@@ -17,14 +17,14 @@ const BAD: u8 = 3;
 
 /// The report on a trace: a text and an exit status.
 #[derive(Drop)]
-pub(crate) struct TraceReport {
+pub struct TraceReport {
     pub text: Vec<u8>,
     pub status: u8,
 }
 
 /// A judge, and the lines of its reasons once its verdict is bad, if they are asked for.
 #[derive(Drop)]
-pub(crate) struct TraceReporter {
+pub struct TraceReporter {
     judge: TraceJudge,
     why: bool,
     lines: Vec<u8>,
@@ -40,6 +40,10 @@ impl Model for TraceReporter {
 
 impl TraceReporter {
     /// Creates the reporter of a trace with this setup, before the first entry.
+    ///
+    /// # Errors
+    ///
+    /// Returns [`AllocError`] if memory runs out.
     pub fn new(alloc: Global, setup: &TraceSetup, why: bool) -> Result<TraceReporter, AllocError>
         requires { is_trace_setup setup.now ≡ true }
         ensures { IfOk result (λ reporter. HasReported why reporter setup.now [] []) }
@@ -51,7 +55,18 @@ impl TraceReporter {
         })
     }
 
-    /// Observes the next entry, of a line with this number. After an `Err` no more is observed.
+    /// Returns whether the verdict on the entries so far is good.
+    pub fn is_good(&self) -> bool
+        ensures { result ≡ has_good self.now.judge.verdict }
+    {
+        matches!(self.judge.judged().verdict, TraceVerdict::Good)
+    }
+
+    /// Observes the next entry, of a line with this number.
+    ///
+    /// # Errors
+    ///
+    /// Returns [`AllocError`] if memory runs out. Then no more is observed.
     pub fn take(
         &mut self,
         alloc: Global,
@@ -73,7 +88,7 @@ impl TraceReporter {
             number,
             &setup.registers,
             entry,
-            &self.judge.reasons(),
+            self.judge.reasons(),
             &mut self.lines,
         )
     }
@@ -82,10 +97,14 @@ impl TraceReporter {
     fn asks_reasons(&self) -> bool
         ensures { result ≡ (self.now.why && has_good self.now.judge.verdict) }
     {
-        self.why && is_good(&self.judge)
+        self.why && self.is_good()
     }
 
     /// Returns the report on the entries so far.
+    ///
+    /// # Errors
+    ///
+    /// Returns [`AllocError`] if memory runs out.
     pub fn report(&self, alloc: Global) -> Result<TraceReport, AllocError>
         ensures { IfOk result (λ report. (why : Bool) (s : Setup) (entries : List Entry) (numbers : List ℕ) →
             HasReported why self.now s entries numbers →
@@ -122,13 +141,6 @@ fn push_if(
         None => Ok(()),
         Some(reasons) => push_reasons(alloc, number, registers, entry, reasons, text),
     }
-}
-
-/// Returns whether the verdict of a judge is good.
-fn is_good(judge: &TraceJudge) -> bool
-    ensures { result ≡ has_good judge.now.verdict }
-{
-    matches!(judge.judged().verdict, TraceVerdict::Good)
 }
 
 /// Returns the exit status of a verdict: 0 of a good one, 3 of a bad one.

@@ -2,6 +2,7 @@
 ghost use Rattle.std.specs.Prelude.{◌≡◌, ◌-◌, ◌^◌, ◌<◌, ◌≤◌, ◌∷◌, ◌++◌, [], ℕ, None, IfOk, IsSome, List, OnOk, Option, length, true};
 ghost use Rattle.trace.specs.{TraceEntry as Entry, is_trace_setup};
 ghost use Rattle.trace_file.specs.TraceFiles.{TraceProgress};
+ghost use Rattle.trace_engine.specs.Reports.{HasReported};
 ghost use Rattle.trace_engine.specs.Trials.{Observes, IsObserved, LineEnds, IsReadUpTo, count_in};
 
 use crate::judging::TraceReporter;
@@ -23,7 +24,7 @@ impl TraceTrial {
     /// Creates a trial of which no line was read.
     pub fn new(alloc: Global, why: bool) -> TraceTrial
         ensures why { result.why ≡ why }
-        ensures read_up_to { IsReadUpTo why result.reader result.reporter None [] [] }
+        ensures read_up_to { IsReadUpTo (HasReported why) result.reader result.reporter None [] [] }
     {
         TraceTrial {
             alloc,
@@ -39,8 +40,8 @@ impl TraceTrial {
         requires few { count_in self.old.reporter < 2 ^ 64 - 1 }
         ensures why { self.new.why ≡ self.old.why }
         ensures ends { (before : Option TraceProgress) (entries : List Entry) (numbers : List ℕ) →
-            IsReadUpTo self.old.why self.old.reader self.old.reporter before entries numbers →
-            LineEnds self.old.why result number line.now before self.new.reader self.new.reporter entries numbers }
+            IsReadUpTo (HasReported self.old.why) self.old.reader self.old.reporter before entries numbers →
+            LineEnds (HasReported self.old.why) result number line.now before self.new.reader self.new.reporter entries numbers }
     {
         read_trace_line(self.alloc, line, &mut self.reader)?;
         if let Some(reader) = &mut self.reader {
@@ -65,8 +66,8 @@ impl TraceTrial {
     pub fn into_reporter(self) -> Result<Option<TraceReporter>, AllocError>
         ensures { IfOk result (λ reporter.
             (before : Option TraceProgress) (entries : List Entry) (numbers : List ℕ) →
-            IsReadUpTo self.why self.reader self.reporter before entries numbers →
-            IsObserved self.why reporter before entries numbers) }
+            IsReadUpTo (HasReported self.why) self.reader self.reporter before entries numbers →
+            IsObserved (HasReported self.why) reporter before entries numbers) }
     {
         let TraceTrial {
             alloc,
@@ -84,8 +85,12 @@ impl TraceTrial {
     }
 }
 
-/// Judges one more entry; with the first one there is a judge.
-fn observe(
+/// Judges one more entry, of a line with this number. The first entry creates the judge.
+///
+/// # Errors
+///
+/// Returns [`AllocError`] if memory runs out. Then no more is observed.
+pub fn observe(
     alloc: Global,
     why: bool,
     setup: &TraceSetup,
@@ -97,8 +102,8 @@ fn observe(
     requires few { count_in reporter.old < 2 ^ 64 - 1 }
     ensures some { OnOk result (IsSome reporter.new) }
     ensures observed { OnOk result ((entries : List Entry) (numbers : List ℕ) →
-        Observes why reporter.old setup.now entries numbers →
-        Observes why reporter.new setup.now (entries ++ entry.now ∷ []) (numbers ++ number ∷ [])) }
+        Observes (HasReported why) reporter.old setup.now entries numbers →
+        Observes (HasReported why) reporter.new setup.now (entries ++ entry.now ∷ []) (numbers ++ number ∷ [])) }
 {
     if reporter.is_none() {
         begin(alloc, why, setup, reporter)?;
@@ -121,7 +126,7 @@ fn begin(
     requires good { is_trace_setup setup.now ≡ true }
     ensures some { OnOk result (IsSome reporter.new) }
     ensures none { OnOk result (count_in reporter.new ≡ 0) }
-    ensures observed { OnOk result (Observes why reporter.new setup.now [] []) }
+    ensures observed { OnOk result (Observes (HasReported why) reporter.new setup.now [] []) }
 {
     *reporter = Some(TraceReporter::new(alloc, setup, why)?);
     Ok(())

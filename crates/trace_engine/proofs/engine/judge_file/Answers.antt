@@ -15,13 +15,13 @@ lines-preserved g c =
     let old = c.lines.trial in
     let new = c.line-in-lines.new.self in
     let takes = subst (λ (b : Bool). GoesToNext (Ok b) c.lines.lines c.next.new.self mid rest) c.if-branch.true c.in_ok-next.ensures.next in
-    let read_up_to = subst (λ (w : Bool). IsReadUpTo w old.reader old.reporter u.before u.entries u.numbers) (sym why) u.read_up_to in
-    let reported = subst (λ (w : Bool). GoesOn w c.taken.result c.line.result.now u.before new.reader new.reporter u.entries u.numbers) why (c.in_default.ensures.ends u.before u.entries u.numbers read_up_to) in
-    let numbered = subst (λ (n : ℕ). GoesOn c.args.why n c.line.result.now u.before new.reader new.reporter u.entries u.numbers) c.taken.ensures.taken reported in
-    let on = subst (λ (line : List ℕ). GoesOn c.args.why c.next.new.self.taken line u.before new.reader new.reporter u.entries u.numbers) c.line.ensures numbered in
+    let read_up_to = subst (λ (w : Bool). IsReadUpTo (HasReported w) old.reader old.reporter u.before u.entries u.numbers) (sym why) u.read_up_to in
+    let reported = subst (λ (w : Bool). GoesOn (HasReported w) c.taken.result c.line.result.now u.before new.reader new.reporter u.entries u.numbers) why (c.in_default.ensures.ends u.before u.entries u.numbers read_up_to) in
+    let numbered = subst (λ (n : ℕ). GoesOn (HasReported c.args.why) n c.line.result.now u.before new.reader new.reporter u.entries u.numbers) c.taken.ensures.taken reported in
+    let on = subst (λ (line : List ℕ). GoesOn (HasReported c.args.why) c.next.new.self.taken line u.before new.reader new.reporter u.entries u.numbers) c.line.ensures numbered in
     record {
       why = c.in_default.ensures.why ∙ why;
-      onwards = onwards_on c.args.why all mid rest c.lines.lines c.next.new.self old.reader new.reader old.reporter new.reporter u takes on;
+      onwards = onwards_on (HasReported c.args.why) all mid rest c.lines.lines c.next.new.self old.reader new.reader old.reporter new.reporter u takes on;
       holds = c.in_ok-next.ensures.holds c.lines.invariant.holds;
       whole = omega (arith, c.in_ok-next.ensures.failures, c.lines.invariant.whole);
     }
@@ -34,10 +34,10 @@ returns-in-Err-clause-fault g c =
     let mid = coming c.lines.lines.ahead (g.R.Source.to_come c.lines.input) in
     let rest = coming c.next.new.self.ahead (g.R.Source.to_come c.next.new.input) in
     let old = c.lines.trial in
-    let read_up_to = subst (λ (w : Bool). IsReadUpTo w old.reader old.reporter u.before u.entries u.numbers) (sym why) u.read_up_to in
+    let read_up_to = subst (λ (w : Bool). IsReadUpTo (HasReported w) old.reader old.reporter u.before u.entries u.numbers) (sym why) u.read_up_to in
     let takes = subst (λ (b : Bool). GoesToNext (Ok b) c.lines.lines c.next.new.self mid rest) c.if-branch.true c.in_ok-next.ensures.next in
     let fault = subst (λ (line : List ℕ). UnlessMemory c.in-Err.kind (line_read line u.before ≡ Err c.in-Err.kind)) c.line.ensures (c.in-Err.ensures.ends u.before u.entries u.numbers read_up_to) in
-    subst (λ (f : Fault). IsTraceFault f all) (sym c.here.ensures) (onwards_fault c.args.why all mid rest c.lines.lines c.next.new.self old.reader old.reporter c.in-Err.kind u takes fault)
+    subst (λ (f : Fault). IsTraceFault f all) (sym c.here.ensures) (onwards_fault (HasReported c.args.why) all mid rest c.lines.lines c.next.new.self old.reader old.reporter c.in-Err.kind u takes fault)
 
 pub returns-clause-observed : goal.returns-clause-observed
 returns-clause-observed g c =
@@ -47,11 +47,11 @@ returns-clause-observed g c =
     let mid = coming c.lines.lines.ahead (g.R.Source.to_come c.lines.input) in
     let rest = coming c.next.new.self.ahead (g.R.Source.to_come c.next.new.input) in
     let old = c.lines.trial in
-    let read_up_to = subst (λ (w : Bool). IsReadUpTo w old.reader old.reporter u.before u.entries u.numbers) (sym why) u.read_up_to in
+    let read_up_to = subst (λ (w : Bool). IsReadUpTo (HasReported w) old.reader old.reporter u.before u.entries u.numbers) (sym why) u.read_up_to in
     let ends = subst (λ (b : Bool). GoesToNext (Ok b) c.lines.lines c.next.new.self mid rest) c.if-branch.false c.in_ok-next.ensures.next in
-    let reported = subst (λ (w : Bool). IsObserved w c.in_ok-into_reporter.field-0 u.before u.entries u.numbers) why (c.in_ok-into_reporter.ensures u.before u.entries u.numbers read_up_to) in
-    let is = subst (λ (h : Option ReporterState). IsObserved c.args.why h u.before u.entries u.numbers) c.in-Some.is reported in
-    onwards_all c.args.why (HasReported c.args.why c.in-Some.reporter) all mid c.lines.lines.taken old.reader old.reporter u is.0 is.1 is.2 ends.before
+    let reported = subst (λ (w : Bool). IsObserved (HasReported w) c.in_ok-into_reporter.field-0 u.before u.entries u.numbers) why (c.in_ok-into_reporter.ensures u.before u.entries u.numbers read_up_to) in
+    let is = subst (λ (h : Option ReporterState). IsObserved (HasReported c.args.why) h u.before u.entries u.numbers) c.in-Some.is reported in
+    onwards_all (HasReported c.args.why) (HasReported c.args.why c.in-Some.reporter) all mid c.lines.lines.taken old.reader old.reporter u is.0 is.1 is.2 ends.before
 
 pub returns-in_err-next-clause-fault : goal.returns-in_err-next-clause-fault
 returns-in_err-next-clause-fault g c =
@@ -59,4 +59,4 @@ returns-in_err-next-clause-fault g c =
     let mid = coming c.lines.lines.ahead (g.R.Source.to_come c.lines.input) in
     let rest = coming c.next.new.self.ahead (g.R.Source.to_come c.next.new.input) in
     if_err c.from_residual.result c.in_err-next.field-0.0 (λ (f : Fault). IsTraceFault f all) c.from_residual.ensures.1
-    (next_fault c.args.why all mid rest c.lines.lines c.next.new.self c.lines.trial.reader c.lines.trial.reporter c.in_err-next.field-0.0 c.lines.invariant.onwards c.in_err-next.ensures.next)
+    (next_fault (HasReported c.args.why) all mid rest c.lines.lines c.next.new.self c.lines.trial.reader c.lines.trial.reporter c.in_err-next.field-0.0 c.lines.invariant.onwards c.in_err-next.ensures.next)

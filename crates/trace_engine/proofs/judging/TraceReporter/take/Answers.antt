@@ -19,6 +19,6 @@ returns c =
     (λ lines why entries numbers reported.
     let before = subst (λ (t : ReporterState). HasReported why t s entries numbers) (sym c.self.view_is) reported in
     let judged = subst (λ (x : TraceEntry). HasJudged c.observe.new.self s (entries ++ x ∷ [])) same (c.observe.ensures.observed s entries before.judged) in
-    reported_on s entries numbers c.args.number e why old new c.reasons.result before judged refl lines (c.reasons.ensures s (entries ++ e ∷ []) judged))
-    (subst (λ (b : Bool). OnOk c.push_if.result (c.push_if.new.text.items ≡ i.lines.items ++ lines_if b c.args.number s.registers e c.reasons.result)) asks
-    (subst (λ (rs : List TraceRegister). OnOk c.push_if.result (c.push_if.new.text.items ≡ i.lines.items ++ lines_if c.asks_reasons-asks.result c.args.number rs e c.reasons.result)) registers c.push_if.ensures))
+    reported_on s entries numbers c.args.number e why old new c.reasons.result.now before judged refl lines (c.reasons.ensures.explained s (entries ++ e ∷ []) judged))
+    (subst (λ (b : Bool). OnOk c.push_if.result (c.push_if.new.text.items ≡ i.lines.items ++ lines_if b c.args.number s.registers e c.reasons.result.now)) asks
+    (subst (λ (rs : List TraceRegister). OnOk c.push_if.result (c.push_if.new.text.items ≡ i.lines.items ++ lines_if c.asks_reasons-asks.result c.args.number rs e c.reasons.result.now)) registers c.push_if.ensures))

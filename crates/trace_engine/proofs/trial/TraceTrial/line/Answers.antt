@@ -3,7 +3,7 @@ use Rattle.std.specs.Option.{option_to_list}
 use Rattle.files.specs.{words_of, words_read}
 use Rattle.trace.specs.{TraceEntry, TraceSetup}
 use Rattle.trace_file.specs.TraceFiles.{TraceProgress, cleared, entry_in, trace_grammar}
-use Rattle.trace_engine.specs.{Observes}
+use Rattle.trace_engine.specs.{HasReported, Observes}
 use Rattle.trace_engine.proofs.LineReads.{quiet_is_cleared}
 use Rattle.trace_engine.proofs.Trials.{ends_observed, ends_quiet}
 use Rattle.trace_engine.proofs.trial.TraceTrial.line.Goals as goal
@@ -16,8 +16,8 @@ returns-in_ok-observe-clause-ends c =
     let left : Some c.forget_entry.new.self ≡ cleared (Some now) = ap (λ (p : TraceProgress). Some p) c.forget_entry.ensures in
     let says : now.entry ≡ Some e = c.in-Some-last_entry.ensures in
     let read : words_read trace_grammar (words_of c.args.line.now) old.reader ≡ Ok (Some now) = c.in_ok-read_trace_line.ensures ∙ ap (λ (o : Option TraceProgress). Ok o) c.in-Some.is in
-    let observes = subst (λ (s : TraceSetup). (entries : List TraceEntry) (numbers : List ℕ) → Observes old.why old.reporter s entries numbers → Observes old.why c.observe.new.reporter s (entries ++ e ∷ []) (numbers ++ c.args.number ∷ [])) c.setup.ensures.value c.in_ok-observe.ensures.observed in
-    λ before entries numbers read_up_to. ends_observed old.why c.args.number c.args.line.now old.reader (Some c.forget_entry.new.self) now e old.reporter c.observe.new.reporter before entries numbers c.requires.short read_up_to read says left c.in_ok-observe.ensures.some observes
+    let observes = subst (λ (s : TraceSetup). (entries : List TraceEntry) (numbers : List ℕ) → Observes (HasReported old.why) old.reporter s entries numbers → Observes (HasReported old.why) c.observe.new.reporter s (entries ++ e ∷ []) (numbers ++ c.args.number ∷ [])) c.setup.ensures.value c.in_ok-observe.ensures.observed in
+    λ before entries numbers read_up_to. ends_observed (HasReported old.why) c.args.number c.args.line.now old.reader (Some c.forget_entry.new.self) now e old.reporter c.observe.new.reporter before entries numbers c.requires.short read_up_to read says left c.in_ok-observe.ensures.some observes
 
 pub returns-in_default-last_entry-clause-ends : goal.returns-in_default-last_entry-clause-ends
 returns-in_default-last_entry-clause-ends c =
@@ -26,4 +26,4 @@ returns-in_default-last_entry-clause-ends c =
     let says : now.entry ≡ None = c.in_default-last_entry.ensures in
     let none : entry_in (Some now) ≡ [] = ap option_to_list says in
     let read : words_read trace_grammar (words_of c.args.line.now) old.reader ≡ Ok (Some now) = c.in_ok-read_trace_line.ensures ∙ ap (λ (o : Option TraceProgress). Ok o) c.in-Some.is in
-    λ before entries numbers read_up_to. ends_quiet old.why c.args.number c.args.line.now old.reader (Some now) (Some now) old.reporter before entries numbers c.requires.short read_up_to read (quiet_is_cleared now says) none
+    λ before entries numbers read_up_to. ends_quiet (HasReported old.why) c.args.number c.args.line.now old.reader (Some now) (Some now) old.reporter before entries numbers c.requires.short read_up_to read (quiet_is_cleared now says) none
