@@ -257,15 +257,15 @@ class State(NamedTuple):
         return State(stages, is_taken)
 
 
-def band_faults(band, state, marks):
-    """What is wrong with the bars and shades of a band, where this was the state before it."""
+def band_faults(band, state, marks, is_good):
+    """What is wrong with the bars and shades of a band, where this was the state before it. In a good run one process is inside."""
     shades = [width_of(box) for box in band.iter(SVG + "rect") if box.get("class") == "shade"]
     lanes, states = bars_of(band), {LEFT: state}
     for mark in marks:
         states[int(mark.get("data-x"))] = state = state.after(title(mark))
     for x, wanted in states.items():
         drawn = [[stage for start, end, stage in lane if start <= x < end] for lane in lanes]
-        if drawn != [[stage] for stage in wanted.stages] or drawn.count(["inside"]) > 1:
+        if drawn != [[stage] for stage in wanted.stages] or is_good and drawn.count(["inside"]) > 1:
             yield f"bars {drawn} at {x}, not {wanted.stages}"
         if sum(start <= x < end for start, end in shades) != wanted.is_taken:
             yield f"shades {shades}, though at {x} somebody is inside: {wanted.is_taken}"
@@ -292,8 +292,8 @@ def bracket_faults(bands):
             yield f"brackets {brackets} of reads at {columns}"
 
 
-def picture_faults(picture, run):
-    """What is wrong with the picture of a run."""
+def picture_faults(picture, run, is_good=True):
+    """What is wrong with the picture of a run, in which two processes may be inside if it is not good."""
     root = tree.fromstring(picture.encode())
     # the last group is the legend
     bands = [group for group in root if group.get("transform")][:-1]
@@ -310,7 +310,7 @@ def picture_faults(picture, run):
     yield from place_faults(marks)
     state = State(["idle"] * len(bars_of(bands[0])), False)
     for band, marks in zip(bands, marks_of):
-        yield from band_faults(band, state, marks)
+        yield from band_faults(band, state, marks, is_good)
         for mark in marks:
             state = state.after(title(mark))
 

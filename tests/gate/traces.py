@@ -31,7 +31,9 @@ VERDICTS = ["good", "access", "memory", "marks", "together", "overtaken"]
 REFUSALS = ["no-process", "no-cell", "not-owner", "not-shared", "too-wide", "not-whole", "not-running", "not-open", "access-open"]
 REFUSALS += ["not-alone", "busy", "not-in-doorway", "not-trying", "not-inside", "not-leaving"]
 KINDS = ["too-long", "not-first", "unknown", "words", "number", "bad-name", "bad-setup"]
-STRAYS = {"trace", "err", "status", *WORDS}
+# the pictures that drawn_traces.py compares
+PICTURES = {"draw.html", "draw-svg.svg", "draw-svg-judge.svg"}
+STRAYS = {"trace", "err", "status", *WORDS, *PICTURES}
 
 
 def by_second(text):

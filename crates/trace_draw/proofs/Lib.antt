@@ -1,0 +1,5 @@
+pub mod Giving
+pub mod Hiding
+pub mod ShownEntries
+pub mod Drawn
+pub mod Ends

@@ -1,0 +1,50 @@
+use Rattle.std.proofs.Common.{◌≡◌, ◌+◌, ℕ, List, [], ◌∷◌, ◌++◌, ◌∙◌, ap, get_or, map, take, arith, refl, subst, sym}
+use Rattle.std.proofs.lemmas.List.{map-append, take_all, take_more}
+use Rattle.draw.specs.{DrawsLines, Says, SaysLockMark}
+use Rattle.draw.proofs.Drawn.{draws_lines_both, draws_no_lines}
+use Rattle.draw.proofs.Written.{failed_same}
+use Rattle.trace.specs.{LockMark}
+use Rattle.trace.specs.declared.marks.LockMark.TheVariants.{Call}
+use Rattle.trace_draw.proofs.drawing.TraceDrawing.draw_marks.Goals as goal
+
+pub loop-mark-init : goal.loop-mark-init
+loop-mark-init g c = record {
+  drawn = draws_no_lines c.args.self.now.canvas (g.W.Sink.taken c.args.output.now) c.args.self.now.source c.args.self.now.entries;
+  source = refl;
+  entries = refl;
+  whole = refl;
+}
+
+pub draw_mark-requires : goal.draw_mark-requires
+draw_mark-requires g c = rw c.loop-mark.invariant.whole c.requires
+
+pub returns-in_err-draw_mark-clause-failures : goal.returns-in_err-draw_mark-clause-failures
+returns-in_err-draw_mark-clause-failures g c = omega (arith, c.in_err-draw_mark.ensures.failures, c.loop-mark.invariant.whole, failed_same c.from_residual.result c.in_err-draw_mark.field-0.0 c.from_residual.ensures.1)
+
+pub loop-mark-preserved : goal.loop-mark-preserved
+loop-mark-preserved g c =
+    let p = c.args.process in
+    let old = c.args.self.now in
+    let marks : List LockMark = take c.loop-mark.mark-index c.args.marks.now in
+    let here : LockMark = get_or c.args.marks.now c.loop-mark.mark-index Call in
+    let next : take (c.loop-mark.mark-index + 1) c.args.marks.now ≡ marks ++ here ∷ [] = take_more c.args.marks.now c.loop-mark.mark-index Call c.loop-mark-test.true in
+    let said : map (SaysLockMark p) (take (c.loop-mark.mark-index + 1) c.args.marks.now) ≡ map (SaysLockMark p) marks ++ SaysLockMark p here ∷ [] = ap (map (SaysLockMark p)) next ∙ map-append (SaysLockMark p) marks (here ∷ []) in
+    let a = g.W.Sink.taken c.args.output.now in
+    let b = g.W.Sink.taken c.loop-mark.output in
+    let d = g.W.Sink.taken c.draw_mark.new.output in
+    let had = c.loop-mark.invariant in
+    let mid = c.loop-mark.self in
+    let now = c.draw_mark.new.self in
+    let on = subst (λ (n : ℕ). DrawsLines mid.canvas now.canvas b d n old.entries (SaysLockMark p here ∷ [])) had.source (subst (λ (n : ℕ). DrawsLines mid.canvas now.canvas b d mid.source n (SaysLockMark p here ∷ [])) had.entries c.in_ok-draw_mark.ensures.drawn) in
+    record {
+      drawn = subst (λ (l : List Says). DrawsLines old.canvas now.canvas a d old.source old.entries l) (sym said)
+          (draws_lines_both old.canvas mid.canvas now.canvas a b d old.source old.entries (map (SaysLockMark p) marks) (SaysLockMark p here ∷ []) had.drawn on);
+      source = c.draw_mark.ensures.source ∙ had.source;
+      entries = c.draw_mark.ensures.entries ∙ had.entries;
+      whole = omega (arith, c.in_ok-draw_mark.ensures.failures, had.whole);
+    }
+
+pub returns-clause-drawn : goal.returns-clause-drawn
+returns-clause-drawn g c =
+    subst (λ (l : List LockMark). DrawsLines c.args.self.now.canvas c.loop-mark.self.canvas (g.W.Sink.taken c.args.output.now) (g.W.Sink.taken c.loop-mark.output) c.args.self.now.source c.args.self.now.entries (map (SaysLockMark c.args.process) l))
+    (take_all c.loop-mark.mark-index c.args.marks.now (omega arith)) c.loop-mark.invariant.drawn

@@ -1,0 +1,17 @@
+use Rattle.std.proofs.Common.{◌≡◌, Option, Some, List, ℕ, ap, subst, sym, ◌∙◌}
+use Rattle.trace.specs.{TraceSetup}
+use Rattle.trace_file.specs.TraceFiles.{TraceProgress}
+use Rattle.trace_draw.specs.{EndsTrace, HasShown, IsTold}
+use Rattle.trace_draw.proofs.Ends.{observes_at, same_some}
+use Rattle.trace_draw.proofs.sheet.TraceSheet.end.Goals as goal
+
+pub returns-clause-ok : goal.returns-clause-ok
+returns-clause-ok g c = λ first p entries numbers stands.
+    let t = c.args.self.now in
+    let a = g.W.Sink.taken c.args.output.now in
+    let b = g.W.Sink.taken c.draw_end.new.output in
+    let d = c.in_ok-drawn.drawn in
+    let same : c.in-Some.reader ≡ p = same_some t.reader c.in-Some.reader p c.in-Some.is stands.read_up_to.read in
+    let setup : c.setup.result.now ≡ p.setup = c.setup.ensures.value ∙ ap (λ (q : TraceProgress). q.setup) same in
+    subst (λ (s : TraceSetup). IsTold t.judged (λ s shown told. EndsTrace t.form d s shown told first b) d.status s entries numbers) setup
+    (c.in_ok-drawn.ensures.drawn first entries numbers stands.nothing (observes_at t.judged t.form first a t.picture p c.setup.result.now entries numbers (sym setup) stands.read_up_to.observed))

@@ -1,0 +1,162 @@
+//! The commands `draw` and `draw-svg` for traces.
+ghost use Rattle.std.specs.Prelude.{◌≡◌, ◌+◌, ◌-◌, ◌^◌, ◌<◌, ℕ, [], false, IfErr, IfOk, IfSome, List, None, OnOk, Option, Some};
+ghost use Rattle.std.specs.Io.KnownBytes.{IsAtEnd};
+ghost use Rattle.files.specs.{failed_reading, streams};
+ghost use Rattle.draw.specs.{IsWriteFault, failed_write};
+ghost use Rattle.picture.specs.declared.page.Form.TheVariants as form_variants;
+ghost use Rattle.trace.specs.{TraceEntry as Entry, TraceSetup as Setup};
+ghost use Rattle.trace_draw.specs.Sheets.{DrawsAllBands, DrewTrace, IsDrawFault, Stands};
+ghost use Rattle.trace_draw.specs.Showing.{DrawsTraceSaid, EndsTrace};
+
+use crate::pictures::DrawnTrace;
+use crate::sheet::TraceSheet;
+use draw::{Held, held_fault, write_markup};
+use files::source_lines::Lines;
+use files::{Fault, FaultKind, Sink, Source, write_all};
+use picture::{FIRST_BAND, Form, trace_page_end, trace_picture_end, trace_picture_head};
+use std::alloc::Global;
+
+/// Reads a trace file line by line, and writes the page of the trace: a picture in bands, each of which is written when it is
+/// full. So it stores a line, a block and a band, however long the file is. Returns the exit status.
+///
+/// If it succeeds, the output is the page of the items that the trace gives, and nothing else. These items are a line for each
+/// mark of the entries, and a last line. The titles of the marks, read back, are the marks of the trace in their order, and a
+/// last line. The tags match, and no element is open at the end. If `judged` is true, the page ends with the first entry that
+/// breaks a law, and then shows the lines of the verdict with its reasons; the exit status is that of the verdict. The file is
+/// read to its end.
+///
+/// # Errors
+///
+/// Returns the fault that judging the file has, if the file has one; the start of the page may then have been written.
+/// Returns [`Fault::Read`] and [`Fault::Write`] if a call of a stream fails, and [`Fault::Memory`] if memory is lacking.
+pub fn draw_trace<R: Source, W: Sink>(
+    alloc: Global,
+    judged: bool,
+    input: &mut R,
+    output: &mut W,
+) -> Result<u8, Fault>
+    requires reads { R.failures input.old < 2 ^ 64 - 1 }
+    requires writes { W.failures output.old < 2 ^ 64 - 1 }
+    ensures { DrewTrace judged form_variants.Page result
+        (streams ⟦<R as Source>⟧ ⟦<W as Sink>⟧ input.old output.old)
+        (streams ⟦<R as Source>⟧ ⟦<W as Sink>⟧ input.new output.new) }
+{
+    let drawn = draw_bands(alloc, Form::Page, judged, input, output)?;
+    end_page(alloc, &drawn, output)?;
+    Ok(drawn.status)
+}
+
+/// Reads a trace file line by line, and writes one picture of the trace, with the items of its page. The bands are stored until
+/// all are drawn, because a picture begins with its height; the file is not stored. Returns the exit status.
+///
+/// # Errors
+///
+/// Returns the faults of [`draw_trace`], after which nothing has been written, except that writing the picture may have failed.
+pub fn draw_trace_svg<R: Source, W: Sink>(
+    alloc: Global,
+    judged: bool,
+    input: &mut R,
+    output: &mut W,
+) -> Result<u8, Fault>
+    requires reads { R.failures input.old < 2 ^ 64 - 1 }
+    requires writes { W.failures output.old < 2 ^ 64 - 1 }
+    ensures { DrewTrace judged (form_variants.Picture 34) result
+        (streams ⟦<R as Source>⟧ ⟦<W as Sink>⟧ input.old output.old)
+        (streams ⟦<R as Source>⟧ ⟦<W as Sink>⟧ input.new output.new) }
+{
+    let mut bands = Held::new(alloc);
+    match draw_bands(alloc, Form::Picture(FIRST_BAND), judged, input, &mut bands) {
+        Ok(drawn) => {
+            write_picture(alloc, &drawn, bands.bytes(), output)?;
+            Ok(drawn.status)
+        }
+        Err(fault) => Err(held_fault(fault)),
+    }
+}
+
+/// Writes the end of a page.
+fn end_page<W: Sink>(alloc: Global, drawn: &DrawnTrace, output: &mut W) -> Result<(), Fault>
+    requires { W.failures output.old < 2 ^ 64 - 1 }
+    ensures ok { OnOk result ((s : Setup) (shown : List Entry) (told : List ℕ) (first : Option (List ℕ)) →
+        EndsTrace form_variants.Page drawn.now s shown told first (W.taken output.old) →
+        DrawsTraceSaid form_variants.Page s shown told first (W.taken output.new)) }
+    ensures fault { IfErr result IsWriteFault }
+    ensures failures { W.failures output.new ≡ W.failures output.old + failed_write result }
+{
+    let end = trace_page_end(alloc)?;
+    write_markup(&end, output)
+}
+
+/// Writes one picture, which has these bands.
+fn write_picture<W: Sink>(
+    alloc: Global,
+    drawn: &DrawnTrace,
+    bands: &[u8],
+    output: &mut W,
+) -> Result<(), Fault>
+    requires { W.failures output.old < 2 ^ 64 - 1 }
+    ensures ok { OnOk result ((s : Setup) (shown : List Entry) (told : List ℕ) →
+        EndsTrace (form_variants.Picture 34) drawn.now s shown told (Some []) (Some bands.now) →
+        DrawsTraceSaid (form_variants.Picture 34) s shown told (W.taken output.old) (W.taken output.new)) }
+    ensures fault { IfErr result IsWriteFault }
+    ensures failures { W.failures output.new ≡ W.failures output.old + failed_write result }
+{
+    let head = trace_picture_head(alloc, drawn.title.as_slice(), drawn.height)?;
+    let end = trace_picture_end(alloc, drawn.height)?;
+    write_markup(&head, output)?;
+    write_all(output, bands)?;
+    write_markup(&end, output)
+}
+
+/// Draws the bands of the trace of a file, and before them the start of a page.
+fn draw_bands<R: Source, W: Sink>(
+    alloc: Global,
+    form: Form,
+    judged: bool,
+    input: &mut R,
+    output: &mut W,
+) -> Result<DrawnTrace, Fault>
+    requires reads { R.failures input.old < 2 ^ 64 - 1 }
+    requires writes { W.failures output.old < 2 ^ 64 - 1 }
+    ensures drawn { IfOk result (λ drawn. IfSome (R.to_come input.old)
+        (DrawsAllBands judged form drawn (W.taken output.old) (W.taken output.new))) }
+    ensures end { IfOk result (λ _. IsAtEnd (R.to_come input.new)) }
+    ensures fault { IfErr result (λ fault. IsDrawFault fault (R.to_come input.old)) }
+    ensures read_failures { R.failures input.new ≡ R.failures input.old + failed_reading result }
+    ensures write_failures { W.failures output.new ≡ W.failures output.old + failed_write result }
+{
+    let mut lines = Lines::new(alloc);
+    let mut sheet = TraceSheet::new(alloc, form, judged);
+    draw_lines(&mut lines, &mut sheet, input, output)
+}
+
+/// Does the work of [`draw_bands`] with lines and a sheet that are new. It borrows them, because a value that is dropped at each
+/// way out of a function takes long to prove.
+fn draw_lines<R: Source, W: Sink>(
+    lines: &mut Lines,
+    sheet: &mut TraceSheet,
+    input: &mut R,
+    output: &mut W,
+) -> Result<DrawnTrace, Fault>
+    requires ahead { lines.old.ahead.bytes ≡ [] }
+    requires ended { lines.old.ahead.ended ≡ false }
+    requires taken { lines.old.taken ≡ 0 }
+    requires stands { (taken : Option (List ℕ)) →
+        Stands sheet.old.judged sheet.old.form sheet.old.reader sheet.old.picture taken taken None [] [] }
+    requires reads { R.failures input.old < 2 ^ 64 - 1 }
+    requires writes { W.failures output.old < 2 ^ 64 - 1 }
+    ensures drawn { IfOk result (λ drawn. IfSome (R.to_come input.old)
+        (DrawsAllBands sheet.old.judged sheet.old.form drawn (W.taken output.old) (W.taken output.new))) }
+    ensures end { IfOk result (λ _. IsAtEnd (R.to_come input.new)) }
+    ensures fault { IfErr result (λ fault. IsDrawFault fault (R.to_come input.old)) }
+    ensures read_failures { R.failures input.new ≡ R.failures input.old + failed_reading result }
+    ensures write_failures { W.failures output.new ≡ W.failures output.old + failed_write result }
+{
+    'lines: while lines.next(input)? {
+        sheet.read(lines.taken(), lines.line(), output)?;
+    }
+    match sheet.end(output)? {
+        None => Err(lines.behind(FaultKind::NotFirst)),
+        Some(drawn) => Ok(drawn),
+    }
+}

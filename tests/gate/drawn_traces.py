@@ -1,0 +1,175 @@
+#!/usr/bin/env python3
+"""Draws traces by the proved program, and reads them back.
+
+The traces are those of examples/traces/ and 100 that `lib/random_traces.py` makes up. The second reading of trace files says which
+marks each has. A parser of XML reads the picture, and one of HTML the page; the titles of their marks are the marks of the trace in
+their order, and a last line. With `--judge`, and with `--any-lock`, they are those up to the first bad entry, and then the lines that
+`judge` prints with `--why`, each in the lane of the process that it names, or else of the bad entry; the status is that of `judge`.
+
+Right of each mark the bar of each process is the stage that the marks so far give it, and no word lies on another. The page is titled
+as a trace, and lists its headings and registers; it has no history and no store. A trace with a fault has the same fault in `draw`,
+`draw-svg` and `judge`, of which the page alone may have begun. `--reads` is refused. The pictures that examples/traces/ has are those
+that the program draws.
+
+tests/gate/drawn_traces.py [NUMBER]: the first of the traces that are made up, by default 1.
+"""
+
+import pathlib
+import re
+import sys
+import xml.etree.ElementTree as tree
+
+sys.path.insert(0, str(pathlib.Path(__file__).resolve().parents[1]))
+
+from drawn_records import lanes_told, run, stray_words
+from lib.counting import Counter
+from lib.places import TOP
+from lib.random_traces import trace
+from pictures import SVG, Groups, Run, picture_faults, title
+from second.scenario_files import Fault
+from second.trace_files import read_trace
+
+TRACES = TOP / "examples" / "traces"
+MANY = 100
+# what asks for a verdict in a picture
+JUDGES = ["--judge", "--any-lock"]
+REFUSED = (2, b"", b"the picture of a trace shows no reads: leave out --reads\n")
+# the words for each picture next to an example
+KEPT = {"draw.html": ["draw"], "draw-svg.svg": ["draw-svg"], "draw-svg-judge.svg": ["draw-svg", "--judge"]}
+# what only a run or a record has
+OF_A_RUN = [">history<", "bakery", "line('store'", "scenario"]
+
+
+def heard(page):
+    """What a parser of HTML reads in a page."""
+    parser = Groups()
+    parser.feed(page)
+    return parser
+
+
+def lines_of(read, told=()):
+    """The lines that a picture of a trace has; if a judge tells of a bad entry, that is the last one that is shown."""
+    entries = read.entries
+    if told and told[0].startswith("bad "):
+        entries = entries[: int(told[0].split()[1]) + 1]
+    for entry in entries:
+        yield from (f"{entry.number} {entry.process} {mark}" for mark in entry.marks)
+    yield from (f"judge {line}" for line in told)
+    yield f"end entries {len(entries)}"
+
+
+def lanes_wanted(read, told):
+    """The lanes in which the lines of a judge are to stand: those of processes that are there."""
+    spelled = [line.split() for line in told]
+    bad = next((int(words[1]) for words in spelled if words[0] == "is"), None)
+    for words in spelled:
+        process = int(words[1]) if words[0] in ("inside", "waits") else bad
+        yield process if process is not None and process < read.processes else None
+
+
+def listed_in(read):
+    """The lines that a page lists, and its title."""
+    yield from ["trace 1", f"processes {read.processes}", f"memory {read.memory}"]
+    for name, register in read.registers.items():
+        yield f"{'shared' if register.is_shared else 'register'} {name} {register.width} opens {register.opens}"
+    yield from ["(entries)", "(end)"]
+
+
+def title_of(read):
+    many = "process" if read.processes == 1 else "processes"
+    return f"Trace of {read.processes} {many} ({read.memory} memory)"
+
+
+def page_faults(page, read, wanted):
+    """What is wrong with the page of a trace."""
+    parser = heard(page)
+    if [group.title[0] for group in parser.groups if group.style == "m"] != wanted:
+        yield "the page has other lines"
+    if parser.listed != list(listed_in(read)):
+        yield f"the page lists {parser.listed}"
+    if re.findall("<title>([^<]*)</title>\n<style>", page) != [title_of(read)]:
+        yield "the page has another title"
+    yield from (f"the page has {words}" for words in OF_A_RUN if words in page)
+
+
+def drawn_faults(file, read, options, status, told):
+    """What is wrong with the pictures of a trace, of which a judge tells this."""
+    wanted = list(lines_of(read, told))
+    page, picture = run(file, "draw", *options), run(file, "draw-svg", *options)
+    if (page[0], page[2], picture[0], picture[2]) != (status, b"", status, b""):
+        yield f"draw ends with {page[0]}, {page[2]!r}, draw-svg with {picture[0]}, {picture[2]!r}"
+        return
+    yield from page_faults(page[1].decode(), read, wanted)
+    root = tree.fromstring(picture[1])
+    if [title(mark) for mark in root.iter(SVG + "g") if mark.get("class") == "m"] != wanted:
+        yield "the picture has other lines"
+    if stray_words(root):
+        yield f"words stand outside: {stray_words(root)[:3]}"
+    if list(lanes_told(root)) != list(lanes_wanted(read, told)):
+        yield "lines of the judge stand in other lanes"
+    if all(entry.process < read.processes for entry in read.entries):
+        yield from picture_faults(picture[1].decode(), Run([], wanted, []), is_good=False)
+
+
+def trace_faults(file):
+    """What is wrong with the pictures of a trace, or with how drawing it ends."""
+    judged = run(file, "judge", "--why")
+    try:
+        read = read_trace(file)
+    except Fault:
+        read = None
+    if read is None:
+        for options in [[], *([judge] for judge in JUDGES)]:
+            for command in ("draw", "draw-svg"):
+                status, output, errors = run(file, command, *options)
+                if (status, errors) != (judged[0], judged[2]):
+                    yield f"{command} {options} ends with {status}, {errors!r}, judge with {judged[0]}, {judged[2]!r}"
+                if output and (command == "draw-svg" or b"</html>" in output):
+                    yield f"{command} {options} has written {len(output)} bytes"
+        return
+    yield from drawn_faults(file, read, [], 0, [])
+    for judge in JUDGES:
+        yield from (f"{judge}: {fault}" for fault in drawn_faults(file, read, [judge], judged[0], judged[1].decode().splitlines()))
+    for command in ("draw", "draw-svg"):
+        if run(file, command, "--reads") != REFUSED:
+            yield f"{command} does not refuse --reads"
+
+
+def is_trace(file):
+    """Whether the first word of the first line that is not skipped is `trace`."""
+    words = next((line.split() for line in file.splitlines() if line.split() and not line.split()[0].startswith(b"#")), [])
+    return words[:1] == [b"trace"]
+
+
+def files(first):
+    """The examples, and the traces that are made up, by name."""
+    for folder in sorted(path.parent for path in TRACES.glob("*/trace")):
+        yield folder.name, (folder / "trace").read_bytes()
+    for number in range(first, first + MANY):
+        yield f"trace {number}", trace(number)
+
+
+def kept_pictures(counter):
+    """Compares the pictures next to the examples, of each kind at least one."""
+    for name, words in KEPT.items():
+        kept = sorted(TRACES.glob(f"*/{name}"))
+        counter.count(kept, f"no example has {name}")
+        for picture in kept:
+            file = (picture.parent / "trace").read_bytes()
+            counter.compare(f"{picture.parent.name}, {name}", run(file, *words)[1], picture.read_bytes())
+
+
+def main():
+    counter = Counter()
+    kept_pictures(counter)
+    for name, file in files(int(sys.argv[1]) if len(sys.argv) > 1 else 1):
+        # what begins otherwise is no trace for the program, and draws as a scenario
+        if not is_trace(file):
+            continue
+        faults = list(trace_faults(file))
+        counter.count(not faults, f"{name}: {faults[:4]}")
+    counter.end()
+
+
+if __name__ == "__main__":
+    main()
