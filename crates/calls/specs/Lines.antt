@@ -5,7 +5,6 @@ use Rattle.std.specs.List.{list_any}
 use Rattle.plain_store.specs.{Answer, Setup, answer_text, command_text}
 use Rattle.record.specs.{Past, processes}
 use Rattle.calls.specs.declared.called.Called.{Called}
-use Rattle.calls.specs.declared.called.Marked.{Marked}
 use Rattle.calls.specs.Hearing.{ended_call, open_call}
 
 -- a comma or a quote
@@ -40,8 +39,8 @@ number_or None n = n
 number_or (Some k) n = k
 
 -- the number of events after a call's `wait`, up to the one that ended its waiting, or up to the newest
-abbrev pub waited : ℕ → Marked → Option ℕ
-waited newest m = elim m.door_end [ None ↦ None | Some wait ↦ Some (number_or m.wait_end newest - wait) ]
+abbrev pub waited : ℕ → Option ℕ → Option ℕ → Option ℕ
+waited newest door_end wait_end = elim door_end [ None ↦ None | Some wait ↦ Some (number_or wait_end newest - wait) ]
 
 -- the numbers of a call that follow its command and precede its answer
 abbrev pub numbers : ℕ → Called → List (Option ℕ)
@@ -59,7 +58,7 @@ numbers newest c =
     ∷ Some c.accesses.reads
     ∷ Some c.accesses.writes
     ∷ Some c.accesses.overlapped
-    ∷ waited newest c.marks
+    ∷ waited newest c.marks.door_end c.marks.wait_end
     ∷ c.accesses.waited_for
     ∷ []
 

@@ -12,7 +12,7 @@ use record::{Access, Field, Move, width_of};
 
 /// Returns `count`, plus one if the test holds.
 #[inline]
-pub(crate) fn more_if(count: u64, test: bool) -> u64
+pub fn more_if(count: u64, test: bool) -> u64
     ensures { count < 2 ^ 64 - 1 → result ≡ one_more_if test count }
 {
     if test { count.saturating_add(1) } else { count }

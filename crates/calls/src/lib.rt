@@ -15,13 +15,13 @@ mod record_table;
 mod standing;
 mod table;
 
-pub use accesses::{ends_number, holds_up, number_after};
+pub use accesses::{ends_number, holds_up, more_if, number_after};
 pub use called::{Accesses, Called, EntryKnown, Marked};
 pub use calling::run_calls;
 pub use course;
 pub use laws_of_tables::records_list_as_runs;
 pub use listing::list_record;
-pub use printed::{HEADER, print_call};
+pub use printed::{HEADER, print_call, push_numbers, waited};
 pub use scenario;
 pub use standing::{CallStanding, called_in, first_if};
 pub use table::CallTable;

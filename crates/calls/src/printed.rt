@@ -6,7 +6,7 @@ ghost use Rattle.std.specs.Fmt.{decimal};
 ghost use Rattle.plain_store.specs.{answer_text, command_text};
 ghost use Rattle.calls.specs.Lines.{answer_field, call_head, call_line, doubled, field, is_special as special, line_of, number_field, numbers as numbers_of, number_text, waited as waited_by};
 
-use crate::called::{Called, Marked};
+use crate::called::Called;
 use plain_store::{Answer, Command, NestedTypes};
 use std::alloc::{AllocError, Global};
 use std::fmt;
@@ -88,7 +88,7 @@ fn numbers(called: &Called, newest: u64) -> [Option<u64>; 15]
         Some(accesses.reads),
         Some(accesses.writes),
         Some(accesses.overlapped),
-        waited(marks, newest),
+        waited(marks.door_end, marks.wait_end, newest),
         number_of(accesses.waited_for),
     ]
 }
@@ -104,11 +104,11 @@ fn number_of(process: Option<u8>) -> Option<u64>
 }
 
 /// Returns the number of events after the `wait` of a call, up to the one that ended its waiting, or up to the newest.
-fn waited(marks: &Marked, newest: u64) -> Option<u64>
-    ensures { result ≡ waited_by newest marks.now }
+pub fn waited(door_end: Option<u64>, wait_end: Option<u64>, newest: u64) -> Option<u64>
+    ensures { result ≡ waited_by newest door_end wait_end }
 {
-    let wait = marks.door_end?;
-    let end = match marks.wait_end {
+    let wait = door_end?;
+    let end = match wait_end {
         None => newest,
         Some(end) => end,
     };
@@ -116,7 +116,11 @@ fn waited(marks: &Marked, newest: u64) -> Option<u64>
 }
 
 /// Appends numbers, each after a comma.
-fn push_numbers(
+///
+/// # Errors
+///
+/// Fails only if an allocation fails.
+pub fn push_numbers(
     alloc: Global,
     line: &mut Vec<u8>,
     numbers: &[Option<u64>],
