@@ -1,0 +1,5 @@
+mod EngineEnds
+mod KeptCalls
+mod OneMore
+mod LookBacks
+mod OpenAccesses
