@@ -40,7 +40,7 @@ COMMANDS = {
     "scenario": ["plain", "replay", "audit", "sweep", "race", "record", "state --at end", "calls", "draw", "draw-svg"],
     "bits": ["bits"],
     "record": ["judge"],
-    "trace": ["judge"],
+    "trace": ["judge", "calls"],
 }
 
 
@@ -92,9 +92,9 @@ def try_folder(counter, folder):
 
 def try_block(counter, kind, text, told):
     first = told.partition(b"\n")[0] + b"\n"
-    # `state`, `calls`, `draw` and `draw-svg` take records as well
-    is_record = re.match(rb"record [12]\n", text)
-    for command in [it for it in COMMANDS[kind] if not (is_record and it.startswith(("state", "calls", "draw")))]:
+    # of the commands that take scenarios, `state`, `calls`, `draw` and `draw-svg` take records too, and the last three traces
+    others = ("state", "calls", "draw") if re.match(rb"record [12]\n", text) else ("calls", "draw") if is_trace(text) else ()
+    for command in [it for it in COMMANDS[kind] if kind != "scenario" or not it.startswith(others)]:
         name = f"{command} {text[:60]}"
         counter.compare(f"{name}, explained", ran([*command.split(), "--explain", "-"], text), (b"", told, 1))
         counter.compare(f"{name}, not explained", ran([*command.split(), "-"], text), (b"", first, 1))

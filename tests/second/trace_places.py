@@ -242,6 +242,12 @@ def shown(text, span, told):
     return f"  {line}\n  {carets}\nexpected {told}\n"
 
 
+def colon_hint(line):
+    """What is added for an entry that has a word with a colon and other bytes."""
+    is_entry = re.match(rb"[0-9]", line.words[0])
+    return "; a colon has blanks around it" if is_entry and any(b":" in word and word != b":" for word in line.words) else ""
+
+
 def explained(text):
     """What `judge --explain` tells of a trace that has a fault; None of one without. Its first line begins with `trace`."""
     reader, lines = None, lines_of(text)
@@ -260,6 +266,7 @@ def explained(text):
             kind = reader.take(line.words, at)
             if kind is None:
                 continue
-            place = FOUND[kind](line)
+            span, told = FOUND[kind](line)
+            place = span, told + colon_hint(line)
         return f"{Fault(at, kind)}\n{shown(each, *place)}".encode()
     return None

@@ -39,7 +39,7 @@ fn add_explanation(
 ) -> Result<(), AllocError> {
     let Some(bytes) = kept.line(fault.line) else {
         text.push_str("expected ")?;
-        kind.add_first_lines(text)?;
+        kind.add_all_first_lines(text)?;
         return text.push_str(" as the first line\n");
     };
     let faulty = Faulty {

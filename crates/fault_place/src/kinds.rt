@@ -56,6 +56,15 @@ impl FileKind {
         Ok(())
     }
 
+    /// Adds the first lines of all files that a command reads which reads such a file whatever its first word is. `judge` reads
+    /// records and traces, and takes a file for a record unless its first word is `trace`.
+    pub(crate) fn add_all_first_lines(self, text: &mut String) -> Result<(), AllocError> {
+        match self {
+            FileKind::Record => text.push_str("record 1, record 2 or trace 1"),
+            _ => self.add_first_lines(text),
+        }
+    }
+
     /// Returns whether its first line may have this version.
     pub(crate) fn has_version(self, version: &[u8]) -> bool {
         match version {

@@ -11,12 +11,13 @@ use crate::parts::{EntryFault, Found, Part, found, found_by};
 use files::FaultKind;
 use plain_store::{OpenFault, Setup, Value};
 use record_file::LineKind;
-use record_file::forms::{COPY_NUMBERS, PROCESS_OF_ENTRY};
+use record_file::forms::{COPY_NUMBERS, PROCESS_OF_ENTRY, RECORD};
 use record_file::keywords::FIELDS;
 use scenario::forms::{HEADS, Operand};
 use scenario::keywords::Opener;
 use scenario::operands::name;
 use std::alloc::{AllocError, Global};
+use trace_file::forms::TRACE;
 
 /// A file that has a fault.
 #[derive(Clone, Copy)]
@@ -66,15 +67,14 @@ impl Faulty {
 
     /// Of the first line: the word that differs, or those too many.
     fn not_first(&self, line: &SplitLine<'_>, what: &mut String) -> Found {
-        self.kind.add_first_lines(what)?;
-        what.push_str(" as the first line")?;
         let Some(first) = line.words.first() else {
             return Ok(None);
         };
         if *first != self.kind.word().as_bytes() {
             return found_by(line.word(0), self.add_other_kind(first, what));
         }
-        Ok(Some(self.no_version(line)))
+        self.kind.add_first_lines(what)?;
+        found(self.no_version(line), " as the first line", what)
     }
 
     /// Of a first line whose first word is right.
@@ -86,15 +86,20 @@ impl Faulty {
         }
     }
 
-    /// Adds what a file is that begins with another word.
+    /// Adds which first lines were expected, and what a file is that begins with another word.
     fn add_other_kind(&self, first: &[u8], what: &mut String) -> Result<(), AllocError> {
+        self.kind.add_all_first_lines(what)?;
+        what.push_str(" as the first line")?;
         if let Some(name) = name_of_file(first) {
             return add_two("; this is ", name, what);
         }
         if begins_with_mark(first) {
             return what.push_str("; this begins with a byte order mark");
         }
-        add_near(self.alloc, first, &[self.kind.word()], what)
+        match self.kind {
+            FileKind::Record => add_near(self.alloc, first, &[RECORD, TRACE], what),
+            _ => add_near(self.alloc, first, &[self.kind.word()], what),
+        }
     }
 
     /// Of a line that stands too late.

@@ -37,7 +37,9 @@ impl<'r> FaultyTrace<'r> {
     fn in_line(&self, line: &SplitLine<'_>, what: &mut String) -> Found {
         let words = line.words.as_slice();
         if let Some(TraceLine::Entry) = TraceLine::of(word_at(words, 0)) {
-            return self.in_entry(line, what);
+            let place = self.in_entry(line, what)?;
+            add_colon_hint(words, what)?;
+            return Ok(place);
         }
         let form = trace_head_form(self.faulty.alloc, words)?;
         self.in_part(
@@ -218,4 +220,13 @@ fn too_late(line: &SplitLine<'_>, what: &mut String) -> Found {
         _ => "trace 1 in the first line alone",
     };
     found(line.word(0), expected, what)
+}
+
+/// Adds that a colon has blanks around it, if a word of an entry has a colon and other bytes.
+fn add_colon_hint(words: &[&[u8]], what: &mut String) -> Result<(), AllocError> {
+    let has_colon = |word: &&[u8]| word.len() > 1 && word.iter().any(|byte| *byte == b':');
+    if words.iter().any(has_colon) {
+        what.push_str("; a colon has blanks around it")?;
+    }
+    Ok(())
 }
