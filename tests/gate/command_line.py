@@ -72,6 +72,9 @@ CASES = [
     (["draw", "-", "--any-lock"], SCENARIO, (1, "", "line 1: not-first\n")),
     (["draw-svg", "--judge", "-"], SCENARIO, (1, "", "line 1: not-first\n")),
     (["draw-svg", "--judge", "--any-lock", "-"], "record 1\n0 : enter\n0 : frob\n", (1, "", "line 3: unknown\n")),
+    (["draw-svg", "-"], "trace 1\nprocesses 0\n", (1, "", "line 2: bad-setup\n")),
+    (["draw", "--judge", "-"], "# no line\ntrace 2\n", (1, "", "line 2: not-first\n")),
+    (["draw", "--reads", "-"], "trace 1\n0 : call\n", (2, "", "the picture of a trace shows no reads: leave out --reads\n")),
 ]
 
 

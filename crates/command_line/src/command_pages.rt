@@ -176,10 +176,13 @@ its marks, the first and the last event of its doorway, and the place of its com
 how many reads and writes of bits the process began, and how many of its reads were
 overlapped; how many events it waited, and for which process last; and its answer. A
 field without a value is empty.
-FILE may also be a record, good or bad, of any lock; its first word decides. Its table
-follows the last line of the file, and reports no process that a call waited for.
+FILE may also be a record or a trace, good or bad, of any lock; its first word decides.
+The table then follows the last line of the file, and reports no process that a call
+waited for. Of a trace, the columns of the store, of failures and of withdrawals are
+empty too; swap, add and cas count as a read and as a write.
 The lines of a scenario: bakerystore help replay
 The lines of a record: docs/RECORDS.md
+The lines of a trace: examples/traces/README.md
 
   $ printf 'bakery 1\ncall 0 read a\nstep 0 3\n' | bakerystore calls - | cut -d, -f 1-6
   process,call,command,called,doorway,door_end
@@ -188,17 +191,26 @@ The lines of a record: docs/RECORDS.md
 
 /// The page of `judge`.
 const JUDGE: &str = r"
-Reads a record from any source to its end. Prints `good` and the number of entries if it
-is the record of a run; otherwise `bad`, the first entry that breaks a law, and the law,
-with status 3. The lines of a record: docs/RECORDS.md
+Reads a record or a trace to its end, from any source. Prints `good` and the number of
+entries; or `bad`, the first entry that breaks a law, and the law, with status 3. The
+file's first word decides what it is judged by.
+
+`trace`: a run of any lock on registers of its own. The laws, in order: `access`,
+`memory`, `marks`, `together`, `overtaken`. The lines of a trace:
+examples/traces/README.md
+
+  $ printf 'trace 1\n0 : call\n0 : enter\n1 : call\n1 : enter\n' | bakerystore judge -
+  bad 3 together
+
+`record`: a run of this project's lock and store. The lines of a record: docs/RECORDS.md
 
   $ printf 'record 1\n0 : call read a\n0 0.choosing.0.0 write 1\n' | bakerystore judge -
   good 2
 
 With --any-lock it judges the record of any lock on safe bits by its bits, its calls and
 its critical section; no algorithm is assumed. The laws, in order: `safe`, `access`,
-`marks`, `together`, `overtaken`, `history`. How to write such a record:
-docs/JUDGE_YOUR_LOCK.md
+`marks`, `together`, `overtaken`, `history`. A trace is judged as without it. How to
+write either file: docs/JUDGE_YOUR_LOCK.md
 
 With --why reasons follow a `bad`, each if it applies:
 
@@ -207,7 +219,8 @@ With --why reasons follow a `bad`, each if it applies:
   may ENTRY       an entry that keeps all laws in its place: at most two such lines
   refused NAME    why the access or the mark is refused
   stage WORD      the stage of its process before it
-  open K, torn K  with --any-lock: an access is open, or a write torn, since entry K
+  open K          an access is open since entry K: in traces, and with --any-lock
+  torn K          a write is torn since entry K: with --any-lock
   inside Q K      `together`: process Q has been inside since entry K
   waits Q K       `overtaken`: Q is ahead, and has waited since entry K
   doorway K       `overtaken`: the process has been in its doorway since entry K
@@ -227,10 +240,11 @@ needs nothing else: a lane for each process with its marks and stages, above the
 history. The lines that replay prints can be read off it.
 With --reads it also shows the reads that a write overlapped: from when to when, whose
 bit, and what each returned; of those between two lines of the run the first three.
-FILE may also be a record, good or bad, of any lock; its first word decides.
-With --judge or --any-lock FILE is a record, and its picture ends with the first bad
-entry. What judge --why, or judge --any-lock --why, prints follows, each line in the
-lane of the process that it names, and the status is that of judge.
+FILE may also be a record or a trace, good or bad, of any lock; its first word decides.
+With --judge or --any-lock FILE is a record or a trace, and its picture ends with the
+first bad entry. What judge --why, or judge --any-lock --why, prints follows, each line
+in the lane of the process that it names, and the status is that of judge. A trace
+shows no reads, and --reads is refused.
 What a picture shows: docs/PICTURE.md
 The lines of a scenario: bakerystore help replay
 
@@ -242,8 +256,8 @@ The lines of a scenario: bakerystore help replay
 
 /// The page of `draw-svg`.
 const DRAW_SVG: &str = r"
-Writes the picture of a scenario's run, or of a record, as one SVG without a page
-around it. With --reads, --judge and --any-lock it shows what draw shows.
+Writes the picture of a scenario's run, of a record, or of a trace, as one SVG without a
+page around it. With --reads, --judge and --any-lock it shows what draw shows.
 What a picture shows: docs/PICTURE.md
 The lines of a scenario: bakerystore help replay
 

@@ -146,7 +146,7 @@ pub const COMMANDS: [(&str, Engine, Intake, &[&str], &str, &str); 12] = [
         Engine::Calls,
         Intake::Whole,
         &[],
-        "prints a table of the calls of a run or a record (CSV)",
+        "prints a table of the calls of a run, a record or a trace (CSV)",
         "examples/torn-commit.bakery",
     ),
     (

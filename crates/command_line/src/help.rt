@@ -29,7 +29,7 @@ Options:
   --any-lock  judge, draw, draw-svg: judge the record of any lock
   --explain   show the line and the word at fault, and what was expected there; this
               is so without the option if standard error is a terminal
-  --judge     draw, draw-svg: show the verdict on a record, with its reasons
+  --judge     draw, draw-svg: show the verdict on a record or a trace, with its reasons
   --quiet     show no progress. Without it, a run of more than two seconds shows its
               progress if standard error is a terminal and standard output is not;
               sweep does so if both are (plain and bits, which end soon, and race,
@@ -102,7 +102,7 @@ too-long    The line has more than 128 bytes.
               $ printf 'bakery 1\n# %0128d\n' 0 | bakerystore plain -
               line 2: too-long
             Or it is line 4,097 of a scenario or a bits file, whatever it contains.
-            (Records have any number of lines.)
+            (Records and traces have any number of lines.)
               $ yes '#' | head -n 4097 | bakerystore plain -
               line 4097: too-long
             Or it is the 4,001st line of such a file after the headings and `open`
@@ -111,9 +111,9 @@ too-long    The line has more than 128 bytes.
               line 4002: too-long
 
 not-first   The first line is not `bakery 1` or `bakery 2` (in a bits file `bits 1`, in
-            a record `record 1` or `record 2`). The file has another version or another
-            kind than the command reads, or begins with a byte order mark, or is UTF-16,
-            or is empty.
+            a record `record 1` or `record 2`, in a trace `trace 1`). The file has
+            another version or another kind than the command reads, or begins with a
+            byte order mark, or is UTF-16, or is empty.
               $ printf 'bits 1\nread\n' | bakerystore plain -
               line 1: not-first
               $ printf '\357\273\277bakery 1\n' | bakerystore plain -
@@ -124,6 +124,8 @@ not-first   The first line is not `bakery 1` or `bakery 2` (in a bits file `bits
             heading after other lines, or `open` after lines other than these.
               $ printf 'bakery 1\nshow\nslots 2\n' | bakerystore plain -
               line 3: not-first
+            In a trace: `processes` or `memory` comes a second time or after a register,
+            or one of these three comes after an entry.
 
 unknown     A word is not a key word: the first word of the line, the third of `call`
             and of `go`, the second of `flick`. In a file that begins with `bakery 1`,
@@ -135,11 +137,17 @@ unknown     A word is not a key word: the first word of the line, the third of `
             `0.ticket.3.1`; or a word is not a move, mark, command, reply or answer.
               $ printf 'record 1\n0 0.tickets.3.1 read\n' | bakerystore judge -
               line 2: unknown
+            In a trace: the first word is neither a key word nor begins with a digit; a
+            register was not declared; or a word is not a memory, move or mark. Blanks
+            belong around the colon before a mark.
+              $ printf 'trace 1\nregister flag 1\n0: call\n' | bakerystore judge -
+              line 3: unknown
 
 words       The line has too few words, or too many.
               $ printf 'bakery 1\nstep 0\n' | bakerystore plain -
               line 2: words
-            Or an entry of a record has more than three marks.
+            Or an entry of a record has more than three marks, or one of a trace more
+            than four, or neither an access nor a mark.
               $ printf 'record 1\n0 : fail : down : fail : down\n' | bakerystore judge -
               line 2: words
 
@@ -148,11 +156,13 @@ number      An operand is not a number, has a leading 0, or is too large. The gr
             64 bits for a seed, 64 bits with a sign for what `add` adds, and 1 in a
             bits file. In a record they are 255 for processes, 65,535 for a bit and
             after `last`, 32 bits for a ticket, 64 bits for a place, and 1 for what is
-            read, written or settled.
+            read, written or settled. In a trace they are 255 for processes, indices
+            and widths, and 32 bits for the value of a register.
               $ printf 'bakery 1\nstep 0 100001\n' | bakerystore plain -
               line 2: number
 
-bad-name    A name is not 1 to 8 of the characters a to z, 0 to 9 and _.
+bad-name    A name is not 1 to 8 of the characters a to z, 0 to 9 and _. The name of a
+            register of a trace does not begin with a digit.
               $ printf 'bakery 1\ncall 0 read A\n' | bakerystore plain -
               line 2: bad-name
 
@@ -168,6 +178,12 @@ bad-setup   A heading is out of range: `processes` 1 to 8, `tickets` and `stamps
             Or a name is opened twice, or the file has more `open` lines than slots.
               $ printf 'bakery 2\nopen a c:1\nopen b c:2\n' | bakerystore plain -
               line 3: bad-setup
+            In a trace: `processes` is not 1 to 16; a width is not 1 to 32 (1 to 8 in
+            regular memory); an opening value does not fit the width; a name is declared
+            twice; `shared` comes without `memory atomic`; or there are more than 64
+            registers.
+              $ printf 'trace 1\nshared turn 1\n' | bakerystore judge -
+              line 2: bad-setup
 
 memory      The system had no memory for the line. The status is 4.
 
