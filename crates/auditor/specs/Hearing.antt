@@ -1,5 +1,5 @@
--- What an auditor keeps, and what it answers to an entry.
-use Rattle.std.specs.Prelude.{◌≡◌, ◌↔◌, ℕ, ◌+◌, ◌<◌, ◌≤◌, ◌^◌, IsTrue, map, nat_lt, Bool, true, false, Contains, List, [], ◌∷◌, length, Option, None, Some}
+-- What an auditor keeps, and what it answers to an entry or to a stretch of accesses.
+use Rattle.std.specs.Prelude.{◌≡◌, ◌↔◌, ℕ, zero, suc, ◌+◌, ◌-◌, ◌<◌, ◌≤◌, ◌^◌, IsTrue, map, nat_lt, Bool, true, false, Contains, List, [], ◌∷◌, length, Option, None, Some}
 use Rattle.record.specs.safe_bit.declared.Move.TheVariants.{BeginWrite, EndWrite, BeginRead, EndRead, Settle}
 use Rattle.record.specs.{Access, Entry, Event, Mark, Past, Taken, entry_of, history, past_of, placed, reply_taken, stage, takings}
 use Rattle.plain_store.specs.{Reply, Setup}
@@ -7,7 +7,8 @@ use Rattle.record.specs.declared.events.Event.TheVariants.{Call, Step, Fail, Wit
 use Rattle.record.specs.declared.marks.Mark.TheVariants.{Called, Failed, Withdrew, Restarted}
 use Rattle.record.specs.declared.stages.Stage.TheVariants.{Settling}
 use Rattle.read_law.specs.{entry_by}
-use Rattle.world.specs.{CoreState, with_history}
+use Rattle.world.specs.{CoreState, left_in, with_history}
+use Rattle.world.specs.flicks.{FlickState, flick_of, flicks_after}
 use Rattle.world.specs.Shows.{Shows}
 use Rattle.world.specs.process.{StepTold, marks_told}
 use Rattle.read_law.specs.declared.verdicts.Law.{Law}
@@ -58,6 +59,29 @@ IsAddedByStep a p flick added = OfHeard a (λ s past. length past < 2 ^ 64 → a
 -- this is what is answered to an entry, whatever past was heard
 abbrev pub Hears : AuditorState → Entry → AuditorState → Option Law → Type 0
 Hears a e then law = OfHeard a (λ s past. IsHeard s past e then law)
+
+-- these events, and n steps of p after them, each by the next flick; the newest first
+abbrev pub steps_on : ℕ → FlickState → ℕ → List Event → List Event
+steps_on p f zero events = events
+steps_on p f (suc n) events = Step p (flick_of (flicks_after n f)) ∷ steps_on p f n events
+
+-- this holds of every past that the auditor has heard, once p has made n steps by these flicks
+abbrev pub OfHeardSteps : AuditorState → FlickState → ℕ → ℕ → (Setup → Past → Type 0) → Type 0
+OfHeardSteps a f p n P =
+    (events : List Event) → HasHeard a (past_of a.core.setup events) → P a.core.setup (past_of a.core.setup (steps_on p f n events))
+
+-- the auditor has then heard these steps, too
+abbrev pub HearsSteps : AuditorState → FlickState → ℕ → ℕ → AuditorState → Type 0
+HearsSteps a f p n then = OfHeardSteps a f p n (λ s past. HasHeard then past)
+
+-- the auditor answers this to a stretch of n accesses of p within a register access: its answer to the newest access, after p has made the others
+abbrev pub HearsRun : AuditorState → FlickState → ℕ → ℕ → Access → AuditorState → Option Law → Type 0
+HearsRun a f p n newest then law =
+    n ≤ left_in a.core.seats p → OfHeardSteps a f p (n - 1) (λ s past. IsHeard s past (entry_by p (Some newest) []) then law)
+
+-- the auditor has then heard the stretch except its newest access
+abbrev pub HearsBefore : AuditorState → FlickState → ℕ → ℕ → AuditorState → Type 0
+HearsBefore a f p n then = n ≤ left_in a.core.seats p → HearsSteps a f p (n - 1) then
 
 -- the event of a process that one mark alone tells, if it tells one
 abbrev pub event_marked : ℕ → List Mark → Option Event

@@ -1,11 +1,12 @@
-ghost use Rattle.std.specs.Prelude.{◌≡◌, ◌↔◌, ◌<◌, IfOk, IsTrue, Ok, Some, None, []};
+ghost use Rattle.std.specs.Prelude.{◌≡◌, ◌↔◌, ◌<◌, ◌≤◌, ◌+◌, IfOk, IsTrue, Ok, Some, None, []};
 ghost use Rattle.std.specs.List.{list_any};
 ghost use Rattle.plain_store.specs.{checked};
 ghost use Rattle.record.specs.declared.stages.Stage.TheVariants.{Settling};
 ghost use Rattle.read_law.specs.declared.verdicts.Law.{Law as Named};
+ghost use Rattle.read_law.specs.declared.verdicts.Law.TheVariants.{Program};
 ghost use Rattle.read_law.specs.{entry_by};
 ghost use Rattle.world.specs.{left_in};
-ghost use Rattle.auditor.specs.Hearing.{HasHeard, Hears, HearsEvent, TellsSettling, event_in, law_of_misplaced, law_of_wrong};
+ghost use Rattle.auditor.specs.Hearing.{HasHeard, Hears, HearsBefore, HearsEvent, HearsRun, HearsSteps, TellsSettling, event_in, law_of_misplaced, law_of_wrong};
 ghost use Rattle.auditor.specs.Verdicts.{tells_event};
 
 use crate::matching::{are_at, event_in, flick_in, flick_of, is_alike, is_that, more, tells_event};
@@ -82,6 +83,50 @@ impl Auditor {
                 None => self.hear_step(process, access, marks),
             },
         }
+    }
+
+    /// Observes a stretch: `steps` unmarked accesses of a process within one register access, of which `newest` is the last.
+    /// The auditor makes the others on its own core, each by the next of `flicks`. It then observes `newest` as
+    /// [`hear`](Auditor::hear) does.
+    ///
+    /// Returns what observing each access by itself returns. The accesses before `newest` break no law, because the
+    /// process's program makes them. If `newest` breaks a law, the auditor has observed those before it. If the register
+    /// access has fewer than `steps` unmarked accesses left, the auditor returns [`Law::Program`] and stays as it is.
+    pub fn hear_run(
+        &mut self,
+        process: u8,
+        flicks: &Flicks,
+        steps: u32,
+        newest: Access,
+    ) -> Option<Law>
+        requires nonzero { 0 < steps }
+        ensures setup { self.new.core.setup ≡ self.old.core.setup }
+        ensures heard { HearsRun self.old flicks.now process steps newest self.new result }
+        ensures before { (law : Named) → result ≡ Some law
+            → HearsBefore self.old flicks.now process steps self.new }
+        ensures beyond { left_in self.old.core.seats process < steps → result ≡ Some Program }
+        ensures unchanged { left_in self.old.core.seats process < steps → self.new ≡ self.old }
+    {
+        if self.core.left(process) < steps {
+            return Some(Law::Program);
+        }
+        self.advance(process, flicks, steps - 1);
+        self.hear_within(process, newest)
+    }
+
+    /// Makes `steps` steps of a process within a register access on the auditor's own core.
+    #[inline]
+    fn advance(&mut self, process: u8, flicks: &Flicks, steps: u32)
+        requires within { steps ≤ left_in self.old.core.seats process }
+        ensures heard { HearsSteps self.old flicks.now process steps self.new }
+        ensures fewer { left_in self.old.core.seats process
+            ≡ left_in self.new.core.seats process + steps }
+        ensures setup { self.new.core.setup ≡ self.old.core.setup }
+    {
+        if steps == 0 {
+            return;
+        }
+        let _made = self.core.run(process, &mut flicks.twin(), steps);
     }
 
     /// Observes an entry without a mark, of a process within a register access of its call. The process can do nothing else
