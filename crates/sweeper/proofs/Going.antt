@@ -1,5 +1,5 @@
 -- What a runner does again and again as long as a test holds, and over a range of processes.
-use Rattle.std.proofs.Common.{◌≡◌, ℕ, zero, suc, ◌+◌, ◌-◌, ◌<◌, ◌||◌, Bool, true, false, cond, List, [], ◌∷◌, ◌++◌, fold, slice_index_or, refl, ap, sym, subst, ◌∙◌, arith}
+use Rattle.std.proofs.Common.{◌≡◌, ℕ, zero, suc, ◌+◌, ◌-◌, ◌<◌, ◌≤◌, ◌||◌, Bool, true, false, cond, List, [], ◌∷◌, ◌++◌, fold, slice_index_or, refl, ap, sym, subst, ◌∙◌, arith}
 use Rattle.std.proofs.lemmas.Bool.{or_from}
 use Rattle.std.proofs.lemmas.List.Folds.{list_any-append, list_any_at}
 use Rattle.std.proofs.lemmas.List.FromFn.{get_or-range_with_len, length-range_with_len}
@@ -28,6 +28,18 @@ pub ended : (test : List Event → Bool) (on : List Event → List Event) (left 
 ended test on zero now fails = refl
 ended test on (suc n) now fails = ap (λ b. cond b (as_long_as test on n (on now)) now) fails
 
+-- first at most m times, and then at most n times
+pub as_long_more : (test : List Event → Bool) (on : List Event → List Event) (m n : ℕ) (now : List Event) → as_long_as test on (m + n) now ≡ as_long_as test on n (as_long_as test on m now)
+as_long_more test on zero n now = let none : 0 + n ≡ n = omega arith in ap (λ n. as_long_as test on n now) none
+as_long_more test on (suc m) n now =
+    let all : suc m + n ≡ suc (m + n) = omega arith in
+    ap (λ n. as_long_as test on n now) all ∙ by (as_long_more test on m n (on now)) (test now) refl
+  where
+    by : as_long_as test on (m + n) (on now) ≡ as_long_as test on n (as_long_as test on m (on now)) → (b : Bool) → test now ≡ b →
+        cond b (as_long_as test on (m + n) (on now)) now ≡ as_long_as test on n (cond b (as_long_as test on m (on now)) now)
+    by more true holds = more
+    by more false fails = sym (ended test on n now fails)
+
 -- what a runner of this setup does, which tells whether the test holds
 module _ (test : Setup → List Event → Bool) (on : Setup → List Event → List Event) (s : Setup) (most : ℕ) (events : List Event) (r : RunnerState) (left : ℕ) (same : r.core.setup ≡ s) where
   asked : (told b : Bool) → OfRun r (λ s now. told ≡ test s now) → told ≡ b → (now : List Event) → Follows r now → test s now ≡ b
@@ -38,6 +50,16 @@ module _ (test : Setup → List Event → Bool) (on : Setup → List Event → L
     now = on s g.now;
     follows = subst (λ s. Follows new (on s g.now)) same (makes g.now g.follows);
     whole = sym (again (test s) (on s) left g.now some (asked told true asks holds g.now g.follows)) ∙ g.whole;
+  }
+
+  -- it does several at once, as long as the test holds
+  pub going_by : (new : RunnerState) (by : ℕ) → by ≤ left → RunsBy r new (λ s. as_long_as (test s) (on s) by) → Going (test s) (on s) most events r left → Going (test s) (on s) most events new (left - by)
+  going_by new by few makes g = record {
+    now = as_long_as (test s) (on s) by g.now;
+    follows = subst (λ s. Follows new (as_long_as (test s) (on s) by g.now)) same (makes g.now g.follows);
+    whole =
+        let all : by + (left - by) ≡ left = omega (arith, few) in
+        sym (as_long_more (test s) (on s) by (left - by) g.now) ∙ ap (λ n. as_long_as (test s) (on s) n g.now) all ∙ g.whole;
   }
 
   pub going_ended : (told : Bool) → OfRun r (λ s now. told ≡ test s now) → told ≡ false → Going (test s) (on s) most events r left → Follows r (as_long_as (test s) (on s) most events)

@@ -6,6 +6,7 @@ pub mod Making
 pub mod Dues
 -- It goes on
 pub mod Going
+pub mod Stretches
 pub mod Onward
 pub mod Units
 -- Every run is good

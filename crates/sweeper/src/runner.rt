@@ -3,16 +3,18 @@ ghost use Rattle.std.specs.Prelude.{◌≡◌, ◌+◌, ◌^◌, ◌<◌, ◌≤
 ghost use Rattle.plain_store.specs.{checked};
 ghost use Rattle.record.specs.declared.Event.TheVariants.{Step};
 ghost use Rattle.record.specs.{is_call, is_event};
-ghost use Rattle.world.specs.{taking};
+ghost use Rattle.world.specs.flicks.{flick_of, is_constant};
+ghost use Rattle.world.specs.{left_in, taking};
 ghost use Rattle.auditor.specs.{Hears, step_told};
-ghost use Rattle.sweeper.specs.Runners.{Accepts, Follows, RunsOn, due};
+ghost use Rattle.sweeper.specs.Runners.{Accepts, Follows, RunsBy, RunsOn, due};
+ghost use Rattle.sweeper.specs.Sweeps.{steps_of};
 
 use auditor::{Auditor, Law};
 use plain_store::{NestedTypes, Setup};
 use record::{Access, Event};
 use std::alloc::{AllocError, Global};
 use std::marker::Model;
-use world::{Core, Effect, StepTold, event_marks, step_marks};
+use world::{Core, Effect, Flicks, StepTold, event_marks, step_marks};
 
 /// The first entry of a run that breaks a law, counted from 0, and the law.
 #[derive(Clone, Copy)]
@@ -21,8 +23,9 @@ pub(crate) struct BadEntry {
     pub law: Law,
 }
 
-/// A run under way: a core, which makes its events, and an auditor, which hears each entry as it is made. Nothing keeps
-/// the entries; so it counts the commands taken, whose places the entries have.
+/// A run under way: a core, which makes its events, and an auditor, which observes each entry as it is made, and a stretch
+/// of steps within a register access as one. Nothing keeps the entries; so it counts the commands taken, whose places the
+/// entries have.
 ///
 /// An auditor's answer is the first law after `Safe` that an entry breaks. None comes, since the records of events are
 /// good; if one came, it would be noted all the same, under this name, as there is no record to look back at.
@@ -125,7 +128,7 @@ impl Runner {
         true
     }
 
-    /// The same of a step, which nearly all events are.
+    /// Makes a step, unless it is refused, and audits its entry; whether it was made.
     #[inline]
     pub fn step(&mut self, process: u8, value: bool) -> bool
         requires room { due self.old < 2 ^ 64 }
@@ -151,6 +154,31 @@ impl Runner {
         self.bad = first_bad(self.bad, self.entries, law);
         self.entries = self.entries.saturating_add(1);
         true
+    }
+
+    /// Returns the number of the next steps of a process that are within its register access, so that they have no mark.
+    #[inline]
+    pub fn left(&self, process: u8) -> u32
+        ensures { result ≡ left_in self.now.core.seats process }
+    {
+        self.core.left(process)
+    }
+
+    /// Makes `steps` steps of a process within its register access, all by one flick, and audits them as one stretch.
+    pub fn run_on(&mut self, process: u8, flicks: &Flicks, steps: u32)
+        requires nonzero { 0 < steps }
+        requires within { steps ≤ left_in self.old.core.seats process }
+        requires constant { is_constant flicks.now ≡ true }
+        ensures follows { RunsBy self.old self.new
+            (λ s. steps_of s process (flick_of flicks.now) steps) }
+        ensures few { due self.new ≤ due self.old }
+        ensures setup { self.new.core.setup ≡ self.old.core.setup }
+    {
+        let made = self.core.run(process, &mut flicks.twin(), steps);
+        let law = self.auditor.hear_run(process, flicks, steps, made.newest);
+        let newest = self.entries.saturating_add(u64::from(steps - 1));
+        self.bad = first_bad(self.bad, newest, law);
+        self.entries = newest.saturating_add(1);
     }
 }
 

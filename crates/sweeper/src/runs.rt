@@ -6,6 +6,7 @@ ghost use Rattle.sweeper.specs.Sweeps.{cut_off, goes, most as most_of, round, ro
 use crate::runner::Runner;
 use plain_store::Command;
 use record::Event;
+use world::Flicks;
 
 /// The most rounds of a run, and the most steps of each of its calls.
 fn limit() -> u32
@@ -15,15 +16,23 @@ fn limit() -> u32
 }
 
 impl Runner {
-    /// Steps of a process as long as it has one to make, at most so many.
+    /// Makes steps of a process as long as it has one to make, at most `most`: each stretch within a register access at
+    /// once, and each other step by itself.
     fn walk(&mut self, process: u8, value: bool, most: u32)
         requires room { due self.old + 16 < 2 ^ 64 }
         ensures follows { RunsBy self.old self.new (λ s. steps_of s process value most) }
         ensures few { due self.new ≤ due self.old }
         ensures setup { self.new.core.setup ≡ self.old.core.setup }
     {
+        let flicks = Flicks::constant(value);
         let mut left = most;
         'steps: while 0 < left {
+            let within = self.left(process).min(left);
+            if within > 0 {
+                self.run_on(process, &flicks, within);
+                left -= within;
+                continue;
+            }
             if !self.step(process, value) {
                 return;
             }
