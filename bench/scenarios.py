@@ -11,8 +11,9 @@ each by `wander`, so that no read is overlapped; `crowd-N` where all call at onc
 the ticket of the one that is inside, again and again; `overlapped` where a waiter reads a ticket whose lowest bit is being
 written, with seeded flicks.
 
-For `sweep`, of the same kind: `swept-2` where both of 2 processes call twice, and `swept-4` where three of 4 call once, and
-`wander`, with seeded flicks.
+For `sweep`, of the same kind, with seeded flicks: `swept-1` where one process calls four times, `swept-2` where both of 2
+processes call twice, `swept-4` where three of 4 call once and `wander`, and `swept-8` where three of 8 call once and make
+their first 500 turns. `front-N` has the first 20 turns of `swept-N`.
 
 For `record` and `judge`, of the same kind: `recorded-2` where both of 2 processes call at once and `wander`, with seeded flicks,
 on 8 slots.
@@ -102,10 +103,16 @@ def overlapped():
 
 
 def swept(processes):
-    """Some 11,000 events of 2 processes, and 20,000 of 4. A sweep over them has twice as many runs."""
-    callers, rounds = {2: (2, 2), 4: (3, 1)}[processes]
+    """Some 4,000 events of one process, 11,000 of 2, 21,000 of 4 and 500 of 8. A sweep over them has twice as many runs."""
+    callers, rounds, turns = {1: (1, 4, 100000), 2: (2, 2, 100000), 4: (3, 1, 100000), 8: (3, 1, 500)}[processes]
     calls = [f"call {p} add a 1" for p in range(callers)]
-    return counting(processes, 1, ["flick pcg 1"] + (calls + ["wander 100000"]) * rounds)
+    return counting(processes, 1, ["flick pcg 1"] + (calls + [f"wander {turns}"]) * rounds)
+
+
+def front(processes):
+    """Some 20 events, so some 40 runs."""
+    calls = [f"call {p} add a 1" for p in range({1: 1, 2: 2, 4: 3, 8: 3}[processes])]
+    return counting(processes, 1, ["flick pcg 1"] + calls + ["wander 20"])
 
 
 def drawn(processes):
@@ -135,7 +142,8 @@ def main():
         ("crowd", crowd, [2, 4, 8, 16]),
         ("recorded", recorded, [2]),
         ("failing", failing, [4, 8, 16]),
-        ("swept", swept, [2, 4]),
+        ("swept", swept, [1, 2, 4, 8]),
+        ("front", front, [1, 2, 4, 8]),
         ("drawn", drawn, [2, 16]),
         ("race", raced, [2, 4, 8, 16]),
     ]:

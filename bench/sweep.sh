@@ -1,26 +1,30 @@
 #!/usr/bin/env bash
-# Times `sweep` on two scenarios with some 23,000 and some 43,000 runs, and in turn with it `replay` of crowds, each so many
-# times, 3 if not said: the least of the times. bench/sweep.sh [TIMES]. How many events a sweep makes, along its events and
-# in its runs behind their cuts, is no part of what it prints, and stands here as it was counted once.
+# Measures `sweep` for one, two, four and eight processes. The mean time of a run is that of the fastest of TIMES sweeps of
+# `swept-N`, 3 if not said. The mean instructions of a run are those of a sweep of `front-N`, beyond those of a `replay`: a front
+# has few runs, because `valgrind` counts them. They are cut early, so other calls go on, and a run takes longer than in `swept-N`.
+# bench/sweep.sh [TIMES].
 times=${1:-3}
 . "$(dirname "$0")/program.sh"
 
-# one run of a command on a file: its processor time in milliseconds
+# one sweep of a file: its processor time in milliseconds
 run() {
-  perf stat -x , -e task-clock "$program" "$1" "$folder/$2" 2>&1 >/dev/null | cut -d , -f 1
+  perf stat -x , -e task-clock "$program" sweep "$1" 2>&1 >/dev/null | awk -F , '/task-clock/ { print $1 }'
 }
 
-for scenario in "swept-2 202891290 crowd-2" "swept-4 739247131 crowd-4"; do
-  read -r swept made crowd <<<"$scenario"
-  replayed=$("$program" replay "$folder/$crowd" | awk '/^end events/ { print $3 }')
-  "$program" sweep "$folder/$swept"
-  for _ in $(seq "$times"); do
-    echo "$(run replay "$crowd") $(run sweep "$swept")"
-  done | awk -v swept="$swept" -v made="$made" -v crowd="$crowd" -v replayed="$replayed" '
-    NR == 1 || $1 < replay { replay = $1 }
-    NR == 1 || $2 < sweep { sweep = $2 }
-    END {
-      a = replay * 1e6 / replayed; b = sweep * 1e6 / made
-      printf "%s: %d events, %.1f ns an event; replay of %s: %d events, %.1f ns; %.2f times\n", swept, made, b, crowd, replayed, a, b / a
-    }'
+# one run of a command on a file: how many instructions it takes
+instructions() {
+  valgrind --tool=callgrind --callgrind-out-file=/dev/null "$program" "$1" "$2" 2>&1 >/dev/null | awk '/Collected/ { print $4 }'
+}
+
+# how many runs a sweep of a file has
+runs() {
+  "$program" sweep "$1" | awk '/^sweep/ { print $3 }'
+}
+
+for processes in 1 2 4 8; do
+  swept=$folder/swept-$processes front=$folder/front-$processes
+  least=$(for _ in $(seq "$times"); do run "$swept"; done | sort -n | head -1)
+  echo "$(runs "$swept") $least $(runs "$front") $(instructions sweep "$front") $(instructions replay "$front")" | awk -v processes="$processes" '{
+    printf "swept-%d: %5d runs, %6.1f us a run; front-%d: %d runs, %8.0f instructions a run\n", processes, $1, $2 * 1e3 / $1, processes, $3, ($4 - $5) / $3
+  }'
 done
