@@ -9,11 +9,6 @@ use command_line::{
     Uninterrupted, WatchedInput, Watcher, all_words, exit_status, read_words, reason_of,
     shown_word,
 };
-use draw::progress::Onlooker;
-use draw::{
-    JudgedBy, Reads, draw, draw_judged_record, draw_judged_record_svg, draw_record,
-    draw_record_svg, draw_svg,
-};
 use engines::{
     judge_any_lock, replay, run_audit, run_bits, run_judge, run_plain, run_record, run_sweep,
 };
@@ -32,7 +27,13 @@ use std::process::ExitCode;
 use std::sync::Wait;
 use std::thread::Threads;
 use std::time::Clock;
-use trace_engine::judge_trace;
+use trace_calls::list_trace;
+use trace_draw::draw::progress::Onlooker;
+use trace_draw::draw::{
+    JudgedBy, Reads, draw, draw_judged_record, draw_judged_record_svg, draw_record,
+    draw_record_svg, draw_svg,
+};
+use trace_draw::{draw_trace, draw_trace_svg, judge_trace};
 
 /// What is told at a terminal where there are no words.
 const NO_WORDS: &str =
@@ -40,6 +41,9 @@ const NO_WORDS: &str =
 
 /// What is told where `--at` of `state` is missing, or no such number.
 const NO_AT: &str = "state needs --at N, where N is a number below 2^64 or `end`";
+
+/// What is told where `--reads` is asked of a trace.
+const NO_READS: &str = "the picture of a trace shows no reads: leave out --reads";
 
 /// The hint at a terminal, if `judge` finds within ten entries that a record is not one of this lock.
 const OTHER_LOCK: &str = "hint: --any-lock judges the records of other locks";
@@ -201,9 +205,13 @@ fn run_between<
         is_trace: source.first_word == FirstWord::Trace,
         ..wanted
     };
+    if wanted.is_trace && wanted.reads == Reads::Shown {
+        let _ = eprintln!(rt; "{NO_READS}");
+        return Ok(USAGE_STATUS);
+    }
     let has_place = !terminals.output || wanted.engine == Engine::Sweep;
     let shows = terminals.error && has_place && !wanted.quiet;
-    let from_input = wanted.is_streamed || wanted.is_record;
+    let from_input = wanted.is_streamed || wanted.is_record || wanted.is_trace;
     let explains = terminals.error || wanted.explain;
     let watched = WatchedInput::new(source, rt, shows && from_input);
     let mut input = KeptInput::new(rt.alloc(), watched, explains);
@@ -251,7 +259,9 @@ fn told_with_place<T: Eprint + AllocGlobal>(
 fn file_kind(wanted: Wanted) -> FileKind {
     match wanted.engine {
         Engine::Bits => FileKind::Bits,
-        Engine::Judge if wanted.is_trace => FileKind::Trace,
+        Engine::Judge | Engine::Calls | Engine::Draw | Engine::DrawSvg if wanted.is_trace => {
+            FileKind::Trace
+        }
         Engine::Judge => FileKind::Record,
         _ if wanted.is_record => FileKind::Record,
         _ => FileKind::Scenario,
@@ -272,14 +282,14 @@ struct Wanted {
     is_streamed: bool,
     /// Whether the file is a record, where the engine takes scenarios too.
     is_record: bool,
-    /// Whether the file is a trace, which only `judge` reads.
+    /// Whether the file is a trace, which `judge`, `calls`, `draw` and `draw-svg` read.
     is_trace: bool,
     /// After how many events the state is told.
     at: u64,
 }
 
-/// Opens a source. The engines of `state`, `calls`, `draw` and `draw-svg` read scenarios and records, and that of `judge` reads
-/// records and traces. The file's first word decides which it is.
+/// Opens a source. The engine of `state` reads scenarios and records, those of `calls`, `draw` and `draw-svg` traces too, and
+/// that of `judge` reads records and traces. The file's first word decides which it is.
 fn opened<R: Source + Drop>(alloc: Global, engine: Engine, source: R) -> Result<Opened<R>, Fault>
     requires { R.failures source < 2 ^ 64 - 1 }
     ensures { IfOk result (λ opened. ⟦<Opened<R> as Source>⟧.failures opened ≡ R.failures source) }
@@ -350,11 +360,14 @@ fn run_engine<T: AllocGlobal + Threads + Wait + Sync, R: Source, W: Sink, L: Onl
         Engine::State if wanted.is_record => state_record(alloc, wanted.at, input, output),
         Engine::State => exit_status(run_state(alloc, wanted.at, input, output, onlooker)),
         Engine::Calls if wanted.is_record => list_record(alloc, input, output),
+        Engine::Calls if wanted.is_trace => list_trace(alloc, input, output),
         Engine::Calls => exit_status(run_calls(alloc, input, output, onlooker)),
         Engine::Judge if wanted.is_trace => judge_trace(alloc, input, output, wanted.why),
         Engine::Judge if wanted.any_lock => judge_any_lock(alloc, input, output, wanted.why),
         Engine::Judge => run_judge(alloc, input, output, wanted.why),
         Engine::Race => return run_race(rt, alloc, input, output),
+        Engine::Draw if wanted.is_trace => draw_trace(alloc, wanted.judge, input, output),
+        Engine::DrawSvg if wanted.is_trace => draw_trace_svg(alloc, wanted.judge, input, output),
         Engine::Draw if wanted.judge => draw_judged_record(alloc, by, reads, input, output),
         Engine::DrawSvg if wanted.judge => draw_judged_record_svg(alloc, by, reads, input, output),
         Engine::Draw if wanted.is_record => exit_status(draw_record(alloc, reads, input, output)),
