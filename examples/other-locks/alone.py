@@ -3,7 +3,7 @@
 from typing import NamedTuple
 
 from cells import Access
-from driver import Mistake, check_length, resume, started
+from driver import Mistake, check_length, resume, started, wrong_yield
 from machine import frozen
 
 MARKS = ("call", "wait", "enter", "leave", "answer")
@@ -61,16 +61,17 @@ class Alone:
 
     def pull(self, generator, sent, value=None):
         """Resumes the generator, and returns what it yields next: a mark or an access."""
-        while True:
+        for _ in range(MOST_MARKS + 1):
             sent.append(value)
             found, value = resume(generator, value), None
             if isinstance(found, Access):
                 found.is_made = True
                 return found
             if not isinstance(found, str) or found not in MARKS:
-                raise Mistake(f"the lock yields {found!r}; it yields the marks {', '.join(MARKS)} and accesses of its registers")
+                raise wrong_yield(generator, found, f"the marks {', '.join(MARKS)} and accesses of its registers")
             if self.has_wait or found != "wait":
                 return found
+        raise wrong_yield(generator, found, f"at most {MOST_MARKS} marks between two accesses")
 
     def number(self, generator, item, sent, node):
         """Returns the number of the state in which the process does this next."""
@@ -115,7 +116,7 @@ class Alone:
         # after a mark `leave` without an access, the generator has yielded the next item already
         marks, item = [item] if isinstance(item, str) else [item[0]] if node.access is None else [*node.pre], item
         item = item[1] if isinstance(item, tuple) else self.pull(generator, sent, value)
-        while marks != ["call"] and isinstance(item, str) and item in BEHIND:
+        while marks != ["call"] and isinstance(item, str) and item in BEHIND and len(marks) <= MOST_MARKS:
             marks.append(item)
             item = self.pull(generator, sent)
         if len(marks) > MOST_MARKS:

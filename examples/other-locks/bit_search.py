@@ -8,7 +8,7 @@ ahead of whom. Where accesses never overlap, each is made whole. A run goes on a
 from functools import lru_cache
 from typing import NamedTuple
 
-from driver import Mistake
+from driver import form_mistake
 from machine import Machine
 from stuck import states_stuck
 
@@ -187,8 +187,7 @@ def check_form(found, memory):
         entries = found.records[broken]
         *_, line = lines_of(entries)
         refusal = entries[-1][1].refusal[1]
-        at = f"entry {len(entries) - 1} of a run breaks the law `{broken}` ({refusal}): {line}"
-        raise Mistake(f"{at}; `--memory {memory} --record {broken}` prints the run")
+        raise form_mistake(len(entries) - 1, broken, refusal, line, f"--memory {memory} --record")
 
 
 def cells(lock, memories, with_failures):

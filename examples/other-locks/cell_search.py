@@ -9,7 +9,7 @@ and those of the writes that overlap it.
 from typing import NamedTuple
 
 from alone import Alone, refused_mark
-from driver import Mistake
+from driver import Mistake, form_mistake
 from stuck import entries_to, states_stuck
 
 MEMORIES = ["safe", "regular", "atomic"]
@@ -308,8 +308,7 @@ def check_form(found, memory):
     if broken:
         entries = found.records[broken]
         entry = entries[-1]
-        at = f"entry {len(entries) - 1} of a run breaks the law `{broken}` ({entry.refusal[1]}): {entry.line}"
-        raise Mistake(f"{at}; `--memory {memory} --trace {broken}` prints the run")
+        raise form_mistake(len(entries) - 1, broken, entry.refusal[1], entry.line, f"--memory {memory} --trace")
 
 
 def columns(lock, memory):

@@ -5,6 +5,7 @@ input.
 An access is joined from its begin to its end, so that it is seen which overlap.
 """
 
+import signal
 import sys
 
 ENDS = ("end", "value", "settle")
@@ -41,6 +42,9 @@ def lanes(entries):
 
 
 def main():
+    if hasattr(signal, "SIGPIPE"):
+        # a reader such as `head` may stop early
+        signal.signal(signal.SIGPIPE, signal.SIG_DFL)
     if len(sys.argv) != 2:
         sys.exit("usage: lanes.py RECORD  (- is standard input)")
     with sys.stdin if sys.argv[1] == "-" else open(sys.argv[1]) as file:

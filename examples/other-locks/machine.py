@@ -7,7 +7,7 @@ from collections.abc import Iterator
 from types import CellType, FrameType, GeneratorType
 from typing import NamedTuple
 
-from driver import Unmade, check_length, resume
+from driver import NoValue, check_length, resume
 from forms import Form, formed
 from writer import Process, reading, write, writing
 
@@ -53,8 +53,8 @@ def frozen(value):
         return tuple(map(frozen, gc.get_referents(value)))
     if isinstance(value, Iterator):
         return tuple(map(frozen, value.__reduce__()))
-    if isinstance(value, Unmade):
-        return value.text
+    if isinstance(value, NoValue):
+        return value.key
     if isinstance(value, (set, frozenset)):
         return frozenset(map(frozen, value))
     if isinstance(value, dict):

@@ -20,24 +20,74 @@ take effect in program order, and none of the memories has store buffers, fences
 """
 
 import argparse
+import ast
+import inspect
 import pathlib
+import re
 import runpy
 import sys
 
+import alone
 import bit_search
 import cell_search
 from bit_search import FORMS, LAWS
 from cell_locks import atlas
-from cells import Access
-from driver import Mistake, resume, started
+from cells import Access, Named
+from driver import Mistake, NoValue, end_with_reader, mistake_in, resume, started
 from locks import Lock, locks
 
 MOST_PROCESSES = 16
 MEMORIES = [*bit_search.MEMORIES, "regular", "atomic"]
+# the text of a mark, of a trace or of a record
+MARK = re.compile(r"call( read \w+)?|wait( \d+)?|enter|leave|(taken|answer)( [\w-]+)?")
 NO_CLEARS = """{own} does not state what is cleared after a failure or a withdrawal, so --failures cannot search it. \
 Add to {file} the lines `from locks import Lock` and `failing = Lock({own}, clears=(("choosing", 1),))`, with each field that is \
 cleared and its bits, and name {file}:failing"""
 NO_CLEARS_KNOWN = "{own} does not state what is cleared after a failure or a withdrawal; these do: {able}"
+
+
+def names_in(file):
+    """Returns what a file of locks defines. It may import files beside it."""
+    sys.path.append(str(pathlib.Path(file).parent))
+    try:
+        found, tree = runpy.run_path(file), ast.parse(pathlib.Path(file).read_bytes())
+        check_dropped(tree, found)
+        check_globals(tree, found)
+    except SyntaxError as error:
+        raise Mistake(f"line {error.lineno}: {type(error).__name__}: {error.msg}") from None
+    except SystemExit:
+        raise Mistake(f"{file} ends the search; put its call of `main` below `if __name__ == \"__main__\":`") from None
+    except Exception as error:
+        raise mistake_in(error, file) from None
+    return found
+
+
+def check_dropped(tree, found):
+    """Raises a mistake if a line of a file only names a mark or a part of a lock, such as `until(..)`, and does not run it."""
+    for line in (it for it in ast.walk(tree) if isinstance(it, ast.Expr)):
+        name = line.value.func.id if is_call(line.value) else None
+        if inspect.isgeneratorfunction(found.get(name)):
+            raise Mistake(f"line {line.lineno}: write `yield from` before {name}(..)")
+        mark = line.value.value if isinstance(line.value, ast.Constant) else None
+        if isinstance(mark, str) and MARK.fullmatch(mark):
+            raise Mistake(f"line {line.lineno}: write `yield` before {mark!r}")
+
+
+def is_call(value):
+    """Returns whether an expression calls a function by its name."""
+    return isinstance(value, ast.Call) and isinstance(value.func, ast.Name)
+
+
+def check_globals(tree, found):
+    """Raises a mistake if a function of a file changes a global variable of Python, which all processes would share."""
+    for function in (it for it in ast.walk(tree) if isinstance(it, ast.FunctionDef)):
+        inner = [*ast.walk(function)]
+        own = {it.id for it in inner if isinstance(it, ast.Name) and isinstance(it.ctx, ast.Store)} | {it.arg for it in function.args.args}
+        elements = [it for it in inner if isinstance(it, ast.Subscript) and isinstance(it.ctx, ast.Store) and isinstance(it.value, ast.Name)]
+        changed = [(it.value.id, it) for it in elements if isinstance(found.get(it.value.id), (list, dict)) and it.value.id not in own]
+        for name, it in [*changed, *((it.names[0], it) for it in inner if isinstance(it, ast.Global))]:
+            what = f"line {it.lineno}: the search does not see that {name} changes, which is a global variable of Python"
+            raise Mistake(f"{what}; declare what processes share as a register")
 
 
 def lock_in(name):
@@ -45,12 +95,12 @@ def lock_in(name):
     file, _, own = name.rpartition(":")
     if not pathlib.Path(file).is_file():
         raise Mistake(f"there is no file {file}")
-    found = runpy.run_path(file)
+    found = names_in(file)
     lock = found.get(own)
     if isinstance(lock, Lock):
         # (a `Lock` that states no bits of a ticket has 1)
         return lock._replace(tickets=None) if lock.tickets == 1 else lock
-    if not callable(lock):
+    if not callable(lock) or isinstance(lock, NoValue):
         raise Mistake(f"{file} has no lock {own!r}; it has {', '.join(locks_of(file, found)) or 'none'}")
     return Lock(lock, tickets=None)
 
@@ -70,17 +120,17 @@ def lock_of(name, known):
     if ":" in name:
         return lock_in(name)
     if name.endswith(".py") and pathlib.Path(name).is_file():
-        of_file = ", ".join(f"{name}:{own}" for own in locks_of(name, runpy.run_path(name)))
+        of_file = ", ".join(f"{name}:{own}" for own in locks_of(name, names_in(name)))
         raise Mistake(f"name the lock of this file too: {of_file or f'{name}:NAME'}")
     raise Mistake(f"there is no lock {name}; the locks are {', '.join(known)}, and your own FILE.py:NAME")
 
 
 def is_on_cells(lock):
-    """Returns whether a lock has registers by its own names. Such a lock begins with the mark `call` alone, or with an access."""
+    """Returns whether a lock has registers by its own names. Such a lock begins with a mark of a trace, or with an access."""
     first = resume(started(lock.lock, 0, lock.processes))
     if isinstance(first, Access):
         first.is_made = True
-    return isinstance(first, Access) or isinstance(first, str) and first == "call"
+    return isinstance(first, (Access, Named)) or isinstance(first, str) and first in alone.MARKS
 
 
 def options():
@@ -138,8 +188,21 @@ def text_of(said, name, lock):
     return f"{bit_search.row(name, lock, said.failures)}\n"
 
 
+def show(said, name, text):
+    """Prints what was found, and returns whether there is something. A comment in its place has the number of states explored."""
+    if not text.startswith("#"):
+        print(text, end="", flush=True)
+        return True
+    law, states = said.trace or said.record, text.split()[2]
+    none = f"no run breaks the law `{law}`, and {states} states were explored"
+    none = f"all calls can end from each of {states} states" if law == "stuck" else none
+    print(f"search.py: {name}: {none}", file=sys.stderr, flush=True)
+    return False
+
+
 def main():
-    parser = options()
+    end_with_reader()
+    parser, has_all = options(), True
     said = parser.parse_args()
     known, all_names = known_locks(said)
     sizes = {what: number for what in ("processes", "calls") if (number := getattr(said, what)) is not None}
@@ -152,9 +215,10 @@ def main():
                 if not said.names:
                     continue
                 parser.error(why_no_failures(name, known))
-            print(text_of(said, name.rpartition(":")[2], lock), end="", flush=True)
+            has_all = show(said, name, text_of(said, name.rpartition(":")[2], lock)) and has_all
         except Mistake as mistake:
             sys.exit(f"search.py: {name}: {mistake}")
+    sys.exit(0 if has_all else 1)
 
 
 if __name__ == "__main__":

@@ -14,11 +14,13 @@ import shutil
 import subprocess
 import sys
 
-from driver import Mistake, Unmade, resume, started
+from driver import Mistake, Unmade, end_with_reader, resume, started, whole, wrong_yield
 
 TOP = pathlib.Path(__file__).resolve().parent.parent.parent
 # the programs that judge, where the second judge of the repository is missing
 PROGRAMS = [TOP / "bin" / "bakerystore", TOP / "crates" / "bakerystore" / "out" / "bakerystore", "bakerystore"]
+# more marks than an entry may have
+MANY_MARKS = 4
 # the registers of a record, and the most bits that each may have
 FIELDS = {"choosing": 1, "commit": 1, "ticket": 32, "stamp0": 32, "stamp1": 32, "image0": 1472, "image1": 1472}
 
@@ -53,6 +55,8 @@ def one_bit(me, processes):
 def write(me, field, value, processes, width=1):
     """Writes an own register: of each bit the copy of each other process."""
     check(field, width)
+    if whole(value, "the value of write({}, \"{}\", ..)", me, field) >= 2**width:
+        raise Mistake(f"write({me}, \"{field}\", {value}, ..) writes {width} of the bits of {value}; its last argument is the number of bits")
     return Unmade(f"write({me}, \"{field}\", {value}, ..)", writing(me, field, value, processes, width))
 
 
@@ -102,11 +106,9 @@ class Process:
     def pull(self, value=None):
         """What the lock yields next."""
         found = resume(self.lock, value)
-        if isinstance(found, Unmade):
-            found.refuse()
         if isinstance(found, str) or isinstance(found, tuple) and len(found) == 2:
             return found
-        raise Mistake(f"the lock yields {found!r}; it yields marks, which are texts, and accesses by `yield from`")
+        raise wrong_yield(self.lock, found, "marks, which are texts, and accesses by `yield from`")
 
     def step(self, value):
         """Makes its next entry, in which a read ends, or a cut write is settled, with this value: its bit, move and marks."""
@@ -116,7 +118,7 @@ class Process:
             is_value = self.next[1] in ("value", "settle")
             bit, move = self.take(value if is_value else None)
             move += f" {value}" * is_value
-        while not is_call and self.begins("wait", "enter", "answer", "down"):
+        while not is_call and self.begins("wait", "enter", "answer", "down") and len(marks) < MANY_MARKS:
             marks.append(self.take())
         return bit, move, marks
 
@@ -198,7 +200,9 @@ def draw(lock, tickets):
         choices = [(int(draws.random() * said.processes), int(draws.random() * 2)) for _ in range(said.entries)]
         if (found := law(choices)) == said.law or said.law is None and found != "good":
             few = choices if found == "good" else shortened(choices, lambda fewer: law(fewer) == found)
-            return print(record(few), end="")
+            # (not before: the program that judges may end before it has read its input)
+            end_with_reader()
+            return print(record(few), end="", flush=True)
     sys.exit(f"no such record from {said.seeds} seeds")
 
 

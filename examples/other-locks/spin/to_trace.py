@@ -7,12 +7,14 @@ its greatest value, and it opens with 0. The memory is safe if an access has a b
 """
 
 import re
+import signal
 import sys
 
 ACCESS = r" (?P<name>[a-z_]\w*)(\[(?P<index>\d+)\])? (?P<move>[a-z]+)(?P<values>( \w+)*)"
 ENTRY = re.compile(rf"(?P<process>\d+)( : \w+|{ACCESS})( : \w+)*")
 # what SPIN prints itself and begins with a number
 OF_SPIN = re.compile(r"\d+ process(es)? created")
+NAME = re.compile(r"[a-z_][a-z0-9_]{0,7}")
 HALVES = ("write", "end", "read", "value")
 
 
@@ -44,6 +46,8 @@ def registers_of(accesses):
     for name in dict.fromkeys(access["name"] for access in accesses):
         own = [access for access in accesses if access["name"] == name]
         kinds = {access["index"] is None for access in own}
+        if not NAME.fullmatch(name):
+            sys.exit(f"to_trace.py: {name} is not a name of a trace, which has 1 to 8 small letters, digits and `_`; print another one")
         if len(kinds) > 1:
             sys.exit(f"to_trace.py: {name} has an index in some entries and none in others")
         width = max(1, max(map(greatest, own)).bit_length())
@@ -51,6 +55,9 @@ def registers_of(accesses):
 
 
 def main():
+    if hasattr(signal, "SIGPIPE"):
+        # a reader such as `head` may stop early
+        signal.signal(signal.SIGPIPE, signal.SIG_DFL)
     entries = [*entries_of(sys.stdin)]
     if not entries:
         sys.exit("to_trace.py: no entries; check that the model has a trail and prints its accesses, and that `spin -t -T` replays it")
