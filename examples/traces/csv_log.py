@@ -25,56 +25,96 @@ HALVES = {"write": ("write-begin", "write-end"), "read": ("read-begin", "read-en
 # what comes first at one time, if rows last some time
 EARLY = ("call", "leave", "write-begin", "read-begin")
 REQUIRED = ["time", "cpu", "operation"]
-# a variable with its index in one column
-ELEMENT = re.compile(r"(?P<variable>.+)\[ *(?P<index>\d+) *\]")
-MOST_VALUE, MOST_PROCESSES = 2**32 - 1, 16
+COLUMNS = [*REQUIRED, "begin", "end", "variable", "index", "value", "old", "expected"]
+# a variable with its index, or several, in brackets; and the number in a pair of these
+ELEMENT = re.compile(r"(?P<name>[^\[\]()]*[^\[\]() ])(?P<indices>( *(\[[^\[\]()]+\]|\([^\[\]()]+\)))+)")
+BRACKETS = re.compile(r"[\[(] *([^\[\]()]+?) *[\])]")
+# a cpu with letters before its number, and a time with a unit after it
+NAMED_CPU, WITH_UNIT = re.compile(r"[A-Za-z_]+ ?(\d+)"), re.compile(r"([\d.]+) ?([afpnum]?s|cycles?|ticks?)")
+MOST_VALUE, MOST_INDEX, MOST_PROCESSES = 2**32 - 1, 255, 16
 
 
 class Mistake(Exception):
     """What is wrong with a log or an option, and what was expected."""
 
 
+def whole(word):
+    """Returns the whole number of a word, decimal or hexadecimal with `0x`, or None."""
+    try:
+        return int(word, 10 if word.isdecimal() else 0)
+    except ValueError:
+        return None
+
+
+def parts(variable):
+    """Returns the name of a variable and its index, such as 1 in `flag[1]`, `flag[0x1]` and `flag(1)`. The index is None without
+    brackets, and -1 if something else is in brackets. Of several indices the last one is that of the cell."""
+    if not {*variable} & {*"[]()"}:
+        return variable, None
+    found = ELEMENT.fullmatch(variable)
+    *others, last = [whole(it) for it in BRACKETS.findall(found["indices"])] if found else [None]
+    if any(it is None or not 0 <= it <= MOST_INDEX for it in (*others, last)):
+        return variable, -1
+    return found["name"] + "".join(f"[{it}]" for it in others), last
+
+
 class Row(NamedTuple):
-    """A line of a log: its number, its text, its values by the names of their columns, and its operation."""
+    """A line of a log: its number, its text, for each of our columns the columns of the log with their values, and its operation."""
 
     line: int
     text: str
-    values: dict
+    cells: dict
     operation: str
 
+    def found(self, column):
+        """Returns the column of the log that has a value, as the log spells it, and the value: of several the one that is not empty.
+        A column that has the value before is not one of the new value."""
+        cells = self.cells.get(column) or [(column, "")]
+        if column == "value" and self.operation in CHANGES and len(cells) > 1:
+            cells = [it for it in cells if it not in self.cells.get("old", [])] or cells
+        filled = [it for it in cells if it[1]]
+        if len(filled) > 1 and len({word if whole(word) is None else whole(word) for _, word in filled}) > 1:
+            both = " and ".join(f"`{head}` has {word}" for head, word in filled)
+            raise self.mistake(f"{both}, and both are the column `{column}`; one of them is expected to be empty")
+        return filled[0] if filled else ("` or `".join(head for head, _ in cells), "")
+
     def word(self, column):
-        return self.values.get(column, "")
+        return self.found(column)[1]
 
     def mistake(self, what):
         return Mistake(f"line {self.line}: {what}")
 
     def number(self, column, most=MOST_VALUE):
         """Returns the number in a column."""
-        word, wanted = self.word(column), f"a number from 0 to {most} is expected"
+        (head, word), wanted = self.found(column), f"a number from 0 to {most} is expected"
         if not word:
-            raise self.mistake(f"column `{column}` is empty or missing; {wanted}")
-        try:
-            number = int(word, 10 if word.isdecimal() else 0)
-        except ValueError:
-            raise self.mistake(f"`{word}` in column `{column}` is not a number; {wanted}") from None
+            raise self.mistake(f"column `{head}` is empty or missing; {wanted}")
+        number = whole(word)
+        if number is None:
+            named = NAMED_CPU.fullmatch(word) if column == "cpu" else None
+            remedy = f", as {named[1]} in place of `{word}`" if named else ""
+            raise self.mistake(f"`{word}` in column `{head}` is not a number; {wanted}{remedy}")
         if not 0 <= number <= most:
-            raise self.mistake(f"{word} in column `{column}` is out of range; {wanted}")
+            raise self.mistake(f"{word} in column `{head}` is out of range; {wanted}")
         return number
 
     def time(self, column):
         """Returns the time in a column, exactly."""
+        head, word = self.found(column)
         try:
-            time = Decimal(self.word(column))
+            time = Decimal(whole(word) if word[:2] in ("0x", "0X") and whole(word) is not None else word)
         except InvalidOperation:
             time = Decimal("nan")
         if not time.is_finite():
-            raise self.mistake(f"`{self.word(column)}` in column `{column}` is not a time; a number is expected")
+            what = f"`{word}` in column `{head}` is not a time" if word else f"column `{head}` is empty or missing"
+            with_unit = WITH_UNIT.fullmatch(word)
+            raise self.mistake(f"{what}; a number is expected" + (f", as {with_unit[1]} in place of `{word}`" if with_unit else ""))
         return time
 
     @property
     def lasts(self):
         """Returns whether the row has a begin and an end in place of one time."""
-        return "begin" in self.values and not self.word("time")
+        return "begin" in self.cells and not self.word("time")
 
 
 class Event(NamedTuple):
@@ -109,52 +149,94 @@ def spelled(word):
     return word.lower().replace("_", "-")
 
 
-def renaming(pairs):
-    """Returns our name of each name of the log, from pairs of ours and the log's."""
-    return {spelled(theirs): ours for ours, theirs in pairs}
+def places_of(line, header, pairs):
+    """Returns for each of our columns the positions of the columns of the log that it is taken from. The pairs are ours and the log's."""
+    names, places = [*map(spelled, header)], {}
+    for ours, theirs in pairs:
+        if ours not in COLUMNS:
+            raise Mistake(f"--column {ours}={theirs}: `{ours}` is not a column; one of {', '.join(COLUMNS)} is expected before `=`")
+        if spelled(theirs) not in names:
+            raise Mistake(f"--column {ours}={theirs}: no column is named {theirs}; line {line} has {', '.join(header) or 'none'}")
+        places.setdefault(ours, {})[names.index(spelled(theirs))] = None
+    renamed = {spelled(theirs) for _, theirs in pairs}
+    for at, name in enumerate(names):
+        if names.count(name) > 1 and name in {*COLUMNS, *renamed}:
+            raise Mistake(f"line {line}: two columns are named `{header[at]}`")
+        if name in places and name not in renamed:
+            others = " and ".join(f"`{header[other]}`" for other in places[name])
+            remedy = f"add --column {name}={header[at]} to take the one that is not empty"
+            raise Mistake(f"line {line}: {others} and `{header[at]}` are both the column `{name}`; {remedy}")
+        if name not in renamed:
+            places[name] = {at: None}
+    check_required(line, header, places)
+    return places
 
 
-def columns_of(line, header, renamed):
-    """Returns our names of the columns."""
-    names = [renamed.get(spelled(name), spelled(name)) for name in header]
-    twice = next((name for name in names if names.count(name) > 1), None)
-    if twice is not None:
-        raise Mistake(f"line {line}: two columns are named `{twice}`")
-    has_both = {"begin", "end"} <= {*names}
-    missing = [it for it in REQUIRED if it not in names and not (it == "time" and has_both)]
+def check_required(line, header, places):
+    """Raises a mistake if a log lacks a column that each log needs."""
+    has_both = {"begin", "end"} <= {*places}
+    missing = [it for it in REQUIRED if it not in places and not (it == "time" and has_both)]
     if missing:
         what = f"no column is named {' or '.join(missing)}; this line names the columns, and has {', '.join(header) or 'none'}"
         raise Mistake(f"line {line}: {what}; --column {missing[0]}=NAME takes the column NAME")
-    return names
+
+
+def operations_of(pairs):
+    """Returns our name of each operation of the log, from pairs of ours and the log's."""
+    known = [*ACCESSES, *MARKS, "section"]
+    for ours, theirs in pairs:
+        if ours not in known:
+            raise Mistake(f"--operation {ours}={theirs}: `{ours}` is not an operation; one of {', '.join(known)} is expected before `=`")
+    return {spelled(theirs): ours for ours, theirs in pairs}
+
+
+def set_index(row):
+    """Takes the index of an access from the name of its variable, if that has one in brackets."""
+    (head, variable), own = row.found("variable"), row.word("index")
+    name, index = parts(variable)
+    if index is None:
+        return
+    if index < 0:
+        wanted = f"a name is expected, or a name with a number from 0 to {MOST_INDEX} in brackets, as flag[1], flag[0x1] or flag(1)"
+        raise row.mistake(f"`{variable}` in column `{head}` is not a variable; {wanted}")
+    if own and whole(own) != index:
+        raise row.mistake(f"`{variable}` has an index, and column `{row.found('index')[0]}` has {own}; leave that empty")
+    row.cells.update(variable=[(head, name)], index=[(head, str(index))])
 
 
 def rows_of(lines, columns, operations, skipped):
     """Yields the rows of a log. Each of the pairs renames a column or an operation of the log."""
-    operations, ignored = renaming(operations), {*map(spelled, skipped)}
+    operations, ignored = operations_of(operations), {*map(spelled, skipped)}
     below = table(lines)
     line, _, header = next(below, (1, "", []))
-    names = columns_of(line, header, renaming(columns))
+    places = places_of(line, header, columns)
     for number, text, values in below:
-        if any(values[len(names) :]):
-            raise Mistake(f"line {number}: {len(values)} values, and line {line} names {len(names)} columns")
-        named = dict(zip(names, [*values, *[""] * len(names)]))
-        if found := ELEMENT.fullmatch(named.get("variable", "")):
-            named |= found.groupdict()
-        operation = spelled(named["operation"])
+        if any(values[len(header) :]):
+            raise Mistake(f"line {number}: {len(values)} values, and line {line} names {len(header)} columns")
+        values += [""] * len(header)
+        row = Row(number, text, {ours: [(header[at], values[at]) for at in those] for ours, those in places.items()}, "")
+        operation = spelled(row.word("operation"))
         if operation not in ignored:
-            yield Row(number, text, named, operations.get(operation, operation))
+            row = row._replace(operation=operations.get(operation, operation))
+            if row.operation in ACCESSES:
+                set_index(row)
+            yield row
 
 
 def event(row, time, operation):
     """Returns what happened in a row at a time."""
     is_access = operation in ACCESSES
     if not is_access and operation not in MARKS:
-        known = ", ".join([*ACCESSES, *MARKS])
-        raise row.mistake(f"`{operation}` is not an operation; one of {known} is expected, and --skip {operation} ignores such rows")
+        known, (head, own) = ", ".join([*ACCESSES, *MARKS]), row.found("operation")
+        if not own:
+            raise row.mistake(f"column `{head}` is empty or missing; an operation is expected, which are {known}")
+        remedy = f"--operation NAME={own} if it is one of these, and --skip {own} to ignore such rows"
+        raise row.mistake(f"`{own}` is not an operation, which are {known}; add {remedy}")
     if is_access and not row.word("variable"):
-        raise row.mistake(f"column `variable` is empty or missing; `{operation}` needs the name of a variable")
+        what = f"column `{row.found('variable')[0]}` is empty or missing"
+        raise row.mistake(f"{what}; `{row.word('operation')}` needs the name of a variable")
     process = row.number("cpu", MOST_PROCESSES - 1)
-    index = row.number("index", 255) if is_access and row.word("index") else None
+    index = row.number("index", MOST_INDEX) if is_access and row.word("index") else None
     numbers = tuple(row.number(column) for column in ACCESSES[operation]) if is_access else ()
     return Event(row, time, operation, process, index, numbers)
 
@@ -165,9 +247,10 @@ def events_of(row):
         return [event(row, row.time("time"), row.operation)]
     begin, end = row.time("begin"), row.time("end")
     if begin > end:
-        raise row.mistake(f"it begins at {begin} and ends at {end}, which is earlier")
+        raise row.mistake(f"it begins at {row.word('begin')} and ends at {row.word('end')}, which is earlier")
     if row.operation in CHANGES:
-        raise row.mistake(f"`{row.operation}` needs atomic memory, which has no begins: --column time=end takes each row at its end")
+        what = f"`{row.word('operation')}` needs atomic memory, which has no begins"
+        raise row.mistake(f"{what}: --column time={row.found('end')[0]} takes each row at its end")
     operations = HALVES.get(row.operation, (row.operation,))
     return [event(row, time, operation) for time, operation in zip((begin, end), operations)]
 
@@ -178,7 +261,8 @@ def refuse_two_at_a_time(events):
     for it in events:
         if it.operation.endswith("-begin"):
             if opened is not None:
-                what = f"cpu {it.process} begins an access at {it.time}, and that of line {opened.line} has not ended"
+                time = it.row.word("begin") or it.row.word("time")
+                what = f"cpu {it.process} begins an access at {time}, and that of line {opened.line} has not ended"
                 raise it.row.mistake(f"{what}; a process makes one access at a time, without store buffers")
             opened = it.row
         elif it.operation.endswith("-end"):

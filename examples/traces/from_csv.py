@@ -1,16 +1,18 @@
 #!/usr/bin/env python3
 """Turns the log of a simulator into a trace: `from_csv.py LOG.csv > run.trace`. `from_csv.py --entry 10 LOG.csv` prints instead what
-entry 10 of that trace was made from.
+entry 10 of that trace was made from. Names of a trace have small letters, so a comment keeps each name that the log spells otherwise.
 
 The log has comma-separated values. Its first line names the columns, in any order; columns of other names are ignored. Each further
-line is an access or a mark. Empty lines and lines that begin with `#` are skipped.
+line is an access or a mark. Empty lines and lines that begin with `#` are skipped. All numbers, times too, may be decimal or
+hexadecimal: 31 or 0x1f. A time may have a fraction, as 12.5.
 
     time       when it happened; rows of the same time keep their order
     cpu        the process, from 0 to 15
     operation  an access: read, write, swap, add, cas; write-begin, write-end, read-begin, read-end
                a mark: call, wait, enter, leave, answer
     variable   the name of the variable; empty for a mark
-    index      the process whose cell it is; empty if the variable is shared, or if the variable is given as `flag[1]`
+    index      the process whose cell it is; empty if the variable is shared, or if the variable is given as `flag[1]`, `flag[0x1]` or
+               `flag(1)`
     value      the value read or written; the number added; the new value of `swap` and `cas`
     old        the value before, of `swap`, `add` and `cas`
     expected   the expected value, of `cas`
@@ -18,14 +20,18 @@ line is an access or a mark. Empty lines and lines that begin with `#` are skipp
 A log may have the columns `begin` and `end` in place of `time`. Then a row `write` or `read` lasts from the one to the other and
 becomes two entries, and a row `section` is a critical section: `enter` at its begin and `leave` at its end. A begin comes before an end
 of the same time, so accesses that touch overlap; the rows of one process keep their order.
+
+`--column value=NewVal --column value=RdVal` takes the value from the one of these columns that is not empty.
 """
 
 import argparse
 import csv
 import re
+import signal
 import sys
+from functools import cached_property
 
-from csv_log import ACCESSES, CHANGES, MOST_PROCESSES, MOST_VALUE, Mistake, events_of, in_order, rows_of
+from csv_log import ACCESSES, CHANGES, MOST_PROCESSES, MOST_VALUE, Mistake, events_of, in_order, parts, rows_of, whole
 
 # the words of a trace for each access
 MOVES = {
@@ -59,13 +65,24 @@ class Variable:
     @property
     def bits(self):
         """Returns the width: the stated one, or that of the greatest value."""
-        return self.width or max(1, self.most.bit_length(), self.opens.bit_length())
+        return max(1, self.most.bit_length(), self.opens.bit_length()) if self.width is None else self.width
 
     def lines(self):
         """Yields its line of the trace, below a comment if the log has another name."""
-        if self.name != self.variable.lower() and self.variable.isascii() and len(self.variable) <= LONGEST:
+        if self.name != re.sub(r"\[(\d+)\]$", r"\1", self.variable) and self.variable.isascii() and len(self.variable) <= LONGEST:
             yield f"# {self.name} is {self.variable} of the log"
         yield f"{'shared' if self.is_shared else 'register'} {self.name} {self.bits}" + f" opens {self.opens}" * (self.opens > 0)
+
+
+def refuse_two_kinds(variable, rows):
+    """Raises a mistake if a variable has an index in some of its rows only. It names the first of the rows that are fewer, and of as
+    many the one that comes later."""
+    with_index, without = [[row for row in rows if bool(row.word("index")) == has] for has in (True, False)]
+    if with_index and without:
+        few, many = sorted((with_index, without), key=lambda found: (len(found), -found[0].line))
+        has, others = ("an", "no") if few is with_index else ("no", "an")
+        at = f"line {many[0].line}" if len(many) == 1 else f"{len(many)} other rows, such as line {many[0].line}"
+        raise few[0].mistake(f"`{variable}` has {has} index, and {others} index in {at}; give each row of it an index, or none")
 
 
 class Variables:
@@ -74,21 +91,21 @@ class Variables:
     def __init__(self, events, options):
         self.options, self.found = options, {}
         accesses = [it for it in events if it.operation in ACCESSES]
+        for variable in dict.fromkeys(it.variable for it in accesses):
+            refuse_two_kinds(variable, {it.row.line: it.row for it in accesses if it.variable == variable}.values())
         self.arrays = {it.variable for it in accesses if it.index is not None}
         self.shared = {it.variable for it in accesses if it.index is None or it.operation in CHANGES} | {*options.shared}
 
     def of(self, event):
         """Returns the register of an access. An array that is shared has one for each element."""
         variable = event.variable
-        if event.index is None and variable in self.arrays:
-            raise event.row.mistake(f"`{variable}` has no index, and has one in other rows; give each row one, or none")
         is_shared = variable in self.shared
         element = event.index if is_shared else None
         if (variable, element) not in self.found:
             if len(self.found) == MOST_REGISTERS:
                 raise event.row.mistake(f"`{variable}` is one register too many; a trace has at most {MOST_REGISTERS}")
             name = self.name(variable, "" if element is None else str(element))
-            full_name = variable if element is None else f"{variable}{element}"
+            full_name = variable if element is None else f"{variable}[{element}]"
             self.found[variable, element] = Variable(name, full_name, is_shared)
         return self.found[variable, element]
 
@@ -109,11 +126,15 @@ class Variables:
 
     def named(self, option, name):
         """Returns the registers that an option names, by a variable or an element of the log or by a name of the trace."""
-        found = [it for (variable, element), it in self.found.items() if name in (variable, f"{variable}[{element}]", it.name)]
+        found = [it for (variable, element), it in self.found.items() if name in (variable, it.name) or parts(name) == (variable, element)]
         if not found:
-            known = ", ".join(dict.fromkeys(variable for variable, _ in self.found)) or "none"
-            raise Mistake(f"--{option} {name}: the log has no such variable; it has {known}")
+            raise self.unknown(option, name)
         return found
+
+    def unknown(self, option, name):
+        """Returns the mistake of an option that names a variable which the log does not have."""
+        known = ", ".join(dict.fromkeys(variable for variable, _ in self.found)) or "none"
+        return Mistake(f"--{option} {name}: the log has no such variable; it has {known}")
 
 
 class Entry:
@@ -175,7 +196,8 @@ class Trace:
         process, mark = event.process, event.operation
         left = self.calls.get(process)
         if left and mark in ("wait", "enter") and self.has_accesses:
-            what = f"cpu {process} has no `call` between its `leave` of line {left.line} and this `{mark}`"
+            own = event.row.word("operation")
+            what = f"cpu {process} has no `call` between its `{left.word('operation')}` of line {left.line} and this `{own}`"
             raise event.row.mistake(f"{what}; log a `call` before the first access of each attempt")
         is_next = mark == "call" or left and mark in ("wait", "enter")
         if is_next and process in self.calls:
@@ -209,12 +231,24 @@ class Trace:
         if shared and memory != "atomic":
             why = "has no index" if shared.index is None else "is shared"
             what = f"`{shared.variable}` {why}, so all processes may write it, and the memory is {memory}"
-            remedy = "--column time=end takes each row at its end" if shared.row.lasts else "log one row for each access"
+            remedy = self.remedy(shared.row, half)
             raise shared.row.mistake(f"{what}; such a variable needs atomic memory: {remedy}")
         return memory
 
+    def remedy(self, row, half):
+        """Returns how a log with a shared variable becomes one in atomic memory."""
+        option = f"--memory {self.options.memory}"
+        if not half:
+            return f"leave out {option}, since the log has one row for each access"
+        remedy = f"--column time={row.found('end')[0]} takes each row at its end" if row.lasts else "log one row for each access"
+        return f"{remedy}, and leave out {option}" if self.options.memory else remedy
+
     def set_registers(self):
-        """Sets the widths and opening values that options state, and checks all."""
+        """Sets the widths and opening values that options state, and checks all options that name a variable."""
+        for option in ("shared", "name"):
+            for name in getattr(self.options, option):
+                if all(name != variable for variable, _ in self.variables.found):
+                    raise self.variables.unknown(option, name)
         for option, values in (("opens", self.options.opens), ("width", self.options.width)):
             for name, value in values.items():
                 for register in self.variables.named(option, name):
@@ -225,7 +259,7 @@ class Trace:
                 what = f"`{it.variable}` has width {it.bits}, its greatest value is {it.most}, and it opens with {it.opens}"
                 raise Mistake(f"{what}; a width is 1 to {most} in {self.memory} memory, and the opening value fits it")
 
-    @property
+    @cached_property
     def processes(self):
         """Returns the number of processes."""
         least = max((it.process + 1 for it in self.events), default=1)
@@ -273,9 +307,10 @@ def pair(kind):
 
     def read(text):
         name, _, value = text.partition("=")
-        if not name or not value or kind is int and not value.isdecimal():
+        number = whole(value)
+        if not name or not value or kind is int and (number is None or number < 0):
             raise argparse.ArgumentTypeError(f"`{text}` is not NAME={'NUMBER' if kind is int else 'NAME'}")
-        return name, kind(value)
+        return name, number if kind is int else value
 
     return read
 
@@ -287,14 +322,15 @@ def parser():
     own.add_argument("log", metavar="LOG", help="the log; `-` is standard input")
     own.add_argument("--memory", choices=[*MOST_BITS], help="by default safe if an access has a begin and an end, and otherwise atomic")
     own.add_argument("--processes", type=int, metavar="N", help="by default one more than the greatest cpu, and at least 2")
-    several("--column", "COLUMN=NAME", "the log's name of a column, as time=cycle", pair(str))
+    told = "the log's name of a column, as time=cycle; of several for one column, the one that is not empty"
+    several("--column", "COLUMN=NAME", told, pair(str))
     several("--operation", "OPERATION=NAME", "the log's name of an operation, as read=LD", pair(str))
     several("--skip", "OPERATION", "an operation whose rows are ignored", str)
     several("--shared", "VARIABLE", "an array whose elements all processes may write", str)
     several("--opens", "VARIABLE=NUMBER", "the opening value of a variable, by default 0", pair(int))
     several("--width", "VARIABLE=BITS", "the bits of a variable, by default those of its greatest value", pair(int))
     several("--name", "VARIABLE=NAME", "the name of a variable in the trace", pair(str))
-    own.add_argument("--entry", type=int, metavar="K", help="prints what entry K was made from, in place of the trace")
+    several("--entry", "K", "prints what entry K was made from, in place of the trace", int)
     return own
 
 
@@ -310,18 +346,23 @@ def trace_of(options):
 
 
 def main():
+    if hasattr(signal, "SIGPIPE"):
+        # a reader such as `head` may stop early
+        signal.signal(signal.SIGPIPE, signal.SIG_DFL)
     options = parser().parse_args()
     for name in ("opens", "width", "name"):
         setattr(options, name, dict(getattr(options, name)))
     try:
         trace = trace_of(options)
         text = trace.text()
-        sys.stdout.write(text if options.entry is None else trace.origin(options.entry))
+        sys.stdout.write("".join(map(trace.origin, options.entry)) or text)
     except UnicodeDecodeError:
         sys.exit("from_csv.py: the log is not a text in UTF-8")
-    except (Mistake, OSError, csv.Error) as error:
+    except OSError as error:
+        sys.exit(f"from_csv.py: {options.log}: {error.strerror.lower()}")
+    except (Mistake, csv.Error) as error:
         sys.exit(f"from_csv.py: {error}")
-    for note in trace.notes() if options.entry is None else []:
+    for note in trace.notes() if not options.entry else []:
         print(f"from_csv.py: note: {note}", file=sys.stderr)
 
 

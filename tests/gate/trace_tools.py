@@ -2,7 +2,8 @@
 """Runs the programs that make traces, and has the program `bakerystore` and the second reading judge these.
 
 - `from_csv.py` turns each log of examples/traces/logs/ into the trace beside it, which has the verdict that LOGS.md states, and each
-  short log of `lib/logs.py` into its trace. It reports the line of each mistake, and notes what a log lacks.
+  short log of `lib/logs.py` into its trace. It reports the line of each mistake, notes what a log lacks, and leads from the entries that
+  are named to their lines. It and `to_trace.py` end without a message if no process reads their output.
 - `recorder.c` records 200 runs of each lock. Each run of a right lock is good. At least one run of a broken lock breaks the law that
   LOGS.md names first, and none breaks a law that it does not name.
 - `to_trace.py` turns each trail of SPIN that is kept into the trace beside it.
@@ -23,6 +24,7 @@ sys.path.insert(0, str(pathlib.Path(__file__).resolve().parents[1]))
 
 from lib import logs
 from lib.counting import Counter
+from lib.own_locks import unread
 from lib.places import OTHER_LOCKS, TOP
 from lib.running import CORES, runner
 from second.traces import judge_trace
@@ -96,7 +98,7 @@ def ended(made):
 
 
 def check_short_logs(counter):
-    """Each short log has its trace, which is no faulty file, or its message, or its notes."""
+    """Each short log has its trace, which is no faulty file, or its message, or its entries, or its notes."""
     for log in logs.TRACES:
         made = run(FROM_CSV, f"{log.options} -", log.text)
         counter.compare(f"the log {log.text!r}", (made.returncode, made.stdout), (0, log.wanted))
@@ -104,6 +106,10 @@ def check_short_logs(counter):
     for log in logs.MISTAKES:
         made = run(FROM_CSV, f"{log.options} -", log.text)
         counter.compare(f"the log {log.text!r} {log.options}", ended(made), reported(FROM_CSV, log.wanted))
+    for log in logs.ENTRIES:
+        made = run(FROM_CSV, f"{log.options} -", log.text)
+        counter.compare(f"the log {log.text!r} {log.options}", ended(made), (0, log.wanted, ""))
+    counter.compare("from_csv.py without a reader", unread(TRACES, [FROM_CSV, "--entry", "0", "-"], logs.ENTRIES[0].text), "")
     for log in logs.NOTES:
         noted = run(FROM_CSV, "-", log.text).stderr
         counter.compare(f"notes on {log.text!r}", noted, "".join(f"from_csv.py: note: {line}\n" for line in log.wanted.splitlines()))
@@ -168,6 +174,7 @@ def check_trails(counter):
         check_verdict(counter, file.name, made.stdout, TRAILS[file.stem])
     text, wanted = logs.TRAIL
     counter.compare(f"the trail {text!r}", ended(run(TO_TRACE, "", text)), (0, wanted, ""))
+    counter.compare("to_trace.py without a reader", unread(SPIN, [TO_TRACE], text), "")
     for text, wanted in logs.TRAIL_MISTAKES:
         counter.compare(f"the trail {text!r}", ended(run(TO_TRACE, "", text)), reported(TO_TRACE, wanted))
 
