@@ -3,7 +3,6 @@
 ghost use Rattle.std.specs.Prelude.{◌≡◌, ℕ, ◌+◌, ◌-◌, ◌^◌, ◌<◌, cond, [], IfOk, Ok, Some, option_map, slice_get};
 ghost use Rattle.std.specs.List.{list_any};
 ghost use Rattle.plain_store.specs.{checked};
-ghost use Rattle.record.specs.{is_before as before};
 ghost use Rattle.read_law.specs.{entry_by};
 ghost use Rattle.any_lock.specs.Keeping.{IsOfAccess, Knows, KnowsOn, KnowsOnAt, OfEntry, OfPast, StandsAfter, TakesInto, made_at, is_taken, with_standing};
 ghost use Rattle.any_lock.specs.Laws.{is_ahead, is_other_ahead, is_other_inside, other_ahead, other_inside, right_reply};
@@ -13,6 +12,7 @@ ghost use Rattle.any_lock.specs.Standings.{standing as standing_of};
 use crate::mark_rules::{stands_alone, waits};
 use crate::refusals::{AccessRefusal, MarkRefusal};
 use crate::standings::Standing;
+use lock_stages::precedes;
 use plain_store::{Caller, NestedTypes, Reply, Setup, Store, opened};
 use record::{Access, Mark};
 use std::alloc::{AllocError, Global};
@@ -187,7 +187,7 @@ impl Kept {
     {
         let standing = &self.standings[usize::from(other)];
         let doorway = self.standings[usize::from(process)].doorway;
-        waits(standing.stage) && is_before(standing.waits, doorway)
+        waits(standing.stage) && precedes(standing.waits, doorway)
     }
 
     /// The place and the reply of a command of a process that is taken now.
@@ -301,15 +301,4 @@ pub(crate) fn takes(marks: &[Mark]) -> bool
     ensures { result ≡ list_any is_taken marks.now }
 {
     marks.iter().any(|mark| matches!(mark, Mark::Taken(..)))
-}
-
-/// Whether a `wait` stands before a doorway begins, if it has begun.
-fn is_before(wait: Option<u64>, doorway: Option<u64>) -> bool
-    ensures { result ≡ before wait doorway }
-{
-    match (wait, doorway) {
-        (None, _) => false,
-        (Some(_), None) => true,
-        (Some(wait), Some(doorway)) => wait < doorway,
-    }
 }

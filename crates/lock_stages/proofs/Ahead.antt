@@ -2,7 +2,8 @@
 use Rattle.std.proofs.Common.{◌≡◌, ℕ, suc, ◌<◌, ◌==◌, Bool, true, false, not, ◌&&◌, ◌||◌, cond, List, [], ◌∷◌, Option, None, Some, is_some, length, refl, sym, ap, ◌∙◌, arith}
 use Rattle.std.proofs.lemmas.Bool.{le-ltb, lt-ltb}
 use Rattle.trace.specs.{LockMark}
-use Rattle.lock_stages.specs.{LockEntry, LockPast, doorway, doorway_after, first_of, has_mark, is_call, is_wait, latest, lock_entry, precedes}
+use Rattle.record.specs.{first_of, is_before}
+use Rattle.lock_stages.specs.{LockEntry, LockPast, doorway, doorway_after, has_mark, is_call, is_wait, latest, lock_entry}
 
 -- Numbers are below the number of entries.
 abbrev pub Below : ℕ → Option ℕ → Type 0
@@ -60,7 +61,7 @@ begun-step n true false accesses (Some k) = refl
 begun-step n true false true None = refl
 begun-step n true false false None = refl
 
-at-wait : (n : ℕ) (o : Option ℕ) → Below (suc n) o → precedes (Some n) o ≡ not (is_some o)
+at-wait : (n : ℕ) (o : Option ℕ) → Below (suc n) o → is_before (Some n) o ≡ not (is_some o)
 at-wait n None below = refl
 at-wait n (Some k) below = let h : k < suc n = below k refl in le-ltb n k (omega (arith, h))
 
@@ -72,7 +73,7 @@ begin-below n mine call accesses d below =
     (below-more n d below)
 
 order-step : (n : ℕ) (w d : Option ℕ) → Below n w → Below n d → (waits mine call accesses : Bool) →
-    precedes (cond waits (Some n) w) (begin_after n mine call accesses d) ≡ order_after waits mine call accesses (is_some w) (is_some d) (precedes w d)
+    is_before (cond waits (Some n) w) (begin_after n mine call accesses d) ≡ order_after waits mine call accesses (is_some w) (is_some d) (is_before w d)
 order-step n w d hw hd true mine call accesses = at-wait n (begin_after n mine call accesses d) (begin-below n mine call accesses d hd) ∙ ap not (begun-step n mine call accesses d)
 order-step n None d hw hd false mine call accesses = refl
 order-step n (Some x) None hw hd false false call accesses = refl
@@ -90,7 +91,7 @@ waits-step n false w = refl
 pub record AlikeOrder (past other : LockPast) : Type 0 where
   pub waits : (q : ℕ) → is_some (latest is_wait q past) ≡ is_some (latest is_wait q other)
   pub begun : (p : ℕ) → is_some (doorway p past) ≡ is_some (doorway p other)
-  pub order : (p q : ℕ) → precedes (latest is_wait q past) (doorway p past) ≡ precedes (latest is_wait q other) (doorway p other)
+  pub order : (p q : ℕ) → is_before (latest is_wait q past) (doorway p past) ≡ is_before (latest is_wait q other) (doorway p other)
 
 module _ (e : LockEntry) (past : LockPast) where
   waits-of : (q : ℕ) → is_some (latest is_wait q (e ∷ past)) ≡ (((e.process == q) && has_mark is_wait e) || is_some (latest is_wait q past))
@@ -99,8 +100,8 @@ module _ (e : LockEntry) (past : LockPast) where
   begun-of : (p : ℕ) → is_some (doorway p (e ∷ past)) ≡ begun_after (e.process == p) (has_mark is_call e) e.accesses (is_some (doorway p past))
   begun-of p = begun-step (length past) (e.process == p) (has_mark is_call e) e.accesses (doorway p past)
 
-  order-of : (p q : ℕ) → precedes (latest is_wait q (e ∷ past)) (doorway p (e ∷ past))
-      ≡ order_after ((e.process == q) && has_mark is_wait e) (e.process == p) (has_mark is_call e) e.accesses (is_some (latest is_wait q past)) (is_some (doorway p past)) (precedes (latest is_wait q past) (doorway p past))
+  order-of : (p q : ℕ) → is_before (latest is_wait q (e ∷ past)) (doorway p (e ∷ past))
+      ≡ order_after ((e.process == q) && has_mark is_wait e) (e.process == p) (has_mark is_call e) e.accesses (is_some (latest is_wait q past)) (is_some (doorway p past)) (is_before (latest is_wait q past) (doorway p past))
   order-of p q = order-step (length past) (latest is_wait q past) (doorway p past) (latest-below is_wait q past) (doorway-below p past) ((e.process == q) && has_mark is_wait e) (e.process == p) (has_mark is_call e) e.accesses
 
 -- One entry more.
@@ -140,7 +141,7 @@ alike-two p marks past = record {
   begun = λ r. begun-of e past r ∙ begun-twice (p == r) (has_mark is_call e) (is_some (doorway r past))
       ∙ ap (λ b. begun_after (p == r) (has_mark is_call e) true b) (sym (begun-of first past r)) ∙ sym (begun-of e (first ∷ past) r);
   order = λ r q. order-of e past r q
-      ∙ order-twice ((p == q) && has_mark is_wait e) (p == r) (has_mark is_call e) (is_some (latest is_wait q past)) (is_some (doorway r past)) (precedes (latest is_wait q past) (doorway r past))
+      ∙ order-twice ((p == q) && has_mark is_wait e) (p == r) (has_mark is_call e) (is_some (latest is_wait q past)) (is_some (doorway r past)) (is_before (latest is_wait q past) (doorway r past))
       ∙ (λ i. order_after ((p == q) && has_mark is_wait e) (p == r) (has_mark is_call e) true (sym (first_waits q) i) (sym (begun-of first past r) i) (sym (first_order r q) i))
       ∙ sym (order-of e (first ∷ past) r q);
 }
@@ -154,13 +155,13 @@ alike-two p marks past = record {
     first_waits : (q : ℕ) → is_some (latest is_wait q (lock_entry p true [] ∷ past)) ≡ is_some (latest is_wait q past)
     first_waits q = waits-of (lock_entry p true []) past q ∙ ap (λ b. b || is_some (latest is_wait q past)) (and-false (p == q))
 
-    first_order : (r q : ℕ) → precedes (latest is_wait q (lock_entry p true [] ∷ past)) (doorway r (lock_entry p true [] ∷ past))
-        ≡ order_after false (p == r) false true (is_some (latest is_wait q past)) (is_some (doorway r past)) (precedes (latest is_wait q past) (doorway r past))
+    first_order : (r q : ℕ) → is_before (latest is_wait q (lock_entry p true [] ∷ past)) (doorway r (lock_entry p true [] ∷ past))
+        ≡ order_after false (p == r) false true (is_some (latest is_wait q past)) (is_some (doorway r past)) (is_before (latest is_wait q past) (doorway r past))
     first_order r q = order-of (lock_entry p true []) past r q
-        ∙ ap (λ b. order_after b (p == r) false true (is_some (latest is_wait q past)) (is_some (doorway r past)) (precedes (latest is_wait q past) (doorway r past))) (and-false (p == q))
+        ∙ ap (λ b. order_after b (p == r) false true (is_some (latest is_wait q past)) (is_some (doorway r past)) (is_before (latest is_wait q past) (doorway r past))) (and-false (p == q))
 
 -- An access without marks changes no order.
-order-kept : (mine : Bool) (w d : Option ℕ) → order_after false mine false true (is_some w) (is_some d) (precedes w d) ≡ precedes w d
+order-kept : (mine : Bool) (w d : Option ℕ) → order_after false mine false true (is_some w) (is_some d) (is_before w d) ≡ is_before w d
 order-kept mine None d = refl
 order-kept true (Some x) None = refl
 order-kept false (Some x) None = refl
@@ -168,8 +169,8 @@ order-kept true (Some x) (Some k) = refl
 order-kept false (Some x) (Some k) = refl
 
 pub first-keeps : (p r q : ℕ) (past : LockPast) →
-    precedes (latest is_wait q (lock_entry p true [] ∷ past)) (doorway r (lock_entry p true [] ∷ past)) ≡ precedes (latest is_wait q past) (doorway r past)
+    is_before (latest is_wait q (lock_entry p true [] ∷ past)) (doorway r (lock_entry p true [] ∷ past)) ≡ is_before (latest is_wait q past) (doorway r past)
 first-keeps p r q past =
     order-of (lock_entry p true []) past r q
-    ∙ ap (λ b. order_after b (p == r) false true (is_some (latest is_wait q past)) (is_some (doorway r past)) (precedes (latest is_wait q past) (doorway r past))) (and-false (p == q))
+    ∙ ap (λ b. order_after b (p == r) false true (is_some (latest is_wait q past)) (is_some (doorway r past)) (is_before (latest is_wait q past) (doorway r past))) (and-false (p == q))
     ∙ order-kept (p == r) (latest is_wait q past) (doorway r past)

@@ -1,11 +1,12 @@
 -- What is kept of the entries so far, and what it becomes with one more entry.
 use Rattle.std.specs.Prelude.{◌≡◌, ℕ, ◌<◌, Bool, List, length, slice_get, slice_index_or, fold, cond, Option, None, Some}
+use Rattle.record.specs.{first_of}
 use Rattle.trace.specs.{LockMark}
 use Rattle.trace.specs.declared.marks.LockMark.TheVariants as mark
 use Rattle.lock_stages.specs.declared.states.LockStage.TheVariants.{Idle, Doorway, Waiting, Inside, Leaving}
 use Rattle.lock_stages.specs.declared.states.ProcessState.{ProcessState}
 use Rattle.lock_stages.specs.Entries.{LockPast}
-use Rattle.lock_stages.specs.States.{first_of, process_state}
+use Rattle.lock_stages.specs.States.{process_state}
 
 -- a process without entries
 abbrev pub at_rest : ProcessState

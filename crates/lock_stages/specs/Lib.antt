@@ -1,3 +1,4 @@
+pub use Rattle.record.specs as runs
 pub mod Entries
 pub mod Keeping
 pub mod Order
@@ -7,11 +8,11 @@ pub mod Soundness
 pub mod States
 pub use Entries.{LockEntry, LockPast, has_mark, is_call, is_enter, is_wait, lock_entry}
 pub use Keeping.{AreSince, HasObserved, OfObserved, StagesState, accessed, at_rest, marked, process_state_after}
-pub use Order.{ahead_since, any_below, breaks_overtaken, breaks_together, inside_since, is_ahead, is_other_inside, precedes}
+pub use Order.{ahead_since, any_below, breaks_overtaken, breaks_together, inside_since, is_ahead, is_other_inside}
 pub use Refusals.{first_refusal, is_crowded, is_idle, is_in_doorway, is_inside, is_leaving, is_waiting, mark_refusal, refusal_of_marks}
 pub use Shown.{lock_mark_refusal_text, lock_stage_text}
 pub use Soundness.{EntersAlone, EntersInTurn, IsAloneInside}
-pub use States.{doorway, doorway_after, first_of, latest, lock_stage, process_state, stage_after}
+pub use States.{doorway, doorway_after, latest, lock_stage, process_state, stage_after}
 pub use declared.refusals.LockMarkRefusal.{LockMarkRefusal}
 pub use declared.states.LockStage.{LockStage}
 pub use declared.states.ProcessState.{ProcessState}

@@ -1,5 +1,6 @@
 -- Mutual exclusion, and first come, first served (Lamport 1974).
 use Rattle.std.specs.Prelude.{ℕ, zero, suc, ◌==◌, nat_lt, Bool, true, false, not, ◌&&◌, ◌||◌, Option, None, Some, cond}
+use Rattle.record.specs.{is_before}
 use Rattle.lock_stages.specs.Entries.{LockEntry, LockPast, has_mark, is_enter, is_wait}
 use Rattle.lock_stages.specs.Refusals.{is_inside, is_waiting}
 use Rattle.lock_stages.specs.States.{doorway, latest, lock_stage}
@@ -13,15 +14,9 @@ any_below (suc n) test = any_below n test || test n
 abbrev pub is_other_inside : LockPast → ℕ → ℕ → Bool
 is_other_inside past p q = not (q == p) && is_inside (lock_stage q past)
 
--- a `wait` precedes the beginning of a doorway, or that has not begun
-abbrev pub precedes : Option ℕ → Option ℕ → Bool
-precedes None begin = false
-precedes (Some wait) None = true
-precedes (Some wait) (Some begin) = nat_lt wait begin
-
--- q is ahead of p: another process that waits, and its `wait` precedes the beginning of p's doorway
+-- q is ahead of p: another process that waits, and its `wait` precedes the beginning of p's doorway, or that has not begun
 abbrev pub is_ahead : LockPast → ℕ → ℕ → Bool
-is_ahead past p q = not (q == p) && is_waiting (lock_stage q past) && precedes (latest is_wait q past) (doorway p past)
+is_ahead past p q = not (q == p) && is_waiting (lock_stage q past) && is_before (latest is_wait q past) (doorway p past)
 
 -- of n processes, one enters while another is inside
 abbrev pub breaks_together : ℕ → LockPast → LockEntry → Bool

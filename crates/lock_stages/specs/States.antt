@@ -1,5 +1,6 @@
 -- The stage of a process, and the entries since which it waits or is inside, by looking back over a past.
 use Rattle.std.specs.Prelude.{ℕ, ◌==◌, Bool, ◌&&◌, [], ◌∷◌, fold, length, cond, Option, None, Some}
+use Rattle.record.specs.{first_of}
 use Rattle.trace.specs.{LockMark}
 use Rattle.trace.specs.declared.marks.LockMark.TheVariants as mark
 use Rattle.lock_stages.specs.declared.states.LockStage.{LockStage}
@@ -24,11 +25,6 @@ lock_stage p (e ∷ past) = cond (e.process == p) (fold stage_after (lock_stage 
 abbrev pub latest : (LockMark → Bool) → ℕ → LockPast → Option ℕ
 latest test p [] = None
 latest test p (e ∷ past) = cond ((e.process == p) && has_mark test e) (Some (length past)) (latest test p past)
-
--- the first of two numbers that is there
-abbrev pub first_of : Option ℕ → Option ℕ → Option ℕ
-first_of (Some k) more = Some k
-first_of None more = more
 
 -- where a doorway began, after an entry of its process with this number: a call has none before its first access
 abbrev pub doorway_after : ℕ → LockEntry → Option ℕ → Option ℕ

@@ -11,6 +11,7 @@ mod shown;
 mod stages;
 mod states;
 
+pub use order::precedes;
 pub use refusals::LockMarkRefusal;
 pub use stages::LockStages;
 pub use states::{LockStage, ProcessState};

@@ -1,8 +1,9 @@
 //! Which process is inside, and which is ahead of another.
 ghost use Rattle.std.specs.Prelude.{◌≡◌, ◌<◌};
+ghost use Rattle.record.specs.{is_before};
 ghost use Rattle.lock_stages.specs.Entries.{lock_entry};
 ghost use Rattle.lock_stages.specs.Keeping.{AreSince, OfObserved};
-ghost use Rattle.lock_stages.specs.Order.{ahead_since as wait_ahead, any_below, breaks_overtaken, breaks_together, inside_since as enter_inside, is_ahead as ahead, is_other_inside as other_inside, precedes as is_before};
+ghost use Rattle.lock_stages.specs.Order.{ahead_since as wait_ahead, any_below, breaks_overtaken, breaks_together, inside_since as enter_inside, is_ahead as ahead, is_other_inside as other_inside};
 
 use crate::refusals::enters;
 use crate::stages::{LockStages, MOST_PROCESSES};
@@ -118,8 +119,9 @@ impl LockStages {
     }
 }
 
-/// Returns whether a `wait` precedes the beginning of a doorway, or that has not begun.
-fn precedes(wait: Option<u64>, begin: Option<u64>) -> bool
+/// Returns whether the entry of a `wait`, if there is one, precedes that with which a doorway began, or the doorway has not begun.
+/// The judges of traces and of the records of any lock compare both by it.
+pub fn precedes(wait: Option<u64>, begin: Option<u64>) -> bool
     ensures { result ≡ is_before wait begin }
 {
     match (wait, begin) {

@@ -14,7 +14,7 @@ pub returns-then-waits : goal.returns-then-waits
 returns-then-waits c = λ past knows.
     let at = stands_there _ c.args.self.now past c.from.result c.args.other c.index-standing.result.now c.self.view_is c.from.ensures c.requires.other c.index-standing.ensures knows in
     let behind = stands_there _ c.args.self.now past c.from-2.result c.args.process c.index.result.now c.self.view_is c.from-2.ensures c.requires.process c.index.ensures knows in
-    c.is_before.ensures
+    c.precedes.ensures
     ∙ ap (λ b. b && is_before c.index-standing.result.now.waits c.index.result.now.doorway) (sym c.if-waits.true ∙ c.waits.ensures)
     ∙ (λ i. waits_before (at i) (behind i))
 
