@@ -10,7 +10,7 @@ from typing import NamedTuple
 
 from driver import form_mistake
 from machine import Machine
-from stuck import states_stuck
+from stuck import explored, states_stuck
 
 MEMORIES = ["safe", "bits", "registers"]
 # by which an entry is refused, and by which it does harm
@@ -108,7 +108,7 @@ class Search:
         """What all runs show, or those up to a shortest record that breaks the law that is wanted."""
         first = self.first()
         came, states, records, enters = {first: None}, [first], {}, False
-        for state in states:
+        for _, state in explored(states):
             for me, step, broken, after in self.steps(state):
                 enters = enters or "enter" in step.marks
                 if broken is None and after not in came:

@@ -10,7 +10,7 @@ from typing import NamedTuple
 
 from alone import Alone, refused_mark
 from driver import Mistake, form_mistake
-from stuck import entries_to, states_stuck
+from stuck import Stuck, entries_to, explored, states_stuck
 
 MEMORIES = ["safe", "regular", "atomic"]
 # by which an entry is refused, and by which it does harm
@@ -278,7 +278,7 @@ def searched(lock, memory, has_wait, wanted=None):
     search = CellSearch(lock, memory, has_wait)
     first = search.first()
     number, states, came, records, enters, waits = {first: 0}, [first], [None], {}, False, False
-    for at, state in enumerate(states):
+    for at, state in explored(states):
         if wanted in records:
             break
         for entry, law, after in search.steps(state):
@@ -311,25 +311,42 @@ def check_form(found, memory):
         raise form_mistake(len(entries) - 1, broken, entry.refusal[1], entry.line, f"--memory {memory} --trace")
 
 
-def columns(lock, memory):
-    """Returns the cells of a lock in a memory: for `together`, for `overtaken` and for stuck states. They are `-` if the lock needs
-    atomic memory."""
+class Results(NamedTuple):
+    """What the three searches of a lock in a memory find: for `together`, for `overtaken` and for stuck states; and the registers."""
+
+    together: Found
+    overtaken: Found
+    stuck: Stuck
+    registers: list
+
+    def entries(self, law):
+        """Returns the entries of a shortest run that breaks a law, or None."""
+        return self.stuck.entries if law == "stuck" else getattr(self, law).records.get(law)
+
+    def cell(self, law):
+        """Returns the cell of a law in the atlas."""
+        if law == "stuck":
+            return f"{self.stuck.count:,}"
+        found = getattr(self, law)
+        none = "never enters" if not found.enters else "never waits" if law == "overtaken" and not found.waits else "none"
+        return str(len(found.records[law])) if law in found.records else f"{none} ({found.states:,})"
+
+
+def results(lock, memory):
+    """Returns what the searches of a lock in a memory find, or None if the lock needs atomic memory."""
     try:
         together, overtaken = (searched(lock, memory, has_wait) for has_wait in (False, True))
     except NeedsAtomic:
-        return ["-"] * 3
+        return None
     for found in overtaken, together:
         check_form(found, memory)
-    cells = []
-    for law, found in zip(LAWS, (together, overtaken)):
-        none = "never enters" if not found.enters else "never waits" if law == "overtaken" and not found.waits else "none"
-        cells.append(str(len(found.records[law])) if law in found.records else f"{none} ({found.states:,})")
-    return [*cells, f"{stuck(lock, memory)[0].count:,}"]
+    return Results(together, overtaken, *stuck(lock, memory))
 
 
-def row(name, lock):
-    """Returns a row of the atlas."""
-    cells = [cell for law in zip(*(columns(lock, memory) for memory in MEMORIES)) for cell in law]
+def row(name, lock, found=None):
+    """Returns a row of the atlas. `found` has the results in each memory, if they are known."""
+    found = found or [results(lock, memory) for memory in MEMORIES]
+    cells = [it.cell(law) if it else "-" for law in [*LAWS, "stuck"] for it in found]
     return f"| {name} | {lock.processes}, {lock.calls} | {' | '.join(cells)} |"
 
 
@@ -345,6 +362,11 @@ def first_memory(lock):
 def head_of(lock, memory, registers):
     """Returns the lines with which a trace of a lock begins."""
     return ["trace 1", f"processes {lock.processes}", f"memory {memory}", *(register.line for register in registers)]
+
+
+def trace_of(lock, memory, registers, entries):
+    """Returns the trace of a run."""
+    return "".join(f"{line}\n" for line in [*head_of(lock, memory, registers), *(entry.line for entry in entries)])
 
 
 def shortest(lock, law, memory):
@@ -366,4 +388,4 @@ def trace(lock, law, memory=None):
         raise Mistake(f"the lock has shared registers, and {memory} memory has none; add `--memory atomic`") from None
     if entries is None:
         return f"# none, {states} states\n"
-    return "".join(f"{line}\n" for line in [*head_of(lock, memory, registers), *(entry.line for entry in entries)])
+    return trace_of(lock, memory, registers, entries)

@@ -1,6 +1,11 @@
-"""Counts the states of a search from which not all calls can end."""
+"""Counts the states of a search from which not all calls can end, and shows how far a search is."""
 
+import sys
+import time
 from typing import NamedTuple
+
+# a search shows at a terminal how far it is after so many seconds, and looks at the clock after so many states
+PATIENCE, STEP = 2, 4096
 
 
 class Stuck(NamedTuple):
@@ -11,11 +16,25 @@ class Stuck(NamedTuple):
     entries: list | None
 
 
+def explored(states):
+    """Yields the position of each state of a list that grows, and the state. A long search shows at a terminal how far it is."""
+    begun, is_shown = time.monotonic(), False
+    try:
+        for at, state in enumerate(states):
+            if at % STEP == STEP - 1 and sys.stderr.isatty() and time.monotonic() - begun > PATIENCE:
+                print(f"\r{at + 1:,} of {len(states):,} states explored", end="", file=sys.stderr, flush=True)
+                is_shown = True
+            yield at, state
+    finally:
+        if is_shown:
+            print("\r\033[K", end="", file=sys.stderr, flush=True)
+
+
 def states_stuck(first, steps, has_ended):
     """Returns the states from which no run leads to the end of all calls. `steps` yields the entries that may follow a state, each
     with the state after it."""
     number, states, came, before = {first: 0}, [first], [None], [[]]
-    for at, state in enumerate(states):
+    for at, state in explored(states):
         for entry, after in steps(state):
             if after not in number:
                 number[after] = len(states)

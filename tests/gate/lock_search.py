@@ -1,11 +1,12 @@
 #!/usr/bin/env python3
-"""Searches the locks of examples/other-locks/ again and compares the results with docs/LOCKS.md.
+"""Searches the locks on bits of examples/other-locks/ again and compares the results with docs/LOCKS.md. (lock_atlas.py does so for the
+locks on registers by their own names.)
 
-The tables of the page show what is found of each lock, on bits and on registers by its own names. The second readings of records and
-of traces find that each run found breaks that law at its last entry, and that each record that a table links to has the verdict that
-the link states. A link states the number of ticket bits if its record has another number than the search. The second readings and
-the searches agree on runs that are drawn at random, with failures and withdrawals too. The page has the code of each lock, and a
-reason below it. No program.
+The table of the page shows what is found of each lock. The second reading of records finds that each run found breaks that law at its
+last entry, and that each record that the table links to has the verdict that the link states. A link states the number of ticket
+bits if its record has another number than the search. The second reading and the search agree on runs that are drawn at random, with
+failures and withdrawals too. The page has the code of each lock, and a reason below it. The second reading of traces gives the
+verdict of each example of a trace. No program.
 """
 
 import pathlib
@@ -22,26 +23,21 @@ from second.any_lock import any_lock
 from second.traces import judge_trace
 
 sys.path.append(str(OTHER_LOCKS))
-import cell_search
 from bit_search import LAWS, MEMORIES, Search, head_of, lines_of, record, row
 from cell_locks import atlas
-from cell_search import CellSearch, NeedsAtomic
 from locks import locks
 
 PAGE = TOP / "docs" / "LOCKS.md"
 TRACES = TOP / "examples" / "traces"
 LINK = re.compile(r"\[(?P<verdict>[^]]+)\]\((?P<path>[^)]+)\)(?P<note> \(one ticket bit\))?")
 TICKETS = re.compile(rb"^tickets (\d+)$", re.M)
-# an entry that ends a read: all but its value
-READ = re.compile(r"(\d+ \S+ (?:get|value|swap \d+ gives|add \d+ gives|cas \d+ \d+ gives)) \d+$")
 # a section of a lock: its code, and a paragraph below it
 SECTION = re.compile(r"^### (?P<name>[\w-]+)\n\n```text\n(?:.+\n)+?```\n\n\w", re.M)
-# how many runs are drawn of a lock, and of how many entries: the second reading of traces takes the square of these
+# how many runs are drawn of a lock, and of how many entries
 RUNS, ENTRIES = 40, 150
-TRACE_RUNS, TRACE_ENTRIES = 12, 80
 FAILING = ["raise-then-look", "one-bit", "bakery"]
-# the cells of a row: on bits the last one has the links
-CELLS_OF_BITS, CELLS_OF_ATLAS = 12, 11
+# the cells of a row, of which the last one has the links
+CELLS = 12
 
 
 def rows(cells):
@@ -52,10 +48,6 @@ def rows(cells):
 
 def verdict(text):
     return any_lock(text)[1].decode().strip()
-
-
-def judged(text):
-    return judge_trace(text)[1].decode().strip()
 
 
 def entries_in(text):
@@ -106,7 +98,7 @@ def check_links(counter, lock, links):
 
 def try_bits(counter):
     """The locks on bits."""
-    shown = rows(CELLS_OF_BITS)
+    shown = rows(CELLS)
     for name, lock in locks().items():
         figures, _, links = shown.get(name, "").rpartition(" | ")
         counter.compare(f"docs/LOCKS.md, {name}", f"{figures} |", row(name, lock))
@@ -116,74 +108,6 @@ def try_bits(counter):
     for name in FAILING:
         failing = row(name, locks()[name]._replace(calls=1), with_failures=True)
         counter.count(f"\n{failing}\n" in PAGE.read_text(), f"docs/LOCKS.md has not the row {failing}")
-
-
-def found_traces(counter, name, lock, shown):
-    """The traces that a search finds of a lock: each is as long as the row of the page shows."""
-    figures = iter(shown.split(" | ")[2:])
-    for law in [*LAWS, "stuck"]:
-        for memory in cell_search.MEMORIES:
-            figure = next(figures).removesuffix(" |")
-            if figure == "0" or not figure.isdigit():
-                continue
-            text = cell_search.trace(lock, law, memory)
-            count, found = entries_in(text), judged(text.encode())
-            if law == "stuck":
-                check_stuck(counter, f"{name}, {memory}", found, count)
-            else:
-                counter.compare(f"{name}, {law}, {memory}", (found, figure), (f"bad {count - 1} {law}", str(count)))
-
-
-def drawn_traces(counter, name, lock):
-    """Runs of a lock in each memory that it has."""
-    for memory in cell_search.MEMORIES:
-        draws = random.Random(f"{name} {memory}")
-        for _ in range(TRACE_RUNS):
-            search = CellSearch(lock, memory, has_wait=True)
-            try:
-                entries, steps, law = drawn(search, draws)
-            except NeedsAtomic:
-                break
-            head = cell_search.head_of(lock, memory, search.registers())
-            text = "".join(f"{line}\n" for line in [*head, *(entry.line for entry in entries)]).encode()
-            said = f"bad {len(entries) - 1} {law}" if law else f"good {len(entries)}"
-            counter.compare(f"{name}, {memory}, drawn", judged(text), said)
-            before = "".join(f"{line}\n" for line in [*head, *(entry.line for entry in entries[:-1])])
-            counter.compare(f"{name}, {memory}, values", offered(steps), allowed(before, steps))
-
-
-def drawn(search, draws):
-    """The entries of a run, the entries that could be its last, and the law that the last one breaks, or None."""
-    state, law, entries, steps = search.first(), None, [], []
-    while len(entries) < TRACE_ENTRIES and law is None and (found := [*search.steps(state)]):
-        steps = [entry for entry, *_ in found]
-        entry, law, state = draws.choice(found)
-        entries.append(entry)
-    return entries, steps, law
-
-
-def offered(steps):
-    """The reads among the entries that the search offers, without their marks."""
-    return sorted(line for step in steps if READ.match(line := step.line.split(" : ")[0]))
-
-
-def allowed(before, steps):
-    """The reads that the second reading allows, of the values of up to three bits, where the search offers one of a cell."""
-    places = {READ.match(line)[1] for line in offered(steps)}
-    lines = [f"{place} {value}" for place in places for value in range(8)]
-    refused = ("access", "memory")
-    return sorted(line for line in lines if judged(f"{before}{line}\n".encode()).split()[-1] not in refused)
-
-
-def try_atlas(counter):
-    """The locks on registers by their own names."""
-    shown = rows(CELLS_OF_ATLAS)
-    counter.compare("docs/LOCKS.md, the locks of the atlas", [name for name in shown if name in atlas()], [*atlas()])
-    for name, lock in atlas().items():
-        line = shown.get(name, "")
-        counter.compare(f"docs/LOCKS.md, {name} of the atlas", line, cell_search.row(name, lock))
-        found_traces(counter, name, lock, line)
-        drawn_traces(counter, name, lock)
 
 
 def try_examples(counter):
@@ -200,7 +124,6 @@ def try_examples(counter):
 def main():
     counter = Counter()
     try_bits(counter)
-    try_atlas(counter)
     try_examples(counter)
     own_locks.try_all(counter)
     sections = [found["name"] for found in SECTION.finditer(PAGE.read_text())]
@@ -209,4 +132,5 @@ def main():
     counter.end()
 
 
-main()
+if __name__ == "__main__":
+    main()

@@ -7,7 +7,6 @@
 - `recorder.c` records 200 runs of each lock. Each run of a right lock is good. At least one run of a broken lock breaks the law that
   LOGS.md names first, and none breaks a law that it does not name.
 - `to_trace.py` turns each trail of SPIN that is kept into the trace beside it.
-- `search.py` finds a run for each number of the atlas of docs/LOCKS.md, and that run is bad at its last entry, by that law.
 
 Needs `cc`.
 """
@@ -29,14 +28,10 @@ from lib.places import OTHER_LOCKS, TOP
 from lib.running import CORES, runner
 from second.traces import judge_trace
 
-sys.path.append(str(OTHER_LOCKS))
-import cell_search
-from cell_locks import atlas
-
-TRACES, SPIN, LOCKS_PAGE = TOP / "examples" / "traces", OTHER_LOCKS / "spin", TOP / "docs" / "LOCKS.md"
+TRACES, SPIN = TOP / "examples" / "traces", OTHER_LOCKS / "spin"
 FROM_CSV, TO_TRACE = TRACES / "from_csv.py", SPIN / "to_trace.py"
 # the options of a log that needs some
-OPTIONS = {"sections.csv": "--column cpu=core"}
+OPTIONS = {"sections.csv": f"@{TRACES / 'logs' / 'sections.options'}"}
 # the files of the recorder, and how often each lock is recorded
 SOURCES = [TRACES / "recorded" / name for name in ("recorder.c", "locks.c")]
 RUNS = 200
@@ -54,8 +49,6 @@ LOCKS = [
 ]
 # the verdict on each trail: those of the shortest bad runs in docs/LOCKS.md, which have one entry more than the number of the last
 TRAILS = {"bakery-without-choosing": "bad 13 together", "peterson-turn-first": "bad 8 together"}
-# a row of the atlas: its lock, its processes and calls, and nine numbers
-CELLS = 11
 
 
 def run(script, options, text):
@@ -179,31 +172,11 @@ def check_trails(counter):
         counter.compare(f"the trail {text!r}", ended(run(TO_TRACE, "", text)), reported(TO_TRACE, wanted))
 
 
-def bad_cells():
-    """Yields the lock, the law, the memory and the number of each cell of the atlas that has a bad run."""
-    for line in LOCKS_PAGE.read_text().splitlines():
-        cells = line.strip("| ").split(" | ")
-        if len(cells) == CELLS and cells[0] in atlas():
-            places = [(law, memory) for law in cell_search.LAWS for memory in cell_search.MEMORIES]
-            yield from ((cells[0], *place, int(figure)) for place, figure in zip(places, cells[2:]) if figure.isdecimal())
-
-
-def check_atlas(counter):
-    """The program finds the run behind each number of the atlas bad, at its last entry and by that law."""
-    found = [*bad_cells()]
-    counter.count(found, "docs/LOCKS.md: the atlas has no bad run")
-    for name, law, memory, entries in found:
-        trace = cell_search.trace(atlas()[name], law, memory)
-        counter.compare(f"{name}, {law}, {memory}", by_program(trace), f"bad {entries - 1} {law}")
-    print(f"the atlas: {len(found)} bad runs", flush=True)
-
-
 def main():
     counter = Counter()
     check_logs(counter)
     check_short_logs(counter)
     check_trails(counter)
-    check_atlas(counter)
     check_locks(counter)
     counter.end()
 
