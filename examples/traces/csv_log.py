@@ -26,8 +26,8 @@ HALVES = {"write": ("write-begin", "write-end"), "read": ("read-begin", "read-en
 EARLY = ("call", "leave", "write-begin", "read-begin")
 REQUIRED = ["time", "cpu", "operation"]
 COLUMNS = [*REQUIRED, "begin", "end", "variable", "index", "value", "old", "expected"]
-# a variable with its index, or several, in brackets; and the number in a pair of these
-ELEMENT = re.compile(r"(?P<name>[^\[\]()]*[^\[\]() ])(?P<indices>( *(\[[^\[\]()]+\]|\([^\[\]()]+\)))+)")
+# a variable with its index, or several, in brackets, and a field of it; and the number in a pair of brackets
+ELEMENT = re.compile(r"(?P<name>[^\[\]()]*[^\[\]() ])(?P<indices>( *(\[[^\[\]()]+\]|\([^\[\]()]+\)))+)(?P<field>((\.|->)\w+)*)")
 BRACKETS = re.compile(r"[\[(] *([^\[\]()]+?) *[\])]")
 # a cpu with letters before its number, and a time with a unit after it
 NAMED_CPU, WITH_UNIT = re.compile(r"[A-Za-z_]+ ?(\d+)"), re.compile(r"([\d.]+) ?([afpnum]?s|cycles?|ticks?)")
@@ -47,15 +47,15 @@ def whole(word):
 
 
 def parts(variable):
-    """Returns the name of a variable and its index, such as 1 in `flag[1]`, `flag[0x1]` and `flag(1)`. The index is None without
-    brackets, and -1 if something else is in brackets. Of several indices the last one is that of the cell."""
+    """Returns the name of a variable and its index, such as 1 in `flag[1]`, `flag[0x1]`, `flag(1)` and `node[1].next`. The index is
+    None without brackets, and -1 if something else is in brackets. Of several indices the last one is that of the cell."""
     if not {*variable} & {*"[]()"}:
         return variable, None
     found = ELEMENT.fullmatch(variable)
     *others, last = [whole(it) for it in BRACKETS.findall(found["indices"])] if found else [None]
     if any(it is None or not 0 <= it <= MOST_INDEX for it in (*others, last)):
         return variable, -1
-    return found["name"] + "".join(f"[{it}]" for it in others), last
+    return found["name"] + "".join(f"[{it}]" for it in others) + found["field"], last
 
 
 class Row(NamedTuple):

@@ -11,8 +11,8 @@ hexadecimal: 31 or 0x1f. A time may have a fraction, as 12.5.
     operation  an access: read, write, swap, add, cas; write-begin, write-end, read-begin, read-end
                a mark: call, wait, enter, leave, answer
     variable   the name of the variable; empty for a mark
-    index      the process whose cell it is; empty if the variable is shared, or if the variable is given as `flag[1]`, `flag[0x1]` or
-               `flag(1)`
+    index      the process whose cell it is; empty if the variable is shared, or if the variable is given as `flag[1]`, `flag[0x1]`,
+               `flag(1)` or `node[1].next`
     value      the value read or written; the number added; the new value of `swap` and `cas`
     old        the value before, of `swap`, `add` and `cas`
     expected   the expected value, of `cas`
@@ -21,7 +21,8 @@ A log may have the columns `begin` and `end` in place of `time`. Then a row `wri
 becomes two entries, and a row `section` is a critical section: `enter` at its begin and `leave` at its end. A begin comes before an end
 of the same time, so accesses that touch overlap; the rows of one process keep their order.
 
-`--column value=NewVal --column value=RdVal` takes the value from the one of these columns that is not empty.
+`--column value=NewVal --column value=RdVal` takes the value from the one of these columns that is not empty. `from_csv.py @FILE LOG.csv`
+takes options from a file, with several in a line or one in each.
 """
 
 import argparse
@@ -317,7 +318,8 @@ def pair(kind):
 
 def parser():
     """Returns the parser of the command line."""
-    own = argparse.ArgumentParser(description=__doc__, formatter_class=argparse.RawDescriptionHelpFormatter)
+    own = argparse.ArgumentParser(description=__doc__, formatter_class=argparse.RawDescriptionHelpFormatter, fromfile_prefix_chars="@")
+    own.convert_arg_line_to_args = str.split
     several = lambda name, shown, told, kind: own.add_argument(name, action="append", default=[], type=kind, metavar=shown, help=told)
     own.add_argument("log", metavar="LOG", help="the log; `-` is standard input")
     own.add_argument("--memory", choices=[*MOST_BITS], help="by default safe if an access has a begin and an end, and otherwise atomic")

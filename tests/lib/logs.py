@@ -111,7 +111,7 @@ MISTAKES = [
     ),
     # what is in brackets
     *(Log(f"{ACCESSES}1,0,read,flag,0,1\n2,1,read,{it},,1\n", NO_VARIABLE.format(it, "variable")) for it in (
-        *("flag[i]", "flag[]", "flag[ ]", "flag()", "flag[1)", "flag[1", "flag]", "flag[1].x", "flag[256]", "flag[-1]", "flag[x][1]"),
+        *("flag[i]", "flag[]", "flag[ ]", "flag()", "flag[1)", "flag[1", "flag]", "flag[1]x", "flag[256]", "flag[-1]", "flag[x][1]"),
         *("[1]", "(1)flag", "flag[[1]]"),
     )),
     Log(f"{OWN}1,0,write,Flag(0),1\n2,1,write,Flag(me),1\n", NO_VARIABLE.format("Flag(me)", "Variable"), OWN_COLUMNS),
@@ -244,6 +244,13 @@ TRACES = [
         "5,1,read,m[0x1](0),,0\n",
         "trace 1\nprocesses 2\nmemory atomic\n# flag is Flag of the log\nregister flag 1\n# m_1_ is m[1] of the log\nregister m_1_ 1\n"
         "0 : call\n0 flag[0] set 1\n1 : call\n1 flag[1] set 1\n0 flag[1] get 1 : enter\n1 m_1_[0] get 0\n",
+    ),
+    # fields of a process's own structure
+    Log(
+        f"{ACCESSES}1,0,write,node[0].next,,1\n2,1,read,node[0].next,,1\n3,1,write,node[1]->is_locked,,2\n",
+        "trace 1\nprocesses 2\nmemory atomic\n# node_nex is node.next of the log\nregister node_nex 1\n"
+        "# node__is is node->is_locked of the log\nregister node__is 2\n"
+        "0 : call\n0 node_nex[0] set 1\n1 : call\n1 node_nex[0] get 1\n1 node__is[1] set 2\n",
     ),
     Log(
         f"{ACCESSES}1,0,write,Flag[0x1],,1\n2,1,write,Flag(1),,0\n3,1,read,Flag,1,0\n",
