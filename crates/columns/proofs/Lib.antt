@@ -2,3 +2,4 @@ mod Lines
 mod Lists
 pub mod Stages
 pub mod Texts
+mod WaveRows

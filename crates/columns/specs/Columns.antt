@@ -7,9 +7,11 @@ use Rattle.record.specs.{Mark, mark_text, refusal_text}
 use Rattle.record.specs.plain_store.{answer_text, command_text, reply_text}
 use Rattle.record.specs.declared.marks.Mark.TheVariants.{Answered, Called, Taken}
 use Rattle.trace.specs.{lock_mark_text}
+use Rattle.columns.specs.Accesses.{access_characters}
 use Rattle.columns.specs.LockLines.{lock_ended_text}
 use Rattle.columns.specs.Overlaps.{bit_text, saw_text}
 use Rattle.columns.specs.Told.{change_told, event_told, place_told, process_told, tells_lock_mark}
+use Rattle.columns.specs.declared.accesses.ShownAccess.{ShownAccess}
 use Rattle.columns.specs.declared.columns.Column.{Column}
 use Rattle.columns.specs.declared.columns.TextRow.{TextRow}
 use Rattle.columns.specs.declared.reads.OverlappedRead.{OverlappedRead}
@@ -33,6 +35,7 @@ pub record Seen : Type 0 where
   pub gap : ℕ
   pub lines : List RunLine
   pub read : Option OverlappedRead
+  pub access : Option ShownAccess
   pub rows : List Wording
   pub frees : Option ℕ
   pub after : State
@@ -59,6 +62,7 @@ seen column = record {
   gap = column.gap;
   lines = column.lines.items;
   read = column.read;
+  access = column.access;
   rows = wordings column.rows;
   frees = column.frees;
   after = column.after;
@@ -144,6 +148,7 @@ alone line gap frees after = record {
   gap = gap;
   lines = line ∷ [];
   read = None;
+  access = None;
   rows = rows_told (is_some (lane_among after.processes (process_told line.saying))) line.saying;
   frees = frees;
   after = after;
@@ -159,7 +164,24 @@ column_of_read read gap after = record {
   gap = gap;
   lines = [];
   read = Some read;
+  access = None;
   rows = verb_and_rest (saw_text read) (bit_text read);
+  frees = None;
+  after = after;
+  x = 0;
+}
+
+-- the column of an access, before it is placed: a mark of its entry may join it
+abbrev pub column_of_access : ShownAccess → ℕ → State → Seen
+column_of_access access gap after = record {
+  at = access.event;
+  event = Some access.event;
+  lane = lane_among after.processes (Some access.process);
+  gap = gap;
+  lines = [];
+  read = None;
+  access = Some access;
+  rows = [];
   frees = None;
   after = after;
   x = 0;
@@ -179,11 +201,16 @@ has_row_for column line = not (tells_lock_mark line.saying) || nat_lt (length co
 abbrev pub joins : Seen → RunLine → Bool
 joins column line = elim column.read [ Some read ↦ false | None ↦ is_same_event column.event (event_told line) && has_row_for column line ]
 
--- the column once the second mark of its event has joined it: each mark has a row
+-- the rows of the lines of a column: those of a line alone, or of two marks a row for each
+abbrev pub rows_of_lines : Bool → List RunLine → List Wording
+rows_of_lines in_lane (line ∷ []) = rows_told in_lane line.saying
+rows_of_lines in_lane lines = filter_map row_shared lines
+
+-- the column once a mark of its event has joined it
 abbrev pub joined : Seen → RunLine → Option ℕ → State → Seen
 joined column line frees after = record column {
   lines = column.lines ++ line ∷ [];
-  rows = filter_map row_shared (column.lines ++ line ∷ []);
+  rows = rows_of_lines (is_some column.lane) (column.lines ++ line ∷ []);
   frees = option_or frees column.frees;
   after = after;
 }
@@ -208,7 +235,7 @@ longest_row (row ∷ rows) = max row.characters (longest_row rows)
 
 -- how many pixels the words of a column take in its lane
 abbrev pub width_of : Seen → ℕ
-width_of column = capped (max (6 * digits_of column.event) (7 * longest_row column.rows) + 9)
+width_of column = capped (max (6 * digits_of column.event) (7 * max (longest_row column.rows) (access_characters column.access)) + 9)
 
 -- how many characters the pair has that a command changed
 abbrev pub pair_of : Option TakenChange → ℕ

@@ -1,6 +1,8 @@
 -- Where the lanes of a band lie.
-use Rattle.std.specs.Prelude.{ℕ, zero, suc, ◌+◌, Bool, false, ◌==◌, ◌||◌, cond, is_none, is_some, min, nat_lt, List, [], ◌∷◌, ◌++◌, get_or, Option, None, Some, option_and_then}
+use Rattle.std.specs.Prelude.{ℕ, zero, suc, ◌+◌, ◌*◌, Bool, false, ◌==◌, ◌&&◌, ◌||◌, cond, is_none, is_some, min, nat_lt, List, [], ◌∷◌, ◌++◌, get_or, length, Option, None, Some, option_and_then}
+use Rattle.columns.specs.AccessStates.{SeenAccesses}
 use Rattle.columns.specs.Columns.{Seen, capped, taken_in}
+use Rattle.columns.specs.OpenAccesses.{open_of}
 use Rattle.columns.specs.Placings.{last_of}
 use Rattle.columns.specs.Told.{change_told}
 use Rattle.columns.specs.declared.layout.Lane.{Lane}
@@ -20,19 +22,32 @@ has_column (column ∷ columns) p = stands_in p column.lane || has_column column
 abbrev pub lane_height : Bool → ℕ
 lane_height full = cond full 70 18
 
+-- whether one of these shows an access in the lane of a process
+abbrev pub shows_access : List Seen → ℕ → Bool
+shows_access [] p = false
+shows_access (column ∷ columns) p = (stands_in p column.lane && is_some column.access) || shows_access columns p
+
+-- how high the room for accesses in a lane is: an access of its process is open before the columns, or one of them shows one
+abbrev pub access_room : SeenAccesses → List Seen → ℕ → ℕ
+access_room accesses columns p = cond (is_some (open_of accesses.open_accesses p) || shows_access columns p) 40 0
+
 -- where the lane of a process begins, below those of the ones before it
-abbrev pub top_of : List Seen → ℕ → ℕ
-top_of columns zero = 20
-top_of columns (suc p) = top_of columns p + lane_height (has_column columns p)
+abbrev pub top_of : SeenAccesses → List Seen → ℕ → ℕ
+top_of accesses columns zero = 20
+top_of accesses columns (suc p) =
+    top_of accesses columns p + (lane_height (has_column columns p) + access_room accesses columns p)
 
 -- the lane of a process; there are sixteen, and only those of processes lie anywhere
-abbrev pub lane_of : ℕ → List Seen → ℕ → Lane
-lane_of processes columns p = record { top = cond (nat_lt p processes) (top_of columns p) 0; is_full = has_column columns p }
+abbrev pub lane_of : ℕ → SeenAccesses → List Seen → ℕ → Lane
+lane_of processes accesses columns p = record {
+  top = cond (nat_lt p processes) (top_of accesses columns p) 0;
+  is_full = has_column columns p;
+}
 
 -- the first so many lanes
-abbrev pub first_lanes : ℕ → List Seen → ℕ → List Lane
-first_lanes processes columns zero = []
-first_lanes processes columns (suc p) = first_lanes processes columns p ++ lane_of processes columns p ∷ []
+abbrev pub first_lanes : ℕ → SeenAccesses → List Seen → ℕ → List Lane
+first_lanes processes accesses columns zero = []
+first_lanes processes accesses columns (suc p) = first_lanes processes accesses columns p ++ lane_of processes accesses columns p ∷ []
 
 -- whether a column changes the store
 abbrev pub changes : Seen → Bool
@@ -52,20 +67,25 @@ abbrev pub room_below_of : List Seen → ℕ
 room_below_of columns = cond (has_notes columns) 28 (cond (has_changes columns) 14 0)
 
 -- where the lane of the history begins
-abbrev pub chain_of : ℕ → List Seen → ℕ
-chain_of processes columns = top_of columns (min processes 16) + 6
+abbrev pub chain_of : ℕ → SeenAccesses → List Seen → ℕ
+chain_of processes accesses columns = top_of accesses columns (min processes 16) + 6
+
+-- where the waves begin, below the history
+abbrev pub waves_top : ℕ → SeenAccesses → List Seen → ℕ
+waves_top processes accesses columns = chain_of processes accesses columns + 30 + room_below_of columns
 
 -- the right end of the lanes
 abbrev pub lanes_end : List Seen → Bool → ℕ
 lanes_end [] is_last = 1188
 lanes_end (column ∷ columns) is_last = cond is_last (capped (last_of (column ∷ columns) + 8)) 1188
 
--- where the lanes of a band of these columns lie
-abbrev pub layout_of : ℕ → List Seen → Bool → Layout
-layout_of processes columns is_last = record {
-  lanes = first_lanes processes columns 16;
-  chain = chain_of processes columns;
-  height = chain_of processes columns + 30 + room_below_of columns;
+-- where the lanes of a band of these columns lie, and its waves
+abbrev pub layout_of : ℕ → SeenAccesses → List Seen → Bool → Layout
+layout_of processes accesses columns is_last = record {
+  lanes = first_lanes processes accesses columns 16;
+  chain = chain_of processes accesses columns;
+  waves = waves_top processes accesses columns;
+  height = capped (waves_top processes accesses columns + capped (length accesses.waves * 30));
   end = lanes_end columns is_last;
 }
 
@@ -98,3 +118,11 @@ bar_of lane = lane.top + cond lane.is_full 49 9
 
 abbrev pub knot_of : Layout → ℕ
 knot_of layout = layout.chain + 16
+
+-- where the boxes of accesses begin in a lane
+abbrev pub boxes_of : Lane → ℕ
+boxes_of lane = lane.top + cond lane.is_full 74 22
+
+-- where the row of a wave begins
+abbrev pub wave_row : Layout → ℕ → ℕ
+wave_row layout row = capped (layout.waves + capped (row * 30))

@@ -1,12 +1,15 @@
-//! Columns: an event with its marks, a line without an event, or a read that a write overlapped.
-ghost use Rattle.std.specs.Prelude.{◌≡◌, ◌++◌, [], ◌∷◌, true, false, filter_map, IfOk, OnOk, map, option_copied, string_bytes};
-ghost use Rattle.columns.specs.Columns.{GivesRows, alone, column_of_read, counts_text, digits_of, joined, joins, knot_width, lane_among, longest_row, pair_of, row_if_marked, row_shared, row_shortened, rows_marked, rows_named, rows_told, seen, settles_and_takes_in, shortened, taken_in, verb, verb_and_rest, verb_refused, width_below_of, width_of, worded, wording, wordings};
-ghost use Rattle.columns.specs.Told.{change_told, text_of, told_in};
+//! Columns: an event with its marks and its access, a line without an event, or a read that a write overlapped.
+ghost use Rattle.std.specs.Prelude.{◌≡◌, ◌++◌, [], ◌∷◌, true, false, filter_map, IfOk, OnOk, is_some, option_copied, string_bytes};
+ghost use Rattle.columns.specs.Columns.{GivesRows, alone, column_of_access, column_of_read, counts_text, joined, joins, lane_among, row_if_marked, row_shared, row_shortened, rows_marked, rows_named, rows_of_lines, rows_told, seen, settles_and_takes_in, shortened, taken_in, verb, verb_and_rest, verb_refused, width_below_of, width_of, worded, wording, wordings};
+ghost use Rattle.columns.specs.Accesses.{access_characters};
+ghost use Rattle.columns.specs.Told.{text_of, told_in};
 
+use crate::accesses::ShownAccess;
 use crate::measures::{CHARACTER, DIGIT, LONGEST, PAD, room};
 use crate::reads::OverlappedRead;
 use crate::state::State;
 use crate::told::{RunLine, Saying};
+use crate::widths::{digits, longest, width_of_knot};
 use record::Mark;
 use std::alloc::{AllocError, Global};
 
@@ -32,10 +35,12 @@ pub struct Column {
     pub lane: Option<u8>,
     /// Events since the column before.
     pub gap: u64,
-    /// One line, or the two marks of an event; none of a read.
+    /// One line, or the two marks of an event; none of a read, nor of an access without a mark.
     pub lines: Vec<RunLine>,
     /// The read that it shows; none of lines.
     pub read: Option<OverlappedRead>,
+    /// The access that it shows.
+    pub access: Option<ShownAccess>,
     /// One row or two.
     pub rows: Vec<TextRow>,
     /// Whom its process frees.
@@ -84,6 +89,7 @@ impl Column {
             gap,
             lines,
             read: None,
+            access: None,
             rows,
             frees,
             after,
@@ -108,11 +114,32 @@ impl Column {
             gap,
             lines: Vec::new(alloc),
             read: Some(read),
+            access: None,
             rows: read.rows(alloc)?,
             frees: None,
             after,
             x: 0,
         })
+    }
+
+    /// Returns the column of an access, before it is placed.
+    pub fn of_access(alloc: Global, access: ShownAccess, gap: u64, after: State) -> Column
+        ensures told { told_in result ≡ [] }
+        ensures whole { seen result ≡ column_of_access access gap after }
+    {
+        Column {
+            at: access.event,
+            event: Some(access.event),
+            lane: lane_below(after.processes, Some(access.process)),
+            gap,
+            lines: Vec::new(alloc),
+            read: None,
+            access: Some(access),
+            rows: Vec::new(alloc),
+            frees: None,
+            after,
+            x: 0,
+        }
     }
 
     /// Whether a line is a mark of this column's event, for which the column has a row.
@@ -123,7 +150,7 @@ impl Column {
         self.read.is_none() && self.event.is_some() && self.event == line.event() && has_row
     }
 
-    /// Adds the second mark of the event: now each mark has a row.
+    /// Adds a mark of the event. Of two marks, each has a row.
     pub fn join(
         &mut self,
         alloc: Global,
@@ -135,10 +162,20 @@ impl Column {
         ensures whole { OnOk result (seen self.new ≡ joined (seen self.old) line frees after) }
     {
         self.lines.push(line)?;
-        self.rows = rows_shared(alloc, self.lines.as_slice())?;
+        self.rows = self.rows_now(alloc)?;
         self.frees = frees.or(self.frees);
         self.after = after;
         Ok(())
+    }
+
+    /// Returns the rows of its lines.
+    fn rows_now(&self, alloc: Global) -> Result<Vec<TextRow>, AllocError>
+        ensures { GivesRows result (rows_of_lines (is_some self.now.lane) self.now.lines.items) }
+    {
+        match self.lines.as_slice() {
+            [line] => rows_alone(alloc, line, self.lane.is_some()),
+            lines => rows_shared(alloc, lines),
+        }
     }
 
     /// The line that tells a place in the history, if one does.
@@ -153,8 +190,18 @@ impl Column {
         ensures { IfOk result (λ width. width ≡ width_of (seen self.now)) }
     {
         let number = room(digits(alloc, self.event)?, DIGIT);
-        let words = room(longest(self.rows.as_slice()), CHARACTER);
-        Ok(number.max(words).saturating_add(PAD))
+        let words = longest(self.rows.as_slice()).max(self.access_length());
+        Ok(number.max(room(words, CHARACTER)).saturating_add(PAD))
+    }
+
+    /// Returns the number of characters of the longest row of its access.
+    fn access_length(&self) -> usize
+        ensures { result ≡ access_characters self.now.access }
+    {
+        match &self.access {
+            Some(access) => access.characters(),
+            None => 0,
+        }
     }
 
     /// How many pixels it takes in the lane of the history, if it stands there.
@@ -186,46 +233,6 @@ fn lane_below(processes: u8, process: Option<u8>) -> Option<u8>
         Some(process) if process < processes => Some(process),
         _ => None,
     }
-}
-
-/// How many digits a number has, if there is one.
-fn digits(alloc: Global, number: Option<u64>) -> Result<usize, AllocError>
-    ensures { IfOk result (λ digits. digits ≡ digits_of number) }
-{
-    match number {
-        Some(number) => Ok(number.to_string(alloc)?.len()),
-        None => Ok(0),
-    }
-}
-
-/// How many characters the longest of these rows has.
-fn longest(rows: &[TextRow]) -> usize
-    ensures { result ≡ longest_row (map wording rows.now) }
-{
-    let mut longest: usize = 0;
-    for row in rows {
-        longest = longest.max(row.characters);
-    }
-    longest
-}
-
-/// How many characters the pair has that the command of a line changed.
-fn pair_length(line: &RunLine) -> usize
-    ensures { result ≡ pair_of (change_told line.now.saying) }
-{
-    match line.change() {
-        Some(change) => change.pair.len(),
-        None => 0,
-    }
-}
-
-/// How many pixels a line takes in the lane of the history that tells a place in it.
-fn width_of_knot(alloc: Global, line: &RunLine) -> Result<u16, AllocError>
-    ensures { IfOk result (λ width. width ≡ knot_width line.now) }
-{
-    let knot = room(digits(alloc, line.place())?, DIGIT).saturating_add(14);
-    let words = room(pair_length(line), CHARACTER).saturating_add(2);
-    Ok(knot.max(words).saturating_add(PAD))
 }
 
 /// The rows of lines that share a column: each mark has one.

@@ -1,10 +1,12 @@
-//! How high the lanes of a band are.
+//! How high the lanes of a band are, and where its waves lie.
 ghost use Rattle.std.specs.Prelude.{◌≡◌, ◌<◌, ◌≤◌, ◌^◌, map, None, Some};
+ghost use Rattle.columns.specs.AccessStates.{seen_accesses};
 ghost use Rattle.columns.specs.Columns.{seen};
-ghost use Rattle.columns.specs.Layouts.{bar_of, chain_ends_of, changes, first_lanes, has_column, knot_of, knots_from, lane_height, lane_in, lanes_end, layout_of, room_below_of, top_of, with_knot};
+ghost use Rattle.columns.specs.Layouts.{access_room, bar_of, boxes_of, chain_ends_of, changes, first_lanes, has_column, knot_of, knots_from, lane_height, lane_in, lanes_end, layout_of, room_below_of, shows_access, top_of, wave_row, waves_top, with_knot};
 
+use crate::access_state::AccessState;
 use crate::columns::Column;
-use crate::measures::{LEFT, RIGHT};
+use crate::measures::{LEFT, RIGHT, room};
 use crate::placing::last_place;
 
 /// The height of the axis.
@@ -16,6 +18,8 @@ pub struct Layout {
     lanes: [Lane; 16],
     /// Where the lane of the history begins.
     pub chain: u16,
+    /// Where the waves begin.
+    pub waves: u16,
     /// How high the band is.
     pub height: u16,
     /// The right end of the lanes.
@@ -39,20 +43,38 @@ impl Lane {
     {
         u32::from(self.top) + if self.is_full { 49 } else { 9 }
     }
+
+    /// Returns where the boxes of accesses begin.
+    pub fn boxes(&self) -> u32
+        ensures small { result < 2 ^ 17 }
+        ensures exact { result ≡ boxes_of self.now }
+    {
+        u32::from(self.top) + if self.is_full { 74 } else { 22 }
+    }
 }
 
 impl Layout {
-    /// The lanes of a band of these columns.
-    pub fn new(processes: u8, columns: &[Column], is_last: bool) -> Layout
-        ensures { result ≡ layout_of processes (map seen columns.now) is_last }
+    /// The lanes of a band of these columns, before which these accesses are open, and its waves.
+    pub fn new(processes: u8, accesses: &AccessState, columns: &[Column], is_last: bool) -> Layout
+        ensures { result ≡
+            layout_of processes (seen_accesses accesses.now) (map seen columns.now) is_last }
     {
-        let chain = top_below(columns, processes.min(16)) + 6;
+        let chain = top_below(accesses, columns, processes.min(16)) + 6;
+        let waves = chain + 30 + room_below(columns);
         Layout {
-            lanes: lanes(processes, columns),
+            lanes: lanes(processes, accesses, columns),
             chain,
-            height: chain + 30 + room_below(columns),
+            waves,
+            height: waves.saturating_add(room(accesses.waves.len(), 30)),
             end: lanes_right(columns, is_last),
         }
+    }
+
+    /// Returns where the row of a wave begins.
+    pub fn wave_row(&self, row: usize) -> u16
+        ensures { result ≡ wave_row self.now row }
+    {
+        self.waves.saturating_add(room(row, 30))
     }
 
     /// The lane of a process.
@@ -116,8 +138,9 @@ fn with_last(ends: Option<(u16, u16)>, x: u16) -> (u16, u16)
 }
 
 /// The lanes of a band of these columns.
-fn lanes(processes: u8, columns: &[Column]) -> [Lane; 16]
-    ensures { result ≡ first_lanes processes (map seen columns.now) 16 }
+fn lanes(processes: u8, accesses: &AccessState, columns: &[Column]) -> [Lane; 16]
+    ensures { result ≡
+        first_lanes processes (seen_accesses accesses.now) (map seen columns.now) 16 }
 {
     let mut lanes = [Lane {
         top: 0,
@@ -126,7 +149,7 @@ fn lanes(processes: u8, columns: &[Column]) -> [Lane; 16]
     for process in 0..16 {
         lanes[usize::from(process)] = Lane {
             top: if process < processes {
-                top_below(columns, process)
+                top_below(accesses, columns, process)
             } else {
                 0
             },
@@ -137,14 +160,14 @@ fn lanes(processes: u8, columns: &[Column]) -> [Lane; 16]
 }
 
 /// Where the lane of a process begins: below those of the ones before it.
-fn top_below(columns: &[Column], process: u8) -> u16
+fn top_below(accesses: &AccessState, columns: &[Column], process: u8) -> u16
     requires { process ≤ 16 }
-    ensures exact { result ≡ top_of (map seen columns.now) process }
-    ensures small { result ≤ 1140 }
+    ensures exact { result ≡ top_of (seen_accesses accesses.now) (map seen columns.now) process }
+    ensures small { result ≤ 1780 }
 {
     let mut top = AXIS;
     for other in 0..process {
-        top += height(stands_in_lane(columns, other));
+        top += height(stands_in_lane(columns, other)) + room_for_accesses(accesses, columns, other);
     }
     top
 }
@@ -155,6 +178,32 @@ fn height(is_full: bool) -> u16
     ensures small { result ≤ 70 }
 {
     if is_full { 70 } else { 18 }
+}
+
+/// Returns how high the room for accesses in the lane of a process is.
+fn room_for_accesses(accesses: &AccessState, columns: &[Column], process: u8) -> u16
+    ensures exact { result ≡
+        access_room (seen_accesses accesses.now) (map seen columns.now) process }
+    ensures small { result ≤ 40 }
+{
+    let is_open = accesses.open_access(process).is_some();
+    if is_open || shows_access_in_lane(columns, process) {
+        40
+    } else {
+        0
+    }
+}
+
+/// Returns whether a column shows an access in the lane of a process.
+fn shows_access_in_lane(columns: &[Column], process: u8) -> bool
+    ensures { result ≡ shows_access (map seen columns.now) process }
+{
+    for column in columns {
+        if column.lane == Some(process) && column.access.is_some() {
+            return true;
+        }
+    }
+    false
 }
 
 /// Whether a column stands in the lane of a process.

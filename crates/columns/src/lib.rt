@@ -2,24 +2,33 @@
 //! show them, where these stand in a band, and where its lanes lie. It draws nothing.
 #![tactic(auto)]
 
+mod access_state;
+mod accesses;
 mod columns;
 mod laws;
 mod layout;
 mod lock_lines;
 mod marks;
 mod measures;
+mod open_accesses;
 mod placing;
 mod reads;
 mod seats;
 mod state;
 mod told;
+mod waves;
+mod widths;
 
+pub use access_state::AccessState;
+pub use accesses::{AccessKind, AccessStep, ShownAccess, WaveChange, characters};
 pub use columns::{Column, TextRow, cut};
 pub use laws::stages_are_the_records;
 pub use layout::{AXIS, Lane, Layout};
 pub use lock_lines::drawn_like;
 pub use measures::{DIGIT, LEFT, RIGHT, room};
+pub use open_accesses::OpenAccess;
 pub use placing::{ColumnPlace, Placing, event_place, stretch};
 pub use reads::OverlappedRead;
 pub use state::{Group, State, Word};
 pub use told::{RunLine, Saying, TakenChange};
+pub use waves::Wave;

@@ -1,6 +1,6 @@
 use Rattle.std.proofs.Common.{◌≡◌, drop, map, max}
 use Rattle.columns.specs.{longest_row, wording}
-use Rattle.columns.proofs.columns.longest.Given as goal
+use Rattle.columns.proofs.widths.longest.Given as goal
 
 -- the longest of the rows is the longest before the present one, or one from there on
 abbrev pub invariant-loop-row : goal.invariant-loop-row

@@ -1,0 +1,50 @@
+-- The accesses that are open behind columns.
+use Rattle.std.specs.Prelude.{ℕ, zero, suc, Bool, ◌==◌, ◌||◌, cond, List, [], ◌∷◌, ◌++◌, get_or, replicate, Option, None, Some, option_map}
+use Rattle.columns.specs.Accesses.{is_any, is_over}
+use Rattle.columns.specs.Columns.{Seen}
+use Rattle.columns.specs.declared.accesses.AccessKind.{AccessKind}
+use Rattle.columns.specs.declared.accesses.AccessStep.{AccessStep}
+use Rattle.columns.specs.declared.accesses.AccessStep.TheVariants as step
+use Rattle.columns.specs.declared.accesses.ShownAccess.{ShownAccess}
+use Rattle.columns.specs.declared.open_accesses.OpenAccess.{OpenAccess}
+
+-- the access of a process that is open behind an entry of its own
+abbrev pub open_by : AccessStep → AccessKind → Bool → Option OpenAccess
+open_by step.Begin kind overlaps = Some (record { kind = kind; is_overlapped = overlaps })
+open_by _ kind overlaps = None
+
+-- an open access, and whether one more access overlaps it
+abbrev pub overlapped_if : Bool → OpenAccess → OpenAccess
+overlapped_if overlaps access = record access { is_overlapped = access.is_overlapped || overlaps }
+
+-- the access of a process that is open behind an entry, where this one was open before it
+abbrev pub open_behind : ℕ → Option OpenAccess → ShownAccess → Option OpenAccess
+open_behind p before access = cond (access.process == p)
+    (open_by access.step access.kind (is_any access.overlaps))
+    (option_map (overlapped_if (is_over access p)) before)
+
+-- the same behind an entry that may show no access, and behind a column
+abbrev pub open_with : ℕ → Option OpenAccess → Option ShownAccess → Option OpenAccess
+open_with p before None = before
+open_with p before (Some access) = open_behind p before access
+
+abbrev pub open_next : ℕ → Option OpenAccess → Seen → Option OpenAccess
+open_next p before column = open_with p before column.access
+
+-- and behind columns
+abbrev pub open_after : ℕ → Option OpenAccess → List Seen → Option OpenAccess
+open_after p before [] = before
+open_after p before (column ∷ columns) = open_after p (open_next p before column) columns
+
+-- the access of a process that is open among those of all
+abbrev pub open_of : List (Option OpenAccess) → ℕ → Option OpenAccess
+open_of all p = get_or all p None
+
+-- no access is open
+abbrev pub none_open : List (Option OpenAccess)
+none_open = replicate 16 None
+
+-- the open accesses of the first so many processes behind columns
+abbrev pub first_open : List (Option OpenAccess) → List Seen → ℕ → List (Option OpenAccess)
+first_open before columns zero = []
+first_open before columns (suc p) = first_open before columns p ++ open_after p (open_of before p) columns ∷ []
