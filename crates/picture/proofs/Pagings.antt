@@ -5,8 +5,8 @@ use Rattle.std.proofs.Math.Seq.{take-append_seam}
 use Rattle.std.proofs.lemmas.List.{length-map}
 use Rattle.markup.specs.{drawings}
 use Rattle.record.specs.{Mark}
-use Rattle.picture.specs.{Bands, BeginsColumn, DrawsBand, GivesRest, GoesOn, Item, MakesRoom, Places, Plan, Puts, Reads, SeenPage, Tells, band_shapes, band_text, bands_of, begun_by, behind_columns, columns_of, filled, framed, full_bytes, heights, held_in_64, layout_in, line_by, newest, newest_at, older, page_by, page_holding, placing_before, placing_in, room_by, state_after, with_line, with_placed, with_put, with_room}
-use Rattle.columns.specs.{Column, Layout, OverlappedRead, Placing, RunLine, Saying, Seen, State, alone, column_of_read, drawn_apart, end_of_words, freed_by, has_room_at, joined, joins, last_of, layout_of, moved_to, place_of, placing_at_first, put_at, seen, state_lock_marked, state_marked, state_told, stretched_all, widened}
+use Rattle.picture.specs.{Accesses, Bands, BeginsColumn, DrawsBand, GivesRest, GoesOn, Item, MakesRoom, Places, Plan, Puts, Reads, SeenPage, Tells, accesses_behind, accesses_in, band_shapes, band_text, bands_of, begun_by, behind_columns, columns_of, filled, framed, full_bytes, heights, held_in_64, layout_in, line_by, newest, newest_at, older, page_by, page_holding, placing_before, placing_in, room_by, state_after, with_line, with_placed, with_put, with_room}
+use Rattle.columns.specs.{Column, Layout, OverlappedRead, Placing, RunLine, Saying, Seen, SeenAccesses, ShownAccess, State, accesses_after, accesses_at, alone, column_of_access, column_of_read, drawn_apart, end_of_words, freed_by, has_room_at, joined, joins, last_of, layout_of, moved_to, place_of, placing_at_first, put_at, seen, state_lock_marked, state_marked, state_told, stretched_all, widened}
 use Rattle.columns.specs.trace.{LockMark}
 use Rattle.columns.specs.trace.declared.marks.LockMark.TheVariants as lock
 use Rattle.columns.specs.declared.told.Saying.TheVariants.{Ended, Judged, LockEnded, LockMarked, Marked, Refused, Shown, Tired}
@@ -36,27 +36,28 @@ filled_page page = record page {
   before_at = (behind_columns page.columns (page.before, page.before_at)).1;
   placing = placing_at_first 0;
   columns = [];
+  accesses = accesses_after (accesses_in page.accesses page.columns) (stretched_all page.columns);
   bands = held_in_64 (page.bands + 1);
-  height = held_in_64 (page.height + ((layout_in page.state.processes page.columns false).height + 16));
+  height = held_in_64 (page.height + ((layout_in page.state.processes page.accesses page.columns false).height + 16));
 }
 
 abbrev pub drawn_by : Bool → ℕ → SeenPage → List ℕ
 drawn_by is_last processes page =
-    framed page.form (held_in_64 (page.bands + 1)) page.height (layout_in processes page.columns is_last).height
+    framed page.form (held_in_64 (page.bands + 1)) page.height (layout_in processes page.accesses page.columns is_last).height
     (drawings (band_shapes (record {
       columns = stretched_all page.columns;
       before = page.before;
       before_at = page.before_at;
-      layout = layout_in processes page.columns is_last;
+      layout = layout_in processes page.accesses page.columns is_last;
       is_last = is_last;
       opens = page.opens;
       subject = page.subject;
-    })))
+    }) (accesses_in page.accesses page.columns)))
 
 pub draws_begun : (is_last : Bool) (old : SeenPage) (band : List ℕ) (new : SeenPage) → new ≡ filled_page old → band ≡ drawn_by is_last old.state.processes old → DrawsBand is_last old band new
 draws_begun is_last old band new is drawn plan state pending last_at bands same holds = (
   is ∙ ap filled_page holds
-      ∙ (λ i. record (page_holding plan state pending last_at (filled bands)) { height = held_in_64 (heights plan.processes bands.full + ((layout_in (same i) bands.begun false).height + 16)) }),
+      ∙ (λ i. record (page_holding plan state pending last_at (filled bands)) { height = held_in_64 (heights plan.processes bands.full + ((layout_in (same i) (accesses_behind bands.full) bands.begun false).height + 16)) }),
   drawn ∙ ap (λ (page : SeenPage). drawn_by is_last page.state.processes page) holds ∙ ap (λ (n : ℕ). drawn_by is_last n (page_holding plan state pending last_at bands)) same,
 )
 
@@ -74,17 +75,20 @@ stretched_within len items now fits is =
     ap (λ n. take n (now ++ drop (length now) items)) (sym same) ∙ take-append_seam now (drop (length now) items)
 
 -- and so by the parts of the page and of the band
-pub draws_parts : (is_last : Bool) (old : SeenPage) (opens shown : List ℕ) (behind : State × ℕ) (placing : Placing) (columns apart : List Seen) (layout : Layout) (bands height : ℕ) (markup : List ℕ) →
-    opens ≡ [] → shown ≡ old.opens → behind ≡ behind_columns old.columns (old.before, old.before_at) → placing ≡ placing_at_first 0 → columns ≡ [] → apart ≡ stretched_all old.columns → layout ≡ layout_of old.state.processes apart is_last →
+pub draws_parts : (is_last : Bool) (old : SeenPage) (opens shown : List ℕ) (behind : State × ℕ) (placing : Placing) (columns apart : List Seen) (at left : SeenAccesses) (layout : Layout) (bands height : ℕ) (markup : List ℕ) →
+    opens ≡ [] → shown ≡ old.opens → behind ≡ behind_columns old.columns (old.before, old.before_at) → placing ≡ placing_at_first 0 → columns ≡ [] → apart ≡ stretched_all old.columns →
+    at ≡ accesses_at old.accesses apart → left ≡ accesses_after at apart → layout ≡ layout_of old.state.processes at apart is_last →
     bands ≡ held_in_64 (old.bands + 1) → height ≡ held_in_64 (old.height + (layout.height + 16)) →
-    markup ≡ framed old.form bands old.height layout.height (drawings (band_shapes (record { columns = apart; before = old.before; before_at = old.before_at; layout = layout; is_last = is_last; opens = shown; subject = old.subject }))) →
-    DrawsBand is_last old markup (record old { opens = opens; before = behind.0; before_at = behind.1; placing = placing; columns = columns; bands = bands; height = height })
-draws_parts is_last old opens shown behind placing columns apart layout bands height markup none same stands new empty stretched laid count high drawn =
-    let lies : layout ≡ layout_in old.state.processes old.columns is_last = laid ∙ ap (λ (c : List Seen). layout_of old.state.processes c is_last) stretched in
-    let higher : height ≡ held_in_64 (old.height + ((layout_in old.state.processes old.columns is_last).height + 16)) = high ∙ ap (λ (l : Layout). held_in_64 (old.height + (l.height + 16))) lies in
-    draws_begun is_last old markup (record old { opens = opens; before = behind.0; before_at = behind.1; placing = placing; columns = columns; bands = bands; height = height })
-    (λ i. record old { opens = none i; before = (stands i).0; before_at = (stands i).1; placing = new i; columns = empty i; bands = count i; height = higher i })
-    (drawn ∙ (λ i. framed old.form (count i) old.height (lies i).height (drawings (band_shapes (record { columns = stretched i; before = old.before; before_at = old.before_at; layout = lies i; is_last = is_last; opens = same i; subject = old.subject })))))
+    markup ≡ framed old.form bands old.height layout.height (drawings (band_shapes (record { columns = apart; before = old.before; before_at = old.before_at; layout = layout; is_last = is_last; opens = shown; subject = old.subject }) at)) →
+    DrawsBand is_last old markup (record old { opens = opens; before = behind.0; before_at = behind.1; accesses = left; placing = placing; columns = columns; bands = bands; height = height })
+draws_parts is_last old opens shown behind placing columns apart at left layout bands height markup none same stands new empty stretched begun passed laid count high drawn =
+    let shows : at ≡ accesses_in old.accesses old.columns = begun ∙ ap (accesses_at old.accesses) stretched in
+    let leaves : left ≡ accesses_after (accesses_in old.accesses old.columns) (stretched_all old.columns) = passed ∙ (λ i. accesses_after (shows i) (stretched i)) in
+    let lies : layout ≡ layout_in old.state.processes old.accesses old.columns is_last = laid ∙ (λ i. layout_of old.state.processes (shows i) (stretched i) is_last) in
+    let higher : height ≡ held_in_64 (old.height + ((layout_in old.state.processes old.accesses old.columns is_last).height + 16)) = high ∙ ap (λ (l : Layout). held_in_64 (old.height + (l.height + 16))) lies in
+    draws_begun is_last old markup (record old { opens = opens; before = behind.0; before_at = behind.1; accesses = left; placing = placing; columns = columns; bands = bands; height = height })
+    (λ i. record old { opens = none i; before = (stands i).0; before_at = (stands i).1; accesses = leaves i; placing = new i; columns = empty i; bands = count i; height = higher i })
+    (drawn ∙ (λ i. framed old.form (count i) old.height (lies i).height (drawings (band_shapes (record { columns = stretched i; before = old.before; before_at = old.before_at; layout = lies i; is_last = is_last; opens = same i; subject = old.subject }) (shows i)))))
 
 -- the column has room, or another band begins
 abbrev pub has_room_in : Seen → SeenPage → Bool
@@ -142,6 +146,7 @@ pub processes_after : (n : ℕ) (items : List Item) → (state_after n items).pr
 processes_after n [] = refl
 processes_after n (Tells line ∷ before) = told_processes (state_after n before) line.saying ∙ processes_after n before
 processes_after n (Reads read ∷ before) = processes_after n before
+processes_after n (Accesses access ∷ before) = processes_after n before
 
 -- a line joins the column that is not placed yet
 abbrev pub joined_page : RunLine → Seen → SeenPage → SeenPage
@@ -219,6 +224,20 @@ begins_read read old placed new full places is plan items holds =
     let columns : List Seen = columns_of plan.processes items in
     let put = places plan (state_after plan.processes items) (newest_at columns) columns (processes_after plan.processes items) holds in
     (is ∙ ap (read_page read) put.0, put.1)
+
+-- and so has an access
+abbrev pub access_page : ShownAccess → SeenPage → SeenPage
+access_page access placed = record placed { pending = Some (column_of_access access (access.event - placed.last_at) placed.state); last_at = access.event }
+
+pub access_is : (access : ShownAccess) (placed : SeenPage) (column : Seen) (gap : ℕ) → column ≡ column_of_access access gap placed.state → gap ≡ access.event - placed.last_at →
+    (let page : SeenPage = record placed { pending = Some column; last_at = access.event } in page) ≡ access_page access placed
+access_is access placed column gap is far = ap (λ (c : Seen). (let page : SeenPage = record placed { pending = Some c; last_at = access.event } in page)) (is ∙ ap (λ (g : ℕ). column_of_access access g placed.state) far)
+
+pub begins_access : (access : ShownAccess) (old placed new : SeenPage) (full : Option (List ℕ)) → Places old full placed → new ≡ access_page access placed → GoesOn (Accesses access) old full new
+begins_access access old placed new full places is plan items holds =
+    let columns : List Seen = columns_of plan.processes items in
+    let put = places plan (state_after plan.processes items) (newest_at columns) columns (processes_after plan.processes items) holds in
+    (is ∙ ap (access_page access) put.0, put.1)
 
 -- the last bands
 pub gives_rest : (old placed new : SeenPage) (full : Option (List ℕ)) (last : List ℕ) → Places old full placed → DrawsBand true placed last new → GivesRest old full last new

@@ -2,8 +2,8 @@
 use Rattle.std.proofs.Common.{◌≡◌, ℕ, ◌+◌, add-one, ◌<◌, Bool, true, false, cond, is_some, Option, List, ◌++◌, drop, length, map, flat_map, get_or, ap, sym, ◌∙◌}
 use Rattle.markup.specs.{Point, Shape, drawings}
 use Rattle.record.specs.{Stage}
-use Rattle.columns.specs.{Column, Lane, RunLine, Seen, seen, stage_among}
-use Rattle.picture.specs.{SeenBand, Stretch, axis, axis_up_to, bar, bars, ends_at, for_each, free_left, inside_since, is_stage, line_shapes, lines_shapes, next_stretch, shade_up_to, shades, stretch_word, words_from}
+use Rattle.columns.specs.{Column, Lane, Layout, OpenAccess, RunLine, Seen, ShownAccess, Wave, change_in, open_next, seen, seen_wave, stage_among}
+use Rattle.picture.specs.{SeenBand, Stretch, accesses_from, axis, axis_up_to, bar, bars, change_if, change_shapes, ends_at, for_each, free_left, from_next, inside_since, is_stage, line_shapes, lines_shapes, made_by, next_change, next_stretch, shade_up_to, shades, shapes_if, stretch_word, tie_to, ties_to, wave_from, wave_shapes, waves_from, words_from}
 use Rattle.picture.proofs.Drawn.{drop_next, then_drawn}
 
 module _ (columns : List Column) (k : ℕ) (column : Column) (within : k < length columns) (here : column ≡ get_or columns k column) where
@@ -52,6 +52,25 @@ module _ (columns : List Column) (k : ℕ) (column : Column) (within : k < lengt
   pub each_next : (shapes : Seen → List Shape) → flat_map shapes (map seen (drop k columns)) ≡ shapes (seen column) ++ flat_map shapes (map seen (drop (k + 1) columns))
   each_next shapes = ap (λ cs. flat_map shapes (map seen cs)) (drop_next columns k column within here)
 
+  -- the accesses of a process
+  pub accesses_next : (lane : Lane) (p end : ℕ) (before next : Option OpenAccess) (from since : ℕ) → next ≡ open_next p before (seen column) → since ≡ from_next p from (seen column) →
+      accesses_from lane p end before from (map seen (drop k columns)) ≡ shapes_if lane before from column.x (made_by p column.access) ++ accesses_from lane p end next since (map seen (drop (k + 1) columns))
+  accesses_next lane p end before next from since is at =
+      ap (λ cs. accesses_from lane p end before from (map seen cs)) (drop_next columns k column within here)
+      ∙ (λ i. shapes_if lane before from column.x (made_by p column.access) ++ accesses_from lane p end (sym is i) (sym at i) (map seen (drop (k + 1) columns)))
+
+  -- the wave of a row
+  pub wave_next : (row y end next : ℕ) → next ≡ next_change row end (map seen (drop (k + 1) columns)) →
+      wave_from row y end (map seen (drop k columns)) ≡ change_shapes y column.x next (change_if row (change_in (seen column))) ++ wave_from row y end (map seen (drop (k + 1) columns))
+  wave_next row y end next is =
+      ap (λ cs. wave_from row y end (map seen cs)) (drop_next columns k column within here)
+      ∙ ap (λ n. change_shapes y column.x n (change_if row (change_in (seen column))) ++ wave_from row y end (map seen (drop (k + 1) columns))) (sym is)
+
+-- the waves, one after the other
+module _ (waves : List Wave) (k : ℕ) (wave : Wave) (within : k < length waves) (here : wave ≡ get_or waves k wave) where
+  pub waves_next : (layout : Layout) (columns : List Seen) → waves_from layout columns k (map seen_wave (drop k waves)) ≡ wave_shapes layout columns k (seen_wave wave) ++ waves_from layout columns (k + 1) (map seen_wave (drop (k + 1) waves))
+  waves_next layout columns = ap (λ ws. waves_from layout columns k (map seen_wave ws)) (drop_next waves k wave within here)
+
 -- the lines of a column
 module _ (lines : List RunLine) (k : ℕ) (line : RunLine) (within : k < length lines) (here : line ≡ get_or lines k line) where
   pub lines_next : (band : SeenBand) (column : Seen) (head foot : Point) → lines_shapes band column head foot k (drop k lines) ≡ line_shapes band column head foot k line ++ lines_shapes band column head foot (k + 1) (drop (k + 1) lines)
@@ -64,3 +83,8 @@ module _ (lines : List RunLine) (k : ℕ) (line : RunLine) (within : k < length 
 module _ (shapes : ℕ → List Shape) (p : ℕ) (old now : List ℕ) (before : now ≡ old ++ drawings (for_each shapes p)) where
   pub process_next : (new : List ℕ) (some : List Shape) → some ≡ shapes p → new ≡ now ++ drawings some → new ≡ old ++ drawings (for_each shapes (p + 1))
   process_next new some are is = then_drawn old now new (for_each shapes p) some before is ∙ ap (λ s. old ++ drawings (for_each shapes p ++ s)) are ∙ ap (λ n. old ++ drawings (for_each shapes n)) (sym (add-one p))
+
+-- the ties of an access, process by process
+pub tie_next : (layout : Layout) (x : ℕ) (access : ShownAccess) (p : ℕ) (old now new : List ℕ) → now ≡ old ++ drawings (ties_to layout x access p) → new ≡ now ++ drawings (tie_to layout x access p) → new ≡ old ++ drawings (ties_to layout x access (p + 1))
+tie_next layout x access p old now new before is =
+    then_drawn old now new (ties_to layout x access p) (tie_to layout x access p) before is ∙ ap (λ n. old ++ drawings (ties_to layout x access n)) (sym (add-one p))

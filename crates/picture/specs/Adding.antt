@@ -1,6 +1,6 @@
 -- What a call that goes well adds to markup.
 use Rattle.std.specs.Prelude.{◌≡◌, ◌++◌, ℕ, List, Option, Result, IfOk, OnOk, flat_map}
-use Rattle.columns.specs.{Column, told_in}
+use Rattle.columns.specs.{Column, seen_accesses, told_in}
 use Rattle.markup.specs.{Shape, drawings, reading, with_begun, with_lines}
 use Rattle.picture.specs.Bandings.{framed}
 use Rattle.picture.specs.Drawings.{band_shapes, seen_band}
@@ -33,4 +33,4 @@ GivesLines result kept lines = IfOk result (λ full. lines_of_band full ++ kept 
 -- a band is drawn in its frame
 abbrev pub FramesBand : {E : Type 0} → Result (List ℕ) E → Form → Page → Band → Type 0
 FramesBand result form page band =
-    IfOk result (λ markup. markup ≡ framed form page.bands page.height band.layout.height (drawings (band_shapes (seen_band band))))
+    IfOk result (λ markup. markup ≡ framed form page.bands page.height band.layout.height (drawings (band_shapes (seen_band band) (seen_accesses page.accesses))))

@@ -4,7 +4,7 @@ use Rattle.std.specs.Fmt.{decimal}
 use Rattle.markup.specs.{End, drawings, drawn, entering_by, lowering}
 use Rattle.markup.specs.declared.names.Key.TheVariants as key
 use Rattle.markup.specs.declared.names.Tag.TheVariants as tag
-use Rattle.columns.specs.{Layout, OverlappedRead, Placing, RunLine, Seen, State, alone, at_first, column_of_read, freed_by, has_room_at, joined, joins, layout_of, moved_to, place_of, placing_at_first, put_at, shortened, state_told, stretched_all}
+use Rattle.columns.specs.{Layout, OverlappedRead, Placing, RunLine, Seen, SeenAccesses, ShownAccess, State, accesses_after, accesses_at, alone, at_first, column_of_access, column_of_read, freed_by, has_room_at, joined, joins, layout_of, moved_to, no_accesses, place_of, placing_at_first, put_at, shortened, state_told, stretched_all}
 use Rattle.picture.specs.Drawings.{band_shapes}
 use Rattle.picture.specs.Sheets.{held_in_64, says, view_of}
 use Rattle.picture.specs.declared.page.Form.{Form}
@@ -15,6 +15,7 @@ use Rattle.picture.specs.declared.subjects.Subject.{Subject}
 pub data Item : Type 0 where
   Tells : RunLine → Item  -- a line of the run
   Reads : OverlappedRead → Item  -- a read that a write overlapped
+  Accesses : ShownAccess → Item  -- what an entry does to an access
 
 -- what is known of a picture from the start: what its bands stand in, what it is of, how many processes there are, and the opening store, with no byte if it is empty
 pub record Plan : Type 0 where
@@ -28,6 +29,7 @@ abbrev pub state_after : ℕ → List Item → State
 state_after processes [] = at_first processes
 state_after processes (Tells line ∷ before) = state_told (state_after processes before) line.saying
 state_after processes (Reads read ∷ before) = state_after processes before
+state_after processes (Accesses access ∷ before) = state_after processes before
 
 -- the newest column, and those before it
 abbrev pub newest : List Seen → Option Seen
@@ -61,6 +63,7 @@ abbrev pub columns_of : ℕ → List Item → List Seen
 columns_of processes [] = []
 columns_of processes (Tells line ∷ before) = with_line line (freed_by (state_after processes before) line.saying) (state_told (state_after processes before) line.saying) (columns_of processes before)
 columns_of processes (Reads read ∷ before) = column_of_read read (read.end - newest_at (columns_of processes before)) (state_after processes before) ∷ columns_of processes before
+columns_of processes (Accesses access ∷ before) = column_of_access access (access.event - newest_at (columns_of processes before)) (state_after processes before) ∷ columns_of processes before
 
 -- the band that is begun, its columns in order, and the bands that are full
 pub record Bands : Type 0 where
@@ -131,9 +134,18 @@ abbrev pub opens_before : List ℕ → List (List Seen) → List ℕ
 opens_before opening [] = opens_with opening
 opens_before opening (band ∷ full) = []
 
+-- the accesses that are open at the left edge of a band, and its waves, by what was left before it
+abbrev pub accesses_in : SeenAccesses → List Seen → SeenAccesses
+accesses_in before band = accesses_at before (stretched_all band)
+
+-- what full bands leave
+abbrev pub accesses_behind : List (List Seen) → SeenAccesses
+accesses_behind [] = no_accesses
+accesses_behind (band ∷ full) = accesses_after (accesses_in (accesses_behind full) band) (stretched_all band)
+
 -- where the lanes of a band lie, once its columns are drawn apart
-abbrev pub layout_in : ℕ → List Seen → Bool → Layout
-layout_in processes band = layout_of processes (stretched_all band)
+abbrev pub layout_in : ℕ → SeenAccesses → List Seen → Bool → Layout
+layout_in processes before band = layout_of processes (accesses_in before band) (stretched_all band)
 
 -- how many bands are full
 abbrev pub number_of : List (List Seen) → ℕ
@@ -143,7 +155,7 @@ number_of (band ∷ full) = held_in_64 (number_of full + 1)
 -- the heights of full bands, with 16 more for each
 abbrev pub heights : ℕ → List (List Seen) → ℕ
 heights processes [] = 0
-heights processes (band ∷ full) = held_in_64 (heights processes full + ((layout_in processes band false).height + 16))
+heights processes (band ∷ full) = held_in_64 (heights processes full + ((layout_in processes (accesses_behind full) band false).height + 16))
 
 -- the tag of a band's own picture
 abbrev pub band_tag : ℕ → ℕ → List ℕ
@@ -157,16 +169,16 @@ framed (form.Picture top) number above height shapes = lowering (held_in_64 (top
 -- what is written of a band behind full ones
 abbrev pub band_bytes : Plan → Bool → List Seen → List (List Seen) → List ℕ
 band_bytes plan is_last band full =
-    framed plan.form (number_of (band ∷ full)) (heights plan.processes full) (layout_in plan.processes band is_last).height
+    framed plan.form (number_of (band ∷ full)) (heights plan.processes full) (layout_in plan.processes (accesses_behind full) band is_last).height
     (drawings (band_shapes (record {
       columns = stretched_all band;
       before = (before_band plan.processes full).0;
       before_at = (before_band plan.processes full).1;
-      layout = layout_in plan.processes band is_last;
+      layout = layout_in plan.processes (accesses_behind full) band is_last;
       is_last = is_last;
       opens = opens_before plan.opening full;
       subject = plan.subject;
-    })))
+    }) (accesses_in (accesses_behind full) band)))
 
 -- what is written of full bands
 abbrev pub full_bytes : Plan → List (List Seen) → List ℕ

@@ -3,10 +3,12 @@ use Rattle.std.specs.Prelude.{ℕ, zero, suc, ◌+◌, ◌-◌, ◌*◌, ◌/◌
 use Rattle.std.specs.Fmt.{decimal}
 use Rattle.markup.specs.{Block, End, Label, Mark, Note, Point, Said, Shape, line_from, path_from}
 use Rattle.markup.specs.declared.names.Key.TheVariants as key
+use Rattle.picture.specs.AccessShapes.{accesses_from, begun, guide, ties}
 use Rattle.picture.specs.Bars.{bars, lane_name, point, words_from}
-use Rattle.columns.specs.{Lane, Layout, OverlappedRead, RunLine, Seen, State, TakenChange, Wording, bar_of, bit_text, capped, chain_ends_of, change_told, event_stands, knot_of, lane_in, place_told, saw_text, seen, settles_and_takes_in, stage_among, taken_in, tells_refusal, text_of, title_text, word_of}
+use Rattle.columns.specs.{SeenAccesses, Lane, Layout, OverlappedRead, RunLine, Seen, State, TakenChange, Wording, bar_of, bit_text, capped, chain_ends_of, change_told, event_stands, knot_of, lane_in, open_of, place_told, saw_text, seen, settles_and_takes_in, stage_among, taken_in, tells_refusal, text_of, title_text, word_of}
 use Rattle.picture.specs.Signs.{down_by, moved_by, sign}
 use Rattle.picture.specs.Subjects.{has_history}
+use Rattle.picture.specs.WaveShapes.{waves_from}
 use Rattle.picture.specs.Words.{queue_text, row_class}
 use Rattle.picture.specs.declared.bands.Band.{Band}
 use Rattle.picture.specs.declared.subjects.Subject.{Subject}
@@ -284,13 +286,22 @@ from_left (Some p) = Some 52
 abbrev pub first_inside : State → Option ℕ
 first_inside before = from_left before.inside
 
--- all of a band, in the order in which it is drawn
-abbrev pub band_shapes : SeenBand → List Shape
-band_shapes band =
+-- the accesses of a process
+abbrev pub lane_accesses : SeenBand → SeenAccesses → ℕ → List Shape
+lane_accesses band accesses p = accesses_from (lane_in band.layout p) p band.layout.end (open_of accesses.open_accesses p) 52 band.columns
+
+-- all of a band, in the order in which it is drawn, where these accesses are open at its left edge and these waves are drawn
+abbrev pub band_shapes : SeenBand → SeenAccesses → List Shape
+band_shapes band accesses =
     shades band.layout.chain band.layout.end (first_inside band.before) band.columns
+    ++ flat_map (guide band.layout) band.columns
     ++ axis band.layout.end 52 band.columns
     ++ for_each (lane_shapes band) band.before.processes
     ++ chain_shapes band
     ++ flat_map (links band) band.columns
+    ++ for_each (lane_accesses band accesses) band.before.processes
+    ++ flat_map (ties band.layout) band.columns
+    ++ flat_map (begun band.layout) band.columns
+    ++ waves_from band.layout band.columns 0 accesses.waves
     ++ for_each (lane_words band) band.before.processes
     ++ flat_map (column_shapes band) band.columns

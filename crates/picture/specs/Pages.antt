@@ -3,8 +3,8 @@ use Rattle.std.specs.Prelude.{◌≡◌, ℕ, ◌-◌, Bool, List, [], ◌∷◌
 use Rattle.std.specs.Option.{option_to_list}
 use Rattle.record.specs.{Stage}
 use Rattle.markup.specs.{lines_in}
-use Rattle.picture.specs.Bandings.{Bands, Item, Plan, band_bytes, bands_of, bands_told, before_band, columns_of, filled, full_bytes, full_told, heights, heights_told, newest, newest_at, number_of, older, opens_before, placing_in, state_after, with_put, with_room}
-use Rattle.columns.specs.{Column, Placing, RunLine, Seen, State, alone, seen, told_in}
+use Rattle.picture.specs.Bandings.{Bands, Item, Plan, accesses_behind, band_bytes, bands_of, bands_told, before_band, columns_of, filled, full_bytes, full_told, heights, heights_told, newest, newest_at, number_of, older, opens_before, placing_in, state_after, with_put, with_room}
+use Rattle.columns.specs.{Column, Placing, RunLine, Seen, SeenAccesses, State, alone, seen, seen_accesses, told_in}
 use Rattle.picture.specs.declared.page.Form.{Form}
 use Rattle.picture.specs.declared.page.Page.{Page}
 use Rattle.picture.specs.declared.subjects.Subject.{Subject}
@@ -41,6 +41,7 @@ pub record SeenPage : Type 0 where
   pub state : State
   pub before : State
   pub before_at : ℕ
+  pub accesses : SeenAccesses
   pub placing : Placing
   pub columns : List Seen
   pub pending : Option Seen
@@ -56,6 +57,7 @@ seen_page page = record {
   state = page.state;
   before = page.before;
   before_at = page.before_at;
+  accesses = seen_accesses page.accesses;
   placing = page.placing;
   columns = map seen page.columns.items;
   pending = option_map seen page.pending;
@@ -73,6 +75,7 @@ page_holding plan state pending last_at bands = record {
   state = state;
   before = (before_band plan.processes bands.full).0;
   before_at = (before_band plan.processes bands.full).1;
+  accesses = accesses_behind bands.full;
   placing = placing_in plan.opening bands;
   columns = bands.begun;
   pending = pending;

@@ -2,11 +2,12 @@
 ghost use Rattle.std.specs.Prelude.{◌≡◌, flat_map, map, OnOk};
 ghost use Rattle.picture.specs.Adding.{Draws, TellsLines, all_told};
 ghost use Rattle.markup.specs.{reading};
-ghost use Rattle.columns.specs.{seen};
-ghost use Rattle.picture.specs.Drawings.{band_shapes, column_shapes, for_each, lane_shapes, lane_words, links, seen_band};
+ghost use Rattle.columns.specs.{seen, seen_accesses};
+ghost use Rattle.picture.specs.AccessShapes.{begun, guide, ties};
+ghost use Rattle.picture.specs.Drawings.{band_shapes, column_shapes, for_each, lane_accesses, lane_shapes, lane_words, links, seen_band};
 
 use crate::subjects::Subject;
-use columns::{Column, Layout, State};
+use columns::{AccessState, Column, Layout, State};
 use markup::Markup;
 use std::alloc::{AllocError, Global};
 
@@ -26,16 +27,28 @@ pub(crate) struct Band {
 }
 
 impl Band {
-    /// Draws it. The titles of its marks are the lines of its columns, and each element that begins ends.
-    pub fn draw(&self, alloc: Global, markup: &mut Markup) -> Result<(), AllocError>
-        ensures draws { Draws result markup.old markup.new (band_shapes (seen_band self.now)) }
+    /// Draws it, with the accesses that are open at its left edge, and its waves. The titles of its marks are the lines
+    /// of its columns, and each element that begins ends.
+    pub fn draw(
+        &self,
+        alloc: Global,
+        accesses: &AccessState,
+        markup: &mut Markup,
+    ) -> Result<(), AllocError>
+        ensures draws { Draws result markup.old markup.new
+            (band_shapes (seen_band self.now) (seen_accesses accesses.now)) }
         ensures read { TellsLines result markup.old markup.new (all_told self.now.columns.items) }
     {
         self.draw_shades(markup)?;
+        self.draw_guides(markup)?;
         self.draw_axis(alloc, markup)?;
         self.draw_lanes(alloc, markup)?;
         self.draw_chain(markup)?;
         self.draw_all_links(alloc, markup)?;
+        self.draw_all_accesses(alloc, accesses, markup)?;
+        self.draw_ties(markup)?;
+        self.draw_begun(alloc, markup)?;
+        self.draw_waves(accesses, markup)?;
         self.draw_all_words(alloc, markup)?;
         self.draw_columns(alloc, markup)
     }
@@ -58,6 +71,60 @@ impl Band {
     {
         for column in &self.columns {
             self.draw_links(alloc, column, markup)?;
+        }
+        Ok(())
+    }
+
+    /// Draws the guides of the columns that show accesses.
+    fn draw_guides(&self, markup: &mut Markup) -> Result<(), AllocError>
+        ensures draws { Draws result markup.old markup.new
+            (flat_map (guide self.now.layout) (map seen self.now.columns.items)) }
+        ensures read { OnOk result (reading markup.new ≡ reading markup.old) }
+    {
+        for column in &self.columns {
+            self.draw_guide(column, markup)?;
+        }
+        Ok(())
+    }
+
+    /// Draws the accesses of all processes.
+    fn draw_all_accesses(
+        &self,
+        alloc: Global,
+        accesses: &AccessState,
+        markup: &mut Markup,
+    ) -> Result<(), AllocError>
+        ensures draws { Draws result markup.old markup.new
+            (for_each (lane_accesses (seen_band self.now) (seen_accesses accesses.now))
+            self.now.before.processes) }
+        ensures read { OnOk result (reading markup.new ≡ reading markup.old) }
+    {
+        for process in 0..self.before.processes {
+            self.draw_accesses(alloc, accesses, process, markup)?;
+        }
+        Ok(())
+    }
+
+    /// Draws the ties between accesses that overlap.
+    fn draw_ties(&self, markup: &mut Markup) -> Result<(), AllocError>
+        ensures draws { Draws result markup.old markup.new
+            (flat_map (ties self.now.layout) (map seen self.now.columns.items)) }
+        ensures read { OnOk result (reading markup.new ≡ reading markup.old) }
+    {
+        for column in &self.columns {
+            self.draw_ties_of(column, markup)?;
+        }
+        Ok(())
+    }
+
+    /// Draws the words of the accesses that columns begin.
+    fn draw_begun(&self, alloc: Global, markup: &mut Markup) -> Result<(), AllocError>
+        ensures draws { Draws result markup.old markup.new
+            (flat_map (begun self.now.layout) (map seen self.now.columns.items)) }
+        ensures read { OnOk result (reading markup.new ≡ reading markup.old) }
+    {
+        for column in &self.columns {
+            self.draw_begun_by(alloc, column, markup)?;
         }
         Ok(())
     }

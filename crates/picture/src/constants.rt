@@ -21,7 +21,13 @@ path{fill:none;stroke:#111;stroke-width:1}\n\
 .shade{fill:#efefe6}\n\
 .doorway{fill:url(#doorway);stroke:#1f6fa8}.waiting{fill:url(#waiting);stroke:#9a6400}\n\
 .inside{fill:#0b5c43;stroke:#0b5c43}.leaving{fill:#8fc7b2;stroke:#0b5c43}\n\
-.settling{fill:url(#settling);stroke:#a51d00}.down{fill:#fff;stroke:#555;stroke-dasharray:4 3}";
+.settling{fill:url(#settling);stroke:#a51d00}.down{fill:#fff;stroke:#555;stroke-dasharray:4 3}\n\
+.guide{stroke:#ddd}.cell{fill:#444}\n\
+.read{fill:#fff;stroke:#555}.write,.update{fill:#cfe2f5;stroke:#1f5f99;stroke-width:2}\n\
+.write.whole{fill:#1f5f99}.update.whole{fill:#111;stroke:#111}\n\
+.overlapped{fill:#fff3ea;stroke:#8a2b00;stroke-width:3}.unended{stroke-dasharray:5 3}\n\
+.tie{stroke:#8a2b00;stroke-dasharray:2 2;stroke-width:1.5}.dot{fill:#8a2b00;stroke:none}\n\
+.wave{stroke-width:2}.unsure{fill:url(#doorway);stroke:#1f5f99;stroke-dasharray:2 2}";
 
 /// The style of a page beside it.
 pub(crate) const PAGE_STYLE: &str = "html{background:#fff;color:#111}\n\

@@ -2,6 +2,7 @@
 //! read back. One band is held at a time.
 #![tactic(auto)]
 
+mod accesses;
 mod bands;
 mod bars;
 mod constants;
@@ -14,10 +15,15 @@ mod reads;
 mod sheets;
 mod signs;
 mod subjects;
+mod ties;
 mod trace_sheets;
+mod waves;
 mod words;
 
-pub use columns::{OverlappedRead, RunLine, Saying, TakenChange, stages_are_the_records};
+pub use columns::{
+    AccessKind, AccessStep, OverlappedRead, RunLine, Saying, ShownAccess, TakenChange, WaveChange,
+    stages_are_the_records,
+};
 pub use laws::bars_are_stages;
 pub use markup::Markup;
 pub use page::{Form, Page};

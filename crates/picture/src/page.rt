@@ -2,7 +2,7 @@
 ghost use Rattle.std.specs.Prelude.{◌≡◌, ◌++◌, [], ◌∷◌, codes, map, IfOk, IfSome, None, OnOk};
 ghost use Rattle.picture.specs.Adding.{Begins, FramesBand, GivesLines, all_told};
 ghost use Rattle.markup.specs.{EndsAll, lines_in};
-ghost use Rattle.picture.specs.Bandings.{Reads, Tells, band_tag, behind_columns, opening_length, opens_with};
+ghost use Rattle.picture.specs.Bandings.{Accesses, Reads, Tells, band_tag, behind_columns, opening_length, opens_with};
 ghost use Rattle.columns.specs.{nothing_told, seen, stages_told, text_of, told_in};
 ghost use Rattle.picture.specs.Pages.{BeginsColumn, DrawsBand, GivesRest, GoesOn, MakesRoom, Places, Puts, held, lines_of_band, page_of, seen_page, stages_kept};
 ghost use Rattle.picture.specs.declared.page.Form.TheVariants as form_variants;
@@ -10,7 +10,9 @@ ghost use Rattle.picture.specs.declared.page.Form.TheVariants as form_variants;
 use crate::bands::Band;
 use crate::sheets::view;
 use crate::subjects::Subject;
-use columns::{Column, Layout, OverlappedRead, Placing, RunLine, State, cut, stretch};
+use columns::{
+    AccessState, Column, Layout, OverlappedRead, Placing, RunLine, ShownAccess, State, cut, stretch,
+};
 use markup::{Key, Markup, Tag, class, words};
 use std::alloc::{AllocError, Global};
 
@@ -33,6 +35,7 @@ pub struct Page {
     state: State,
     before: State,
     before_at: u64,
+    accesses: AccessState,
     placing: Placing,
     columns: Vec<Column>,
     pending: Option<Column>,
@@ -64,6 +67,7 @@ impl Page {
             state,
             before: state,
             before_at: 0,
+            accesses: AccessState::new(alloc),
             placing: Placing::new(characters(opening)),
             opens,
             columns: Vec::new(alloc),
@@ -132,6 +136,27 @@ impl Page {
         let gap = read.end.saturating_sub(self.last_at);
         self.last_at = read.end;
         self.pending = Some(Column::of_read(self.alloc, read, gap, self.state)?);
+        Ok(full)
+    }
+
+    /// Takes in the part of an access that an entry makes. Returns the band that is full with what came before it, if
+    /// one is. No line is added. A mark of the entry is taken in after it, and joins its column.
+    ///
+    /// # Errors
+    ///
+    /// Returns [`AllocError`] if memory is lacking.
+    pub fn take_access(&mut self, access: ShownAccess) -> Result<Option<Markup>, AllocError>
+        ensures page { IfOk result
+            (λ full. GoesOn (Accesses access) (seen_page self.old) full (seen_page self.new)) }
+        ensures lines { GivesLines result (held self.new) (held self.old) }
+        ensures ended { IfOk result (λ full. IfSome full EndsAll) }
+        ensures stages { OnOk result (stages_kept self.new ≡ stages_kept self.old) }
+        ensures processes { self.new.state.processes ≡ self.old.state.processes }
+    {
+        let full = self.place_pending()?;
+        let gap = access.event.saturating_sub(self.last_at);
+        self.last_at = access.event;
+        self.pending = Some(Column::of_access(self.alloc, access, gap, self.state));
         Ok(full)
     }
 
@@ -208,7 +233,9 @@ impl Page {
         self.before_at = behind_at;
         self.placing = Placing::new(0);
         stretch(self.alloc, columns.as_mut_slice())?;
-        let layout = Layout::new(self.state.processes, columns.as_slice(), is_last);
+        self.accesses.begin(self.alloc, columns.as_slice())?;
+        let processes = self.state.processes;
+        let layout = Layout::new(processes, &self.accesses, columns.as_slice(), is_last);
         let band = Band {
             columns,
             before,
@@ -220,6 +247,7 @@ impl Page {
         };
         self.bands = self.bands.saturating_add(1);
         let markup = self.markup_of(&band)?;
+        self.accesses.pass(self.alloc, band.columns.as_slice())?;
         self.height = self.height.saturating_add(u64::from(layout.height) + 16);
         Ok(markup)
     }
@@ -245,7 +273,7 @@ impl Page {
         let mut markup = Markup::new(self.alloc);
         enter_band(self.bands, band.layout.height, &mut markup)?;
         markup.constant("\n")?;
-        band.draw(self.alloc, &mut markup)?;
+        band.draw(self.alloc, &self.accesses, &mut markup)?;
         markup.frame("</svg>\n")?;
         Ok(markup)
     }
@@ -258,7 +286,7 @@ impl Page {
     {
         let mut markup = Markup::new(self.alloc);
         markup.lower(top.saturating_add(self.height))?;
-        band.draw(self.alloc, &mut markup)?;
+        band.draw(self.alloc, &self.accesses, &mut markup)?;
         markup.end_group()?;
         Ok(markup)
     }

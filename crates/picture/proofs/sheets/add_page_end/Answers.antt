@@ -1,4 +1,4 @@
-use Rattle.std.proofs.Common.{◌∙◌, ap, refl}
+use Rattle.std.proofs.Common.{◌∙◌, ap}
 use Rattle.markup.specs.{opens_in, reading, with_tags}
 use Rattle.picture.specs.{script_of}
 use Rattle.picture.proofs.Framing.{on_ok, page_end_read, script_reads, script_text}

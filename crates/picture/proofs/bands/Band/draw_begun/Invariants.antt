@@ -1,0 +1,12 @@
+use Rattle.std.proofs.Common.{◌≡◌, ◌++◌, drop, map, flat_map}
+use Rattle.markup.specs.{drawings, reading}
+use Rattle.columns.specs.{seen}
+use Rattle.picture.specs.{begun}
+use Rattle.picture.proofs.bands.Band.draw_begun.Given as goal
+
+-- no line more, and what is drawn so far and what is drawn of those to come is all that is drawn
+abbrev pub invariant-loop-column : goal.invariant-loop-column
+invariant-loop-column l = record {
+  read : reading l.markup ≡ reading l.fn.markup;
+  draws : l.markup ++ drawings (flat_map (begun l.self.layout) (map seen (drop l.column-index l.self.columns.items))) ≡ l.fn.markup ++ drawings (flat_map (begun l.self.layout) (map seen l.self.columns.items));
+}
