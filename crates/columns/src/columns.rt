@@ -1,4 +1,4 @@
-//! Columns: an event with its marks and its access, a line without an event, or a read that a write overlapped.
+//! A column: an event with its marks and its access, a line without an event, or a read that a write overlapped.
 ghost use Rattle.std.specs.Prelude.{◌≡◌, ◌++◌, [], ◌∷◌, true, false, filter_map, IfOk, OnOk, is_some, option_copied, string_bytes};
 ghost use Rattle.columns.specs.Columns.{GivesRows, alone, column_of_access, column_of_read, counts_text, joined, joins, lane_among, row_if_marked, row_shared, row_shortened, rows_marked, rows_named, rows_of_lines, rows_told, seen, settles_and_takes_in, shortened, taken_in, verb, verb_and_rest, verb_refused, width_below_of, width_of, worded, wording, wordings};
 ghost use Rattle.columns.specs.Accesses.{access_characters};
@@ -13,46 +13,46 @@ use crate::widths::{digits, longest, width_of_knot};
 use record::Mark;
 use std::alloc::{AllocError, Global};
 
-/// Words of a column, in one row.
+/// One row of the words of a column.
 #[derive(Drop)]
 pub struct TextRow {
-    /// Whether it stands out.
+    /// Whether it is bold.
     pub is_verb: bool,
     /// Its bytes.
     pub text: Vec<u8>,
-    /// How many characters it has.
+    /// The number of its characters.
     pub characters: usize,
 }
 
 /// A column of a band.
 #[derive(Drop)]
 pub struct Column {
-    /// How many events were accepted before it.
+    /// The number of events that were accepted before it.
     pub at: u64,
     /// The number of its event.
     pub event: Option<u64>,
-    /// The process in whose lane it stands; none in the lane of the history.
+    /// The process in whose lane it is, or `None` for the lane of the history.
     pub lane: Option<u8>,
-    /// Events since the column before.
+    /// The number of events since the column before.
     pub gap: u64,
-    /// One line, or the two marks of an event; none of a read, nor of an access without a mark.
+    /// One line, or the two marks of an event. A read has none, and neither has an access without a mark.
     pub lines: Vec<RunLine>,
-    /// The read that it shows; none of lines.
+    /// The read that it shows, if it shows one.
     pub read: Option<OverlappedRead>,
-    /// The access that it shows.
+    /// The access that it shows, if it shows one.
     pub access: Option<ShownAccess>,
     /// One row or two.
     pub rows: Vec<TextRow>,
-    /// Whom its process frees.
+    /// The process that its process frees.
     pub frees: Option<u8>,
-    /// What was told when its last line was.
+    /// The state after its last line.
     pub after: State,
-    /// Where it stands.
+    /// Its left edge.
     pub x: u16,
 }
 
 impl TextRow {
-    /// Words that are drawn whole: each byte is a character.
+    /// Returns a row of words that is drawn whole: each byte is a character.
     pub(crate) fn new(is_verb: bool, text: String) -> TextRow
         ensures { wording result ≡ worded is_verb (string_bytes text) }
     {
@@ -65,7 +65,7 @@ impl TextRow {
 }
 
 impl Column {
-    /// The column of a line alone, before it is placed.
+    /// Returns the column of a line alone, before it is placed.
     pub fn new(
         alloc: Global,
         line: RunLine,
@@ -97,7 +97,7 @@ impl Column {
         })
     }
 
-    /// The column of a read, before it is placed.
+    /// Returns the column of a read, before it is placed.
     pub fn of_read(
         alloc: Global,
         read: OverlappedRead,
@@ -142,7 +142,7 @@ impl Column {
         }
     }
 
-    /// Whether a line is a mark of this column's event, for which the column has a row.
+    /// Returns whether a line is a mark of this column's event, for which the column has a row.
     pub fn has_room_for(&self, line: &RunLine) -> bool
         ensures { result ≡ joins (seen self.now) line.now }
     {
@@ -178,14 +178,14 @@ impl Column {
         }
     }
 
-    /// The line that tells a place in the history, if one does.
+    /// Returns the line with a position in the history, if one has it.
     pub fn taken(&self) -> Option<&RunLine>
         ensures { option_copied result ≡ taken_in (seen self.now) }
     {
         self.lines.iter().find(|line| line.place().is_some())
     }
 
-    /// How many pixels its words take in its lane.
+    /// Returns the width of its words in its lane, in pixels.
     pub(crate) fn width(&self, alloc: Global) -> Result<u16, AllocError>
         ensures { IfOk result (λ width. width ≡ width_of (seen self.now)) }
     {
@@ -204,7 +204,7 @@ impl Column {
         }
     }
 
-    /// How many pixels it takes in the lane of the history, if it stands there.
+    /// Returns its width in the lane of the history, in pixels, or 0 if it is in another lane.
     pub(crate) fn width_below(&self, alloc: Global) -> Result<Option<u16>, AllocError>
         ensures { IfOk result (λ width. width ≡ width_below_of (seen self.now)) }
     {
@@ -217,7 +217,7 @@ impl Column {
         }
     }
 
-    /// Whether it tells that a torn bit was settled, and with it that a command is taken.
+    /// Returns whether its event settled a torn bit and took a command.
     pub fn settles_and_takes(&self) -> bool
         ensures { result ≡ settles_and_takes_in (seen self.now) }
     {
@@ -225,7 +225,7 @@ impl Column {
     }
 }
 
-/// The lane of a process, if its number is below this one.
+/// Returns the lane of a process, if its number is below `processes`.
 fn lane_below(processes: u8, process: Option<u8>) -> Option<u8>
     ensures { result ≡ lane_among processes process }
 {
@@ -235,7 +235,7 @@ fn lane_below(processes: u8, process: Option<u8>) -> Option<u8>
     }
 }
 
-/// The rows of lines that share a column: each mark has one.
+/// Returns the rows of lines that share a column: each mark has one.
 fn rows_shared(alloc: Global, lines: &[RunLine]) -> Result<Vec<TextRow>, AllocError>
     ensures { GivesRows result (filter_map row_shared lines.now) }
 {
@@ -246,7 +246,7 @@ fn rows_shared(alloc: Global, lines: &[RunLine]) -> Result<Vec<TextRow>, AllocEr
     Ok(rows)
 }
 
-/// The row of one more of them, if it tells a mark.
+/// Returns the row of one more of them, if it is a mark.
 fn push_shared(alloc: Global, line: &RunLine, rows: &mut Vec<TextRow>) -> Result<(), AllocError>
     ensures { OnOk result (wordings rows.new ≡ wordings rows.old ++ row_if_marked line.now) }
 {
@@ -259,7 +259,7 @@ fn push_shared(alloc: Global, line: &RunLine, rows: &mut Vec<TextRow>) -> Result
     }
 }
 
-/// The rows of a line alone in its column, in the lane of its process or in that of the history.
+/// Returns the rows of a line alone in its column, in the lane of its process or in that of the history.
 fn rows_alone(alloc: Global, line: &RunLine, in_lane: bool) -> Result<Vec<TextRow>, AllocError>
     ensures { GivesRows result (rows_told in_lane line.now.saying) }
 {
@@ -290,7 +290,7 @@ fn rows_alone(alloc: Global, line: &RunLine, in_lane: bool) -> Result<Vec<TextRo
     }
 }
 
-/// What stands out of a refusal.
+/// Returns the bold words of a refusal.
 fn refused_verb(alloc: Global, process: u8, in_lane: bool) -> Result<String, AllocError>
     ensures { IfOk result (λ verb. string_bytes verb ≡ verb_refused in_lane process) }
 {
@@ -300,7 +300,7 @@ fn refused_verb(alloc: Global, process: u8, in_lane: bool) -> Result<String, All
     format!(in alloc; "{process} refused")
 }
 
-/// How many commands were taken, and how many events refused.
+/// Returns in words the number of commands taken and that of refused events.
 #[tactic(auto, using(crate::proofs::Texts::counts_are))]
 fn counts(alloc: Global, taken: u64, refused: u64) -> Result<String, AllocError>
     ensures { IfOk result (λ text. string_bytes text ≡ counts_text taken refused) }
@@ -308,7 +308,7 @@ fn counts(alloc: Global, taken: u64, refused: u64) -> Result<String, AllocError>
     format!(in alloc; "taken {taken} refused {refused}")
 }
 
-/// A name that stands out, and below it words, as far as they are drawn.
+/// Returns a bold name, and below it words, as far as they are drawn.
 fn named_rows(alloc: Global, name: &str, words: &[u8]) -> Result<Vec<TextRow>, AllocError>
     ensures { GivesRows result (rows_named name.now words.now) }
 {
@@ -316,14 +316,14 @@ fn named_rows(alloc: Global, name: &str, words: &[u8]) -> Result<Vec<TextRow>, A
     rows_above(alloc, String::from_str(alloc, name)?, rest)
 }
 
-/// A name that stands out, and below it words that are drawn whole.
+/// Returns a bold name, and below it words that are drawn whole.
 fn named_text(alloc: Global, name: &str, words: String) -> Result<Vec<TextRow>, AllocError>
     ensures { GivesRows result (verb_and_rest name.now (string_bytes words)) }
 {
     two_rows(alloc, String::from_str(alloc, name)?, words)
 }
 
-/// Words that stand out, and others below them.
+/// Returns bold words, and others below them.
 pub(crate) fn two_rows(
     alloc: Global,
     verb: String,
@@ -334,7 +334,7 @@ pub(crate) fn two_rows(
     rows_above(alloc, verb, TextRow::new(false, rest))
 }
 
-/// Words that stand out, and a row below them.
+/// Returns bold words, and a row below them.
 fn rows_above(alloc: Global, verb: String, rest: TextRow) -> Result<Vec<TextRow>, AllocError>
     ensures { GivesRows result (worded true (string_bytes verb) ∷ wording rest ∷ []) }
 {
@@ -344,7 +344,7 @@ fn rows_above(alloc: Global, verb: String, rest: TextRow) -> Result<Vec<TextRow>
     Ok(rows)
 }
 
-/// Words that stand out, alone.
+/// Returns bold words alone.
 fn one_row(alloc: Global, verb: String) -> Result<Vec<TextRow>, AllocError>
     ensures { GivesRows result (worded true (string_bytes verb) ∷ []) }
 {
@@ -353,7 +353,7 @@ fn one_row(alloc: Global, verb: String) -> Result<Vec<TextRow>, AllocError>
     Ok(rows)
 }
 
-/// The rows of a mark alone in its column.
+/// Returns the rows of a mark alone in its column.
 fn mark_rows(alloc: Global, mark: &Mark) -> Result<Vec<TextRow>, AllocError>
     ensures { GivesRows result (rows_marked mark.now) }
 {
@@ -369,7 +369,7 @@ fn mark_rows(alloc: Global, mark: &Mark) -> Result<Vec<TextRow>, AllocError>
     }
 }
 
-/// A row of words, of which at most so many characters are drawn.
+/// Returns a row of words, of which at most [`LONGEST`] characters are drawn.
 fn cut_row(alloc: Global, words: &[u8]) -> Result<TextRow, AllocError>
     ensures { IfOk result (λ row. wording row ≡ row_shortened words.now) }
 {
@@ -380,7 +380,7 @@ fn cut_row(alloc: Global, words: &[u8]) -> Result<TextRow, AllocError>
     })
 }
 
-/// The words, or where there are too many, the first of them and three dots.
+/// Returns the words or, if they are too long, the first of them and three dots.
 pub fn cut(alloc: Global, words: &[u8]) -> Result<Vec<u8>, AllocError>
     ensures { IfOk result (λ text. text.items ≡ shortened words.now) }
 {

@@ -1,4 +1,4 @@
-//! What the lines of a run tell of its record. The law is a function with nothing to do, whose contract is the law.
+//! The law that the lines of a run give the stages of its record. Its function does nothing, and its contract is the law.
 ghost use Rattle.columns.specs.Stages.{StagesAreTheRecords};
 
 /// Lines that say the marks of a record lead each process to its stage in that record. These are the stages that a

@@ -1,4 +1,4 @@
-//! How high the lanes of a band are, and where its waves lie.
+//! The heights of the lanes of a band, and the position of its waves.
 ghost use Rattle.std.specs.Prelude.{◌≡◌, ◌<◌, ◌≤◌, ◌^◌, map, None, Some};
 ghost use Rattle.columns.specs.AccessStates.{seen_accesses};
 ghost use Rattle.columns.specs.Columns.{seen};
@@ -12,31 +12,31 @@ use crate::placing::last_place;
 /// The height of the axis.
 pub const AXIS: u16 = 20;
 
-/// Where the lanes of a band lie.
+/// The position of the lanes of a band.
 #[derive(Clone, Copy)]
 pub struct Layout {
     lanes: [Lane; 16],
-    /// Where the lane of the history begins.
+    /// The top of the lane of the history.
     pub chain: u16,
-    /// Where the waves begin.
+    /// The top of the waves.
     pub waves: u16,
-    /// How high the band is.
+    /// The height of the band.
     pub height: u16,
     /// The right end of the lanes.
     pub end: u16,
 }
 
-/// Where a lane lies.
+/// The position of a lane.
 #[derive(Clone, Copy)]
 pub struct Lane {
-    /// Where it begins.
+    /// Its top.
     pub top: u16,
-    /// Whether a column stands in it.
+    /// Whether a column is in it.
     pub is_full: bool,
 }
 
 impl Lane {
-    /// Its middle line.
+    /// Returns its middle line.
     pub fn bar(&self) -> u32
         ensures small { result < 2 ^ 17 }
         ensures exact { result ≡ bar_of self.now }
@@ -44,7 +44,7 @@ impl Lane {
         u32::from(self.top) + if self.is_full { 49 } else { 9 }
     }
 
-    /// Returns where the boxes of accesses begin.
+    /// Returns the top of the boxes of accesses.
     pub fn boxes(&self) -> u32
         ensures small { result < 2 ^ 17 }
         ensures exact { result ≡ boxes_of self.now }
@@ -54,7 +54,7 @@ impl Lane {
 }
 
 impl Layout {
-    /// The lanes of a band of these columns, before which these accesses are open, and its waves.
+    /// Returns the lanes and waves of a band of these columns, before which these accesses are open.
     pub fn new(processes: u8, accesses: &AccessState, columns: &[Column], is_last: bool) -> Layout
         ensures { result ≡
             layout_of processes (seen_accesses accesses.now) (map seen columns.now) is_last }
@@ -70,14 +70,14 @@ impl Layout {
         }
     }
 
-    /// Returns where the row of a wave begins.
+    /// Returns the top of the row of a wave.
     pub fn wave_row(&self, row: usize) -> u16
         ensures { result ≡ wave_row self.now row }
     {
         self.waves.saturating_add(room(row, 30))
     }
 
-    /// The lane of a process.
+    /// Returns the lane of a process.
     pub fn lane(&self, process: u8) -> Lane
         ensures { result ≡ lane_in self.now process }
     {
@@ -90,7 +90,7 @@ impl Layout {
         }
     }
 
-    /// The middle line of the lane of the history.
+    /// Returns the middle line of the lane of the history.
     pub fn knot(&self) -> u32
         ensures small { result < 2 ^ 17 }
         ensures exact { result ≡ knot_of self.now }
@@ -98,8 +98,8 @@ impl Layout {
         u32::from(self.chain) + 16
     }
 
-    /// From where to where the chain of the history goes, if there is a knot before these columns or among them: so
-    /// many places were given before them.
+    /// Returns the left and the right end of the chain of the history, if there is a knot among these columns, or one of the
+    /// `places` before them.
     pub fn chain_ends(&self, places: u64, columns: &[Column], is_last: bool) -> Option<(u16, u16)>
         ensures { result ≡ chain_ends_of places is_last self.now.end (map seen columns.now) }
     {
@@ -114,7 +114,7 @@ impl Layout {
     }
 }
 
-/// Where the first and the last knot of these columns stand.
+/// Returns the positions of the first and the last knot of these columns.
 fn knots(columns: &[Column]) -> Option<(u16, u16)>
     ensures { result ≡ knots_from None (map seen columns.now) }
 {
@@ -127,7 +127,7 @@ fn knots(columns: &[Column]) -> Option<(u16, u16)>
     ends
 }
 
-/// The first and the last of some knots, once there is one more.
+/// Returns the first and the last of some knots, with one more knot.
 fn with_last(ends: Option<(u16, u16)>, x: u16) -> (u16, u16)
     ensures { Some result ≡ with_knot ends x }
 {
@@ -137,7 +137,7 @@ fn with_last(ends: Option<(u16, u16)>, x: u16) -> (u16, u16)
     }
 }
 
-/// The lanes of a band of these columns.
+/// Returns the lanes of a band of these columns.
 fn lanes(processes: u8, accesses: &AccessState, columns: &[Column]) -> [Lane; 16]
     ensures { result ≡
         first_lanes processes (seen_accesses accesses.now) (map seen columns.now) 16 }
@@ -159,7 +159,7 @@ fn lanes(processes: u8, accesses: &AccessState, columns: &[Column]) -> [Lane; 16
     lanes
 }
 
-/// Where the lane of a process begins: below those of the ones before it.
+/// Returns the top of the lane of a process, which is below those of lower numbers.
 fn top_below(accesses: &AccessState, columns: &[Column], process: u8) -> u16
     requires { process ≤ 16 }
     ensures exact { result ≡ top_of (seen_accesses accesses.now) (map seen columns.now) process }
@@ -172,7 +172,7 @@ fn top_below(accesses: &AccessState, columns: &[Column], process: u8) -> u16
     top
 }
 
-/// How high a lane is.
+/// Returns the height of a lane.
 fn height(is_full: bool) -> u16
     ensures exact { result ≡ lane_height is_full }
     ensures small { result ≤ 70 }
@@ -180,7 +180,7 @@ fn height(is_full: bool) -> u16
     if is_full { 70 } else { 18 }
 }
 
-/// Returns how high the room for accesses in the lane of a process is.
+/// Returns the height of the room for accesses in the lane of a process.
 fn room_for_accesses(accesses: &AccessState, columns: &[Column], process: u8) -> u16
     ensures exact { result ≡
         access_room (seen_accesses accesses.now) (map seen columns.now) process }
@@ -206,7 +206,7 @@ fn shows_access_in_lane(columns: &[Column], process: u8) -> bool
     false
 }
 
-/// Whether a column stands in the lane of a process.
+/// Returns whether a column is in the lane of a process.
 fn stands_in_lane(columns: &[Column], process: u8) -> bool
     ensures { result ≡ has_column (map seen columns.now) process }
 {
@@ -218,7 +218,7 @@ fn stands_in_lane(columns: &[Column], process: u8) -> bool
     false
 }
 
-/// The right end of the lanes.
+/// Returns the right end of the lanes.
 fn lanes_right(columns: &[Column], is_last: bool) -> u16
     ensures { result ≡ lanes_end (map seen columns.now) is_last }
 {
@@ -229,7 +229,7 @@ fn lanes_right(columns: &[Column], is_last: bool) -> u16
     }
 }
 
-/// What the lane of the history needs below its knots: room for a line of the run, or for a pair.
+/// Returns the height that the lane of the history needs below its knots, for a line of the run or for a pair.
 fn room_below(columns: &[Column]) -> u16
     ensures exact { result ≡ room_below_of (map seen columns.now) }
     ensures small { result ≤ 28 }
@@ -246,7 +246,7 @@ fn room_below(columns: &[Column]) -> u16
     room
 }
 
-/// Whether a column tells of a command that changed the store.
+/// Returns whether a column has a command that changed the store.
 fn changes_the_store(column: &Column) -> bool
     ensures { result ≡ changes (seen column.now) }
 {

@@ -1,5 +1,5 @@
-//! The lines of a run or of a trace as values, and the reads that writes overlapped; what the lines have told so far; the columns that
-//! show them, where these stand in a band, and where its lanes lie. It draws nothing.
+//! Columns of a picture: what each line of a run, a record or a trace shows, which access an entry shows, and where columns
+//! and lanes are in a band. The crate draws nothing.
 #![tactic(auto)]
 
 mod access_state;

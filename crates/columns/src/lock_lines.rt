@@ -1,4 +1,4 @@
-//! The lines of a trace, and the marks of a record that its marks are drawn like.
+//! The lines of a trace, and the marks of a record that look like its marks.
 ghost use Rattle.std.specs.Prelude.{◌≡◌, IfOk};
 ghost use Rattle.columns.specs.LockLines.{like, lock_ended_text, lock_marked_text};
 

@@ -1,18 +1,18 @@
-//! What a mark makes of what was told before it.
+//! What a mark changes in the state of a picture.
 ghost use Rattle.std.specs.Prelude.{◌≡◌};
 ghost use Rattle.record.specs.Stages as record_stages;
 ghost use Rattle.columns.specs.States.{goes_on, inside_marked, places_marked};
 
 use record::{Mark, Stage};
 
-/// Whether a mark takes its process on to another stage.
+/// Returns whether a mark changes the stage of its process.
 pub(crate) fn leads_on(mark: &Mark) -> bool
     ensures { result ≡ goes_on mark.now }
 {
     !matches!(mark, Mark::Taken(_, _) | Mark::Settled(_))
 }
 
-/// Who is inside after a mark of a process.
+/// Returns the process that is inside after a mark.
 pub(crate) fn inside_after(inside: Option<u8>, process: u8, mark: &Mark) -> Option<u8>
     ensures { result ≡ inside_marked inside process mark.now }
 {
@@ -23,7 +23,7 @@ pub(crate) fn inside_after(inside: Option<u8>, process: u8, mark: &Mark) -> Opti
     }
 }
 
-/// How many places there were after a mark.
+/// Returns the number of positions in the history after a mark.
 pub(crate) fn places_after(places: u64, mark: &Mark) -> u64
     ensures { result ≡ places_marked places mark.now }
 {
@@ -33,7 +33,7 @@ pub(crate) fn places_after(places: u64, mark: &Mark) -> u64
     }
 }
 
-/// The stage after a mark. Where its memory unit makes the mark `Left`, a process stays settling.
+/// Returns the stage after a mark. A process whose memory unit makes the mark `Left` stays settling.
 pub(crate) fn stage_after(stage: Stage, mark: &Mark) -> Stage
     ensures { result ≡ record_stages.stage_after stage mark.now }
 {

@@ -2,25 +2,25 @@
 ghost use Rattle.std.specs.Prelude.{◌≡◌, ◌*◌};
 ghost use Rattle.columns.specs.Columns.{capped};
 
-/// Where lanes begin.
+/// The left end of lanes.
 pub const LEFT: u16 = 52;
 
-/// Where words and lanes end.
+/// The right end of words and lanes.
 pub const RIGHT: u16 = 1188;
 
-/// Room for a character.
+/// The width of a character.
 pub(crate) const CHARACTER: u16 = 7;
 
-/// Room for a small character.
+/// The width of a small character.
 pub const DIGIT: u16 = 6;
 
-/// What is left free behind words.
+/// The free room after words.
 pub(crate) const PAD: u16 = 9;
 
 /// The most characters of a store that are drawn.
 pub(crate) const LONGEST: usize = 44;
 
-/// Room for so many characters of one size.
+/// Returns the width of `characters` characters of one size.
 pub fn room(characters: usize, each: u16) -> u16
     ensures { result ≡ capped (characters * each) }
 {

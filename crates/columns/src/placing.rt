@@ -1,4 +1,4 @@
-//! Where the columns of a band stand.
+//! The positions of the columns of a band.
 ghost use Rattle.std.specs.Prelude.{◌≡◌, ◌≤◌, ◌+◌, ◌-◌, ◌*◌, ◌/◌, ◌<◌, flat_map, IfOk, map, OnOk};
 ghost use Rattle.columns.specs.Columns.{capped, seen};
 ghost use Rattle.columns.specs.Overlaps.{between};
@@ -9,26 +9,26 @@ use crate::columns::Column;
 use crate::measures::{CHARACTER, LEFT, RIGHT, room};
 use std::alloc::{AllocError, Global};
 
-/// Where the words in each lane of a band end so far.
+/// The right ends of the words in each lane of a band so far.
 #[derive(Clone, Copy)]
 pub struct Placing {
-    /// The last column's place; none at the beginning of a band.
+    /// The position of the last column, or `None` at the beginning of a band.
     last: Option<u16>,
     lanes: [u16; 16],
     below: u16,
 }
 
-/// Where a column would stand, and where its words would end.
+/// The position of a column, and the right end of its words.
 #[derive(Clone, Copy)]
 pub struct ColumnPlace {
     /// Its left edge.
     pub x: u16,
-    /// Where the words end.
+    /// The right end of its words.
     pub end: u16,
 }
 
 impl Placing {
-    /// A band begins; in the first one the history opens with so many characters.
+    /// Returns the placing at the beginning of a band. In the first band the opening store has `opening` characters, otherwise 0.
     pub fn new(opening: usize) -> Placing
         ensures { result ≡ placing_at_first opening }
     {
@@ -44,7 +44,7 @@ impl Placing {
         }
     }
 
-    /// The place of a column, behind the words that stand in its lanes.
+    /// Returns the position of a column, after the words in its lanes.
     pub fn place(&self, alloc: Global, column: &Column) -> Result<ColumnPlace, AllocError>
         ensures { IfOk result (λ place. place ≡ place_of self.now (seen column.now)) }
     {
@@ -56,7 +56,7 @@ impl Placing {
         })
     }
 
-    /// The left edge of a column.
+    /// Returns the left edge of a column.
     fn left(&self, alloc: Global, column: &Column) -> Result<u16, AllocError>
         ensures { IfOk result (λ x. x ≡ left_of self.now (seen column.now)) }
     {
@@ -69,7 +69,7 @@ impl Placing {
         }
     }
 
-    /// Where the words in a lane end so far.
+    /// Returns the right end of the words in a lane so far.
     fn words_in(&self, lane: Option<u8>) -> u16
         ensures { result ≡ end_in self.now.lanes lane }
     {
@@ -82,14 +82,14 @@ impl Placing {
         }
     }
 
-    /// Whether the band has room for it; an empty one always has.
+    /// Returns whether the band has room for it. An empty band always has.
     pub fn has_room(&self, place: ColumnPlace) -> bool
         ensures { result ≡ has_room_at self.now place }
     {
         self.last.is_none() || place.end <= RIGHT
     }
 
-    /// Puts a column there.
+    /// Puts a column at its position.
     pub fn put(
         &mut self,
         alloc: Global,
@@ -112,7 +112,7 @@ impl Placing {
     }
 }
 
-/// The ends of words in lanes, once they end there in one of them.
+/// Returns the right ends of the words in lanes, after those of one lane changed.
 fn with_end(lanes: [u16; 16], lane: Option<u8>, end: u16) -> [u16; 16]
     ensures { result ≡ lanes_ended lanes lane end }
 {
@@ -125,7 +125,7 @@ fn with_end(lanes: [u16; 16], lane: Option<u8>, end: u16) -> [u16; 16]
     lanes
 }
 
-/// How many binary digits a number has.
+/// Returns the number of binary digits of a number.
 fn binary_digits(number: u64) -> u16
     ensures exact { result ≡ doublings number }
     ensures small { result ≤ 64 }
@@ -133,7 +133,7 @@ fn binary_digits(number: u64) -> u16
     u16::try_from(64u32.saturating_sub(number.leading_zeros())).unwrap_or(64)
 }
 
-/// The room that the words of a column need, in its lane and in that of the history.
+/// Returns the widths that the words of a column need, in its lane and in that of the history.
 fn room_needed(alloc: Global, column: &Column) -> Result<u16, AllocError>
     ensures { IfOk result (λ room. room ≡ room_of (seen column.now)) }
 {
@@ -144,7 +144,7 @@ fn room_needed(alloc: Global, column: &Column) -> Result<u16, AllocError>
     }
 }
 
-/// Where the words of a placed column end.
+/// Returns the right end of the words of a placed column.
 fn words_end(alloc: Global, column: &Column) -> Result<u16, AllocError>
     ensures { IfOk result (λ end. end ≡ capped (column.now.x + room_of (seen column.now))) }
 {
@@ -152,7 +152,7 @@ fn words_end(alloc: Global, column: &Column) -> Result<u16, AllocError>
     Ok(column.x.saturating_add(room))
 }
 
-/// Where the last column of a band stands, and the left edge where it has none.
+/// Returns the position of the last column of a band, or the left edge if it has none.
 pub(crate) fn last_place(columns: &[Column]) -> u16
     ensures { result ≡ last_of (map seen columns.now) }
 {
@@ -163,7 +163,7 @@ pub(crate) fn last_place(columns: &[Column]) -> u16
     last
 }
 
-/// Where an event stands among the columns of a band, before which so many events were accepted.
+/// Returns the position of an event among the columns of a band, before which `before_at` events were accepted.
 pub fn event_place(columns: &[Column], before_at: u64, event: u64) -> u16
     ensures { result ≡ event_stands event (52, before_at) (map seen columns.now) }
 {
@@ -179,7 +179,7 @@ pub fn event_place(columns: &[Column], before_at: u64, event: u64) -> u16
     left
 }
 
-/// Where an event stands between two places, each with the number of its event.
+/// Returns the position of an event between two positions, each with the number of its event.
 fn place_between(event: u64, left: (u16, u64), right: (u16, u64)) -> u16
     requires { event ≤ right.1 }
     ensures { result ≡ between event left right }
@@ -192,7 +192,7 @@ fn place_between(event: u64, left: (u16, u64), right: (u16, u64)) -> u16
     u16::try_from(u128::from(left.0) + pixels).unwrap_or(u16::MAX)
 }
 
-/// Draws the columns of a band apart to fill its width, at most to half as much again. Distances never shrink.
+/// Spreads the columns of a band over its width, at most to half as much again. Distances never shrink.
 pub fn stretch(alloc: Global, columns: &mut [Column]) -> Result<(), AllocError>
     ensures told { OnOk result (flat_map told_in columns.new ≡ flat_map told_in columns.old) }
     ensures apart { OnOk result (map seen columns.new ≡ stretched_all (map seen columns.old)) }
@@ -208,7 +208,7 @@ pub fn stretch(alloc: Global, columns: &mut [Column]) -> Result<(), AllocError>
     Ok(())
 }
 
-/// Where the last words of a band end.
+/// Returns the right end of the last words of a band.
 fn widest_end(alloc: Global, columns: &[Column]) -> Result<u16, AllocError>
     ensures { IfOk result (λ end. end ≡ end_of_words (map seen columns.now)) }
 {
@@ -219,7 +219,7 @@ fn widest_end(alloc: Global, columns: &[Column]) -> Result<u16, AllocError>
     Ok(end)
 }
 
-/// Draws columns apart: what took so many pixels takes so many then.
+/// Stretches the positions of columns in this ratio of two widths.
 fn draw_apart(columns: &mut [Column], old: u32, new: u32)
     requires { 0 < old }
     ensures told { flat_map told_in columns.new ≡ flat_map told_in columns.old }
@@ -230,7 +230,7 @@ fn draw_apart(columns: &mut [Column], old: u32, new: u32)
     }
 }
 
-/// Where a column stands after stretching.
+/// Returns the position of a column after stretching.
 fn stretched(x: u16, old: u32, new: u32) -> u16
     requires { 0 < old }
     ensures { result ≡ capped (52 + (x - 52) * new / old) }

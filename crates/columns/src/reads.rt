@@ -1,4 +1,4 @@
-//! Reads that writes overlapped, as values, and what is said of them.
+//! Reads that writes overlapped, and the words that a picture has of them.
 ghost use Rattle.std.specs.Prelude.{◌≡◌, ◌++◌, IfOk, OnOk, string_bytes};
 ghost use Rattle.std.specs.Fmt.{decimal};
 ghost use Rattle.columns.specs.Columns.{GivesRows, verb_and_rest};
@@ -17,25 +17,25 @@ pub struct OverlappedRead {
     pub bit: u16,
     /// Whether the register has more bits than this one.
     pub is_wide: bool,
-    /// The number of the event in which it began.
+    /// The number of the event that began it.
     pub begin: u64,
-    /// The number of the event in which it ended.
+    /// The number of the event that ended it.
     pub end: u64,
-    /// What it gave.
+    /// The value that it returned.
     pub value: bool,
-    /// How many reads that ended after it, before the next line of the run, are not shown.
+    /// The number of reads that ended after it, before the next line of the run, and are not shown.
     pub more: u64,
 }
 
 impl OverlappedRead {
-    /// The rows of its column.
+    /// Returns the rows of its column.
     pub(crate) fn rows(&self, alloc: Global) -> Result<Vec<TextRow>, AllocError>
         ensures { GivesRows result (verb_and_rest (saw_text self.now) (bit_text self.now)) }
     {
         two_rows(alloc, self.saw(alloc)?, self.bit_words(alloc)?)
     }
 
-    /// What it gave, in words.
+    /// Returns in words the value that it returned.
     pub fn saw(&self, alloc: Global) -> Result<String, AllocError>
         ensures { IfOk result (λ text. string_bytes text ≡ saw_text self.now) }
     {
@@ -43,7 +43,7 @@ impl OverlappedRead {
         format!(in alloc; "saw {value}")
     }
 
-    /// The bit that it read, and how many reads are not shown.
+    /// Returns the bit that it read, and the number of reads that are not shown.
     pub fn bit_words(&self, alloc: Global) -> Result<String, AllocError>
         ensures { IfOk result (λ text. string_bytes text ≡ bit_text self.now) }
     {
@@ -64,7 +64,7 @@ impl OverlappedRead {
         Ok(text)
     }
 
-    /// All that is told of it: who read which bit, from when to when, and what the read gave.
+    /// Returns its title: the process, the bit, the events of its begin and its end, and the value.
     pub fn title(&self, alloc: Global) -> Result<String, AllocError>
         ensures { IfOk result (λ text. string_bytes text ≡ title_text self.now) }
     {
@@ -74,7 +74,7 @@ impl OverlappedRead {
         format!(in alloc; "{read} from event {begin} to {end} while it was written: {value}")
     }
 
-    /// Who read which bit.
+    /// Returns in words the process and the bit that it read.
     fn bit_read(&self, alloc: Global) -> Result<String, AllocError>
         ensures { IfOk result (λ text. string_bytes text ≡ read_text self.now) }
     {
@@ -89,7 +89,7 @@ impl OverlappedRead {
     }
 }
 
-/// Adds a number behind a sign.
+/// Appends a number after a sign.
 fn push_number(alloc: Global, sign: &str, number: u64, text: &mut String) -> Result<(), AllocError>
     ensures { OnOk result (string_bytes text.new ≡ string_bytes text.old ++ (sign.now ++ decimal number)) }
 {

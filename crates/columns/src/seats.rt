@@ -1,18 +1,18 @@
-//! What is known of processes beside their stages.
+//! What a picture stores of a process in addition to its stage.
 ghost use Rattle.std.specs.Prelude.{◌≡◌, map, set};
 ghost use Rattle.columns.specs.States.{no_seat, not_awaiting};
 
-/// What is known of a process beside its stage.
+/// What a picture stores of a process in addition to its stage.
 #[derive(Clone, Copy)]
 pub(crate) struct KnownProcess {
     /// Its ticket, or 0.
     pub ticket: u32,
-    /// Whose doorways were open when its wait began, and are open still.
+    /// The processes whose doorways were open when its wait began, and are still open.
     pub awaits: [bool; 16],
 }
 
 impl KnownProcess {
-    /// What is known of a process before it has a ticket.
+    /// Returns the value of a process before it has a ticket.
     pub fn new() -> KnownProcess
         ensures { result ≡ no_seat }
     {
@@ -23,7 +23,7 @@ impl KnownProcess {
     }
 }
 
-/// A process has no ticket, and awaits nobody.
+/// Removes the ticket of a process, which then awaits no process.
 pub(crate) fn clear_seat(seats: &mut [KnownProcess], process: u8)
     ensures { seats.new ≡ set seats.old process no_seat }
 {
@@ -33,7 +33,7 @@ pub(crate) fn clear_seat(seats: &mut [KnownProcess], process: u8)
     }
 }
 
-/// Nobody awaits a process any more.
+/// Lets no process await this one any more.
 pub(crate) fn forget(seats: &mut [KnownProcess], process: u8)
     ensures { seats.new ≡ map (not_awaiting process) seats.old }
 {
@@ -42,7 +42,7 @@ pub(crate) fn forget(seats: &mut [KnownProcess], process: u8)
     }
 }
 
-/// A process awaits another one no more.
+/// Returns what is stored of a process that no longer awaits another one.
 fn without(seat: KnownProcess, process: u8) -> KnownProcess
     ensures { result ≡ not_awaiting process seat }
 {

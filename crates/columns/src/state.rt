@@ -1,4 +1,4 @@
-//! What the lines have told so far: a fold over them.
+//! The state of all processes after the lines so far.
 ghost use Rattle.std.specs.Prelude.{◌≡◌, ◌≤◌, [], ◌∷◌, cond, drop, insert, length, map, set, IfOk, None, OnOk};
 ghost use Rattle.record.specs.declared.marks.Mark.TheVariants as mark_variants;
 ghost use Rattle.columns.specs.declared.told.Saying.TheVariants.{LockMarked, Marked};
@@ -13,44 +13,44 @@ use record::{Mark, Stage};
 use std::alloc::{AllocError, Global};
 use trace::LockMark;
 
-/// What the lines have told of all processes.
+/// The state of all processes after the lines so far.
 #[derive(Clone, Copy)]
 pub struct State {
-    /// How many processes there are.
+    /// The number of processes.
     pub processes: u8,
-    /// The stage of each.
+    /// The stage of each process.
     pub stages: [Stage; 16],
     seats: [KnownProcess; 16],
-    /// Who is inside, if somebody is.
+    /// The process that is inside, if there is one.
     pub inside: Option<u8>,
-    /// How many places of the history were given.
+    /// The number of positions in the history that were given.
     pub places: u64,
 }
 
-/// Some processes in an order: how many there are, and the first three.
+/// Some processes in an order: their number, and the first three.
 #[derive(Clone, Copy, PartialEq, Eq)]
 pub struct Group {
-    /// How many there are; 255 stands for more of them too.
+    /// Their number, at most 255.
     pub count: u8,
-    /// The first three, and 0 in place of those that there are not.
+    /// The first three, with 0 for each that is missing.
     pub first: [u8; 3],
 }
 
-/// What the bar of a process says.
+/// The words in the bar of a process.
 #[derive(Clone, Copy, PartialEq, Eq)]
 pub enum Word {
-    /// It says nothing.
+    /// It has none.
     Nothing,
     /// Its process is at this stage.
     Is(Stage),
-    /// Its process stands in line behind these.
+    /// These are served before its process.
     Behind(Group),
     /// Its process waits for these to leave their doorways.
     Awaits(Group),
 }
 
 impl Group {
-    /// Nobody.
+    /// Returns the group without processes.
     fn nobody() -> Group
         ensures { result ≡ group_of [] }
     {
@@ -60,7 +60,7 @@ impl Group {
         }
     }
 
-    /// One process more.
+    /// Returns the group with a process at its end.
     fn with(&self, process: u8) -> Group
         ensures { GroupGrows self.now (process ∷ []) result }
     {
@@ -70,7 +70,7 @@ impl Group {
         }
     }
 
-    /// The same, if it is to be one of them.
+    /// Returns the group with a process at its end, if `is_one` is true.
     fn with_if(&self, process: u8, is_one: bool) -> Group
         ensures { GroupGrows self.now (cond is_one (process ∷ []) []) result }
     {
@@ -79,7 +79,7 @@ impl Group {
 }
 
 impl State {
-    /// Nothing was told yet.
+    /// Returns the state before the first line.
     pub fn new(processes: u8) -> State
         ensures stages { result.stages ≡ nothing_told }
         ensures processes { result.processes ≡ processes }
@@ -94,7 +94,7 @@ impl State {
         }
     }
 
-    /// The stage of a process.
+    /// Returns the stage of a process.
     pub fn stage(&self, process: u8) -> Stage
         ensures { result ≡ stage_among self.now.stages process }
     {
@@ -113,7 +113,7 @@ impl State {
         }
     }
 
-    /// The processes with a ticket, in the order in which the lock serves them.
+    /// Returns the processes with a ticket, in the order in which the lock serves them.
     pub fn queue(&self, alloc: Global) -> Result<Vec<u8>, AllocError>
         ensures { IfOk result (λ queue. queue.items ≡ queue_of self.now) }
     {
@@ -127,7 +127,7 @@ impl State {
         Ok(queue)
     }
 
-    /// Behind how many of these a process with a higher number stands.
+    /// Returns the number of these processes that are served before one with a higher number.
     fn place_in(&self, queue: &[u8], process: u8) -> usize
         ensures within { result ≤ length queue.now }
         ensures place { insert queue.now result process ≡ lined_up self.now process queue.now }
@@ -140,7 +140,7 @@ impl State {
         queue.len()
     }
 
-    /// What the bar of a process says.
+    /// Returns the words in the bar of a process.
     pub fn word(&self, alloc: Global, process: u8) -> Result<Word, AllocError>
         ensures { IfOk result (λ word. word ≡ word_of self.now process) }
     {
@@ -155,7 +155,7 @@ impl State {
         })
     }
 
-    /// Who stands before a process in the line.
+    /// Returns the processes before a process in the line.
     fn before(&self, alloc: Global, process: u8) -> Result<Group, AllocError>
         ensures { IfOk result (λ these. these ≡ group_of (before_in process (queue_of self.now))) }
     {
@@ -163,7 +163,7 @@ impl State {
         Ok(group_before(queue.as_slice(), process))
     }
 
-    /// Whose doorways a process still awaits.
+    /// Returns the processes whose doorways a process still awaits.
     fn awaited(&self, process: u8) -> Group
         ensures { result ≡ group_of (awaited_in self.now process) }
     {
@@ -173,7 +173,7 @@ impl State {
         }
     }
 
-    /// Takes in a line; answers whom its process frees. The stages go on as the line tells.
+    /// Updates the state by a line, and returns the process that its process frees.
     pub fn take(&mut self, alloc: Global, line: &RunLine) -> Result<Option<u8>, AllocError>
         ensures stages { OnOk result (self.new.stages ≡ stages_next self.old line.now.saying) }
         ensures processes { self.new.processes ≡ self.old.processes }
@@ -190,7 +190,7 @@ impl State {
         }
     }
 
-    /// Takes in a mark of a process, if there is one; answers whom it frees.
+    /// Updates the state by a mark of a process, if there is one, and returns the process that it frees.
     fn take_mark(
         &mut self,
         alloc: Global,
@@ -212,7 +212,7 @@ impl State {
         Ok(freed)
     }
 
-    /// Takes in a mark of a process in a trace, which has no tickets.
+    /// Updates the state by a mark of a process in a trace, which has no tickets.
     fn take_lock_mark(&mut self, process: u8, mark: LockMark)
         ensures { self.new ≡ state_told self.old (LockMarked process mark) }
     {
@@ -225,7 +225,7 @@ impl State {
         }
     }
 
-    /// Whom a process frees that lets its ticket go: the first behind it in the line that waits.
+    /// Returns the process that is freed when a process clears its ticket: the first after it in the line that waits.
     fn freed(&self, alloc: Global, process: u8) -> Result<Option<u8>, AllocError>
         ensures { IfOk result (λ freed. freed ≡ freed_in self.now process) }
     {
@@ -234,7 +234,7 @@ impl State {
         Ok(self.first_waiting_from(queue.as_slice(), from))
     }
 
-    /// The first of these that waits, from this place on.
+    /// Returns the first of these that waits, from this index on.
     fn first_waiting_from(&self, queue: &[u8], from: usize) -> Option<u8>
         ensures { result ≡ first_waiting self.now.stages (drop from queue.now) }
     {
@@ -246,14 +246,14 @@ impl State {
         None
     }
 
-    /// Whether a process waits.
+    /// Returns whether a process waits.
     fn waits(&self, process: u8) -> bool
         ensures { result ≡ is_waiting (stage_among self.now.stages process) }
     {
         matches!(self.stage(process), Stage::Waiting)
     }
 
-    /// The state after a mark of a process.
+    /// Updates the state by a mark of a process.
     fn mark(&mut self, process: u8, mark: &Mark)
         ensures stages { self.new.stages ≡ stages_marked self.old.stages process mark.now }
         ensures processes { self.new.processes ≡ self.old.processes }
@@ -265,7 +265,7 @@ impl State {
         self.places = places_after(self.places, mark);
     }
 
-    /// A process that goes on is awaited by nobody, and gets its ticket or lets it go.
+    /// Updates what is awaited, and the ticket: no process awaits one whose stage has changed.
     fn set_seats(&mut self, process: u8, mark: &Mark)
         ensures { self.new ≡ with_seats_marked self.old process mark.now }
     {
@@ -275,7 +275,7 @@ impl State {
         }
     }
 
-    /// What a mark makes of the ticket of its process.
+    /// Updates the ticket of a process by its mark.
     fn hold_ticket(&mut self, process: u8, mark: &Mark)
         ensures { self.new ≡ with_seats_by self.old process mark.now }
     {
@@ -306,7 +306,7 @@ impl State {
         }
     }
 
-    /// A process has a ticket, and awaits those that are in their doorways now.
+    /// Gives a process a ticket, and lets it await those that are in their doorways now.
     fn begin_wait(&mut self, process: u8, ticket: u32)
         ensures { self.new ≡ with_seats_by self.old process (mark_variants.Waiting ticket) }
     {
@@ -317,7 +317,7 @@ impl State {
         }
     }
 
-    /// Which processes are in their doorways.
+    /// Returns the processes that are in their doorways.
     fn in_doorways(&self) -> [bool; 16]
         ensures { result ≡ map is_in_doorway self.now.stages }
     {
@@ -329,7 +329,7 @@ impl State {
     }
 }
 
-/// What the bar of a process says that waits: behind whom, or else whom it awaits.
+/// Returns the words in the bar of a waiting process: those before it in the line or, if there are none, those that it awaits.
 fn waiting_word(behind: Group, awaits: Group) -> Word
     ensures { IsWordOfWaiting behind awaits result }
 {
@@ -342,7 +342,7 @@ fn waiting_word(behind: Group, awaits: Group) -> Word
     }
 }
 
-/// The first three of some processes, once one stands at this place of theirs.
+/// Returns the first three of some processes, with one at this index.
 fn with_at(first: [u8; 3], place: u8, process: u8) -> [u8; 3]
     ensures { result ≡ set first place process }
 {
@@ -354,7 +354,7 @@ fn with_at(first: [u8; 3], place: u8, process: u8) -> [u8; 3]
     first
 }
 
-/// Those before a process in a line.
+/// Returns the processes before a process in a line.
 fn group_before(queue: &[u8], process: u8) -> Group
     ensures { result ≡ group_of (before_in process queue.now) }
 {
@@ -368,7 +368,7 @@ fn group_before(queue: &[u8], process: u8) -> Group
     group
 }
 
-/// The place behind a process in a line.
+/// Returns the index after a process in a line.
 fn place_behind(queue: &[u8], process: u8) -> usize
     ensures { drop result queue.now ≡ behind_in process queue.now }
 {
@@ -380,7 +380,7 @@ fn place_behind(queue: &[u8], process: u8) -> usize
     queue.len()
 }
 
-/// The processes of which this says so.
+/// Returns the processes for which the test holds.
 fn places_said(said: [bool; 16]) -> Group
     ensures { result ≡ group_of (places_from 0 said) }
 {

@@ -1,4 +1,4 @@
-//! A line of a run's text, as a value.
+//! A line of the text of a run, a record or a trace, as a value.
 ghost use Rattle.std.specs.Prelude.{◌≡◌, IfOk, option_copied};
 ghost use Rattle.run_lines.specs.{line_text};
 ghost use Rattle.columns.specs.LockLines.{lock_ended_text, lock_marked_text};
@@ -10,7 +10,7 @@ use run_lines::ReplayLine;
 use std::alloc::{AllocError, Global};
 use trace::LockMark;
 
-/// What a command changed that was taken.
+/// What a taken command changed.
 #[derive(Drop)]
 pub struct TakenChange {
     /// The pair that it changed or added, as `NAME=VALUE`.
@@ -19,10 +19,10 @@ pub struct TakenChange {
     pub store: Vec<u8>,
 }
 
-/// What a line says.
+/// The content of a line.
 #[derive(Drop)]
 pub enum Saying {
-    /// An event of the process has this mark. The change is that of a command taken, if it changed the store.
+    /// An event of the process has this mark. If the mark takes a command that changed the store, `change` is that change.
     Marked {
         process: u8,
         mark: Mark,
@@ -35,9 +35,9 @@ pub enum Saying {
     },
     /// The process has made all the steps of a `go`.
     Tired(u8),
-    /// The newest store: the words behind `show`.
+    /// The newest store: the words after `show`.
     Shown(String),
-    /// What a judge tells of the entries so far, line by line, and the process in whose lane that stands.
+    /// A line of a judge, and the process in whose lane it is drawn.
     Judged {
         process: Option<u8>,
         words: Vec<u8>,
@@ -59,18 +59,18 @@ pub enum Saying {
     },
 }
 
-/// A line of a run's text.
+/// A line of the text of a run, a record or a trace.
 #[derive(Drop)]
 pub struct RunLine {
     /// The number of the line of the printed scenario that made it, from 1.
     pub source: u64,
-    /// How many events were accepted before it; of a mark, the number of its event.
+    /// The number of events that were accepted before it, which is that of its event if it is a mark.
     pub at: u64,
     pub saying: Saying,
 }
 
 impl RunLine {
-    /// The process that it tells of.
+    /// Returns its process, if it has one.
     pub fn process(&self) -> Option<u8>
         ensures { result ≡ process_told self.now.saying }
     {
@@ -84,7 +84,7 @@ impl RunLine {
         }
     }
 
-    /// The number of its event, of a mark.
+    /// Returns the number of its event, if it is a mark.
     pub fn event(&self) -> Option<u64>
         ensures { result ≡ event_told self.now }
     {
@@ -94,7 +94,7 @@ impl RunLine {
         }
     }
 
-    /// The mark that it tells; of a trace, the one that its mark is drawn like.
+    /// Returns its mark. A mark of a trace gives the mark of a record that it looks like.
     pub fn mark(&self) -> Option<Mark>
         ensures { result ≡ mark_told self.now.saying }
     {
@@ -105,7 +105,7 @@ impl RunLine {
         }
     }
 
-    /// What its command changed.
+    /// Returns what its command changed.
     pub fn change(&self) -> Option<&TakenChange>
         ensures { option_copied result ≡ change_told self.now.saying }
     {
@@ -115,7 +115,7 @@ impl RunLine {
         }
     }
 
-    /// The place in the history that it tells.
+    /// Returns its position in the history, if it has one.
     pub fn place(&self) -> Option<u64>
         ensures { result ≡ place_told self.now.saying }
     {
@@ -128,21 +128,21 @@ impl RunLine {
         }
     }
 
-    /// Whether it tells a refusal.
+    /// Returns whether it is a refusal.
     pub fn is_refusal(&self) -> bool
         ensures { result ≡ tells_refusal self.now.saying }
     {
         matches!(&self.saying, Saying::Refused { .. })
     }
 
-    /// Whether it tells a mark of a trace.
+    /// Returns whether it is a mark of a trace.
     pub fn is_lock_mark(&self) -> bool
         ensures { result ≡ tells_lock_mark self.now.saying }
     {
         matches!(&self.saying, Saying::LockMarked { .. })
     }
 
-    /// The line, without its end.
+    /// Returns the line, without its end.
     pub fn text(&self, alloc: Global) -> Result<Vec<u8>, AllocError>
         ensures { IfOk result (λ text. text.items ≡ text_of self.now) }
     {
@@ -183,14 +183,14 @@ impl RunLine {
     }
 }
 
-/// The line as `replay` prints it.
+/// Returns the line as `replay` prints it.
 fn printed(alloc: Global, line: &ReplayLine) -> Result<Vec<u8>, AllocError>
     ensures { IfOk result (λ text. text.items ≡ line_text line.now) }
 {
     Ok(line.to_string(alloc)?.into_bytes())
 }
 
-/// The line of what a judge tells.
+/// Returns a line of a judge.
 fn judged(alloc: Global, words: &[u8]) -> Result<Vec<u8>, AllocError>
     ensures { IfOk result (λ text. text.items ≡ judged_text words.now) }
 {

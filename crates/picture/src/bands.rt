@@ -1,4 +1,4 @@
-//! A band: its columns, and what stood before them.
+//! A band: its columns, and the state before them.
 ghost use Rattle.std.specs.Prelude.{◌≡◌, flat_map, map, OnOk};
 ghost use Rattle.picture.specs.Adding.{Draws, TellsLines, all_told};
 ghost use Rattle.markup.specs.{reading};
@@ -15,20 +15,20 @@ use std::alloc::{AllocError, Global};
 #[derive(Drop)]
 pub(crate) struct Band {
     pub columns: Vec<Column>,
-    /// What stood before its first column.
+    /// The state before its first column.
     pub before: State,
-    /// How many events were accepted before that column.
+    /// The number of events that were accepted before that column.
     pub before_at: u64,
     pub layout: Layout,
     pub is_last: bool,
-    /// What the store opens with, in the first band.
+    /// The words of the opening store, in the first band.
     pub opens: Vec<u8>,
     pub subject: Subject,
 }
 
 impl Band {
-    /// Draws it, with the accesses that are open at its left edge, and its waves. The titles of its marks are the lines
-    /// of its columns, and each element that begins ends.
+    /// Draws the band, with the accesses that are open at its left edge and with its waves. The titles of its marks are the
+    /// lines of its columns, and each element that begins ends.
     pub fn draw(
         &self,
         alloc: Global,
@@ -64,7 +64,7 @@ impl Band {
         Ok(())
     }
 
-    /// Draws what leads from lane to lane.
+    /// Draws the links between lanes.
     fn draw_all_links(&self, alloc: Global, markup: &mut Markup) -> Result<(), AllocError>
         ensures draws { Draws result markup.old markup.new (flat_map (links (seen_band self.now)) (map seen self.now.columns.items)) }
         ensures read { OnOk result (reading markup.new ≡ reading markup.old) }

@@ -39,14 +39,14 @@ impl Band {
     }
 }
 
-/// Whether two stages are the same.
+/// Returns whether two stages are equal.
 fn is_same(stage: Stage, other: Stage) -> bool
     ensures { result ≡ is_stage stage other }
 {
     stage == other
 }
 
-/// Draws what stands to the left of a lane, and the rule above it.
+/// Draws the name of a lane, and the rule above it.
 fn draw_name(alloc: Global, process: u8, lane: Lane, markup: &mut Markup) -> Result<(), AllocError>
     ensures draws { Draws result markup.old markup.new (lane_name lane process) }
     ensures read { OnOk result (reading markup.new ≡ reading markup.old) }
@@ -98,7 +98,7 @@ fn draw_bar(
     markup.block(stage.word(), corner, u32::from(to - from), height)
 }
 
-/// How high the bar of a stage is.
+/// Returns the height of the bar of a stage.
 fn bar_height(lane: Lane, stage: Stage) -> u32
     ensures { result ≡ height_of lane stage }
 {

@@ -1,4 +1,4 @@
-//! What a band has behind its marks: shades, the axis, and the history.
+//! The background of a band: shades, the axis, and the history.
 ghost use Rattle.std.specs.Prelude.{◌≡◌, [], ◌∷◌, map, OnOk};
 ghost use Rattle.picture.specs.Adding.{Draws};
 ghost use Rattle.markup.specs.{reading};
@@ -11,11 +11,11 @@ use columns::{AXIS, Column, DIGIT, LEFT, RIGHT, room};
 use markup::{Markup, Point};
 use std::alloc::{AllocError, Global};
 
-/// Where the axis lies.
+/// The height of the axis.
 const MIDDLE: u32 = 14;
 
 impl Band {
-    /// Shades all lanes while somebody is inside.
+    /// Shades all lanes while a process is inside.
     pub(crate) fn draw_shades(&self, markup: &mut Markup) -> Result<(), AllocError>
         ensures draws { Draws result markup.old markup.new (shades self.now.layout.chain self.now.layout.end (first_inside self.now.before) (map seen self.now.columns.items)) }
         ensures read { OnOk result (reading markup.new ≡ reading markup.old) }
@@ -29,7 +29,7 @@ impl Band {
         self.shade_before(from, false, self.layout.end, markup)
     }
 
-    /// Where the first shade begins, if somebody is inside before the band.
+    /// Returns the left end of the first shade, if a process is inside before the band.
     fn shade_start(&self) -> Option<u16>
         ensures { result ≡ first_inside self.now.before }
     {
@@ -39,7 +39,7 @@ impl Band {
         }
     }
 
-    /// Shades up to a place where nobody is inside any more, if somebody was.
+    /// Shades all lanes up to the place where a process leaves, if one was inside.
     fn shade_before(
         &self,
         from: Option<u16>,
@@ -116,7 +116,7 @@ impl Band {
         markup.label("name", Point::at(8, self.layout.knot() + 3), b"history")
     }
 
-    /// Draws what the store opens with.
+    /// Draws the words of the opening store.
     fn draw_opening(&self, markup: &mut Markup) -> Result<(), AllocError>
         ensures draws { Draws result markup.old markup.new (opening_words (knot_of self.now.layout) self.now.opens.items) }
         ensures read { OnOk result (reading markup.new ≡ reading markup.old) }
@@ -193,7 +193,7 @@ fn draw_gap(
     markup.label("gap", Point::at(x, MIDDLE - 3), digits.as_bytes())
 }
 
-/// Where somebody has been inside from, after a column at a place.
+/// Returns the place since which a process has been inside, after a column.
 fn inside_from(from: Option<u16>, is_inside: bool, x: u16) -> Option<u16>
     ensures { result ≡ inside_since from is_inside x }
 {

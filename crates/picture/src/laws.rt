@@ -1,8 +1,8 @@
-//! What a picture shows of the record of its run. The law is a function with nothing to do, whose contract is the law.
+//! The law of the stages that a picture shows. Its function does nothing, and its contract is the law.
 ghost use Rattle.picture.specs.Standings.{BarsAreStages};
 
-/// Each column of a picture shows what its lines tell up to some moment: the bar of a process right of it is the stage
-/// of that process in any record whose marks these lines say.
+/// Each column of a picture shows the state after some of its lines: the bar of a process to its right is the stage of
+/// that process in any record that has the marks of these lines.
 pub fn bars_are_stages()
     ensures { BarsAreStages }
 {}

@@ -1,5 +1,5 @@
-//! The picture of a run or of a trace: what its lines tell, drawn as columns in bands, one below the other, from which the lines are
-//! read back. One band is held at a time.
+//! The picture of a run, a record or a trace: its lines, drawn as columns in bands, one below the other, from which the lines
+//! can be read back. One band is held at a time.
 #![tactic(auto)]
 
 mod accesses;

@@ -1,4 +1,4 @@
-//! What leads from one lane to another.
+//! The links from one lane to another.
 ghost use Rattle.std.specs.Prelude.{◌≡◌, ◌≤◌, OnOk};
 ghost use Rattle.picture.specs.Adding.{Draws};
 ghost use Rattle.markup.specs.{reading};
@@ -11,7 +11,7 @@ use markup::{Markup, Point};
 use std::alloc::{AllocError, Global};
 
 impl Band {
-    /// Draws whom a column's process frees, the line that leads to its knot, and how long its read was open.
+    /// Draws the arrow to the process that a column's process frees, the line to its knot, and the bracket of its read.
     pub(crate) fn draw_links(
         &self,
         alloc: Global,
@@ -70,7 +70,7 @@ impl Band {
     }
 }
 
-/// How far from the middle line of a lane the tip of an arrow ends.
+/// Returns the distance from the middle line of a lane to the tip of an arrow.
 fn tip_distance(lane: Lane) -> u32
     ensures small { result ≤ 9 }
     ensures exact { result ≡ distance_of_tip lane }

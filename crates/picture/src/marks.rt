@@ -35,7 +35,7 @@ impl Band {
         self.draw_lines(column, head, foot, markup)
     }
 
-    /// Draws the lines of a column that stands in a lane.
+    /// Draws the lines of a column in the lane of a process.
     fn draw_lines(
         &self,
         column: &Column,
@@ -52,7 +52,7 @@ impl Band {
         Ok(())
     }
 
-    /// Draws the group of a line of a column that stands in a lane, by its place in the column.
+    /// Draws the group of a line of such a column, by its index in the column.
     fn draw_line(
         &self,
         column: &Column,
@@ -73,7 +73,7 @@ impl Band {
         markup.end_group()
     }
 
-    /// Draws the sign of a line, and its knot if it tells a place of the history.
+    /// Draws the sign of a line, and its knot if it has a position in the history.
     fn draw_foot(
         &self,
         alloc: Global,
@@ -95,7 +95,7 @@ impl Band {
         draw_pair(line, knot, markup)
     }
 
-    /// Draws a line that stands in the lane of the history.
+    /// Draws a line in the lane of the history.
     fn draw_note(&self, column: &Column, markup: &mut Markup) -> Result<(), AllocError>
         ensures draws { Draws result markup.old markup.new (flat_map (note_shapes (seen_band self.now) (seen column.now)) column.now.lines.items) }
         ensures read { TellsLines result markup.old markup.new (texts column.now.lines.items) }
@@ -106,7 +106,7 @@ impl Band {
         Ok(())
     }
 
-    /// Draws the group of a line that stands in the lane of the history.
+    /// Draws the group of such a line.
     fn draw_line_below(
         &self,
         column: &Column,
@@ -141,7 +141,7 @@ fn draw_pair(line: &RunLine, knot: Point, markup: &mut Markup) -> Result<(), All
     }
 }
 
-/// Draws what a column has in its lane beside its lines: its pole, its number, and its read.
+/// Draws the pole, the number and the read of a column.
 fn draw_head(
     alloc: Global,
     column: &Column,
@@ -160,7 +160,7 @@ fn draw_head(
     }
 }
 
-/// Draws the number of an event, if it is one.
+/// Draws the number of an event, if there is one.
 fn draw_number(event: Option<u64>, head: Point, markup: &mut Markup) -> Result<(), AllocError>
     ensures draws { Draws result markup.old markup.new (number_words event head) }
     ensures read { OnOk result (reading markup.new ≡ reading markup.old) }
@@ -171,14 +171,14 @@ fn draw_number(event: Option<u64>, head: Point, markup: &mut Markup) -> Result<(
     }
 }
 
-/// Where the rows of a column begin.
+/// Returns the top of the rows of a column.
 fn rows_below(head: Point) -> Point
     ensures { result ≡ rows_place head }
 {
     below(right(head, 3), 23)
 }
 
-/// A place so far to the right of another.
+/// Returns the place at this distance to the right of another.
 fn right(at: Point, by: u32) -> Point
     ensures { result ≡ right_by at by }
 {
@@ -208,7 +208,7 @@ fn begin_mark(
     )
 }
 
-/// Begins the mark of a line by its place, its title, and who stands in line behind it.
+/// Begins the mark of a line by its place, its title, and the processes that are in line after it.
 fn mark_line(
     x: u16,
     line: &RunLine,
@@ -237,7 +237,7 @@ fn mark_line(
     }
 }
 
-/// Who stands in line after a column, with single spaces.
+/// Returns the processes that are in line after a column, with single spaces.
 fn numbers(alloc: Global, column: &Column) -> Result<String, AllocError>
     ensures { IfOk result (λ text. string_bytes text ≡ queue_text column.now.after) }
 {
@@ -245,7 +245,7 @@ fn numbers(alloc: Global, column: &Column) -> Result<String, AllocError>
     listed(alloc, queue.as_slice(), " ")
 }
 
-/// Draws the rows of a line: all of its column, or of two lines the one at its place.
+/// Draws the rows of a line: all of its column or, of two lines, the one at its index.
 fn draw_rows(
     column: &Column,
     place: usize,
@@ -268,14 +268,14 @@ fn draw_rows(
     Ok(())
 }
 
-/// Where a row stands: the first one at a place, and any other below it.
+/// Returns the place of a row: the first one is at `at`, and any other below it.
 fn row_place(at: Point, number: usize) -> Point
     ensures { result ≡ place_of_row at number }
 {
     if number == 0 { at } else { below(at, 11) }
 }
 
-/// The style of a row.
+/// Returns the style of a row.
 fn row_style(row: &TextRow, is_refusal: bool) -> &'static str
     ensures { result.now ≡ row_class row.now.is_verb is_refusal }
 {

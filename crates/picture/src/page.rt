@@ -1,4 +1,4 @@
-//! The bands of a page, from the lines of a run.
+//! A page that draws bands from the lines of a run, a record or a trace.
 ghost use Rattle.std.specs.Prelude.{◌≡◌, ◌++◌, [], ◌∷◌, codes, map, IfOk, IfSome, None, OnOk};
 ghost use Rattle.picture.specs.Adding.{Begins, FramesBand, GivesLines, all_told};
 ghost use Rattle.markup.specs.{EndsAll, lines_in};
@@ -16,16 +16,16 @@ use columns::{
 use markup::{Key, Markup, Tag, class, words};
 use std::alloc::{AllocError, Global};
 
-/// What the bands stand in.
+/// Where bands are drawn.
 #[derive(Clone, Copy)]
 pub enum Form {
-    /// A page: each band is a picture of its own.
+    /// In a page: each band is a picture of its own.
     Page,
-    /// One picture: each band is a group of it, from this height on.
+    /// In one picture: each band is a group of it, from this height on.
     Picture(u64),
 }
 
-/// The picture of a run or of a trace so far: the columns of the band that is begun, and what stands before it.
+/// The picture of a run, a record or a trace so far: the columns of the current band, and the state before it.
 #[derive(Drop)]
 pub struct Page {
     alloc: Global,
@@ -45,7 +45,7 @@ pub struct Page {
 }
 
 impl Page {
-    /// No line was told; `opening` is the opening store, if it is not empty.
+    /// Creates a page without lines, where `opening` is the opening store, or empty.
     pub fn new(
         alloc: Global,
         form: Form,
@@ -78,16 +78,16 @@ impl Page {
         })
     }
 
-    /// The heights of all bands so far, with 16 more for each.
+    /// Returns the sum of the heights of all bands so far, with 16 more for each.
     pub fn height(&self) -> u64
         ensures { result ≡ self.now.height }
     {
         self.height
     }
 
-    /// Takes in the next line; answers the band that is full with what came before it, if one is. Its lines, and then
-    /// those that are held back, are those that were held back before, and this one; in the band each element that
-    /// begins ends. The stages go on as the line tells.
+    /// Adds the next line, and returns the band before it, if that is full. The lines of that band, and then those that are
+    /// held back, are the lines that were held back before, and this one. In the band each element that begins ends. The line
+    /// changes the stages.
     pub fn take(&mut self, line: RunLine) -> Result<Option<Markup>, AllocError>
         ensures page { IfOk result (λ full. GoesOn (Tells line) (seen_page self.old) full (seen_page self.new)) }
         ensures lines { GivesLines result (held self.new) (held self.old ++ text_of line ∷ []) }
@@ -105,7 +105,7 @@ impl Page {
         self.begin_column(line, frees)
     }
 
-    /// Places the column that no more line joins, and begins another with a line; answers the band that is full.
+    /// Places the pending column, and begins another with a line. Returns the band that is full, if one is.
     fn begin_column(
         &mut self,
         line: RunLine,
@@ -123,8 +123,8 @@ impl Page {
         Ok(full)
     }
 
-    /// Takes in a read that a write overlapped; answers the band that is full with what came before it, if one is. It
-    /// tells no line.
+    /// Adds a read that a write overlapped, and returns the band before it, if that is full. A read is not a
+    /// line.
     pub fn take_read(&mut self, read: OverlappedRead) -> Result<Option<Markup>, AllocError>
         ensures page { IfOk result (λ full. GoesOn (Reads read) (seen_page self.old) full (seen_page self.new)) }
         ensures lines { GivesLines result (held self.new) (held self.old) }
@@ -140,7 +140,7 @@ impl Page {
     }
 
     /// Takes in the part of an access that an entry makes. Returns the band that is full with what came before it, if
-    /// one is. No line is added. A mark of the entry is taken in after it, and joins its column.
+    /// one is. No line is added. A mark of the entry is added after the access, and joins its column.
     ///
     /// # Errors
     ///
@@ -160,7 +160,7 @@ impl Page {
         Ok(full)
     }
 
-    /// The last bands, once all lines were told: they tell the lines that were held back.
+    /// Ends the page, and returns the last bands, which have the lines that were held back.
     pub fn end(&mut self) -> Result<(Option<Markup>, Markup), AllocError>
         ensures page { IfOk result (λ bands. GivesRest (seen_page self.old) bands.0 bands.1 (seen_page self.new)) }
         ensures lines { IfOk result (λ bands. lines_of_band bands.0 ++ lines_in bands.1 ≡ held self.old) }
@@ -172,7 +172,7 @@ impl Page {
         Ok((full, last))
     }
 
-    /// Places the column that no more line joins; answers the band before it, if it is full.
+    /// Places the pending column, and returns the band before it, if that is full.
     fn place_pending(&mut self) -> Result<Option<Markup>, AllocError>
         ensures page { IfOk result (λ full. Places (seen_page self.old) full (seen_page self.new)) }
         ensures placed { OnOk result (self.new.pending ≡ None) }
@@ -188,7 +188,7 @@ impl Page {
         Ok(full)
     }
 
-    /// Draws the band, and begins another, where a column has no room in it.
+    /// Draws the band and begins another, if a column has no room in it.
     fn make_room(&mut self, column: &Column) -> Result<Option<Markup>, AllocError>
         ensures page { IfOk result (λ full. MakesRoom (seen column.now) (seen_page self.old) full (seen_page self.new)) }
         ensures pending { OnOk result (self.new.pending ≡ self.old.pending) }
@@ -203,7 +203,7 @@ impl Page {
         Ok(Some(self.draw_band(false)?))
     }
 
-    /// Puts a column behind the others of the band.
+    /// Puts a column after the others of the band.
     fn put(&mut self, column: Column) -> Result<(), AllocError>
         ensures page { OnOk result (Puts (seen column) (seen_page self.old) (seen_page self.new)) }
         ensures pending { OnOk result (self.new.pending ≡ self.old.pending) }
@@ -216,7 +216,7 @@ impl Page {
         Ok(self.columns.push(column)?)
     }
 
-    /// Draws the columns of the band, and begins another.
+    /// Draws the columns of the band, and begins another band.
     fn draw_band(&mut self, is_last: bool) -> Result<Markup, AllocError>
         ensures page { IfOk result (λ band. DrawsBand is_last (seen_page self.old) band (seen_page self.new)) }
         ensures pending { OnOk result (self.new.pending ≡ self.old.pending) }
@@ -252,7 +252,7 @@ impl Page {
         Ok(markup)
     }
 
-    /// The picture or the group of a band.
+    /// Returns a band as a picture or as a group.
     fn markup_of(&self, band: &Band) -> Result<Markup, AllocError>
         ensures draws { FramesBand result self.now.form self.now band.now }
         ensures lines { IfOk result (λ markup. lines_in markup ≡ all_told band.now.columns.items) }
@@ -264,7 +264,7 @@ impl Page {
         }
     }
 
-    /// A band as a picture of its own.
+    /// Returns a band as a picture of its own.
     fn picture_of(&self, band: &Band) -> Result<Markup, AllocError>
         ensures draws { FramesBand result form_variants.Page self.now band.now }
         ensures lines { IfOk result (λ markup. lines_in markup ≡ all_told band.now.columns.items) }
@@ -278,7 +278,7 @@ impl Page {
         Ok(markup)
     }
 
-    /// A band as a group of one picture, whose bands begin at this height.
+    /// Returns a band as a group of one picture, whose bands begin at this height.
     fn group_of(&self, band: &Band, top: u64) -> Result<Markup, AllocError>
         ensures draws { FramesBand result (form_variants.Picture top) self.now band.now }
         ensures lines { IfOk result (λ markup. lines_in markup ≡ all_told band.now.columns.items) }
@@ -292,7 +292,7 @@ impl Page {
     }
 }
 
-/// The tag of a band's own picture: the part of this number, so high.
+/// Adds the tag of the picture of the band with this number and height.
 fn enter_band(number: u64, height: u16, markup: &mut Markup) -> Result<(), AllocError>
     ensures draws { OnOk result (markup.new ≡ markup.old ++ band_tag number height) }
     ensures read { Begins result markup.old markup.new (codes "svg") }
@@ -310,7 +310,7 @@ fn enter_band(number: u64, height: u16, markup: &mut Markup) -> Result<(), Alloc
     )
 }
 
-/// What stands behind columns, by what stood before them: what was told, and how many events were accepted.
+/// Returns the state after columns and the number of events accepted until then, by those before them.
 fn behind(columns: &[Column], before: State, before_at: u64) -> (State, u64)
     ensures { result ≡ behind_columns (map seen columns.now) (before, before_at) }
 {
@@ -320,7 +320,7 @@ fn behind(columns: &[Column], before: State, before_at: u64) -> (State, u64)
     }
 }
 
-/// What stands at the beginning of the history.
+/// Returns the words with which the history begins.
 fn opening_words(alloc: Global, opening: &[u8]) -> Result<Vec<u8>, AllocError>
     ensures { IfOk result (λ words. words.items ≡ opens_with opening.now) }
 {
@@ -333,7 +333,7 @@ fn opening_words(alloc: Global, opening: &[u8]) -> Result<Vec<u8>, AllocError>
     cut(alloc, words.as_slice())
 }
 
-/// How many characters stand there.
+/// Returns the number of characters of these words.
 fn characters(opening: &[u8]) -> usize
     ensures { result ≡ opening_length opening.now }
 {

@@ -42,7 +42,7 @@ pub(crate) fn draw_sign(
     }
 }
 
-/// Draws the sign of a mark; `changed`: its command changed the store.
+/// Draws the sign of a mark. `changed` is whether its command changed the store.
 fn draw_mark(
     alloc: Global,
     mark: &Mark,
@@ -75,7 +75,7 @@ fn draw_settled(value: bool, at: Point, markup: &mut Markup) -> Result<(), Alloc
     markup.label("in", below(at, 3), digit)
 }
 
-/// Draws a place of the history.
+/// Draws a position of the history.
 fn draw_taken(
     alloc: Global,
     place: u64,
@@ -94,7 +94,7 @@ fn draw_taken(
     markup.label(style, below(at, 3), digits.as_bytes())
 }
 
-/// A place so far to the left of another and above it.
+/// Returns the place at this distance to the left of another and above it.
 pub(crate) fn moved(at: Point, left: u32, up: u32) -> Point
     ensures place { result ≡ moved_by at left up }
     ensures x { result.x ≤ at.x }
@@ -103,7 +103,7 @@ pub(crate) fn moved(at: Point, left: u32, up: u32) -> Point
     Point::at(at.x.saturating_sub(left), at.y.saturating_sub(up))
 }
 
-/// A place so far below another.
+/// Returns the place at this distance below another.
 pub(crate) fn below(at: Point, down: u32) -> Point
     ensures { result ≡ down_by at down }
 {

@@ -14,14 +14,14 @@ use markup::{Markup, Point};
 use record::{Mark, Stage};
 use std::alloc::{AllocError, Global};
 
-/// A stretch of a bar in which one word may stand.
+/// A stretch of a bar in which one word may be drawn.
 #[derive(Clone, Copy)]
 struct Stretch {
     from: u16,
-    /// How much is left free at its beginning.
+    /// The room that is left free at its beginning, in pixels.
     pad: u16,
     word: Word,
-    /// Whether its word was said before it, and has not changed since.
+    /// Whether its word was drawn before it, and has not changed since.
     is_said: bool,
 }
 
@@ -58,7 +58,7 @@ impl Band {
 }
 
 impl Stretch {
-    /// The stretch that begins at a column, whose signs stand there in its own lane.
+    /// Returns the stretch that begins at a column, whose signs are there in its own lane.
     fn at(alloc: Global, process: u8, column: &Column) -> Result<Stretch, AllocError>
         ensures { IfOk result (λ stretch. stretch ≡ stretch_at process (seen column.now)) }
     {
@@ -75,14 +75,14 @@ impl Stretch {
         })
     }
 
-    /// Whether it ends at a column: the column stands in the lane, or the word is another one behind it.
+    /// Returns whether it ends at a column, because the column is in its lane or the word changes after it.
     fn ends(&self, process: u8, column: &Column, word: Word) -> bool
         ensures { result ≡ (stands_in process column.now.lane || not (is_word word self.now.word)) }
     {
         column.lane == Some(process) || word != self.word
     }
 
-    /// The stretch behind one of a word, once that was said or not.
+    /// Returns the next stretch with the same word, which was drawn or not.
     fn behind(self, word: Word, is_said: bool) -> Stretch
         ensures { result ≡ record self { is_said = is_word self.word word && is_said } }
     {
@@ -92,8 +92,8 @@ impl Stretch {
         }
     }
 
-    /// Draws its word up to a place, before which so much is to be left free, if there is a word and it has room, and was
-    /// not said yet. Answers whether it is said then.
+    /// Draws its word up to a place with this free room before it, if there is a word, it has room, and it was not
+    /// drawn yet. Returns whether it is drawn now.
     fn draw(
         &self,
         alloc: Global,
@@ -125,7 +125,7 @@ impl Stretch {
     }
 }
 
-/// What the bar of a process says, if it says anything.
+/// Returns the word in the bar of a process, if it has one.
 fn words_of(alloc: Global, word: &Word) -> Result<Option<String>, AllocError>
     ensures { IfOk result (λ text. option_map string_bytes text ≡ word_text word.now) }
 {
@@ -154,7 +154,7 @@ fn awaits(alloc: Global, group: &Group) -> Result<String, AllocError>
     Ok(text)
 }
 
-/// The numbers of up to three processes, and how many more there are.
+/// Returns the numbers of up to three processes, and how many more there are.
 fn group_words(alloc: Global, group: &Group, others: &str) -> Result<String, AllocError>
     ensures { IfOk result (λ text. string_bytes text ≡ group_text others.now group.now) }
 {
@@ -166,7 +166,7 @@ fn group_words(alloc: Global, group: &Group, others: &str) -> Result<String, All
     }
 }
 
-/// Numbers, with this between each two.
+/// Returns numbers, with a separator between them.
 pub(crate) fn listed(alloc: Global, numbers: &[u8], between: &str) -> Result<String, AllocError>
     ensures { IfOk result (λ text. string_bytes text ≡ listed_with between.now numbers.now) }
 {
@@ -177,7 +177,7 @@ pub(crate) fn listed(alloc: Global, numbers: &[u8], between: &str) -> Result<Str
     Ok(text)
 }
 
-/// The style of a word: that of a process that is inside stands on dark.
+/// Returns the style of a word, which is light in the dark bar of a process that is inside.
 fn word_style(word: Word) -> &'static str
     ensures { result.now ≡ style_of_word word }
 {
@@ -187,7 +187,7 @@ fn word_style(word: Word) -> &'static str
     }
 }
 
-/// What is left free before a column in the bar of a process.
+/// Returns the free room before a column in the bar of a process.
 fn free_before(alloc: Global, process: u8, column: &Column) -> Result<u16, AllocError>
     ensures { IfOk result (λ free. free ≡ free_left process (seen column.now)) }
 {
@@ -198,7 +198,7 @@ fn free_before(alloc: Global, process: u8, column: &Column) -> Result<u16, Alloc
     }
 }
 
-/// A number more, behind what stands between two if it is not the first.
+/// Appends a number, after a separator unless it is the first.
 fn push_number(
     alloc: Global,
     text: &mut String,
@@ -215,7 +215,7 @@ fn push_number(
     text.push_str(digits.as_str())
 }
 
-/// How far what stands at the foot of a column reaches to its right.
+/// Returns how far the signs at the foot of a column reach to its right.
 fn right_reach(alloc: Global, column: &Column) -> Result<u16, AllocError>
     ensures { IfOk result (λ reach. reach ≡ right_reach_of (seen column.now)) }
 {
@@ -229,7 +229,7 @@ fn right_reach(alloc: Global, column: &Column) -> Result<u16, AllocError>
     Ok(reach)
 }
 
-/// How far it reaches to its left.
+/// Returns how far they reach to its left.
 fn left_reach(alloc: Global, column: &Column) -> Result<u16, AllocError>
     ensures { IfOk result (λ reach. reach ≡ left_reach_of (seen column.now)) }
 {
@@ -254,7 +254,7 @@ fn reach_of(alloc: Global, mark: &Mark) -> Result<u16, AllocError>
     })
 }
 
-/// How far the sign of a command taken reaches, by its place in the history.
+/// Returns how far the sign of a taken command reaches, by its position in the history.
 fn pill_reach(alloc: Global, place: u64) -> Result<u16, AllocError>
     ensures { IfOk result (λ reach. reach ≡ capped (5 + 3 * length (decimal place))) }
 {
