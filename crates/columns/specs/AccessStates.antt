@@ -4,11 +4,11 @@ use Rattle.columns.specs.Columns.{Seen}
 use Rattle.columns.specs.OpenAccesses.{first_open, none_open}
 use Rattle.columns.specs.Waves.{SeenWave, seen_waves, waves_after, waves_begun}
 use Rattle.columns.specs.declared.access_state.AccessState.{AccessState}
-use Rattle.columns.specs.declared.open_accesses.OpenAccess.{OpenAccess}
+use Rattle.columns.specs.declared.open_accesses.UnendedAccess.{UnendedAccess}
 
 -- the access that each process has open, and the waves
 pub record SeenAccesses : Type 0 where
-  pub open_accesses : List (Option OpenAccess)
+  pub open_accesses : List (Option UnendedAccess)
   pub waves : List SeenWave
 
 abbrev pub seen_accesses : AccessState → SeenAccesses

@@ -41,7 +41,7 @@ pub use declared.reads.OverlappedRead.{OverlappedRead}
 pub use declared.placing.Placing.{Placing}
 pub use declared.told.RunLine.{RunLine}
 pub use declared.told.Saying.{Saying}
-pub use declared.open_accesses.OpenAccess.{OpenAccess}
+pub use declared.open_accesses.UnendedAccess.{UnendedAccess}
 pub use declared.state.State.{State}
 pub use declared.told.TakenChange.{TakenChange}
 pub use declared.state.Word.{Word}

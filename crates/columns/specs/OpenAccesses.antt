@@ -6,45 +6,45 @@ use Rattle.columns.specs.declared.accesses.AccessKind.{AccessKind}
 use Rattle.columns.specs.declared.accesses.AccessStep.{AccessStep}
 use Rattle.columns.specs.declared.accesses.AccessStep.TheVariants as step
 use Rattle.columns.specs.declared.accesses.ShownAccess.{ShownAccess}
-use Rattle.columns.specs.declared.open_accesses.OpenAccess.{OpenAccess}
+use Rattle.columns.specs.declared.open_accesses.UnendedAccess.{UnendedAccess}
 
 -- the access of a process that is open behind an entry of its own
-abbrev pub open_by : AccessStep → AccessKind → Bool → Option OpenAccess
+abbrev pub open_by : AccessStep → AccessKind → Bool → Option UnendedAccess
 open_by step.Begin kind overlaps = Some (record { kind = kind; is_overlapped = overlaps })
 open_by _ kind overlaps = None
 
 -- an open access, and whether one more access overlaps it
-abbrev pub overlapped_if : Bool → OpenAccess → OpenAccess
+abbrev pub overlapped_if : Bool → UnendedAccess → UnendedAccess
 overlapped_if overlaps access = record access { is_overlapped = access.is_overlapped || overlaps }
 
 -- the access of a process that is open behind an entry, where this one was open before it
-abbrev pub open_behind : ℕ → Option OpenAccess → ShownAccess → Option OpenAccess
+abbrev pub open_behind : ℕ → Option UnendedAccess → ShownAccess → Option UnendedAccess
 open_behind p before access = cond (access.process == p)
     (open_by access.step access.kind (is_any access.overlaps))
     (option_map (overlapped_if (is_over access p)) before)
 
 -- the same behind an entry that may show no access, and behind a column
-abbrev pub open_with : ℕ → Option OpenAccess → Option ShownAccess → Option OpenAccess
+abbrev pub open_with : ℕ → Option UnendedAccess → Option ShownAccess → Option UnendedAccess
 open_with p before None = before
 open_with p before (Some access) = open_behind p before access
 
-abbrev pub open_next : ℕ → Option OpenAccess → Seen → Option OpenAccess
+abbrev pub open_next : ℕ → Option UnendedAccess → Seen → Option UnendedAccess
 open_next p before column = open_with p before column.access
 
 -- and behind columns
-abbrev pub open_after : ℕ → Option OpenAccess → List Seen → Option OpenAccess
+abbrev pub open_after : ℕ → Option UnendedAccess → List Seen → Option UnendedAccess
 open_after p before [] = before
 open_after p before (column ∷ columns) = open_after p (open_next p before column) columns
 
 -- the access of a process that is open among those of all
-abbrev pub open_of : List (Option OpenAccess) → ℕ → Option OpenAccess
+abbrev pub open_of : List (Option UnendedAccess) → ℕ → Option UnendedAccess
 open_of all p = get_or all p None
 
 -- no access is open
-abbrev pub none_open : List (Option OpenAccess)
+abbrev pub none_open : List (Option UnendedAccess)
 none_open = replicate 16 None
 
 -- the open accesses of the first so many processes behind columns
-abbrev pub first_open : List (Option OpenAccess) → List Seen → ℕ → List (Option OpenAccess)
+abbrev pub first_open : List (Option UnendedAccess) → List Seen → ℕ → List (Option UnendedAccess)
 first_open before columns zero = []
 first_open before columns (suc p) = first_open before columns p ++ open_after p (open_of before p) columns ∷ []

@@ -5,14 +5,14 @@ ghost use Rattle.columns.specs.Columns.{seen};
 ghost use Rattle.columns.specs.OpenAccesses.{open_of};
 
 use crate::columns::Column;
-use crate::open_accesses::{OpenAccess, open_after_columns, open_of};
+use crate::open_accesses::{UnendedAccess, open_after_columns, open_of};
 use crate::waves::{Wave, begin_waves, pass_waves};
 use std::alloc::{AllocError, Global};
 
 /// The access that each process has open, and the waves.
 #[derive(Drop)]
 pub struct AccessState {
-    open_accesses: [Option<OpenAccess>; 16],
+    open_accesses: [Option<UnendedAccess>; 16],
     /// The waves, in the order of their rows.
     pub waves: Vec<Wave>,
 }
@@ -29,7 +29,7 @@ impl AccessState {
     }
 
     /// Returns the access that a process has open.
-    pub fn open_access(&self, process: u8) -> Option<OpenAccess>
+    pub fn open_access(&self, process: u8) -> Option<UnendedAccess>
         ensures { result ≡ open_of self.now.open_accesses process }
     {
         open_of(self.open_accesses, process)

@@ -26,7 +26,7 @@ pub use laws::stages_are_the_records;
 pub use layout::{AXIS, Lane, Layout};
 pub use lock_lines::drawn_like;
 pub use measures::{DIGIT, LEFT, RIGHT, room};
-pub use open_accesses::OpenAccess;
+pub use open_accesses::UnendedAccess;
 pub use placing::{ColumnPlace, Placing, event_place, stretch};
 pub use reads::OverlappedRead;
 pub use state::{Group, State, Word};

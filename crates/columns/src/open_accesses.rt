@@ -9,7 +9,7 @@ use crate::columns::Column;
 
 /// An access that is open.
 #[derive(Clone, Copy, PartialEq, Eq)]
-pub struct OpenAccess {
+pub struct UnendedAccess {
     /// Its kind.
     pub kind: AccessKind,
     /// Whether another access overlaps it, and one of the two writes.
@@ -18,11 +18,11 @@ pub struct OpenAccess {
 
 impl ShownAccess {
     /// Returns the access of its process that is open after it, if one is.
-    fn left_open(&self) -> Option<OpenAccess>
+    fn left_open(&self) -> Option<UnendedAccess>
         ensures { result ≡ open_by self.now.step self.now.kind (is_any self.now.overlaps) }
     {
         if self.step == AccessStep::Begin {
-            Some(OpenAccess {
+            Some(UnendedAccess {
                 kind: self.kind,
                 is_overlapped: has_any(&self.overlaps),
             })
@@ -42,7 +42,7 @@ impl ShownAccess {
     }
 
     /// Returns the access that a process has open after this entry.
-    fn open_after(&self, process: u8, before: Option<OpenAccess>) -> Option<OpenAccess>
+    fn open_after(&self, process: u8, before: Option<UnendedAccess>) -> Option<UnendedAccess>
         ensures { result ≡ open_behind process before self.now }
     {
         if self.process == process {
@@ -56,12 +56,12 @@ impl ShownAccess {
     }
 }
 
-impl OpenAccess {
+impl UnendedAccess {
     /// Returns this access, which one more access may overlap.
-    fn overlapped_if(self, is_over: bool) -> OpenAccess
+    fn overlapped_if(self, is_over: bool) -> UnendedAccess
         ensures { result ≡ overlapped_if is_over self }
     {
-        OpenAccess {
+        UnendedAccess {
             kind: self.kind,
             is_overlapped: self.is_overlapped || is_over,
         }
@@ -70,7 +70,7 @@ impl OpenAccess {
 
 impl Column {
     /// Returns the access that a process has open after this column.
-    pub fn open_next(&self, process: u8, before: Option<OpenAccess>) -> Option<OpenAccess>
+    pub fn open_next(&self, process: u8, before: Option<UnendedAccess>) -> Option<UnendedAccess>
         ensures { result ≡ open_next process before (seen self.now) }
     {
         match &self.access {
@@ -81,7 +81,7 @@ impl Column {
 }
 
 /// Returns the access of a process among those of all.
-pub(crate) fn open_of(all: [Option<OpenAccess>; 16], process: u8) -> Option<OpenAccess>
+pub(crate) fn open_of(all: [Option<UnendedAccess>; 16], process: u8) -> Option<UnendedAccess>
     ensures { result ≡ open_of all process }
 {
     match all.get(usize::from(process)) {
@@ -92,9 +92,9 @@ pub(crate) fn open_of(all: [Option<OpenAccess>; 16], process: u8) -> Option<Open
 
 /// Returns the open accesses of all processes after columns.
 pub(crate) fn open_after_columns(
-    before: [Option<OpenAccess>; 16],
+    before: [Option<UnendedAccess>; 16],
     columns: &[Column],
-) -> [Option<OpenAccess>; 16]
+) -> [Option<UnendedAccess>; 16]
     ensures { result ≡ first_open before (map seen columns.now) 16 }
 {
     let mut after = [None; 16];
@@ -105,7 +105,11 @@ pub(crate) fn open_after_columns(
 }
 
 /// Returns the access that a process has open after columns.
-fn process_after(process: u8, before: Option<OpenAccess>, columns: &[Column]) -> Option<OpenAccess>
+fn process_after(
+    process: u8,
+    before: Option<UnendedAccess>,
+    columns: &[Column],
+) -> Option<UnendedAccess>
     ensures { result ≡ open_after process before (map seen columns.now) }
 {
     let mut now = before;

@@ -2,7 +2,7 @@
 use Rattle.std.proofs.Common.{◌≡◌, ℕ, ◌+◌, add-one, ◌<◌, Bool, true, false, cond, is_some, Option, List, ◌++◌, drop, length, map, flat_map, get_or, ap, sym, ◌∙◌}
 use Rattle.markup.specs.{Point, Shape, drawings}
 use Rattle.record.specs.{Stage}
-use Rattle.columns.specs.{Column, Lane, Layout, OpenAccess, RunLine, Seen, ShownAccess, Wave, change_in, open_next, seen, seen_wave, stage_among}
+use Rattle.columns.specs.{Column, Lane, Layout, UnendedAccess, RunLine, Seen, ShownAccess, Wave, change_in, open_next, seen, seen_wave, stage_among}
 use Rattle.picture.specs.{SeenBand, Stretch, accesses_from, axis, axis_up_to, bar, bars, change_if, change_shapes, ends_at, for_each, free_left, from_next, inside_since, is_stage, line_shapes, lines_shapes, made_by, next_change, next_stretch, shade_up_to, shades, shapes_if, stretch_word, tie_to, ties_to, wave_from, wave_shapes, waves_from, words_from}
 use Rattle.picture.proofs.Drawn.{drop_next, then_drawn}
 
@@ -53,7 +53,7 @@ module _ (columns : List Column) (k : ℕ) (column : Column) (within : k < lengt
   each_next shapes = ap (λ cs. flat_map shapes (map seen cs)) (drop_next columns k column within here)
 
   -- the accesses of a process
-  pub accesses_next : (lane : Lane) (p end : ℕ) (before next : Option OpenAccess) (from since : ℕ) → next ≡ open_next p before (seen column) → since ≡ from_next p from (seen column) →
+  pub accesses_next : (lane : Lane) (p end : ℕ) (before next : Option UnendedAccess) (from since : ℕ) → next ≡ open_next p before (seen column) → since ≡ from_next p from (seen column) →
       accesses_from lane p end before from (map seen (drop k columns)) ≡ shapes_if lane before from column.x (made_by p column.access) ++ accesses_from lane p end next since (map seen (drop (k + 1) columns))
   accesses_next lane p end before next from since is at =
       ap (λ cs. accesses_from lane p end before from (map seen cs)) (drop_next columns k column within here)

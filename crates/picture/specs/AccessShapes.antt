@@ -1,7 +1,7 @@
 -- What a band draws of accesses: guides, boxes, words and ties.
 use Rattle.std.specs.Prelude.{ℕ, zero, suc, ◌+◌, ◌-◌, Bool, true, false, ◌==◌, cond, is_some, nat_lt, List, [], ◌∷◌, ◌++◌, codes, Option, None, Some}
 use Rattle.markup.specs.{Block, End, Label, Note, Shape, line_from, path_from}
-use Rattle.columns.specs.{AccessKind, AccessStep, Lane, Layout, OpenAccess, Seen, ShownAccess, access_title, boxes_of, is_over, lane_in, open_next}
+use Rattle.columns.specs.{AccessKind, AccessStep, Lane, Layout, UnendedAccess, Seen, ShownAccess, access_title, boxes_of, is_over, lane_in, open_next}
 use Rattle.columns.specs.declared.accesses.AccessKind.TheVariants as kind
 use Rattle.columns.specs.declared.accesses.AccessStep.TheVariants as step
 use Rattle.picture.specs.Bars.{point}
@@ -22,14 +22,14 @@ abbrev pub open_style : AccessKind → Bool → List ℕ
 open_style kind is_overlapped = box_style kind is_overlapped ++ codes " unended"
 
 -- the box of an access from one place to another, and that of one that is open where its band ends
-abbrev pub access_box : Lane → OpenAccess → ℕ → ℕ → Shape
+abbrev pub access_box : Lane → UnendedAccess → ℕ → ℕ → Shape
 access_box lane access from to = Block (box_style access.kind access.is_overlapped) (point from (boxes_of lane)) (to - from) 28
 
-abbrev pub open_box : Lane → OpenAccess → ℕ → ℕ → Shape
+abbrev pub open_box : Lane → UnendedAccess → ℕ → ℕ → Shape
 open_box lane access from to = Block (open_style access.kind access.is_overlapped) (point from (boxes_of lane)) (to - from) 28
 
 -- the box of an access that ends, if one was open
-abbrev pub ended_box : Lane → Option OpenAccess → ℕ → ℕ → List Shape
+abbrev pub ended_box : Lane → Option UnendedAccess → ℕ → ℕ → List Shape
 ended_box lane None from to = []
 ended_box lane (Some access) from to = access_box lane access from to ∷ []
 
@@ -51,12 +51,12 @@ abbrev pub value_by : AccessKind → Bool → List ℕ
 value_by kind.Read true = codes "saw"
 value_by _ is_overlapped = codes "move"
 
-abbrev pub value_style : Option OpenAccess → List ℕ
+abbrev pub value_style : Option UnendedAccess → List ℕ
 value_style None = codes "move"
 value_style (Some access) = value_by access.kind access.is_overlapped
 
 -- the words of an access that ends, if it has any
-abbrev pub value_words : Lane → ℕ → Option OpenAccess → List ℕ → List Shape
+abbrev pub value_words : Lane → ℕ → Option UnendedAccess → List ℕ → List Shape
 value_words lane x before [] = []
 value_words lane x before (byte ∷ words) = Label (value_style before) (point x (boxes_of lane + 12)) (byte ∷ words) ∷ []
 
@@ -69,7 +69,7 @@ abbrev pub begun_shapes : Lane → ShownAccess → ℕ → List Shape
 begun_shapes lane access x = titled access (move_words lane (x + 4) access)
 
 -- the box of an access that ends, and what it gives
-abbrev pub ended_shapes : Lane → Option OpenAccess → ℕ → ShownAccess → ℕ → List Shape
+abbrev pub ended_shapes : Lane → Option UnendedAccess → ℕ → ShownAccess → ℕ → List Shape
 ended_shapes lane before from access x = titled access (ended_box lane before from x ++ value_words lane (x + 4) before access.words.items)
 
 -- the box of a whole access, and its words
@@ -77,7 +77,7 @@ abbrev pub whole_shapes : Lane → ShownAccess → ℕ → List Shape
 whole_shapes lane access x = titled access (whole_box lane access.kind x ∷ move_words lane (x + 7) access)
 
 -- what an entry draws of an access; the words of one that begins are drawn over its box, and so behind it
-abbrev pub access_shapes : Lane → Option OpenAccess → ℕ → ShownAccess → ℕ → AccessStep → List Shape
+abbrev pub access_shapes : Lane → Option UnendedAccess → ℕ → ShownAccess → ℕ → AccessStep → List Shape
 access_shapes lane before from access x step.Begin = []
 access_shapes lane before from access x step.End = ended_shapes lane before from access x
 access_shapes lane before from access x step.Whole = whole_shapes lane access x
@@ -88,7 +88,7 @@ made_by p None = None
 made_by p (Some access) = cond (access.process == p) (Some access) None
 
 -- what a column draws of an access of its process, if it shows one
-abbrev pub shapes_if : Lane → Option OpenAccess → ℕ → ℕ → Option ShownAccess → List Shape
+abbrev pub shapes_if : Lane → Option UnendedAccess → ℕ → ℕ → Option ShownAccess → List Shape
 shapes_if lane before from x None = []
 shapes_if lane before from x (Some access) = access_shapes lane before from access x access.step
 
@@ -97,12 +97,12 @@ abbrev pub from_next : ℕ → ℕ → Seen → ℕ
 from_next p from column = cond (is_some (made_by p column.access)) column.x from
 
 -- the box of an access that is open where its band ends
-abbrev pub unended_box : Lane → Option OpenAccess → ℕ → ℕ → List Shape
+abbrev pub unended_box : Lane → Option UnendedAccess → ℕ → ℕ → List Shape
 unended_box lane None from to = []
 unended_box lane (Some access) from to = open_box lane access from to ∷ []
 
 -- The accesses of a process from a place on, up to the end of its lane, where this one is open from there on.
-abbrev pub accesses_from : Lane → ℕ → ℕ → Option OpenAccess → ℕ → List Seen → List Shape
+abbrev pub accesses_from : Lane → ℕ → ℕ → Option UnendedAccess → ℕ → List Seen → List Shape
 accesses_from lane p end before from [] = unended_box lane before from end
 accesses_from lane p end before from (column ∷ columns) =
     shapes_if lane before from column.x (made_by p column.access)

@@ -8,7 +8,7 @@ ghost use Rattle.picture.specs.Drawings.{lane_accesses, seen_band};
 
 use crate::bands::Band;
 use columns::{
-    AXIS, AccessKind, AccessState, AccessStep, Column, LEFT, Lane, OpenAccess, ShownAccess,
+    AXIS, AccessKind, AccessState, AccessStep, Column, LEFT, Lane, UnendedAccess, ShownAccess,
 };
 use markup::{Markup, Point};
 use std::alloc::{AllocError, Global};
@@ -101,7 +101,7 @@ fn draw_column_access(
     alloc: Global,
     lane: Lane,
     process: u8,
-    before: Option<OpenAccess>,
+    before: Option<UnendedAccess>,
     from: u16,
     column: &Column,
     markup: &mut Markup,
@@ -120,7 +120,7 @@ fn draw_column_access(
 fn draw_access(
     alloc: Global,
     lane: Lane,
-    before: Option<OpenAccess>,
+    before: Option<UnendedAccess>,
     from: u16,
     access: &ShownAccess,
     x: u16,
@@ -141,7 +141,7 @@ fn draw_access(
 fn draw_end(
     alloc: Global,
     lane: Lane,
-    before: Option<OpenAccess>,
+    before: Option<UnendedAccess>,
     from: u16,
     access: &ShownAccess,
     x: u16,
@@ -218,7 +218,7 @@ fn draw_move(
 /// Draws the box of an access that ends, if one was open.
 fn draw_ended(
     lane: Lane,
-    before: Option<OpenAccess>,
+    before: Option<UnendedAccess>,
     from: u16,
     to: u16,
     markup: &mut Markup,
@@ -237,7 +237,7 @@ fn draw_ended(
 /// Draws the box of an access that is open where its band ends, if one is.
 fn draw_unended(
     lane: Lane,
-    before: Option<OpenAccess>,
+    before: Option<UnendedAccess>,
     from: u16,
     to: u16,
     markup: &mut Markup,
@@ -257,7 +257,7 @@ fn draw_unended(
 fn draw_value(
     lane: Lane,
     x: u32,
-    before: Option<OpenAccess>,
+    before: Option<UnendedAccess>,
     words: &[u8],
     markup: &mut Markup,
 ) -> Result<(), AllocError>
@@ -310,7 +310,7 @@ fn style_of_whole(kind: AccessKind) -> &'static str
 }
 
 /// Returns the style of what an access gives.
-fn style_of_value(before: Option<OpenAccess>) -> &'static str
+fn style_of_value(before: Option<UnendedAccess>) -> &'static str
     ensures { result.now ≡ value_style before }
 {
     match before {
