@@ -121,32 +121,32 @@ next();
 # scroll sideways; the heading of the first band; and what the slider says behind each key
 MEASURED = {
     "withdrawal-show-while-inside": [
-        *(True, 300, True, True, "Part 1: events 0 to 57"),
-        ["event 1, behind 0 0 call read a", "event 2, behind 0 0 call read a", "event 1, behind 0 0 call read a"],
+        *(True, 300, True, True, "Part 1: 0 to 57"),
+        ["event 1, after 0 0 call read a", "event 2, after 0 0 call read a", "event 1, after 0 0 call read a"],
     ],
 }
 # what the slider says of the places of each page, beside the line of the run: the line of the file with its number, the store after
 # the history so far, and who stands in line
 SAID = {
     "failure-commit-settled-new": [
-        ("4: call 0 write a c:5", "empty", "nobody"),
+        ("4: call 0 write a c:5", "empty", "none"),
         ("5: step 0 1152", "empty", "0"),
         ("5: step 0 1152", "empty", "0"),
         ("6: fail 0", "empty", "0"),
         ("8: go 0 down", "empty", "0"),
         ("8: go 0 down", "a=c:5", "0"),
-        ("8: go 0 down", "a=c:5", "nobody"),
-        ("8: go 0 down", "a=c:5", "nobody"),
-        ("9: call 1 read a", "a=c:5", "nobody"),
+        ("8: go 0 down", "a=c:5", "none"),
+        ("8: go 0 down", "a=c:5", "none"),
+        ("9: call 1 read a", "a=c:5", "none"),
         ("10: go 1 idle", "a=c:5", "1"),
         ("10: go 1 idle", "a=c:5", "1"),
         ("10: go 1 idle", "a=c:5", "1"),
-        ("10: go 1 idle", "a=c:5", "nobody"),
-        ("10: go 1 idle", "a=c:5", "nobody"),
-        ("(end)", "a=c:5", "nobody"),
+        ("10: go 1 idle", "a=c:5", "none"),
+        ("10: go 1 idle", "a=c:5", "none"),
+        ("(end)", "a=c:5", "none"),
     ],
     "withdrawal-show-while-inside": [
-        ("4: call 0 read a", "empty", "nobody"),
+        ("4: call 0 read a", "empty", "none"),
         ("5: go 0 wait", "empty", "0"),
         ("6: call 1 read a", "empty", "0"),
         ("7: go 1 wait", "empty", "0 1"),
@@ -158,12 +158,12 @@ SAID = {
         ("(end)", "empty", "1"),
     ],
     "comments-and-spaces": [
-        ("4:   call 0  add a -3", "empty", "nobody"),
-        ("(end)", "empty", "nobody"),
+        ("4:   call 0  add a -3", "empty", "none"),
+        ("(end)", "empty", "none"),
     ],
     "two-processes-wander": [
-        ("2: call 0 write a c:5", "empty", "nobody"),
-        ("3: call 1 add a 3", "empty", "nobody"),
+        ("2: call 0 write a c:5", "empty", "none"),
+        ("3: call 1 add a 3", "empty", "none"),
         ("5: wander 5000", "empty", "1"),
         ("5: wander 5000", "empty", "0 1"),
         ("5: wander 5000", "empty", "0 1"),
@@ -172,15 +172,15 @@ SAID = {
         ("5: wander 5000", "a=c:5", "1"),
         ("5: wander 5000", "a=c:5", "1"),
         ("5: wander 5000", "a=c:8", "1"),
-        ("5: wander 5000", "a=c:8", "nobody"),
-        ("5: wander 5000", "a=c:8", "nobody"),
-        ("(end)", "a=c:8", "nobody"),
+        ("5: wander 5000", "a=c:8", "none"),
+        ("5: wander 5000", "a=c:8", "none"),
+        ("(end)", "a=c:8", "none"),
     ],
 }
 # an event of each, the place of its first line, or of the last one before it, and what is said beside that of one without a line
 EVENTS = {
     "failure-commit-settled-new": (1157, 4, ""),
-    "withdrawal-show-while-inside": (44, 4, "event44 has no mark: it is behind that line\n"),
+    "withdrawal-show-while-inside": (44, 4, "event44 has no mark; it comes after that line\n"),
     "comments-and-spaces": (0, 0, ""),
     "two-processes-wander": (2451, 7, ""),
 }
@@ -239,7 +239,7 @@ def wanted(name):
     """What it is to say: the line told, with one line of the scenario marked, and the line as the slider's value."""
     lines = (WORKED / name / "replay").read_text().splitlines()
     texts = [
-        f"told{line}\nby line{source}\nstore{store}\nin line{queue}\n"
+        f"line{line}\nmade by{source}\nstore{store}\nin line{queue}\n"
         for line, (source, store, queue) in zip(lines, SAID[name], strict=True)
     ]
     _, place, beside = EVENTS[name]

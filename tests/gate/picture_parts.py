@@ -1,5 +1,5 @@
 #!/usr/bin/env python3
-"""The constant parts of a picture: the files of picture/, as the crate `picture` has them in src/constants.rt.
+"""The constant parts of a picture: the files of picture/, as the crate `picture` has them in src/constants.rt and src/legends.rt.
 
 The script of a trace's page is that of any page without the lines that tell of the store and of the line of processes.
 Compares the two; with `--write` it writes the files into the crate.
@@ -13,20 +13,28 @@ sys.path.insert(0, str(pathlib.Path(__file__).resolve().parents[1]))
 from lib.counting import Counter
 from lib.places import TOP
 
-SOURCE = TOP / "crates" / "picture" / "src" / "constants.rt"
+FOLDER = TOP / "crates" / "picture" / "src"
 PARTS = [
     ("style.css", "STYLE", "The style of all pictures."),
-    ("page.css", "PAGE_STYLE", "The style of a page beside it."),
+    ("page.css", "PAGE_STYLE", "The style of a page, in addition to that of pictures."),
     ("script.js", "SCRIPT", "The script of a page."),
-    ("script.js", "TRACE_SCRIPT", "The same for a trace, which has no store and no line of processes."),
+    ("script.js", "TRACE_SCRIPT", "The script of the page of a trace, which has no store and no line of processes."),
     ("defs.svg", "PATTERNS", "The patterns of the bars."),
-    ("legend.svg", "LEGEND", "What the signs, bars and words mean."),
-    ("legend-trace.svg", "TRACE_LEGEND", "The same for a trace."),
-    ("legend-reads.svg", "READS_LEGEND", "The same, with what shows a read that a write overlapped."),
 ]
-HEAD = "//! The constant parts of a picture, as the files of picture/ have them: tests/gate/picture_parts.py writes this.\n"
+LEGENDS = [
+    ("legend.svg", "LEGEND", "The legend of a run or record."),
+    ("legend-trace.svg", "TRACE_LEGEND", "The legend of a trace."),
+    ("legend-reads.svg", "READS_LEGEND", "The legend of a run or record whose overlapped reads are shown."),
+    ("legend-accesses.svg", "ACCESS_LEGEND", "The legend of a run or record whose accesses are shown."),
+    ("legend-trace-accesses.svg", "TRACE_ACCESS_LEGEND", "The legend of a trace whose accesses are shown."),
+]
+# each source with its first line and its constants
+SOURCES = [
+    ("constants.rt", "The constant parts of a picture, as the files of picture/ have them", PARTS),
+    ("legends.rt", "The legends of pictures, as the files of picture/ have them", LEGENDS),
+]
 # what is left out of the files for some constants
-LEFT_OUT = {"TRACE_SCRIPT": "line('store',stores[n]);\nline('in line',queues[n]||'nobody');"}
+LEFT_OUT = {"TRACE_SCRIPT": "line('store',stores[n]);\nline('in line',queues[n]||'none');"}
 # a line of the source that would be longer goes on below
 WIDTH = 100
 
@@ -48,11 +56,15 @@ def constant(file, name, meaning):
 
 
 def main():
-    made = "\n".join([HEAD, *(constant(*part) for part in PARTS)])
-    if sys.argv[1:] == ["--write"]:
-        SOURCE.write_text(made)
-    counter, told = Counter(), f"{SOURCE.relative_to(TOP)} is not what picture/ has: python3 tests/gate/picture_parts.py --write"
-    counter.count(SOURCE.read_text() == made, told)
+    counter = Counter()
+    for file, front, parts in SOURCES:
+        source = FOLDER / file
+        head = f"//! {front}: tests/gate/picture_parts.py writes this.\n"
+        made = "\n".join([head, *(constant(*part) for part in parts)])
+        if sys.argv[1:] == ["--write"]:
+            source.write_text(made)
+        told = f"{source.relative_to(TOP)} is not what picture/ has: python3 tests/gate/picture_parts.py --write"
+        counter.count(source.read_text() == made, told)
     counter.end()
 
 

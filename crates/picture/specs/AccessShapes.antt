@@ -1,5 +1,6 @@
 -- What a band draws of accesses: guides, boxes, words and ties.
 use Rattle.std.specs.Prelude.{ℕ, zero, suc, ◌+◌, ◌-◌, Bool, true, false, ◌==◌, cond, is_some, nat_lt, List, [], ◌∷◌, ◌++◌, codes, Option, None, Some}
+use Rattle.std.specs.List.{list_any}
 use Rattle.markup.specs.{Block, End, Label, Note, Shape, line_from, path_from}
 use Rattle.columns.specs.{AccessKind, AccessStep, Lane, Layout, UnendedAccess, Seen, ShownAccess, access_title, boxes_of, is_over, lane_in, open_next}
 use Rattle.columns.specs.declared.accesses.AccessKind.TheVariants as kind
@@ -33,18 +34,25 @@ abbrev pub ended_box : Lane → Option UnendedAccess → ℕ → ℕ → List Sh
 ended_box lane None from to = []
 ended_box lane (Some access) from to = access_box lane access from to ∷ []
 
+-- whether an access overlaps an open one as it begins, and one of the two writes
+abbrev pub begins_overlapped : ShownAccess → Bool
+begins_overlapped access = list_any (λ (is_over : Bool). is_over) access.overlaps
+
 -- the box of a whole access
-abbrev pub whole_style : AccessKind → List ℕ
-whole_style kind = box_style kind false ++ codes " whole"
+abbrev pub whole_style : AccessKind → Bool → List ℕ
+whole_style kind is_overlapped = box_style kind is_overlapped ++ codes " whole"
 
-abbrev pub whole_box : Lane → AccessKind → ℕ → Shape
-whole_box lane kind x = Block (whole_style kind) (point x (boxes_of lane)) 4 28
+abbrev pub whole_box : Lane → ShownAccess → ℕ → Shape
+whole_box lane access x = Block (whole_style access.kind (begins_overlapped access)) (point x (boxes_of lane)) 4 28
 
--- the words of an access and its cell, from a place on
-abbrev pub move_words : Lane → ℕ → ShownAccess → List Shape
-move_words lane x access =
-    Label (codes "move") (point x (boxes_of lane + 12)) access.words.items
+-- the words of an access, in a style, and its cell, from a place on
+abbrev pub styled_words : List ℕ → Lane → ℕ → ShownAccess → List Shape
+styled_words style lane x access =
+    Label style (point x (boxes_of lane + 12)) access.words.items
     ∷ Label (codes "cell") (point x (boxes_of lane + 24)) access.cell.items ∷ []
+
+abbrev pub move_words : Lane → ℕ → ShownAccess → List Shape
+move_words = styled_words (codes "move")
 
 -- the style of what an access gives: that of a read that a write overlapped stands out
 abbrev pub value_by : AccessKind → Bool → List ℕ
@@ -74,7 +82,8 @@ ended_shapes lane before from access x = titled access (ended_box lane before fr
 
 -- the box of a whole access, and its words
 abbrev pub whole_shapes : Lane → ShownAccess → ℕ → List Shape
-whole_shapes lane access x = titled access (whole_box lane access.kind x ∷ move_words lane (x + 7) access)
+whole_shapes lane access x =
+    titled access (whole_box lane access x ∷ styled_words (value_by access.kind (begins_overlapped access)) lane (x + 7) access)
 
 -- what an entry draws of an access; the words of one that begins are drawn over its box, and so behind it
 abbrev pub access_shapes : Lane → Option UnendedAccess → ℕ → ShownAccess → ℕ → AccessStep → List Shape

@@ -12,7 +12,7 @@ pub mod Standings
 pub mod Subjects
 pub mod WaveShapes
 pub mod Words
-pub use AccessShapes.{access_box, access_shapes, accesses_from, begun, begun_if, begun_shapes, begun_words, box_style, dot, ended_box, ended_shapes, from_next, guide, made_by, move_words, open_box, open_style, shapes_if, tie, tie_between, tie_to, ties, ties_of, ties_to, titled, unended_box, value_by, value_style, value_words, whole_box, whole_shapes, whole_style}
+pub use AccessShapes.{access_box, access_shapes, accesses_from, begins_overlapped, begun, begun_if, begun_shapes, begun_words, box_style, dot, ended_box, ended_shapes, from_next, guide, made_by, move_words, open_box, open_style, shapes_if, styled_words, tie, tie_between, tie_to, ties, ties_of, ties_to, titled, unended_box, value_by, value_style, value_words, whole_box, whole_shapes, whole_style}
 pub use Bandings.{Accesses, Bands, Item, Plan, Reads, Tells, accesses_behind, accesses_in, bands_of, bands_told, begun_by, behind_columns, columns_of, filled, framed, full_bytes, full_told, heights, heights_told, layout_in, line_by, newest, newest_at, older, placing_before, placing_in, room_by, state_after, with_line, with_placed, with_put, with_room}
 pub use Bars.{bar, bars, ends_at, free_left, is_stage, is_word, next_stretch, says_word, stretch_at, stretch_word, words_from}
 pub use Drawings.{SeenBand, axis, axis_up_to, band_shapes, chain_shapes, column_shapes, first_inside, for_each, inside_since, lane_accesses, lane_shapes, lane_words, line_shapes, lines_shapes, links, mark_said, note_shapes, queue_said, rows_shapes, seen_band, shade_up_to, shades, store_said, words_of_lane}

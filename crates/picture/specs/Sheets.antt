@@ -9,7 +9,7 @@ use Rattle.markup.specs.declared.names.Tag.TheVariants as tag
 use Rattle.picture.specs.Subjects.{legend_of, list_begun, script_of, shown_by}
 use Rattle.picture.specs.declared.constants.TheConstants.{PAGE_STYLE, PATTERNS, STYLE}
 use Rattle.picture.specs.declared.reads.Reads.{Reads}
-use Rattle.picture.specs.declared.reads.Reads.TheVariants.{Hidden, Shown}
+use Rattle.picture.specs.declared.reads.Reads.TheVariants.{All, Hidden, Shown}
 use Rattle.picture.specs.declared.subjects.Subject.{Subject}
 use Rattle.picture.specs.declared.subjects.Subject.TheVariants as subject
 
@@ -43,6 +43,7 @@ paper_of processes = cond (nat_lt 10 processes) (codes "\n@page{size:A4 portrait
 abbrev pub height_of_legend : Reads → ℕ
 height_of_legend Hidden = 104
 height_of_legend Shown = 122
+height_of_legend All = 182
 
 -- how the picture of the legend begins in a page
 abbrev pub legend_tag : Reads → List ℕ
@@ -88,8 +89,8 @@ page_front_by subject processes heading printed reads = page_begun processes hea
 abbrev pub page_front : Setup → List ℕ → Reads → List ℕ
 page_front s = page_front_by subject.Run s.processes (heading_of s)
 
-abbrev pub trace_page_front : ℕ → List ℕ → List ℕ → List ℕ
-trace_page_front processes heading printed = page_front_by subject.Trace processes heading printed Hidden
+abbrev pub trace_page_front : ℕ → List ℕ → List ℕ → Reads → List ℕ
+trace_page_front = page_front_by subject.Trace
 
 -- the slider, which shows the opening store at first
 abbrev pub slider_of : List ℕ → List ℕ
@@ -157,8 +158,8 @@ picture_front_by subject heading bands reads =
 abbrev pub picture_front : Setup → ℕ → Reads → List ℕ
 picture_front s = picture_front_by subject.Run (heading_of s)
 
-abbrev pub trace_picture_front : List ℕ → ℕ → List ℕ
-trace_picture_front heading bands = picture_front_by subject.Trace heading bands Hidden
+abbrev pub trace_picture_front : List ℕ → ℕ → Reads → List ℕ
+trace_picture_front = picture_front_by subject.Trace
 
 -- what it has behind them: the legend
 abbrev pub picture_back_by : Subject → ℕ → Reads → List ℕ
@@ -167,5 +168,5 @@ picture_back_by subject bands reads = lowering (held_in_64 (bands + 34)) ++ lege
 abbrev pub picture_back : ℕ → Reads → List ℕ
 picture_back = picture_back_by subject.Run
 
-abbrev pub trace_picture_back : ℕ → List ℕ
-trace_picture_back bands = picture_back_by subject.Trace bands Hidden
+abbrev pub trace_picture_back : ℕ → Reads → List ℕ
+trace_picture_back = picture_back_by subject.Trace

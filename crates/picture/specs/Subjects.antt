@@ -1,8 +1,9 @@
 -- What a picture is of.
 use Rattle.std.specs.Prelude.{ℕ, Bool, true, false, List, codes}
-use Rattle.picture.specs.declared.constants.TheConstants.{LEGEND, READS_LEGEND, SCRIPT, TRACE_LEGEND, TRACE_SCRIPT}
+use Rattle.picture.specs.declared.constants.TheConstants.{SCRIPT, TRACE_SCRIPT}
+use Rattle.picture.specs.declared.legends.TheConstants.{ACCESS_LEGEND, LEGEND, READS_LEGEND, TRACE_ACCESS_LEGEND, TRACE_LEGEND}
 use Rattle.picture.specs.declared.reads.Reads.{Reads}
-use Rattle.picture.specs.declared.reads.Reads.TheVariants.{Hidden, Shown}
+use Rattle.picture.specs.declared.reads.Reads.TheVariants.{All, Hidden, Shown}
 use Rattle.picture.specs.declared.subjects.TheConstants.{DESCRIPTION, TRACE_DESCRIPTION}
 use Rattle.picture.specs.declared.subjects.Subject.{Subject}
 use Rattle.picture.specs.declared.subjects.Subject.TheVariants.{Run, Trace}
@@ -21,7 +22,10 @@ shown_by Trace = TRACE_DESCRIPTION.now
 abbrev pub legend_of : Subject → Reads → List ℕ
 legend_of Run Hidden = LEGEND.now
 legend_of Run Shown = READS_LEGEND.now
-legend_of Trace reads = TRACE_LEGEND.now
+legend_of Run All = ACCESS_LEGEND.now
+legend_of Trace Hidden = TRACE_LEGEND.now
+legend_of Trace Shown = TRACE_LEGEND.now
+legend_of Trace All = TRACE_ACCESS_LEGEND.now
 
 -- what stands in a page before the list of lines: the end of the legend, and what is listed
 abbrev pub list_begun : Subject → List ℕ

@@ -3,12 +3,12 @@ ghost use Rattle.std.specs.Prelude.{◌≡◌, OnOk, option_copied};
 ghost use Rattle.picture.specs.Adding.{Draws};
 ghost use Rattle.markup.specs.{reading};
 ghost use Rattle.columns.specs.{seen, seen_accesses};
-ghost use Rattle.picture.specs.AccessShapes.{access_shapes, begun, begun_shapes, box_style, ended_box, ended_shapes, from_next, guide, made_by, move_words, open_style, shapes_if, unended_box, value_style, value_words, whole_shapes, whole_style};
+ghost use Rattle.picture.specs.AccessShapes.{access_shapes, begins_overlapped as overlapped_first, begun, begun_shapes, box_style, ended_box, ended_shapes, from_next, guide, made_by, open_style, shapes_if, styled_words, unended_box, value_by, value_style, value_words, whole_shapes, whole_style};
 ghost use Rattle.picture.specs.Drawings.{lane_accesses, seen_band};
 
 use crate::bands::Band;
 use columns::{
-    AXIS, AccessKind, AccessState, AccessStep, Column, LEFT, Lane, UnendedAccess, ShownAccess,
+    AXIS, AccessKind, AccessState, AccessStep, Column, LEFT, Lane, ShownAccess, UnendedAccess,
 };
 use markup::{Markup, Point};
 use std::alloc::{AllocError, Global};
@@ -178,8 +178,11 @@ fn draw_whole(
     let title = access.title(alloc)?;
     markup.note(title.as_slice())?;
     let corner = Point::at(u32::from(x), lane.boxes());
-    markup.block(style_of_whole(access.kind), corner, 4, BOX)?;
-    draw_move(lane, u32::from(x) + 7, access, markup)?;
+    let is_overlapped = begins_overlapped(access);
+    let style = style_of_whole(access.kind, is_overlapped);
+    markup.block(style, corner, 4, BOX)?;
+    let words = style_of_words(access.kind, is_overlapped);
+    draw_move(words, lane, u32::from(x) + 7, access, markup)?;
     markup.end_group()
 }
 
@@ -196,22 +199,23 @@ fn draw_begin(
 {
     let title = access.title(alloc)?;
     markup.note(title.as_slice())?;
-    draw_move(lane, u32::from(x) + 4, access, markup)?;
+    draw_move("move", lane, u32::from(x) + 4, access, markup)?;
     markup.end_group()
 }
 
 /// Draws the words of an access and its cell.
 fn draw_move(
+    style: &'static str,
     lane: Lane,
     x: u32,
     access: &ShownAccess,
     markup: &mut Markup,
 ) -> Result<(), AllocError>
-    ensures draws { Draws result markup.old markup.new (move_words lane x access.now) }
+    ensures draws { Draws result markup.old markup.new (styled_words style.now lane x access.now) }
     ensures read { OnOk result (reading markup.new ≡ reading markup.old) }
 {
     let top = lane.boxes();
-    markup.label("move", Point::at(x, top + 12), access.words.as_slice())?;
+    markup.label(style, Point::at(x, top + 12), access.words.as_slice())?;
     markup.label("cell", Point::at(x, top + 24), access.cell.as_slice())
 }
 
@@ -299,10 +303,11 @@ fn style_of_open_box(kind: AccessKind, is_overlapped: bool) -> &'static str
 }
 
 /// Returns the style of the box of a whole access.
-fn style_of_whole(kind: AccessKind) -> &'static str
-    ensures { result.now ≡ whole_style kind }
+fn style_of_whole(kind: AccessKind, is_overlapped: bool) -> &'static str
+    ensures { result.now ≡ whole_style kind is_overlapped }
 {
     match kind {
+        AccessKind::Read if is_overlapped => "overlapped whole",
         AccessKind::Read => "read whole",
         AccessKind::Write => "write whole",
         AccessKind::Update => "update whole",
@@ -314,7 +319,24 @@ fn style_of_value(before: Option<UnendedAccess>) -> &'static str
     ensures { result.now ≡ value_style before }
 {
     match before {
-        Some(access) if access.kind == AccessKind::Read && access.is_overlapped => "saw",
+        Some(access) => style_of_words(access.kind, access.is_overlapped),
+        None => "move",
+    }
+}
+
+/// Returns the style of the words of an access: those of a read that a write overlapped are bold.
+fn style_of_words(kind: AccessKind, is_overlapped: bool) -> &'static str
+    ensures { result.now ≡ value_by kind is_overlapped }
+{
+    match kind {
+        AccessKind::Read if is_overlapped => "saw",
         _ => "move",
     }
+}
+
+/// Returns whether an access overlaps an open one as it begins, and one of the two writes.
+fn begins_overlapped(access: &ShownAccess) -> bool
+    ensures { result ≡ overlapped_first access.now }
+{
+    access.overlaps.iter().any(|is_over| *is_over)
 }

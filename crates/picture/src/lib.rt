@@ -8,6 +8,7 @@ mod bars;
 mod constants;
 mod lanes;
 mod laws;
+mod legends;
 mod links;
 mod marks;
 mod page;

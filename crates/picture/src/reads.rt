@@ -1,4 +1,4 @@
-//! Reads that writes overlapped: what a picture shows of them beside the lines of the run.
+//! Overlapped reads, as a picture shows them between the lines of a run.
 ghost use Rattle.std.specs.Prelude.{◌≡◌, OnOk};
 ghost use Rattle.picture.specs.Adding.{Draws};
 ghost use Rattle.markup.specs.{reading};
@@ -11,24 +11,29 @@ use columns::{OverlappedRead, event_place};
 use markup::{Markup, Point};
 use std::alloc::{AllocError, Global};
 
-/// Whether a picture shows the reads that writes overlapped.
+/// The accesses that a picture shows with its stages and marks.
 #[derive(Clone, Copy, PartialEq, Eq)]
 pub enum Reads {
+    /// No accesses.
     Hidden,
+    /// The reads that writes overlapped, as brackets.
     Shown,
+    /// All accesses, as boxes. The reads that writes overlapped have no brackets.
+    All,
 }
 
-/// The height of the legend.
+/// Returns the height of the legend.
 pub(crate) fn legend_height(reads: Reads) -> u64
     ensures { result ≡ height_of_legend reads }
 {
     match reads {
         Reads::Hidden => 104,
         Reads::Shown => 122,
+        Reads::All => 182,
     }
 }
 
-/// Draws the words of a read. Its title is no line of the run.
+/// Draws the words of a read. Its title is not a line of the run.
 pub(crate) fn draw_read(
     alloc: Global,
     read: &OverlappedRead,
@@ -48,7 +53,7 @@ pub(crate) fn draw_read(
 }
 
 impl Band {
-    /// Draws from where to where a read was open, and whose bit it read.
+    /// Draws the bracket of a read, and a line to the lane of its owner.
     pub(crate) fn draw_open(
         &self,
         alloc: Global,

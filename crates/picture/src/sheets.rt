@@ -1,4 +1,4 @@
-//! What stands around the bands: the heading, the styles, the legend, the scenario and the slider.
+//! The parts of a page or a picture around the bands: the heading, the styles, the legend, the scenario and the slider.
 ghost use Rattle.std.specs.Prelude.{◌≡◌, [], ◌++◌, codes, IfOk, OnOk, Some};
 ghost use Rattle.picture.specs.Adding.{Begins};
 ghost use Rattle.std.specs.String.{string_bytes};
@@ -15,10 +15,10 @@ use markup::{Key, Markup, Tag, class, number, words};
 use record::Setup;
 use std::alloc::{AllocError, Global};
 
-/// Where the first band of one picture begins.
+/// The top of the first band of one picture.
 pub const FIRST_BAND: u64 = 34;
 
-/// What a page has before its bands, whose body is open then; `printed`: the lines of the scenario.
+/// Returns the start of a page, up to its bands, where `printed` has the lines of the scenario.
 pub fn page_head(
     alloc: Global,
     setup: &Setup,
@@ -42,8 +42,8 @@ pub fn page_head(
     Ok(markup)
 }
 
-/// Adds the same to fresh markup, under this heading. It is a function of its own, since values that are dropped at each way
-/// out of a function are dear to prove.
+/// Adds it to empty markup, under this heading. It is a function of its own, because a value that is dropped at each way
+/// out of a function takes long to prove.
 pub(crate) fn add_page_front(
     subject: Subject,
     processes: u8,
@@ -61,7 +61,7 @@ pub(crate) fn add_page_front(
     begin_body(subject, heading, printed, reads, markup)
 }
 
-/// Adds what a page has before its body to fresh markup, and begins the body.
+/// Adds the head of a page to empty markup, and begins the body.
 fn begin_page(processes: u8, heading: &[u8], markup: &mut Markup) -> Result<(), AllocError>
     requires fresh { markup.old ≡ [] }
     ensures draws { OnOk result (markup.new ≡ page_begun processes heading.now) }
@@ -77,7 +77,7 @@ fn begin_page(processes: u8, heading: &[u8], markup: &mut Markup) -> Result<(), 
     markup.frame("</style></head><body>\n")
 }
 
-/// Adds what the body of a page has before its bands.
+/// Adds the body of a page up to its bands.
 fn begin_body(
     subject: Subject,
     heading: &[u8],
@@ -97,7 +97,7 @@ fn begin_body(
     markup.frame("</ol></details>\n")
 }
 
-/// The styles of a page, and how it lies where it is printed.
+/// Adds the styles of a page, and its layout in print.
 fn add_styles(processes: u8, markup: &mut Markup) -> Result<(), AllocError>
     ensures draws { OnOk result (markup.new ≡ markup.old ++ styles_of processes) }
     ensures read { OnOk result (reading markup.new ≡ reading markup.old) }
@@ -108,7 +108,7 @@ fn add_styles(processes: u8, markup: &mut Markup) -> Result<(), AllocError>
     add_paper(processes, markup)
 }
 
-/// The style of all pictures.
+/// Adds the style of all pictures.
 fn add_style(markup: &mut Markup) -> Result<(), AllocError>
     ensures draws { OnOk result (markup.new ≡ markup.old ++ STYLE.now) }
     ensures read { OnOk result (reading markup.new ≡ reading markup.old) }
@@ -116,7 +116,7 @@ fn add_style(markup: &mut Markup) -> Result<(), AllocError>
     markup.constant(STYLE)
 }
 
-/// The patterns of all pictures.
+/// Adds the patterns of all pictures.
 fn add_patterns(markup: &mut Markup) -> Result<(), AllocError>
     ensures draws { OnOk result (markup.new ≡ markup.old ++ (PATTERNS.now ++ codes "\n")) }
     ensures read { OnOk result (reading markup.new ≡ reading markup.old) }
@@ -125,7 +125,7 @@ fn add_patterns(markup: &mut Markup) -> Result<(), AllocError>
     markup.constant("\n")
 }
 
-/// How the page lies where it is printed.
+/// Adds the layout of a page in print.
 fn add_paper(processes: u8, markup: &mut Markup) -> Result<(), AllocError>
     ensures draws { OnOk result (markup.new ≡ markup.old ++ paper_of processes) }
     ensures read { OnOk result (reading markup.new ≡ reading markup.old) }
@@ -137,7 +137,7 @@ fn add_paper(processes: u8, markup: &mut Markup) -> Result<(), AllocError>
     }
 }
 
-/// Begins the picture of the legend in a page: what it shows, without its end.
+/// Adds the start of the legend of a page, without its end.
 fn begin_legend(subject: Subject, reads: Reads, markup: &mut Markup) -> Result<(), AllocError>
     ensures draws { OnOk result (markup.new ≡ markup.old ++ legend_front subject reads) }
     ensures read { Begins result markup.old markup.new (codes "svg") }
@@ -149,7 +149,7 @@ fn begin_legend(subject: Subject, reads: Reads, markup: &mut Markup) -> Result<(
     subject.add_legend(reads, markup)
 }
 
-/// The tag of that picture.
+/// Adds the tag of the legend.
 fn enter_legend(reads: Reads, markup: &mut Markup) -> Result<(), AllocError>
     ensures draws { OnOk result (markup.new ≡ markup.old ++ legend_tag reads) }
     ensures read { Begins result markup.old markup.new (codes "svg") }
@@ -185,7 +185,7 @@ fn list_line(line: &[u8], markup: &mut Markup) -> Result<(), AllocError>
     markup.constant("\n")
 }
 
-/// What a page has behind its bands; `opening`: the opening store.
+/// Returns the end of a page, after its bands, where `opening` is the opening store.
 pub fn page_end(alloc: Global, opening: &[u8]) -> Result<Markup, AllocError>
     ensures draws { IfOk result (λ markup. markup ≡ page_back opening.now) }
     ensures lines { IfOk result (λ markup. lines_in markup ≡ []) }
@@ -196,7 +196,7 @@ pub fn page_end(alloc: Global, opening: &[u8]) -> Result<Markup, AllocError>
     Ok(markup)
 }
 
-/// Adds the same to fresh markup.
+/// Adds the end of a page to empty markup.
 pub(crate) fn add_page_end(
     subject: Subject,
     opening: &[u8],
@@ -214,7 +214,7 @@ pub(crate) fn add_page_end(
     markup.frame("</script>\n</body></html>\n")
 }
 
-/// The slider, by which a line is chosen; `opening`: the opening store.
+/// Adds the slider, which selects a line, where `opening` is the opening store.
 fn add_slider(opening: &[u8], markup: &mut Markup) -> Result<(), AllocError>
     ensures draws { OnOk result (markup.new ≡ markup.old ++ slider_of opening.now) }
     ensures read { OnOk result (reading markup.new ≡ reading markup.old) }
@@ -229,7 +229,7 @@ fn add_slider(opening: &[u8], markup: &mut Markup) -> Result<(), AllocError>
     ])
 }
 
-/// What one picture has before its bands, whose heights come to so much.
+/// Returns the start of one picture, where `bands` is the sum of the heights of its bands.
 pub fn picture_head(
     alloc: Global,
     setup: &Setup,
@@ -246,7 +246,7 @@ pub fn picture_head(
     Ok(markup)
 }
 
-/// Adds the same to fresh markup, under this heading.
+/// Adds the start of one picture to empty markup, under this heading.
 pub(crate) fn add_picture_front(
     subject: Subject,
     heading: &[u8],
@@ -281,14 +281,14 @@ fn begin_picture(height: u64, markup: &mut Markup) -> Result<(), AllocError>
     markup.constant("\n")
 }
 
-/// The part of a picture's plane that is seen, down to this height.
+/// Returns the visible part of a picture's plane, down to this height.
 pub(crate) fn view(alloc: Global, height: u64) -> Result<String, AllocError>
     ensures { IfOk result (λ view. string_bytes view ≡ view_of height) }
 {
     format!(in alloc; "0 0 1200 {height}")
 }
 
-/// The tag of one picture.
+/// Adds the tag of one picture.
 fn enter_picture(height: u64, markup: &mut Markup) -> Result<(), AllocError>
     ensures draws { OnOk result (markup.new ≡ markup.old ++ svg_tag height) }
     ensures read { Begins result markup.old markup.new (codes "svg") }
@@ -307,7 +307,7 @@ fn enter_picture(height: u64, markup: &mut Markup) -> Result<(), AllocError>
     )
 }
 
-/// The title of one picture, and what it shows.
+/// Adds the title of one picture, and its description.
 fn add_titles(subject: Subject, heading: &[u8], markup: &mut Markup) -> Result<(), AllocError>
     ensures draws { OnOk result (markup.new ≡ markup.old ++ titles_of subject heading.now) }
     ensures read { OnOk result (reading markup.new ≡ reading markup.old) }
@@ -317,7 +317,7 @@ fn add_titles(subject: Subject, heading: &[u8], markup: &mut Markup) -> Result<(
     markup.tell(Tag::Desc, &[words(Key::Id, b"d")], subject.description())
 }
 
-/// The ground of one picture of this height, and its heading.
+/// Adds the ground of one picture of this height, and its heading.
 fn add_ground(height: u64, heading: &[u8], markup: &mut Markup) -> Result<(), AllocError>
     ensures draws { OnOk result (markup.new ≡ markup.old ++ ground_of height heading.now) }
     ensures read { OnOk result (reading markup.new ≡ reading markup.old) }
@@ -338,7 +338,7 @@ fn add_ground(height: u64, heading: &[u8], markup: &mut Markup) -> Result<(), Al
     markup.constant("\n")
 }
 
-/// What one picture has behind its bands, whose heights come to so much.
+/// Returns the end of one picture, where `bands` is the sum of the heights of its bands.
 pub fn picture_end(alloc: Global, bands: u64, reads: Reads) -> Result<Markup, AllocError>
     ensures draws { IfOk result (λ markup. markup ≡ picture_back bands reads) }
     ensures lines { IfOk result (λ markup. lines_in markup ≡ []) }
@@ -347,7 +347,7 @@ pub fn picture_end(alloc: Global, bands: u64, reads: Reads) -> Result<Markup, Al
     end_picture(alloc, Subject::Run, bands, reads)
 }
 
-/// What one picture of a subject has behind its bands.
+/// Returns the end of one picture of a subject.
 pub(crate) fn end_picture(
     alloc: Global,
     subject: Subject,
@@ -366,14 +366,14 @@ pub(crate) fn end_picture(
     Ok(markup)
 }
 
-/// What makes `process` many.
+/// Returns the ending of the word *process* for this number.
 fn plural(processes: u8) -> &'static str
     ensures { result.now ≡ plural_of processes }
 {
     if processes == 1 { "" } else { "es" }
 }
 
-/// The heading of both.
+/// Returns the heading of a page or a picture.
 #[tactic(auto, using(crate::proofs::Sheetings::heading_is))]
 fn heading(alloc: Global, setup: &Setup) -> Result<String, AllocError>
     ensures { IfOk result (λ heading. string_bytes heading ≡ heading_of setup.now) }

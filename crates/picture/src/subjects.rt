@@ -1,22 +1,23 @@
-//! What a picture is of.
+//! The subject of a picture: a run, a record or a trace.
 ghost use Rattle.std.specs.Prelude.{◌≡◌, ◌++◌, OnOk};
 ghost use Rattle.markup.specs.{opens_in, reading, with_tags};
 ghost use Rattle.picture.specs.Subjects.{has_history, legend_of, list_begun, script_of, shown_by};
 
-use crate::constants::{LEGEND, READS_LEGEND, SCRIPT, TRACE_LEGEND, TRACE_SCRIPT};
+use crate::constants::{SCRIPT, TRACE_SCRIPT};
+use crate::legends::{ACCESS_LEGEND, LEGEND, READS_LEGEND, TRACE_ACCESS_LEGEND, TRACE_LEGEND};
 use crate::reads::Reads;
 use markup::Markup;
 use std::alloc::AllocError;
 
-/// What the picture of a run or of a record shows.
+/// The description of the picture of a run or a record.
 const DESCRIPTION: &[u8] =
     b"A lane for each process, time to the right in events. A bar is the stage of the process. Each mark has its event number. The lowest lane is the one history of the commands taken.";
 
-/// What the picture of a trace shows.
+/// The description of the picture of a trace.
 const TRACE_DESCRIPTION: &[u8] =
     b"A lane for each process, time to the right in entries. A bar is the stage of the process. Each mark has the number of its entry.";
 
-/// What a picture is of.
+/// The subject of a picture.
 #[derive(Clone, Copy, PartialEq, Eq)]
 pub enum Subject {
     /// A run or a record, which has a history of the commands taken.
@@ -43,7 +44,7 @@ impl Subject {
         }
     }
 
-    /// Adds what signs, bars and words mean.
+    /// Adds the legend: what signs, bars and words mean, and boxes if all accesses are shown.
     pub(crate) fn add_legend(self, reads: Reads, markup: &mut Markup) -> Result<(), AllocError>
         ensures draws { OnOk result (markup.new ≡ markup.old ++ legend_of self reads) }
         ensures read { OnOk result (reading markup.new ≡ reading markup.old) }
@@ -51,7 +52,9 @@ impl Subject {
         match (self, reads) {
             (Subject::Run, Reads::Hidden) => markup.constant(LEGEND),
             (Subject::Run, Reads::Shown) => markup.constant(READS_LEGEND),
-            (Subject::Trace, _) => markup.constant(TRACE_LEGEND),
+            (Subject::Run, Reads::All) => markup.constant(ACCESS_LEGEND),
+            (Subject::Trace, Reads::Hidden | Reads::Shown) => markup.constant(TRACE_LEGEND),
+            (Subject::Trace, Reads::All) => markup.constant(TRACE_ACCESS_LEGEND),
         }
     }
 

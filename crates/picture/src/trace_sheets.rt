@@ -1,4 +1,4 @@
-//! What stands around the bands of a trace.
+//! The parts of a page or a picture of a trace around the bands.
 ghost use Rattle.std.specs.Prelude.{◌≡◌, [], IfOk, Some};
 ghost use Rattle.markup.specs.{lines_in, opens_in};
 ghost use Rattle.picture.specs.Pages.{page_names, picture_names};
@@ -10,7 +10,8 @@ use crate::subjects::Subject;
 use markup::Markup;
 use std::alloc::{AllocError, Global};
 
-/// Returns what the page of a trace has before its bands, whose body is open then; `printed` are the lines that it lists.
+/// Returns what the page of a trace has before its bands, whose body is open then. `printed` are the lines that it lists,
+/// and `reads` chooses the legend.
 ///
 /// # Errors
 ///
@@ -20,14 +21,22 @@ pub fn trace_page_head(
     processes: u8,
     heading: &[u8],
     printed: &[u8],
+    reads: Reads,
 ) -> Result<Markup, AllocError>
-    ensures draws { IfOk result (λ markup. markup ≡ trace_page_front processes heading.now printed.now) }
+    ensures draws { IfOk result
+        (λ markup. markup ≡ trace_page_front processes heading.now printed.now reads) }
     ensures lines { IfOk result (λ markup. lines_in markup ≡ []) }
     ensures elements { IfOk result (λ markup. opens_in markup (Some []) ≡ Some page_names) }
 {
     let mut markup = Markup::new(alloc);
-    let (subject, reads) = (Subject::Trace, Reads::Hidden);
-    add_page_front(subject, processes, heading, printed, reads, &mut markup)?;
+    add_page_front(
+        Subject::Trace,
+        processes,
+        heading,
+        printed,
+        reads,
+        &mut markup,
+    )?;
     Ok(markup)
 }
 
@@ -46,30 +55,36 @@ pub fn trace_page_end(alloc: Global) -> Result<Markup, AllocError>
     Ok(markup)
 }
 
-/// Returns what one picture of a trace has before its bands, whose heights come to `bands`.
+/// Returns what one picture of a trace has before its bands, whose heights come to `bands`. Its height depends on the
+/// legend that `reads` chooses.
 ///
 /// # Errors
 ///
 /// Returns [`AllocError`] if memory is lacking.
-pub fn trace_picture_head(alloc: Global, heading: &[u8], bands: u64) -> Result<Markup, AllocError>
-    ensures draws { IfOk result (λ markup. markup ≡ trace_picture_front heading.now bands) }
+pub fn trace_picture_head(
+    alloc: Global,
+    heading: &[u8],
+    bands: u64,
+    reads: Reads,
+) -> Result<Markup, AllocError>
+    ensures draws { IfOk result (λ markup. markup ≡ trace_picture_front heading.now bands reads) }
     ensures lines { IfOk result (λ markup. lines_in markup ≡ []) }
     ensures elements { IfOk result (λ markup. opens_in markup (Some []) ≡ Some picture_names) }
 {
     let mut markup = Markup::new(alloc);
-    add_picture_front(Subject::Trace, heading, bands, Reads::Hidden, &mut markup)?;
+    add_picture_front(Subject::Trace, heading, bands, reads, &mut markup)?;
     Ok(markup)
 }
 
-/// Returns what one picture of a trace has after its bands, whose heights come to `bands`.
+/// Returns what one picture of a trace has after its bands, whose heights come to `bands`: the legend that `reads` chooses.
 ///
 /// # Errors
 ///
 /// Returns [`AllocError`] if memory is lacking.
-pub fn trace_picture_end(alloc: Global, bands: u64) -> Result<Markup, AllocError>
-    ensures draws { IfOk result (λ markup. markup ≡ trace_picture_back bands) }
+pub fn trace_picture_end(alloc: Global, bands: u64, reads: Reads) -> Result<Markup, AllocError>
+    ensures draws { IfOk result (λ markup. markup ≡ trace_picture_back bands reads) }
     ensures lines { IfOk result (λ markup. lines_in markup ≡ []) }
     ensures elements { IfOk result (λ markup. opens_in markup (Some picture_names) ≡ Some []) }
 {
-    end_picture(alloc, Subject::Trace, bands, Reads::Hidden)
+    end_picture(alloc, Subject::Trace, bands, reads)
 }
