@@ -5,9 +5,9 @@ use Rattle.record.specs.{Mark}
 use Rattle.picture.specs.markup.{EndsAll, is_at_rest, lines_in, opens_in, tags_of}
 use Rattle.picture.proofs.markup.Lines.{lines_on, rests_on}
 use Rattle.picture.proofs.markup.Stacks.{opens_on}
-use Rattle.picture.specs.{GivesRest, GoesOn, Item, Plan, Reads, SeenPage, Tells, band_text, bands_told, full_told, heights_told, lines_of_band, page_of}
-use Rattle.picture.specs.columns.{OverlappedRead, RunLine, text_of}
-use Rattle.draw.specs.{Canvas, Draws, DrawsBands, DrawsLast, DrawsLines, DrawsMarks, DrawsOn, DrawsRest, Fills, Gives, GivesLine, GivesRead, IsAfterMarks, IsAround, Kept, Overhears, Says, TakenStore, Writes, given, kept, kept_at_first, lines_given, marks_after, says_marks, says_of, texts_given, waiting}
+use Rattle.picture.specs.{Accesses, GivesRest, GoesOn, Item, Plan, Reads, SeenPage, Tells, band_text, bands_told, full_told, heights_told, lines_of_band, page_of}
+use Rattle.picture.specs.columns.{OverlappedRead, RunLine, ShownAccess, given_access, text_of}
+use Rattle.draw.specs.{Canvas, Draws, DrawsBands, DrawsLast, DrawsLines, DrawsMarks, DrawsOn, DrawsRest, Fills, Gives, GivesAccess, GivesLine, GivesRead, IsAfterMarks, IsAround, Kept, Overhears, Says, TakenStore, Writes, given, kept, kept_at_first, lines_given, marks_after, says_marks, says_of, texts_given, waiting}
 use Rattle.draw.proofs.Giving.{both_given, lines_append, marks_after_append, says_append, text_of_saying, texts_append, waiting_append}
 use Rattle.draw.proofs.Written.{appends_both, appends_none}
 
@@ -90,6 +90,17 @@ draws_on_read read had has band a b is goes draws = record {
   draws = draws;
   goes_on = is ∙ sym (append-nil had.lines);
   fills = fills_one (Reads read) had.page has.page band goes;
+}
+
+-- the part of an access that an entry makes, which is no line
+pub draws_on_access : (access : ShownAccess) (had has : Kept) (band : Option (List ℕ)) (a b : Option (List ℕ)) → lines_of_band band ++ has.lines ≡ had.lines → GoesOn (Accesses access) had.page band has.page →
+    Draws a b (band_text band) (lines_of_band band) → DrawsOn had has a b (GivesAccess (given_access access) ∷ [])
+draws_on_access access had has band a b is goes draws = record {
+  markup = band_text band;
+  drawn = lines_of_band band;
+  draws = draws;
+  goes_on = is ∙ sym (append-nil had.lines);
+  fills = fills_one (Accesses access) had.page has.page band goes;
 }
 
 -- the bands that are left

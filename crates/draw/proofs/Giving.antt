@@ -2,14 +2,14 @@
 use Rattle.std.proofs.Common.{◌≡◌, ◌<◌, ℕ, ◌+◌, List, [], ◌∷◌, ◌++◌, flat_map, get_or, length, map, take, refl, ap, sym, ◌∙◌, append-nil, append_assoc}
 use Rattle.std.proofs.lemmas.Grind.{flat_map-append}
 use Rattle.std.proofs.lemmas.List.{map-append, take_more}
-use Rattle.picture.specs.{Item, Reads, Tells, sayings}
-use Rattle.picture.specs.columns.{OverlappedRead, Saying, marks_said, saying_text}
+use Rattle.picture.specs.{Accesses, Item, Reads, Tells, sayings}
+use Rattle.picture.specs.columns.{OverlappedRead, Saying, given_access, marks_said, saying_text}
 use Rattle.picture.specs.columns.declared.told.Saying.TheVariants.{Marked, Refused, Tired, Shown as ShowsStore, Judged, Ended, LockMarked, LockEnded}
 use Rattle.picture.specs.declared.reads.Reads.{Reads as Mode}
-use Rattle.picture.specs.declared.reads.Reads.TheVariants.{Hidden, Shown}
+use Rattle.picture.specs.declared.reads.Reads.TheVariants.{All, Hidden, Shown}
 use Rattle.plain_store.specs.{Setup}
 use Rattle.record.specs.{Mark}
-use Rattle.draw.specs.{Gives, GivesLine, GivesRead, Says, given, lines_given, mark_given, marks_after, marks_given, marks_says, says_marks, says_of, says_text, shown_of, text_given, texts_given, waiting}
+use Rattle.draw.specs.{Gives, GivesAccess, GivesLine, GivesRead, Says, given, lines_given, mark_given, marks_after, marks_given, marks_says, says_marks, says_of, says_text, shown_of, text_given, texts_given, waiting}
 
 -- one more, by what is made of each
 pub map_next : {A : Type 0} {B : Type 0} (f : A → B) (xs : List A) (k : ℕ) (d : A) → k < length xs → map f (take (k + 1) xs) ≡ map f (take k xs) ++ f (get_or xs k d) ∷ []
@@ -19,6 +19,7 @@ map_next f xs k d within = ap (map f) (take_more xs k d within) ∙ map-append f
 shown_none : (mode : Mode) → shown_of mode [] ≡ []
 shown_none Hidden = refl
 shown_none Shown = refl
+shown_none All = refl
 
 -- reads wait as long as there is no line
 waiting_none : {A : Type 0} (lines : List A) → waiting lines [] ≡ []
@@ -47,6 +48,8 @@ given_append : (more items : List Item) → given (more ++ items) ≡ given item
 given_append [] items = sym (append-nil (given items))
 given_append (Tells line ∷ more) items = ap (λ l. l ++ GivesLine line.source line.at (says_of line.saying) ∷ []) (given_append more items) ∙ append_assoc (given items) (given more) (GivesLine line.source line.at (says_of line.saying) ∷ [])
 given_append (Reads read ∷ more) items = ap (λ l. l ++ GivesRead read ∷ []) (given_append more items) ∙ append_assoc (given items) (given more) (GivesRead read ∷ [])
+given_append (Accesses access ∷ more) items =
+    ap (λ l. l ++ GivesAccess (given_access access) ∷ []) (given_append more items) ∙ append_assoc (given items) (given more) (GivesAccess (given_access access) ∷ [])
 
 pub both_given : (more items : List Item) (gives then : List Gives) → given items ≡ gives → given more ≡ then → given (more ++ items) ≡ gives ++ then
 both_given more items gives then is next = given_append more items ∙ (λ i. is i ++ next i)
@@ -101,6 +104,7 @@ marks_of_items (Tells line ∷ before) =
     ∙ (λ i. marks_of_items before i ++ (ap (λ l. l ++ []) (marks_of_saying line.saying)) i)
     ∙ sym (flat_map-append marks_said (sayings before) (line.saying ∷ []))
 marks_of_items (Reads read ∷ before) = marks_append (given before) (GivesRead read ∷ []) ∙ append-nil (marks_given (given before)) ∙ marks_of_items before
+marks_of_items (Accesses access ∷ before) = marks_append (given before) (GivesAccess (given_access access) ∷ []) ∙ append-nil (marks_given (given before)) ∙ marks_of_items before
 
 marks_of_reads : (reads : List OverlappedRead) → marks_given (map GivesRead reads) ≡ []
 marks_of_reads [] = refl

@@ -1,4 +1,4 @@
--- What is heard of a record whose reads are shown or hidden.
+-- What is observed of a record whose overlapped reads are shown, and of one whose overlapped reads are not shown.
 use Rattle.std.proofs.Common.{◌≡◌, ℕ, ◌<◌, ◌==◌, ◌&&◌, Bool, true, false, cond, get_or, List, [], ◌∷◌, ◌++◌, is_some, length, Option, None, Some, IfSome, Ok, true≢false, refl, ap, sym, subst, ◌∙◌, append-nil, arith, inl, inr}
 use Rattle.std.proofs.lemmas.Bool.{cases_lt}
 use Rattle.std.proofs.lemmas.Bool.Decides.{nat_tests}
@@ -13,7 +13,7 @@ use Rattle.judge.specs.read_law.laws.{IsThere}
 use Rattle.judge.proofs.read_law.Hears.{heard_none}
 use Rattle.picture.specs.columns.{OverlappedRead}
 use Rattle.picture.specs.declared.reads.Reads.{Reads as Mode}
-use Rattle.picture.specs.declared.reads.Reads.TheVariants.{Hidden, Shown}
+use Rattle.picture.specs.declared.reads.Reads.TheVariants.{All, Hidden, Shown}
 use Rattle.draw.specs.{BegunRead, Hears, Overhears, OverlapsHeard, TellsEnd, TellsOver, Watches, begun_with, ended_of, first_three, is_begin, is_there, overlapped_by, overlapped_with, read_begun, read_ended}
 
 -- what has heard entries has heard one more
@@ -148,11 +148,13 @@ pub overhears_on : (mode : Mode) (s : Given) (past then : Past) (reads more : Li
     TellsEnd mode s past access over → Overhears mode s past reads (Some old) → Overhears mode s then more (Some new)
 overhears_on Hidden s past then reads more access over old new on tells h = absurd h
 overhears_on Shown s past then reads more access over old new on tells h = on h tells
+overhears_on All s past then reads more access over old new on tells h = absurd h
 
 -- where they are hidden
 pub overhears_nothing : (mode : Mode) (s : Given) (past then : Past) (reads more : List OverlappedRead) → Overhears mode s past reads None → Overhears mode s then more None
 overhears_nothing Hidden s past then reads more h = tt
 overhears_nothing Shown s past then reads more h = absurd h
+overhears_nothing All s past then reads more h = tt
 
 -- of what is kept
 told_at : (s : Given) (past : Past) (reads : List OverlappedRead) (o : OverlapsHeard) (a : Access) (n : ℕ) (over : Bool) → Hears s past reads o → n ≡ length past → TellsOver s past a over →
@@ -183,16 +185,19 @@ watches_on Shown s past e a over old new is setup heard there stray watches = (
   },
   (setup ∙ watches.0, heard watches.1),
 )
+watches_on All s past e a over old new is setup heard there stray watches = absurd watches
 
 -- an entry without an access tells nothing
 pub watches_still : (mode : Mode) (s : Given) (past : Past) (e : Entry) (over : Bool) (watch : WatchState) → e.access ≡ None → Watches mode s past (Some watch) → TellsEnd mode s past None over × Watches mode s (e ∷ past) (Some watch)
 watches_still Hidden s past e over watch none watches = absurd watches
 watches_still Shown s past e over watch none watches = (tt, (watches.0, heard_none watch past e none watches.1))
+watches_still All s past e over watch none watches = absurd watches
 
 -- where reads are hidden, there is none
 pub watches_nothing : (mode : Mode) (s : Given) (past : Past) (e : Entry) (access : Option Access) (over : Bool) → Watches mode s past None → TellsEnd mode s past access over × Watches mode s (e ∷ past) None
 watches_nothing Hidden s past e access over watches = (tt, tt)
 watches_nothing Shown s past e access over watches = absurd watches
+watches_nothing All s past e access over watches = (tt, tt)
 
 -- where no reads are shown, it is not asked
 pub watches_hidden : (mode : Mode) (s : Given) (past : Past) (reads : List OverlappedRead) (e : Entry) (access : Option Access) (overlaps : Option OverlapsHeard) (watch : Option WatchState) → is_some overlaps ≡ false → Overhears mode s past reads overlaps → Watches mode s past watch →
@@ -200,4 +205,6 @@ pub watches_hidden : (mode : Mode) (s : Given) (past : Past) (reads : List Overl
 watches_hidden Hidden s past reads e access None None hidden waits watches = (tt, tt)
 watches_hidden Hidden s past reads e access None (Some watch) hidden waits watches = absurd watches
 watches_hidden Shown s past reads e access None watch hidden waits watches = absurd waits
+watches_hidden All s past reads e access None None hidden waits watches = (tt, tt)
+watches_hidden All s past reads e access None (Some watch) hidden waits watches = absurd watches
 watches_hidden mode s past reads e access (Some overlaps) watch hidden waits watches = absurd (true≢false hidden)

@@ -7,7 +7,7 @@ use Rattle.record.specs.safe_bit.{Move}
 use Rattle.record.specs.safe_bit.declared.Move.TheVariants.{EndRead}
 use Rattle.record.proofs.Width.{IsGood, is_good}
 use Rattle.picture.specs.declared.reads.Reads.{Reads as Mode}
-use Rattle.picture.specs.declared.reads.Reads.TheVariants.{Hidden, Shown}
+use Rattle.picture.specs.declared.reads.Reads.TheVariants.{All, Hidden, Shown}
 use Rattle.judge.specs.read_law.{ends_overlapped}
 use Rattle.draw.specs.{TellsEnd, TellsOver}
 use Rattle.course.specs.world.{ends_overlapped as ends_in_world, ends_overlapped_read}
@@ -29,6 +29,7 @@ tells_over s good events event e added a is over told = record {
 by_mode : (mode : Mode) (s : Setup) (past : Past) (access : Option Access) (over : Bool) → IfSome access (λ a. TellsOver s past a over) → TellsEnd mode s past access over
 by_mode Hidden s past access over tells = tt
 by_mode Shown s past access over tells = tells
+by_mode All s past access over tells = tt
 
 -- of an event with marks
 pub made_tells : (mode : Mode) (s : Setup) → IsGood s → (events : List Event) (event : Event) (e : Entry) (over : Bool) → entry_of s (past_of s events) event ≡ Some e → over ≡ ends_overlapped_read (past_of s events) e → TellsEnd mode s (past_of s events) e.access over

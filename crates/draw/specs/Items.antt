@@ -1,9 +1,9 @@
--- What a picture is told, item by item, as values: its lines, and the reads that writes overlapped.
+-- What a picture is told, item by item, as values: its lines, the reads that writes overlapped, and accesses.
 use Rattle.std.specs.Prelude.{ℕ, zero, suc, List, [], ◌∷◌, ◌++◌, flat_map, length, map, string_bytes, Option, option_map}
 use Rattle.plain_store.specs.{Setup}
 use Rattle.record.specs.{Entry, Mark, Past, Refusal}
-use Rattle.picture.specs.{Item, Reads, Tells}
-use Rattle.picture.specs.columns.{OverlappedRead, Saying, judged_text, like, lock_ended_text, lock_marked_text}
+use Rattle.picture.specs.{Accesses, Item, Reads, Tells}
+use Rattle.picture.specs.columns.{GivenAccess, OverlappedRead, Saying, given_access, judged_text, like, lock_ended_text, lock_marked_text}
 use Rattle.picture.specs.columns.trace.{LockMark}
 use Rattle.picture.specs.columns.run_lines.{ended_text, marked_text, refused_text, shown_text, tired_text}
 use Rattle.picture.specs.columns.declared.told.Saying.TheVariants.{Marked, Refused, Tired, Shown, Judged, Ended, LockMarked, LockEnded}
@@ -27,6 +27,7 @@ pub data Says : Type 0 where
 pub data Gives : Type 0 where
   GivesLine : ℕ → ℕ → Says → Gives  -- the line of the list that makes it, how many events were accepted before it, and what it says
   GivesRead : OverlappedRead → Gives  -- a read that a write overlapped
+  GivesAccess : GivenAccess → Gives  -- the part of an access that an entry makes
 
 abbrev pub says_of : Saying → Says
 says_of (Marked p mark change) = SaysMark p mark (option_map changed change)
@@ -43,6 +44,7 @@ abbrev pub given : List Item → List Gives
 given [] = []
 given (Tells line ∷ before) = given before ++ GivesLine line.source line.at (says_of line.saying) ∷ []
 given (Reads read ∷ before) = given before ++ GivesRead read ∷ []
+given (Accesses access ∷ before) = given before ++ GivesAccess (given_access access) ∷ []
 
 -- the text of a line, without its end
 abbrev pub says_text : ℕ → Says → List ℕ
@@ -59,6 +61,7 @@ says_text at (SaysLockEnd entries) = lock_ended_text entries
 abbrev pub text_given : Gives → List (List ℕ)
 text_given (GivesLine source at says) = says_text at says ∷ []
 text_given (GivesRead read) = []
+text_given (GivesAccess access) = []
 
 abbrev pub texts_given : List Gives → List (List ℕ)
 texts_given = flat_map text_given
@@ -72,6 +75,7 @@ marks_says _ = []
 abbrev pub mark_given : Gives → List (ℕ × Mark)
 mark_given (GivesLine source at says) = marks_says says
 mark_given (GivesRead read) = []
+mark_given (GivesAccess access) = []
 
 abbrev pub marks_given : List Gives → List (ℕ × Mark)
 marks_given = flat_map mark_given

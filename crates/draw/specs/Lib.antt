@@ -21,7 +21,7 @@ pub mod Judgings
 pub mod Sheets
 pub use Around.{IsAround}
 pub use Canvases.{Draws, DrawsBands, DrawsLast, DrawsLines, DrawsMarks, DrawsOn, DrawsRest, Fills, Kept, Writes, kept, kept_at_first, plan_of, trace_plan}
-pub use Items.{Gives, GivesLine, GivesRead, Part, PartEntry, PartLine, Says, SaysEnd, SaysJudged, SaysLockEnd, SaysLockMark, SaysMark, SaysRefusal, SaysStore, SaysTired, entries_among, given, given_all, given_last, given_of, lines_given, mark_given, marks_after, marks_back, marks_given, marks_says, part_texts, parts_texts, reads_since, says_marks, says_of, says_text, text_given, texts_given, waiting}
+pub use Items.{Gives, GivesAccess, GivesLine, GivesRead, Part, PartEntry, PartLine, Says, SaysEnd, SaysJudged, SaysLockEnd, SaysLockMark, SaysMark, SaysRefusal, SaysStore, SaysTired, entries_among, given, given_all, given_last, given_of, lines_given, mark_given, marks_after, marks_back, marks_given, marks_says, part_texts, parts_texts, reads_since, says_marks, says_of, says_text, text_given, texts_given, waiting}
 pub use Overlaps.{Hears, Overhears, TellsEnd, TellsOver, Watches, begun_with, ended_of, first_three, is_begin, is_there, overlapped_by, overlapped_with, read_begun, read_ended, shown_of}
 pub use StoreChanges.{Changed, change_by, changed, store_words, words_by}
 pub use TakenStores.{IsAfterMarks, after_call, call_after, called_by, change_by_call, change_of, change_with, next_number, no_call, store_by, store_with, taken_by}

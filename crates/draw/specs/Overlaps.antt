@@ -9,7 +9,7 @@ use Rattle.judge.specs.read_law.laws.{IsThere}
 use Rattle.picture.specs.{held_in_64}
 use Rattle.picture.specs.columns.{OverlappedRead}
 use Rattle.picture.specs.declared.reads.Reads.{Reads as Mode}
-use Rattle.picture.specs.declared.reads.Reads.TheVariants.{Hidden, Shown}
+use Rattle.picture.specs.declared.reads.Reads.TheVariants.{All, Hidden, Shown}
 use Rattle.draw.specs.declared.overlaps.BegunRead.{BegunRead}
 use Rattle.draw.specs.declared.overlaps.OverlapsHeard.{OverlapsHeard}
 
@@ -70,10 +70,11 @@ abbrev pub first_three : List OverlappedRead → List OverlappedRead
 first_three (first ∷ second ∷ third ∷ others) = first ∷ second ∷ record third { more = held_in_64 (length others) } ∷ []
 first_three reads = reads
 
--- those that are shown at all
+-- those that are shown at all: none where all accesses are shown
 abbrev pub shown_of : Mode → List OverlappedRead → List OverlappedRead
 shown_of Hidden reads = []
 shown_of Shown reads = first_three reads
+shown_of All reads = []
 
 -- whether an access ends an overlapped read is told, if its bit is there and a read of it has begun
 pub record TellsOver (s : Setup) (past : Past) (a : Access) (over : Bool) : Type 0 where
@@ -84,11 +85,13 @@ pub record TellsOver (s : Setup) (past : Past) (a : Access) (over : Bool) : Type
 abbrev pub TellsEnd : Mode → Setup → Past → Option Access → Bool → Type 0
 TellsEnd Hidden s past access over = Unit {0}
 TellsEnd Shown s past access over = IfSome access (λ a. TellsOver s past a over)
+TellsEnd All s past access over = Unit {0}
 
 -- a watch has heard these entries, if reads are shown
 abbrev pub Watches : Mode → Setup → Past → Option WatchState → Type 0
 Watches Hidden s past None = Unit {0}
 Watches Shown s past (Some watch) = (watch.setup ≡ s) × HasHeard watch past
+Watches All s past None = Unit {0}
 Watches _ s past watch = ⊥
 
 -- it has heard these entries, and keeps the reads that have ended since the last line, as far as they are shown
@@ -103,4 +106,5 @@ pub record Hears (s : Setup) (past : Past) (reads : List OverlappedRead) (overla
 abbrev pub Overhears : Mode → Setup → Past → List OverlappedRead → Option OverlapsHeard → Type 0
 Overhears Hidden s past reads None = Unit {0}
 Overhears Shown s past reads (Some overlaps) = Hears s past reads overlaps
+Overhears All s past reads None = Unit {0}
 Overhears _ s past reads _ = ⊥

@@ -4,10 +4,11 @@ ghost use Rattle.std.specs.Prelude.{◌≡◌, ◌+◌, ◌-◌, ◌^◌, ◌<�
 ghost use Rattle.plain_store.specs.{checked};
 ghost use Rattle.plain_store.specs.declared.setups.Setup.{Setup as Given};
 ghost use Rattle.record.specs.{Entry, Past};
+ghost use Rattle.picture.specs.columns.{given_access};
 ghost use Rattle.picture.specs.columns.declared.reads.OverlappedRead.{OverlappedRead as Ended};
 ghost use Rattle.picture.specs.declared.reads.Reads.{Reads as Mode};
 ghost use Rattle.draw.specs.Canvases.{DrawsLast, DrawsLines, DrawsMarks, DrawsOn, kept, kept_at_first, plan_of, trace_plan};
-ghost use Rattle.draw.specs.Items.{GivesRead, SaysJudged, says_of};
+ghost use Rattle.draw.specs.Items.{GivesAccess, GivesRead, SaysJudged, says_of};
 ghost use Rattle.draw.specs.Overlaps.{Overhears, TellsEnd, overlapped_by, shown_of};
 ghost use Rattle.draw.specs.RecordItems.{says_judged};
 ghost use Rattle.draw.specs.TakenStores.{IsAfterMarks};
@@ -19,7 +20,7 @@ use crate::store_changes::words_by_pairs;
 use crate::taken_store::TakenStore;
 use crate::writing::{write_band, write_last};
 use bstr::ByteSlice;
-use picture::{Form, OverlappedRead, Page, Reads, RunLine, Saying, Subject};
+use picture::{Form, OverlappedRead, Page, Reads, RunLine, Saying, ShownAccess, Subject};
 use plain_store::{NestedTypes, Setup};
 use record::{Access, Mark};
 use scenario::{Fault, Sink};
@@ -206,6 +207,24 @@ impl Canvas {
         ensures failures { W.failures output.new ≡ W.failures output.old + failed_write result }
     {
         let full = self.page.take_read(*read)?;
+        write_band(&full, output)
+    }
+
+    /// Draws the part of an access that an entry makes, and writes the band before it if the band has no room for the
+    /// access. An access is not a line. The marks of its entry are drawn after it, and join its column.
+    ///
+    /// # Errors
+    ///
+    /// Returns [`Fault::Write`] if a call of the sink fails, and [`Fault::Memory`] if memory is lacking.
+    pub fn draw_access<W: Sink>(&mut self, access: ShownAccess, output: &mut W) -> Result<(), Fault>
+        requires { W.failures output.old < 2 ^ 64 - 1 }
+        ensures ok { OnOk result (DrawsOn (kept self.old) (kept self.new)
+            (W.taken output.old) (W.taken output.new) (GivesAccess (given_access access) ∷ [])) }
+        ensures overlaps { self.new.overlaps ≡ self.old.overlaps }
+        ensures fault { IfErr result IsWriteFault }
+        ensures failures { W.failures output.new ≡ W.failures output.old + failed_write result }
+    {
+        let full = self.page.take_access(access)?;
         write_band(&full, output)
     }
 

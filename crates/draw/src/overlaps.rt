@@ -35,7 +35,7 @@ pub(crate) struct OverlapsHeard {
 }
 
 impl OverlapsHeard {
-    /// Creates a list without reads, if reads are shown.
+    /// Creates a list without reads, if overlapped reads are shown.
     ///
     /// # Errors
     ///
@@ -49,14 +49,14 @@ impl OverlapsHeard {
         ensures { IfOk result (Overhears reads setup.now [] []) }
     {
         let _nested: NestedTypes = None;
-        if reads == Reads::Hidden {
-            return Ok(None);
+        match reads {
+            Reads::Hidden | Reads::All => Ok(None),
+            Reads::Shown => Ok(Some(OverlapsHeard {
+                setup: *setup,
+                begun: [None; 16],
+                ended: Vec::new(alloc),
+            })),
         }
-        Ok(Some(OverlapsHeard {
-            setup: *setup,
-            begun: [None; 16],
-            ended: Vec::new(alloc),
-        }))
     }
 
     /// Observes the entry with this number by its access, if it has one; `overlapped` is whether the access ends an

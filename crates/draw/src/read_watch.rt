@@ -12,15 +12,15 @@ use plain_store::Setup;
 use record::Access;
 use std::alloc::{AllocError, Global};
 
-/// A watch that observes the entries of a record, if reads are shown. A run needs none, because its memory reports which
-/// reads are overlapped.
+/// A watch that observes the entries of a record, if overlapped reads are shown. A run needs none, because its memory
+/// reports which reads are overlapped.
 #[derive(Drop)]
 pub struct ReadWatch {
     watch: Option<Watch>,
 }
 
 impl ReadWatch {
-    /// Returns a watch of no entries, if reads are shown.
+    /// Returns a watch of no entries, if overlapped reads are shown.
     ///
     /// # Errors
     ///
@@ -30,7 +30,7 @@ impl ReadWatch {
         ensures { IfOk result (λ w. Watches reads setup.now [] w.watch) }
     {
         let watch = match reads {
-            Reads::Hidden => None,
+            Reads::Hidden | Reads::All => None,
             Reads::Shown => Some(Watch::new(alloc, setup)?),
         };
         Ok(ReadWatch { watch })
