@@ -1,12 +1,12 @@
 //! Which moves read, write, and begin or end a read.
 ghost use Rattle.std.specs.Prelude.{◌≡◌, is_some};
 ghost use Rattle.std.specs.List.{list_any};
-ghost use Rattle.trace_engine.specs.trace_judge.trace_memory.{same_cell as is_same_cell, same_index as is_same_index};
 ghost use Rattle.trace_calls.specs.Calls.{is_answer, is_leave, reads as is_reading, writes as is_writing};
 ghost use Rattle.trace_calls.specs.Overlaps.{begins_read as is_read, ends_read as is_value, writes_on as is_write_on};
 ghost use Rattle.trace_engine.specs.trace_judge.lock_stages.{is_call, is_enter, is_wait};
 
 use trace::{Cell, CellAccess, CellMove, LockMark};
+use trace_memory::same_cell;
 
 /// Returns whether a move begins a read, which may end with it.
 pub(crate) fn reads(how: CellMove) -> bool
@@ -55,24 +55,6 @@ pub(crate) fn writes_on(cell: Cell, access: &CellAccess) -> bool
     ensures { result ≡ is_write_on cell access.now }
 {
     same_cell(access.cell, cell) && access.how.value_written().is_some()
-}
-
-/// Returns whether two cells are the same.
-pub(crate) fn same_cell(cell: Cell, other: Cell) -> bool
-    ensures { result ≡ is_same_cell cell other }
-{
-    cell.register == other.register && same_index(cell.index, other.index)
-}
-
-/// Returns whether two indexes of a register are the same.
-fn same_index(index: Option<u8>, other: Option<u8>) -> bool
-    ensures { result ≡ is_same_index index other }
-{
-    match (index, other) {
-        (None, None) => true,
-        (Some(index), Some(other)) => index == other,
-        _ => false,
-    }
 }
 
 /// Returns whether a call begins with one of these marks.

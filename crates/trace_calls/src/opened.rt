@@ -5,9 +5,10 @@ ghost use Rattle.trace.specs.{LockMark as Mark, trace_entry};
 ghost use Rattle.trace_calls.specs.Keeping.{HasOpened, OfOpened, ends_kept_read, opened_by, seen, writes_cell};
 ghost use Rattle.trace_calls.specs.Overlaps.{ends_overlapped as ends_overlapped_read, is_written as is_cell_written};
 
-use crate::moves::{begins_read, ends_read, same_cell, writes_on};
+use crate::moves::{begins_read, ends_read, writes_on};
 use std::marker::Model;
 use trace::{Cell, CellAccess};
+use trace_memory::same_cell;
 
 /// The most processes.
 pub(crate) const MOST_PROCESSES: usize = 16;

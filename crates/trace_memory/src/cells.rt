@@ -59,9 +59,9 @@ fn sum(width: u8, value: u32, addend: u32) -> u32
     ((u64::from(value) + u64::from(addend)) % values_of_width(width)) as u32
 }
 
-/// Returns whether two cells are the same.
+/// Returns whether two cells are the same: of one register, and of one process or both shared.
 #[inline]
-pub(crate) fn same_cell(cell: Cell, other: Cell) -> bool
+pub fn same_cell(cell: Cell, other: Cell) -> bool
     ensures { result ≡ same_cell cell other }
 {
     cell.register == other.register && same_index(cell.index, other.index)

@@ -17,9 +17,9 @@ mod taking;
 mod value_set;
 
 pub use allowed::Allowed;
-pub use cells::CellState;
+pub use cells::{CellState, same_cell};
 pub use kept::OpenAccess;
 pub use memories::{AtomicMemory, RegularMemory, SafeMemory, SharedMemory};
-pub use memory::CellMemory;
+pub use memory::{CellMemory, place_of};
 pub use refusals::CellRefusal;
 pub use value_set::ValueSet;

@@ -51,6 +51,13 @@ impl CellMemory {
         })
     }
 
+    /// Returns the setup of the trace.
+    pub fn setup(&self) -> &TraceSetup
+        ensures { result.now ≡ self.now.setup }
+    {
+        &self.setup
+    }
+
     /// Returns the number of processes.
     pub fn processes(&self) -> u8
         ensures { result ≡ self.now.setup.processes }
@@ -73,8 +80,8 @@ impl CellMemory {
         self.opened[usize::from(process)]
     }
 
-    /// Returns the state of a cell.
-    pub(crate) fn cell(&self, cell: Cell) -> CellState
+    /// Returns the stored value and the open write of a cell that exists.
+    pub fn cell(&self, cell: Cell) -> CellState
         requires { IsTrue (has_cell self.now.setup cell) }
         ensures { OfMade self.now (λ past. result ≡ cell_after self.now.setup cell past) }
     {
@@ -117,8 +124,8 @@ fn names_cell(processes: u8, register: &TraceRegister, index: Option<u8>) -> boo
     }
 }
 
-/// Returns where the state of a cell is kept.
-pub(crate) fn place_of(cell: Cell) -> usize
+/// Returns the index at which the state of a cell is kept. Each register has sixteen.
+pub fn place_of(cell: Cell) -> usize
     ensures { result ≡ place_of cell }
 {
     16 * usize::from(cell.register) + usize::from(cell.index.unwrap_or(0))
