@@ -1,3 +1,4 @@
+pub use Rattle.trace_file.specs as trace_file
 pub use Rattle.trace_judge.specs as trace_judge
 pub mod Lines
 pub mod Reports

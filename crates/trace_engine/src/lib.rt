@@ -9,4 +9,5 @@ mod trial;
 
 pub use engine::judge_trace;
 pub use judging::{TraceReport, TraceReporter};
+pub use trace_file;
 pub use trial::observe;

@@ -1,0 +1,3 @@
+mod KeptAccesses
+mod RowFacts
+mod Watches

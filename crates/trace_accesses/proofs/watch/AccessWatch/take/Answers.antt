@@ -1,0 +1,31 @@
+use Rattle.std.proofs.Common.{◌≡◌, ◌+◌, ◌∷◌, Option, Some, ap, subst, sym, ◌∙◌}
+use Rattle.trace.specs.{CellAccess, trace_entry}
+use Rattle.trace_accesses.specs.{HasTaken, WatchState, possible_access, watched_access}
+use Rattle.trace_accesses.proofs.Watches.{possible-parts, taken-on}
+use Rattle.trace_accesses.proofs.watch.AccessWatch.take.Goals as goal
+
+pub returns-in-Some-clause-taken : goal.returns-in-Some-clause-taken
+returns-in-Some-clause-taken c = λ marks past taken.
+    let i = c.self.inside in
+    let w : WatchState = record { memory = i.memory; rows = i.rows; limit = i.limit; entries = i.entries } in
+    let next : WatchState = record { memory = c.make.new.memory; rows = c.make.new.rows; limit = i.limit; entries = i.entries + 1 } in
+    let p = c.args.process in
+    let a = c.in-Some.access in
+    let before : HasTaken w past = subst (λ (w : WatchState). HasTaken w past) (sym c.self.view_is) taken in
+    let is : possible_access w.memory.setup p c.args.access.now ≡ Some a = sym c.possible.ensures ∙ c.in-Some.is in
+    let was : possible_access c.args.self.now.memory.setup p c.args.access.now ≡ Some a = ap (λ (w : WatchState). possible_access w.memory.setup p c.args.access.now) (sym c.self.view_is) ∙ is in
+    let there = (possible-parts w.memory.setup p c.args.access.now a is).cell in
+    subst (λ (o : Option CellAccess). HasTaken next (trace_entry p o marks ∷ past)) (sym was)
+    (taken-on w a c.make.new.memory c.make.new.rows c.self.invariant c.make.ensures.setup c.make.ensures.rows p marks past there before (c.make.ensures.made marks past before.made before.entries))
+
+pub returns-in-Some-clause-watched : goal.returns-in-Some-clause-watched
+returns-in-Some-clause-watched c = λ marks past taken.
+    let i = c.self.inside in
+    let w : WatchState = record { memory = i.memory; rows = i.rows; limit = i.limit; entries = i.entries } in
+    let p = c.args.process in
+    let a = c.in-Some.access in
+    let before : HasTaken w past = subst (λ (w : WatchState). HasTaken w past) (sym c.self.view_is) taken in
+    let was : possible_access c.args.self.now.memory.setup p c.args.access.now ≡ Some a =
+    ap (λ (w : WatchState). possible_access w.memory.setup p c.args.access.now) (sym c.self.view_is) ∙ sym c.possible.ensures ∙ c.in-Some.is in
+    ap Some (c.make.ensures.watched marks past before.made before.entries before.rows)
+    ∙ (λ j. watched_access (c.self.view_is j).memory.setup (c.self.view_is j).limit past (trace_entry p (sym was j) marks))

@@ -1,0 +1,56 @@
+//! One access, in numbers, and the memory and the rows after it.
+ghost use Rattle.std.specs.Prelude.{◌≡◌, ◌<◌, ◌*◌, ◌∷◌, IsTrue, List, Some, length, true};
+ghost use Rattle.trace.specs.{LockMark as Mark, is_trace_setup, trace_entry};
+ghost use Rattle.trace_memory.specs.Cells.{has_cell};
+ghost use Rattle.trace_memory.specs.Keeping.{HasMade, OfMade};
+ghost use Rattle.trace_accesses.specs.Accesses.{watched_by};
+ghost use Rattle.trace_accesses.specs.Keeping.{HasRows, rows_taken};
+ghost use Rattle.trace_accesses.specs.Rows.{written_rows};
+
+use crate::limits::WaveLimit;
+use crate::overlaps::{begin, overlaps};
+use crate::rows::WaveRows;
+use crate::watched::{WatchedAccess, change};
+use trace::CellAccess;
+use trace_memory::CellMemory;
+
+/// Observes a possible access of a process, with the entry of this number, and returns what it shows.
+pub(crate) fn make(
+    memory: &mut CellMemory,
+    rows: &mut WaveRows,
+    limit: WaveLimit,
+    process: u8,
+    number: u64,
+    access: &CellAccess,
+) -> WatchedAccess
+    requires process { process < 16 }
+    requires good { is_trace_setup memory.old.setup ≡ true }
+    requires cell { IsTrue (has_cell memory.old.setup access.now.cell) }
+    requires places { length rows.old.places ≡ 16 * length memory.old.setup.registers }
+    ensures setup { memory.new.setup ≡ memory.old.setup }
+    ensures rows { rows.new ≡ rows_taken access.now rows.old }
+    ensures made { (marks : List Mark) → OfMade memory.old (λ past. number ≡ length past →
+        HasMade memory.new (trace_entry process (Some access.now) marks ∷ past)) }
+    ensures watched { (marks : List Mark) → OfMade memory.old (λ past. number ≡ length past →
+        HasRows memory.old.setup rows.old (written_rows past) →
+        result ≡ watched_by memory.old.setup limit past
+        (trace_entry process (Some access.now) marks) access.now) }
+{
+    let before = memory.cell(access.cell);
+    let since = begin(memory, process, number, access.how);
+    let over = overlaps(memory, process, access);
+    let made = Some(*access);
+    memory.take(process, number, &made);
+    rows.take(access);
+    let after = memory.cell(access.cell);
+    let row = rows.row(access.cell);
+    WatchedAccess {
+        event: number,
+        process,
+        access: *access,
+        begin: since,
+        stored: before.stored,
+        overlaps: over,
+        change: change(limit, row, access.how, &before, &after),
+    }
+}
