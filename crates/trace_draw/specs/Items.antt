@@ -1,11 +1,16 @@
--- The items of a trace's picture: a line for each mark of its entries, a judge's lines, and a last line.
-use Rattle.std.specs.Prelude.{ℕ, ◌+◌, zero, suc, Bool, true, false, List, [], ◌∷◌, ◌++◌, length, map, take}
-use Rattle.draw.specs.{Gives, GivesLine, Says, SaysLockEnd, SaysLockMark, says_judged, told_lines}
-use Rattle.picture.specs.columns.{judged_text, lock_ended_text, lock_marked_text}
-use Rattle.trace.specs.{TraceEntry, TraceSetup}
+-- The items of a trace's picture: the accesses of its entries if they are shown, a line for each mark, a judge's lines, and a last line.
+use Rattle.std.specs.Prelude.{ℕ, ◌+◌, Bool, true, false, List, [], ◌∷◌, ◌++◌, length, map, reverse, take, Option, None, Some}
+use Rattle.draw.specs.{Gives, GivesAccess, GivesLine, Says, SaysLockEnd, SaysLockMark, says_judged, told_lines}
+use Rattle.picture.specs.columns.{GivenAccess, judged_text, lock_ended_text, lock_marked_text}
+use Rattle.picture.specs.declared.reads.Reads.{Reads}
+use Rattle.picture.specs.declared.reads.Reads.TheVariants as reads
+use Rattle.trace.specs.{TraceEntry, TracePast, TraceSetup}
+use Rattle.trace_accesses.specs.{WaveLimit, shown_access}
 use Rattle.trace_engine.specs.trace_judge.{TraceVerdict, verdict_of}
 use Rattle.trace_engine.specs.trace_judge.declared.verdicts.TraceVerdict.TheVariants.{Good, Bad}
 use Rattle.trace_draw.specs.Headings.{source_of}
+use Rattle.trace_draw.specs.Views.{limit_of, view_of}
+use Rattle.trace_draw.specs.declared.views.AccessChoice.{AccessChoice}
 
 -- the entries that are shown by a verdict: all, or those up to the bad one
 abbrev pub shown_by : TraceVerdict → List TraceEntry → List TraceEntry
@@ -21,20 +26,39 @@ shown true s entries = shown_by (verdict_of s entries) entries
 abbrev pub says_entry : TraceEntry → List Says
 says_entry e = map (SaysLockMark e.process) e.marks
 
--- the items of entries, the first of which has this number; the line `source` of the list makes them
-abbrev pub given_from : ℕ → ℕ → List TraceEntry → List Gives
-given_from source n [] = []
-given_from source n (e ∷ entries) = map (GivesLine source n) (says_entry e) ++ given_from source (n + 1) entries
+-- the item of what is shown of an access, if anything is
+abbrev pub gives_access : Option GivenAccess → List Gives
+gives_access None = []
+gives_access (Some access) = GivesAccess access ∷ []
+
+-- the item of the access of an entry that comes after a past, if accesses are shown
+abbrev pub given_access_of : Reads → WaveLimit → TraceSetup → TracePast → TraceEntry → List Gives
+given_access_of reads.All limit s past e = gives_access (shown_access s limit past e)
+given_access_of _ limit s past e = []
+
+-- the items of an entry that comes after a past: first its access, and then its marks, which join the column of the access
+abbrev pub given_entry : Reads → WaveLimit → TraceSetup → TracePast → TraceEntry → List Gives
+given_entry mode limit s past e = given_access_of mode limit s past e ++ map (GivesLine (source_of s) (length past)) (says_entry e)
+
+-- the items of all entries of a past
+abbrev pub given_past : Reads → WaveLimit → TraceSetup → TracePast → List Gives
+given_past mode limit s [] = []
+given_past mode limit s (e ∷ past) = given_past mode limit s past ++ given_entry mode limit s past e
 
 -- what a judge tells, if it tells anything, and the last line behind so many entries
 abbrev pub says_last : List ℕ → ℕ → List Says
 says_last told n = says_judged told ++ SaysLockEnd n ∷ []
 
--- all items of a trace of which these entries are shown, and of which a judge tells this
-abbrev pub trace_gives : TraceSetup → List TraceEntry → List ℕ → List Gives
-trace_gives s entries told = given_from (source_of s) 0 entries ++ map (GivesLine (source_of s + 1) (length entries)) (says_last told (length entries))
+-- the items of what a judge tells, and of the last line
+abbrev pub given_last : TraceSetup → List ℕ → ℕ → List Gives
+given_last s told n = map (GivesLine (source_of s + 1) n) (says_last told n)
 
--- The lines, without their ends.
+-- all items of a trace of which these entries are shown, and of which a judge tells this
+abbrev pub trace_gives : AccessChoice → TraceSetup → List TraceEntry → List ℕ → List Gives
+trace_gives asked s entries told =
+    given_past (view_of asked (length entries)) (limit_of asked) s (reverse entries) ++ given_last s told (length entries)
+
+-- The lines, without their ends. An access is not a line.
 
 -- those of the marks of entries, the first of which has this number
 abbrev pub mark_lines : ℕ → List TraceEntry → List (List ℕ)

@@ -1,20 +1,39 @@
 //! The picture of a trace so far.
-ghost use Rattle.std.specs.Prelude.{◌≡◌, ◌+◌, ◌-◌, ◌^◌, ◌<◌, ◌∷◌, [], IfErr, IfOk, None, OnOk, map};
-ghost use Rattle.draw.specs.{DrawsLast, DrawsLines, IsWriteFault, SaysLockMark, failed_write, kept, kept_at_first, trace_plan};
+ghost use Rattle.std.specs.Prelude.{◌≡◌, ◌+◌, ◌-◌, ◌^◌, ◌<◌, ◌∷◌, [], IfErr, IfOk, None, OnOk, map, true};
+ghost use Rattle.draw.specs.{DrawsLast, DrawsLines, DrawsOn, IsWriteFault, SaysLockMark, failed_write, kept, kept_at_first, trace_plan};
+ghost use Rattle.picture.specs.declared.reads.Reads.{Reads as View};
+ghost use Rattle.trace.specs.{TracePast as Past, TraceSetup as Setup, is_trace_setup};
+ghost use Rattle.trace_accesses.specs.{HasWatched, WaveLimit as Limit, shown_access};
 ghost use Rattle.trace_draw.specs.Headings.{source_of};
-ghost use Rattle.trace_draw.specs.Items.{says_entry, says_last};
+ghost use Rattle.trace_draw.specs.Items.{given_access_of, gives_access, says_last};
+ghost use Rattle.trace_draw.specs.Showing.{ComesAfter, DrawsEntry, Watches, drawn_count, watched};
+ghost use Rattle.trace_draw.specs.Views.{limit_of};
 
 use crate::headings::line_of_entries;
+use crate::views::TraceView;
 use draw::Canvas;
 use files::{Fault, Sink};
-use picture::{Form, RunLine, Saying};
+use picture::{Reads, RunLine, Saying};
 use std::alloc::{AllocError, Global};
 use trace::{LockMark, TraceEntry, TraceSetup};
+use trace_accesses::AccessWatch;
+
+/// Which accesses a picture shows, and the heights of the bands that were drawn.
+#[derive(Clone, Copy)]
+pub(crate) struct DrawnBands {
+    pub shows: Reads,
+    pub height: u64,
+}
 
 /// The picture of a trace so far.
 #[derive(Drop)]
 pub(crate) struct TraceDrawing {
+    alloc: Global,
     canvas: Canvas,
+    /// Which accesses are shown: all or none.
+    shows: Reads,
+    /// The observer of accesses, if they are shown.
+    watch: Option<AccessWatch>,
     /// The number of entries that are drawn.
     entries: u64,
     /// The line of the page's list that stands for all entries.
@@ -22,42 +41,72 @@ pub(crate) struct TraceDrawing {
 }
 
 impl TraceDrawing {
-    /// Creates a picture without entries.
+    /// Creates a picture without entries, which shows these accesses.
     ///
     /// # Errors
     ///
     /// Returns [`AllocError`] if memory is lacking.
-    pub fn new(alloc: Global, setup: &TraceSetup, form: Form) -> Result<TraceDrawing, AllocError>
-        ensures kept { IfOk result (λ d. kept d.canvas ≡ kept_at_first (trace_plan form setup.now.processes)) }
-        ensures hides { IfOk result (λ d. d.canvas.overlaps ≡ None) }
-        ensures entries { IfOk result (λ d. d.entries ≡ 0) }
-        ensures source { IfOk result (λ d. d.source ≡ source_of setup.now) }
+    pub fn new(
+        view: TraceView,
+        setup: &TraceSetup,
+        shows: Reads,
+    ) -> Result<TraceDrawing, AllocError>
+        requires { is_trace_setup setup.now ≡ true }
+        ensures kept { IfOk result (λ d.
+            kept d.canvas ≡ kept_at_first (trace_plan view.form setup.now.processes)) }
+        ensures after { IfOk result (ComesAfter shows (limit_of view.accesses) setup.now []) }
     {
         Ok(TraceDrawing {
-            canvas: Canvas::of_trace(alloc, form, setup.processes)?,
+            alloc: view.alloc,
+            canvas: Canvas::of_trace(view.alloc, view.form, setup.processes)?,
+            shows,
+            watch: watch_of(view, setup, shows)?,
             entries: 0,
             source: line_of_entries(setup),
         })
     }
 
-    /// Draws the marks of the next entry.
+    /// Draws the next entry: its access if accesses are shown, and then its marks, which join the column of the access.
     ///
     /// # Errors
     ///
     /// Returns [`Fault::Write`] if a call of the sink fails, and [`Fault::Memory`] if memory is lacking.
     pub fn draw_entry<W: Sink>(&mut self, entry: &TraceEntry, output: &mut W) -> Result<(), Fault>
         requires writes { W.failures output.old < 2 ^ 64 - 1 }
-        requires room { self.old.entries < 2 ^ 64 - 1 }
-        ensures drawn { OnOk result (DrawsLines self.old.canvas self.new.canvas
-            (W.taken output.old) (W.taken output.new) self.old.source self.old.entries (says_entry entry.now)) }
-        ensures source { self.new.source ≡ self.old.source }
-        ensures entries { OnOk result (self.new.entries ≡ self.old.entries + 1) }
+        requires room { drawn_count self.old < 2 ^ 64 - 1 }
+        ensures drawn { OnOk result (DrawsEntry self.old self.new
+            (W.taken output.old) (W.taken output.new) entry.now) }
         ensures fault { IfErr result IsWriteFault }
         ensures failures { W.failures output.new ≡ W.failures output.old + failed_write result }
     {
+        self.draw_access(entry, output)?;
         self.draw_marks(entry.process, &entry.marks, output)?;
         self.entries += 1;
         Ok(())
+    }
+
+    /// Draws the access of the next entry, if accesses are shown.
+    fn draw_access<W: Sink>(&mut self, entry: &TraceEntry, output: &mut W) -> Result<(), Fault>
+        requires writes { W.failures output.old < 2 ^ 64 - 1 }
+        requires room { watched self.old.watch < 2 ^ 64 - 1 }
+        ensures drawn { OnOk result ((mode : View) (limit : Limit) (s : Setup) (past : Past) →
+            Watches mode limit s past self.old.watch →
+            DrawsOn (kept self.old.canvas) (kept self.new.canvas)
+            (W.taken output.old) (W.taken output.new)
+            (given_access_of mode limit s past entry.now)) }
+        ensures watches { (mode : View) (limit : Limit) (s : Setup) (past : Past) →
+            Watches mode limit s past self.old.watch →
+            Watches mode limit s (entry.now ∷ past) self.new.watch }
+        ensures overlaps { self.new.canvas.overlaps ≡ self.old.canvas.overlaps }
+        ensures rest { self.new
+            ≡ record self.old { canvas = self.new.canvas; watch = self.new.watch } }
+        ensures fault { IfErr result IsWriteFault }
+        ensures failures { W.failures output.new ≡ W.failures output.old + failed_write result }
+    {
+        match &mut self.watch {
+            None => Ok(()),
+            Some(watch) => draw_watched(self.alloc, watch, &mut self.canvas, entry, output),
+        }
     }
 
     /// Draws the marks of an entry of a process, in their order.
@@ -70,8 +119,7 @@ impl TraceDrawing {
         requires { W.failures output.old < 2 ^ 64 - 1 }
         ensures drawn { OnOk result (DrawsLines self.old.canvas self.new.canvas
             (W.taken output.old) (W.taken output.new) self.old.source self.old.entries (map (SaysLockMark process) marks.now)) }
-        ensures source { self.new.source ≡ self.old.source }
-        ensures entries { self.new.entries ≡ self.old.entries }
+        ensures rest { self.new ≡ record self.old { canvas = self.new.canvas } }
         ensures fault { IfErr result IsWriteFault }
         ensures failures { W.failures output.new ≡ W.failures output.old + failed_write result }
     {
@@ -91,8 +139,7 @@ impl TraceDrawing {
         requires { W.failures output.old < 2 ^ 64 - 1 }
         ensures drawn { OnOk result (DrawsLines self.old.canvas self.new.canvas
             (W.taken output.old) (W.taken output.new) self.old.source self.old.entries (SaysLockMark process mark.now ∷ [])) }
-        ensures source { self.new.source ≡ self.old.source }
-        ensures entries { self.new.entries ≡ self.old.entries }
+        ensures rest { self.new ≡ record self.old { canvas = self.new.canvas } }
         ensures fault { IfErr result IsWriteFault }
         ensures failures { W.failures output.new ≡ W.failures output.old + failed_write result }
     {
@@ -107,7 +154,7 @@ impl TraceDrawing {
         self.canvas.draw(line, output)
     }
 
-    /// Draws what a judge tells and the last line, writes what is held back, and returns the heights of the bands.
+    /// Draws the lines of the judge and the last line, writes what is held back, and returns what was drawn.
     ///
     /// # Errors
     ///
@@ -117,10 +164,12 @@ impl TraceDrawing {
         setup: &TraceSetup,
         told: &[u8],
         output: &mut W,
-    ) -> Result<u64, Fault>
+    ) -> Result<DrawnBands, Fault>
         requires { W.failures output.old < 2 ^ 64 - 1 }
-        ensures drawn { IfOk result (DrawsLast self.old.canvas (W.taken output.old) (W.taken output.new)
-            (source_of setup.now + 1) self.old.entries (says_last told.now self.old.entries)) }
+        ensures drawn { IfOk result (λ bands. DrawsLast self.old.canvas
+            (W.taken output.old) (W.taken output.new) (source_of setup.now + 1) self.old.entries
+            (says_last told.now self.old.entries) bands.height) }
+        ensures shows { IfOk result (λ bands. bands.shows ≡ self.old.shows) }
         ensures fault { IfErr result IsWriteFault }
         ensures failures { W.failures output.new ≡ W.failures output.old + failed_write result }
     {
@@ -128,6 +177,53 @@ impl TraceDrawing {
         let at = self.entries;
         self.canvas.draw_judged(source, at, told, output)?;
         let saying = Saying::LockEnded { entries: at };
-        self.canvas.end(RunLine { source, at, saying }, output)
+        let height = self.canvas.end(RunLine { source, at, saying }, output)?;
+        Ok(DrawnBands {
+            shows: self.shows,
+            height,
+        })
+    }
+}
+
+/// Returns an observer of accesses before the first entry, if accesses are shown.
+fn watch_of(
+    view: TraceView,
+    setup: &TraceSetup,
+    shows: Reads,
+) -> Result<Option<AccessWatch>, AllocError>
+    requires { is_trace_setup setup.now ≡ true }
+    ensures { IfOk result (Watches shows (limit_of view.accesses) setup.now []) }
+{
+    match shows {
+        Reads::All => Ok(Some(AccessWatch::new(view.alloc, setup, view.limit())?)),
+        Reads::Hidden | Reads::Shown => Ok(None),
+    }
+}
+
+/// Observes the access of the next entry, and draws what is shown of it. It is never inlined, because the room in which an
+/// access is made would otherwise be cleared before each entry.
+#[inline(never)]
+fn draw_watched<W: Sink>(
+    alloc: Global,
+    watch: &mut AccessWatch,
+    canvas: &mut Canvas,
+    entry: &TraceEntry,
+    output: &mut W,
+) -> Result<(), Fault>
+    requires writes { W.failures output.old < 2 ^ 64 - 1 }
+    requires room { watch.old.entries < 2 ^ 64 - 1 }
+    ensures drawn { OnOk result ((s : Setup) (limit : Limit) (past : Past) →
+        HasWatched watch.old s limit past →
+        DrawsOn (kept canvas.old) (kept canvas.new) (W.taken output.old) (W.taken output.new)
+        (gives_access (shown_access s limit past entry.now))) }
+    ensures watched { (s : Setup) (limit : Limit) (past : Past) →
+        HasWatched watch.old s limit past → HasWatched watch.new s limit (entry.now ∷ past) }
+    ensures overlaps { canvas.new.overlaps ≡ canvas.old.overlaps }
+    ensures fault { IfErr result IsWriteFault }
+    ensures failures { W.failures output.new ≡ W.failures output.old + failed_write result }
+{
+    match watch.observe(alloc, entry)? {
+        None => Ok(()),
+        Some(access) => canvas.draw_access(access, output),
     }
 }

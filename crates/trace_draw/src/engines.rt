@@ -7,9 +7,12 @@ ghost use Rattle.picture.specs.declared.page.Form.TheVariants as form_variants;
 ghost use Rattle.trace.specs.{TraceEntry as Entry, TraceSetup as Setup};
 ghost use Rattle.trace_draw.specs.Sheets.{DrawsAllBands, DrewTrace, IsDrawFault, Stands};
 ghost use Rattle.trace_draw.specs.Showing.{DrawsTraceSaid, EndsTrace};
+ghost use Rattle.trace_draw.specs.declared.views.AccessChoice.{AccessChoice as Asked};
 
+use crate::drawing::DrawnBands;
 use crate::pictures::DrawnTrace;
 use crate::sheet::TraceSheet;
+use crate::views::{AccessChoice, TraceView};
 use draw::{Held, held_fault, write_markup};
 use files::source_lines::Lines;
 use files::{Fault, FaultKind, Sink, Source, write_all};
@@ -17,13 +20,16 @@ use picture::{FIRST_BAND, Form, trace_page_end, trace_picture_end, trace_picture
 use std::alloc::Global;
 
 /// Reads a trace file line by line, and writes the page of the trace: a picture in bands, each of which is written when it is
-/// full. So it stores a line, a block and a band, however long the file is. Returns the exit status.
+/// full. So it stores a line, a block and a band, however long the file is, and at most 400 entries. Returns the exit status.
 ///
-/// If it succeeds, the output is the page of the items that the trace gives, and nothing else. These items are a line for each
-/// mark of the entries, and a last line. The titles of the marks, read back, are the marks of the trace in their order, and a
-/// last line. The tags match, and no element is open at the end. If `judged` is true, the page ends with the first entry that
-/// breaks a law, and then shows the lines of the verdict with its reasons; the exit status is that of the verdict. The file is
-/// read to its end.
+/// `accesses` chooses which accesses the page shows. If it is [`AccessChoice::IfShort`], the page shows all accesses if at most 400
+/// entries are shown, and otherwise none. Nothing is written before this is decided.
+///
+/// If it succeeds, the output is the page of the items that the trace gives, and nothing else. These items are the accesses of
+/// the entries, if they are shown, a line for each mark of the entries, and a last line. The titles of the marks, read back, are
+/// the marks of the trace in their order, and a last line. The tags match, and no element is open at the end. If `judged` is
+/// true, the page ends with the first entry that breaks a law, and then shows the lines of the verdict with its reasons; the
+/// exit status is that of the verdict. The file is read to its end.
 ///
 /// # Errors
 ///
@@ -32,16 +38,23 @@ use std::alloc::Global;
 pub fn draw_trace<R: Source, W: Sink>(
     alloc: Global,
     judged: bool,
+    accesses: AccessChoice,
     input: &mut R,
     output: &mut W,
 ) -> Result<u8, Fault>
     requires reads { R.failures input.old < 2 ^ 64 - 1 }
     requires writes { W.failures output.old < 2 ^ 64 - 1 }
-    ensures { DrewTrace judged form_variants.Page result
+    ensures { DrewTrace judged accesses form_variants.Page result
         (streams ⟦<R as Source>⟧ ⟦<W as Sink>⟧ input.old output.old)
         (streams ⟦<R as Source>⟧ ⟦<W as Sink>⟧ input.new output.new) }
 {
-    let drawn = draw_bands(alloc, Form::Page, judged, input, output)?;
+    let view = TraceView {
+        alloc,
+        form: Form::Page,
+        judged,
+        accesses,
+    };
+    let drawn = draw_bands(view, input, output)?;
     end_page(alloc, &drawn, output)?;
     Ok(drawn.status)
 }
@@ -55,17 +68,24 @@ pub fn draw_trace<R: Source, W: Sink>(
 pub fn draw_trace_svg<R: Source, W: Sink>(
     alloc: Global,
     judged: bool,
+    accesses: AccessChoice,
     input: &mut R,
     output: &mut W,
 ) -> Result<u8, Fault>
     requires reads { R.failures input.old < 2 ^ 64 - 1 }
     requires writes { W.failures output.old < 2 ^ 64 - 1 }
-    ensures { DrewTrace judged (form_variants.Picture 34) result
+    ensures { DrewTrace judged accesses (form_variants.Picture 34) result
         (streams ⟦<R as Source>⟧ ⟦<W as Sink>⟧ input.old output.old)
         (streams ⟦<R as Source>⟧ ⟦<W as Sink>⟧ input.new output.new) }
 {
+    let view = TraceView {
+        alloc,
+        form: Form::Picture(FIRST_BAND),
+        judged,
+        accesses,
+    };
     let mut bands = Held::new(alloc);
-    match draw_bands(alloc, Form::Picture(FIRST_BAND), judged, input, &mut bands) {
+    match draw_bands(view, input, &mut bands) {
         Ok(drawn) => {
             write_picture(alloc, &drawn, bands.bytes(), output)?;
             Ok(drawn.status)
@@ -77,9 +97,10 @@ pub fn draw_trace_svg<R: Source, W: Sink>(
 /// Writes the end of a page.
 fn end_page<W: Sink>(alloc: Global, drawn: &DrawnTrace, output: &mut W) -> Result<(), Fault>
     requires { W.failures output.old < 2 ^ 64 - 1 }
-    ensures ok { OnOk result ((s : Setup) (shown : List Entry) (told : List ℕ) (first : Option (List ℕ)) →
-        EndsTrace form_variants.Page drawn.now s shown told first (W.taken output.old) →
-        DrawsTraceSaid form_variants.Page s shown told first (W.taken output.new)) }
+    ensures ok { OnOk result ((asked : Asked) (s : Setup) (shown : List Entry) (told : List ℕ)
+        (first : Option (List ℕ)) →
+        EndsTrace form_variants.Page asked drawn.now s shown told first (W.taken output.old) →
+        DrawsTraceSaid form_variants.Page asked s shown told first (W.taken output.new)) }
     ensures fault { IfErr result IsWriteFault }
     ensures failures { W.failures output.new ≡ W.failures output.old + failed_write result }
 {
@@ -95,14 +116,17 @@ fn write_picture<W: Sink>(
     output: &mut W,
 ) -> Result<(), Fault>
     requires { W.failures output.old < 2 ^ 64 - 1 }
-    ensures ok { OnOk result ((s : Setup) (shown : List Entry) (told : List ℕ) →
-        EndsTrace (form_variants.Picture 34) drawn.now s shown told (Some []) (Some bands.now) →
-        DrawsTraceSaid (form_variants.Picture 34) s shown told (W.taken output.old) (W.taken output.new)) }
+    ensures ok { OnOk result ((asked : Asked) (s : Setup) (shown : List Entry) (told : List ℕ) →
+        EndsTrace (form_variants.Picture 34) asked drawn.now s shown told
+        (Some []) (Some bands.now) →
+        DrawsTraceSaid (form_variants.Picture 34) asked s shown told
+        (W.taken output.old) (W.taken output.new)) }
     ensures fault { IfErr result IsWriteFault }
     ensures failures { W.failures output.new ≡ W.failures output.old + failed_write result }
 {
-    let head = trace_picture_head(alloc, drawn.title.as_slice(), drawn.height)?;
-    let end = trace_picture_end(alloc, drawn.height)?;
+    let DrawnBands { shows, height } = drawn.bands;
+    let head = trace_picture_head(alloc, drawn.title.as_slice(), height, shows)?;
+    let end = trace_picture_end(alloc, height, shows)?;
     write_markup(&head, output)?;
     write_all(output, bands)?;
     write_markup(&end, output)
@@ -110,23 +134,21 @@ fn write_picture<W: Sink>(
 
 /// Draws the bands of the trace of a file, and before them the start of a page.
 fn draw_bands<R: Source, W: Sink>(
-    alloc: Global,
-    form: Form,
-    judged: bool,
+    view: TraceView,
     input: &mut R,
     output: &mut W,
 ) -> Result<DrawnTrace, Fault>
     requires reads { R.failures input.old < 2 ^ 64 - 1 }
     requires writes { W.failures output.old < 2 ^ 64 - 1 }
     ensures drawn { IfOk result (λ drawn. IfSome (R.to_come input.old)
-        (DrawsAllBands judged form drawn (W.taken output.old) (W.taken output.new))) }
+        (DrawsAllBands view drawn (W.taken output.old) (W.taken output.new))) }
     ensures end { IfOk result (λ _. IsAtEnd (R.to_come input.new)) }
     ensures fault { IfErr result (λ fault. IsDrawFault fault (R.to_come input.old)) }
     ensures read_failures { R.failures input.new ≡ R.failures input.old + failed_reading result }
     ensures write_failures { W.failures output.new ≡ W.failures output.old + failed_write result }
 {
-    let mut lines = Lines::new(alloc);
-    let mut sheet = TraceSheet::new(alloc, form, judged);
+    let mut lines = Lines::new(view.alloc);
+    let mut sheet = TraceSheet::new(view);
     draw_lines(&mut lines, &mut sheet, input, output)
 }
 
@@ -142,11 +164,11 @@ fn draw_lines<R: Source, W: Sink>(
     requires ended { lines.old.ahead.ended ≡ false }
     requires taken { lines.old.taken ≡ 0 }
     requires stands { (taken : Option (List ℕ)) →
-        Stands sheet.old.judged sheet.old.form sheet.old.reader sheet.old.picture taken taken None [] [] }
+        Stands sheet.old.view sheet.old.reader sheet.old.picture taken taken None [] [] }
     requires reads { R.failures input.old < 2 ^ 64 - 1 }
     requires writes { W.failures output.old < 2 ^ 64 - 1 }
     ensures drawn { IfOk result (λ drawn. IfSome (R.to_come input.old)
-        (DrawsAllBands sheet.old.judged sheet.old.form drawn (W.taken output.old) (W.taken output.new))) }
+        (DrawsAllBands sheet.old.view drawn (W.taken output.old) (W.taken output.new))) }
     ensures end { IfOk result (λ _. IsAtEnd (R.to_come input.new)) }
     ensures fault { IfErr result (λ fault. IsDrawFault fault (R.to_come input.old)) }
     ensures read_failures { R.failures input.new ≡ R.failures input.old + failed_reading result }

@@ -1,8 +1,14 @@
-//! The title of a trace's picture, and the lines that its page lists.
-ghost use Rattle.std.specs.Prelude.{◌≡◌, ◌++◌, ◌<◌, ◌-◌, ◌^◌, IfOk, OnOk, flat_map};
-ghost use Rattle.picture.specs.{plural_of};
+//! The title of a trace's picture, the lines that its page lists, and the start of the page.
+ghost use Rattle.std.specs.Prelude.{◌≡◌, ◌++◌, ◌+◌, ◌<◌, ◌-◌, ◌^◌, [], IfErr, IfOk, OnOk, Some, flat_map};
+ghost use Rattle.picture.specs.{page_names, plural_of, trace_page_front};
+ghost use Rattle.picture.specs.markup.{lines_in, opens_in};
+ghost use Rattle.draw.specs.{IsWriteFault, failed_write};
 ghost use Rattle.trace_draw.specs.Headings.{first_lines, kind_word, listed, memory_word, register_line, source_of, title_of};
+ghost use Rattle.trace_draw.specs.Showing.{Heads};
 
+use draw::write_markup;
+use files::{Fault, Sink};
+use picture::{Form, Markup, Reads, trace_page_head};
 use std::alloc::{AllocError, Global};
 use trace::{TraceMemory, TraceRegister, TraceSetup};
 
@@ -41,6 +47,51 @@ pub(crate) fn line_of_entries(setup: &TraceSetup) -> u64
     ensures room { result < 2 ^ 64 - 1 }
 {
     setup.registers.len() as u64 + 4
+}
+
+/// Writes the start of a page that shows these accesses, if the form is a page.
+///
+/// # Errors
+///
+/// Returns [`Fault::Write`] if a call of the sink fails, and [`Fault::Memory`] if memory is lacking.
+pub(crate) fn write_head<W: Sink>(
+    alloc: Global,
+    setup: &TraceSetup,
+    form: Form,
+    shows: Reads,
+    output: &mut W,
+) -> Result<(), Fault>
+    requires { W.failures output.old < 2 ^ 64 - 1 }
+    ensures heads { OnOk result
+        (Heads form shows setup.now (W.taken output.old) (W.taken output.new)) }
+    ensures fault { IfErr result IsWriteFault }
+    ensures failures { W.failures output.new ≡ W.failures output.old + failed_write result }
+{
+    match form {
+        Form::Page => {
+            let head = head_of(alloc, setup, shows)?;
+            write_markup(&head, output)
+        }
+        Form::Picture(_) => Ok(()),
+    }
+}
+
+/// Returns the start of a page.
+fn head_of(alloc: Global, setup: &TraceSetup, shows: Reads) -> Result<Markup, AllocError>
+    ensures draws { IfOk result (λ markup. markup
+        ≡ trace_page_front setup.now.processes (title_of setup.now) (listed setup.now) shows) }
+    ensures lines { IfOk result (λ markup. lines_in markup ≡ []) }
+    ensures elements { IfOk result (λ markup. opens_in markup (Some []) ≡ Some page_names) }
+{
+    let title = title(alloc, setup)?;
+    let printed = listed_lines(alloc, setup)?;
+    trace_page_head(
+        alloc,
+        setup.processes,
+        title.as_slice(),
+        printed.as_slice(),
+        shows,
+    )
 }
 
 /// Returns the headings.

@@ -1,19 +1,24 @@
 //! Draws traces: the commands `draw` and `draw-svg` for the run of any lock, each as a page for a browser and as one picture.
 //!
-//! A trace is read entry by entry, and each entry is judged. It draws its marks on a canvas, which writes a band as soon as the
-//! band is full. If a verdict is asked for, the picture ends with the first bad entry and with the judge's reasons.
+//! A trace is read entry by entry, and each entry is judged. It draws its access and its marks on a canvas, which writes a band
+//! as soon as the band is full. Accesses are shown if the picture has at most 400 entries, which are stored until this is
+//! decided, or if all are asked for. If a verdict is asked for, the picture ends with the first bad entry and with the judge's
+//! reasons.
 //!
 //! ```rust
-//! Engine::Draw if wanted.is_trace => draw_trace(alloc, wanted.judge, input, output),
+//! draw_trace(alloc, wanted.judge, accesses, input, output)
 //! ```
 #![tactic(auto)]
 
 mod drawing;
 mod engines;
 mod headings;
+mod held;
 mod pictures;
 mod sheet;
+mod views;
 
 pub use draw;
 pub use engines::{draw_trace, draw_trace_svg};
 pub use trace_engine::judge_trace;
+pub use views::AccessChoice;

@@ -1,18 +1,15 @@
 //! A judge, and the picture of the entries that it has observed.
-ghost use Rattle.std.specs.Prelude.{◌≡◌, ◌+◌, ◌-◌, ◌^◌, ◌<◌, ◌∷◌, ◌++◌, ◌||◌, [], ℕ, not, IfErr, IfOk, List, OnOk, Option, Some, true};
-ghost use Rattle.picture.specs.{page_names, trace_page_front};
-ghost use Rattle.picture.specs.markup.{lines_in, opens_in};
+ghost use Rattle.std.specs.Prelude.{◌≡◌, ◌+◌, ◌-◌, ◌^◌, ◌<◌, ◌∷◌, ◌++◌, ◌||◌, [], ℕ, not, IfErr, IfOk, List, OnOk, Option, true};
 ghost use Rattle.trace_engine.specs.{HasReported, is_good};
 ghost use Rattle.draw.specs.{IsWriteFault, failed_write};
 ghost use Rattle.trace.specs.{TraceEntry as Entry, TraceSetup as Setup, is_trace_setup};
-ghost use Rattle.trace_draw.specs.Headings.{listed, title_of};
-ghost use Rattle.trace_draw.specs.Showing.{EndsTrace, HasShown, Heads, IsTold, TellsTrace, count_of};
+ghost use Rattle.trace_draw.specs.Showing.{EndsTrace, HasShown, IsTold, TellsTrace, count_of};
 
-use crate::drawing::TraceDrawing;
-use crate::headings::{listed_lines, title};
-use draw::write_markup;
+use crate::drawing::DrawnBands;
+use crate::headings::title;
+use crate::held::ShownEntries;
+use crate::views::TraceView;
 use files::{DONE, Fault, Sink};
-use picture::{Form, Markup, trace_page_head};
 use std::alloc::{AllocError, Global};
 use trace::{TraceEntry, TraceSetup};
 use trace_engine::{TraceReport, TraceReporter};
@@ -21,73 +18,72 @@ use trace_engine::{TraceReport, TraceReporter};
 #[derive(Drop)]
 pub(crate) struct TracePicture {
     reporter: TraceReporter,
-    drawing: TraceDrawing,
+    entries: ShownEntries,
 }
 
-/// The title of a trace, the heights of the bands that were drawn, and the exit status.
+/// The title of a trace, the bands that were drawn, and the exit status.
 #[derive(Drop)]
 pub(crate) struct DrawnTrace {
     pub title: Vec<u8>,
-    pub height: u64,
+    pub bands: DrawnBands,
     pub status: u8,
 }
 
 impl TracePicture {
-    /// Begins the picture of a trace, before its first entry, and writes the start of a page.
+    /// Begins the picture of a trace, before its first entry. It writes the start of a page if all accesses are asked for.
     ///
     /// # Errors
     ///
     /// Returns [`Fault::Write`] if a call of the sink fails, and [`Fault::Memory`] if memory is lacking.
     pub fn begin<W: Sink>(
-        alloc: Global,
+        view: TraceView,
         setup: &TraceSetup,
-        form: Form,
-        judged: bool,
         output: &mut W,
     ) -> Result<TracePicture, Fault>
         requires good { is_trace_setup setup.now ≡ true }
         requires writes { W.failures output.old < 2 ^ 64 - 1 }
         ensures shown { IfOk result (λ picture.
-            HasShown judged form (W.taken output.old) (picture, W.taken output.new) setup.now [] []) }
+            HasShown view (W.taken output.old) (picture, W.taken output.new) setup.now [] []) }
         ensures few { IfOk result (λ picture. count_of picture ≡ 0) }
         ensures fault { IfErr result IsWriteFault }
         ensures failures { W.failures output.new ≡ W.failures output.old + failed_write result }
     {
-        let reporter = TraceReporter::new(alloc, setup, judged)?;
-        let drawing = TraceDrawing::new(alloc, setup, form)?;
-        write_head(alloc, setup, form, output)?;
-        Ok(TracePicture { reporter, drawing })
+        let reporter = TraceReporter::new(view.alloc, setup, view.judged)?;
+        let entries = ShownEntries::begin(view, setup, output)?;
+        Ok(TracePicture { reporter, entries })
     }
 
-    /// Observes the next entry, of a line with this number, and draws it. Of a trace that is judged, nothing is drawn after a
-    /// bad entry.
+    /// Observes the next entry, of a line with this number, and draws it, or stores it as long as the picture may be short. If
+    /// the trace is judged, nothing is drawn after a bad entry.
     ///
     /// # Errors
     ///
     /// Returns [`Fault::Write`] if a call of the sink fails, and [`Fault::Memory`] if memory is lacking.
     pub fn take<W: Sink>(
         &mut self,
-        alloc: Global,
-        judged: bool,
+        view: TraceView,
         setup: &TraceSetup,
         number: u64,
         entry: &TraceEntry,
         output: &mut W,
     ) -> Result<(), Fault>
+        requires good { is_trace_setup setup.now ≡ true }
         requires few { count_of self.old < 2 ^ 64 - 1 }
         requires writes { W.failures output.old < 2 ^ 64 - 1 }
-        ensures shown { OnOk result ((form : Form) (first : Option (List ℕ)) (entries : List Entry) (numbers : List ℕ) →
-            HasShown judged form first (self.old, W.taken output.old) setup.now entries numbers →
-            HasShown judged form first (self.new, W.taken output.new) setup.now (entries ++ entry.now ∷ []) (numbers ++ number ∷ [])) }
+        ensures shown { OnOk result (
+            (first : Option (List ℕ)) (entries : List Entry) (numbers : List ℕ) →
+            HasShown view first (self.old, W.taken output.old) setup.now entries numbers →
+            HasShown view first (self.new, W.taken output.new) setup.now
+            (entries ++ entry.now ∷ []) (numbers ++ number ∷ [])) }
         ensures fault { IfErr result IsWriteFault }
         ensures failures { W.failures output.new ≡ W.failures output.old + failed_write result }
     {
-        let shows = self.shows_next(judged);
-        self.reporter.take(alloc, setup, number, entry)?;
+        let shows = self.shows_next(view.judged);
+        self.reporter.take(view.alloc, setup, number, entry)?;
         if !shows {
             return Ok(());
         }
-        self.drawing.draw_entry(entry, output)
+        self.entries.take(view, setup, entry, output)
     }
 
     /// Returns whether the next entry is drawn: of a trace that is judged, no entry after a bad one.
@@ -97,31 +93,35 @@ impl TracePicture {
         !judged || self.reporter.is_good()
     }
 
-    /// Draws what the judge tells, if it is asked for, and the last line; writes what is held back.
+    /// Draws the entries that are stored, the lines of the judge if they are asked for, and the last line. Writes what is held
+    /// back.
     ///
     /// # Errors
     ///
     /// Returns [`Fault::Write`] if a call of the sink fails, and [`Fault::Memory`] if memory is lacking.
     pub fn end<W: Sink>(
         &mut self,
-        alloc: Global,
-        judged: bool,
+        view: TraceView,
         setup: &TraceSetup,
         output: &mut W,
     ) -> Result<DrawnTrace, Fault>
-        requires { W.failures output.old < 2 ^ 64 - 1 }
-        ensures drawn { IfOk result (λ drawn. (form : Form) (first : Option (List ℕ)) (entries : List Entry) (numbers : List ℕ) →
-            HasShown judged form first (self.old, W.taken output.old) setup.now entries numbers →
-            IsTold judged (λ s shown told. EndsTrace form drawn s shown told first (W.taken output.new)) drawn.status setup.now entries numbers) }
+        requires good { is_trace_setup setup.now ≡ true }
+        requires writes { W.failures output.old < 2 ^ 64 - 1 }
+        ensures drawn { IfOk result (λ drawn.
+            (first : Option (List ℕ)) (entries : List Entry) (numbers : List ℕ) →
+            HasShown view first (self.old, W.taken output.old) setup.now entries numbers →
+            IsTold view.judged (λ s shown told.
+            EndsTrace view.form view.accesses drawn s shown told first (W.taken output.new))
+            drawn.status setup.now entries numbers) }
         ensures fault { IfErr result IsWriteFault }
         ensures failures { W.failures output.new ≡ W.failures output.old + failed_write result }
     {
-        let title = title(alloc, setup)?;
-        let told = told_by(alloc, judged, &self.reporter)?;
-        let height = self.drawing.end(setup, told.text.as_slice(), output)?;
+        let title = title(view.alloc, setup)?;
+        let told = told_by(view.alloc, view.judged, &self.reporter)?;
+        let bands = self.entries.end(view, setup, told.text.as_slice(), output)?;
         Ok(DrawnTrace {
             title,
-            height,
+            bands,
             status: told.status,
         })
     }
@@ -140,36 +140,4 @@ fn told_by(alloc: Global, judged: bool, reporter: &TraceReporter) -> Result<Trac
         text: Vec::new(alloc),
         status: DONE,
     })
-}
-
-/// Writes the start of a page, if the form is one.
-fn write_head<W: Sink>(
-    alloc: Global,
-    setup: &TraceSetup,
-    form: Form,
-    output: &mut W,
-) -> Result<(), Fault>
-    requires { W.failures output.old < 2 ^ 64 - 1 }
-    ensures heads { OnOk result (Heads form setup.now (W.taken output.old) (W.taken output.new)) }
-    ensures fault { IfErr result IsWriteFault }
-    ensures failures { W.failures output.new ≡ W.failures output.old + failed_write result }
-{
-    match form {
-        Form::Page => {
-            let head = head_of(alloc, setup)?;
-            write_markup(&head, output)
-        }
-        Form::Picture(_) => Ok(()),
-    }
-}
-
-/// Returns the start of a page.
-fn head_of(alloc: Global, setup: &TraceSetup) -> Result<Markup, AllocError>
-    ensures draws { IfOk result (λ markup. markup ≡ trace_page_front setup.now.processes (title_of setup.now) (listed setup.now)) }
-    ensures lines { IfOk result (λ markup. lines_in markup ≡ []) }
-    ensures elements { IfOk result (λ markup. opens_in markup (Some []) ≡ Some page_names) }
-{
-    let title = title(alloc, setup)?;
-    let printed = listed_lines(alloc, setup)?;
-    trace_page_head(alloc, setup.processes, title.as_slice(), printed.as_slice())
 }

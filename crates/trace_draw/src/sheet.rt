@@ -3,39 +3,33 @@ ghost use Rattle.std.specs.Prelude.{◌≡◌, ◌+◌, ◌-◌, ◌^◌, ◌<�
 ghost use Rattle.draw.specs.{IsWriteFault, LineStops, failed_write};
 ghost use Rattle.trace.specs.{TraceEntry as Entry, is_trace_setup};
 ghost use Rattle.trace_engine.specs.{Observes, count_by};
-ghost use Rattle.trace_file.specs.TraceFiles.{TraceProgress, line_read};
+ghost use Rattle.trace_engine.specs.trace_file.TraceFiles.{TraceProgress, line_read};
 ghost use Rattle.trace_draw.specs.Showing.{EndsTrace, HasShown, IsTold, count_of};
 ghost use Rattle.trace_draw.specs.Sheets.{DrawsLine, EndsSheet, NothingYet, Stands, with_output};
 
 use crate::pictures::{DrawnTrace, TracePicture};
+use crate::views::TraceView;
 use files::{Fault, FaultKind, LineFault, Sink};
-use picture::Form;
-use std::alloc::Global;
 use trace::{TraceEntry, TraceSetup};
-use trace_file::{TraceReader, read_trace_line};
+use trace_engine::trace_file::{TraceReader, read_trace_line};
 
 /// A trace file that is read, judged and drawn line by line: what was read, and a picture once there is an entry.
 #[derive(Drop)]
 pub(crate) struct TraceSheet {
-    alloc: Global,
-    form: Form,
-    /// Whether the picture shows the verdict, and ends with the first bad entry.
-    judged: bool,
+    view: TraceView,
     reader: Option<TraceReader>,
     picture: Option<TracePicture>,
 }
 
 impl TraceSheet {
     /// Creates a sheet of which no line was read.
-    pub fn new(alloc: Global, form: Form, judged: bool) -> TraceSheet
-        ensures form { result.form ≡ form }
-        ensures judged { result.judged ≡ judged }
-        ensures stands { (taken : Option (List ℕ)) → Stands judged form result.reader result.picture taken taken None [] [] }
+    pub fn new(view: TraceView) -> TraceSheet
+        ensures view { result.view ≡ view }
+        ensures stands { (taken : Option (List ℕ)) →
+            Stands view result.reader result.picture taken taken None [] [] }
     {
         TraceSheet {
-            alloc,
-            form,
-            judged,
+            view,
             reader: None,
             picture: None,
         }
@@ -51,21 +45,16 @@ impl TraceSheet {
         requires short { length line.now ≤ 128 }
         requires few { count_by count_of self.old.picture < 2 ^ 64 - 1 }
         requires writes { W.failures output.old < 2 ^ 64 - 1 }
-        ensures form { self.new.form ≡ self.old.form }
-        ensures judged { self.new.judged ≡ self.old.judged }
-        ensures ok { OnOk result (DrawsLine self.old.judged self.old.form
+        ensures view { self.new.view ≡ self.old.view }
+        ensures ok { OnOk result (DrawsLine self.old.view
             self.old.reader self.old.picture (W.taken output.old)
             self.new.reader self.new.picture (W.taken output.new) number line.now) }
         ensures fault { IfErr result (λ fault. LineStops fault number (λ kind. (before : Option TraceProgress) →
             self.old.reader ≡ before → line_read line.now before ≡ Err kind)) }
         ensures failures { W.failures output.new ≡ W.failures output.old + failed_write result }
     {
-        let view = TraceView {
-            alloc: self.alloc,
-            form: self.form,
-            judged: self.judged,
-        };
-        match read_trace_line(self.alloc, line, &mut self.reader) {
+        let view = self.view;
+        match read_trace_line(view.alloc, line, &mut self.reader) {
             Ok(()) => {}
             Err(kind) => return Err(fault_at(number, kind)),
         }
@@ -87,30 +76,18 @@ impl TraceSheet {
         requires { W.failures output.old < 2 ^ 64 - 1 }
         ensures none { IfOk result (λ drawn. drawn ≡ None → self.old.reader ≡ None) }
         ensures some { IfOk result (λ drawn. IfSome drawn (λ _. IsSome self.old.reader)) }
-        ensures ok { IfOk result (λ drawn. IfSome drawn (λ d. EndsSheet self.old.judged self.old.form d
+        ensures ok { IfOk result (λ drawn. IfSome drawn (λ d. EndsSheet self.old.view d
             self.old.reader self.old.picture (W.taken output.old) (W.taken output.new))) }
         ensures fault { IfErr result IsWriteFault }
         ensures failures { W.failures output.new ≡ W.failures output.old + failed_write result }
     {
-        let view = TraceView {
-            alloc: self.alloc,
-            form: self.form,
-            judged: self.judged,
-        };
+        let view = self.view;
         let Some(reader) = &self.reader else {
             return Ok(None);
         };
         let drawn = view.draw_end(reader.setup(), &mut self.picture, output)?;
         Ok(Some(drawn))
     }
-}
-
-/// The form of a picture, and whether it shows the verdict.
-#[derive(Clone, Copy)]
-struct TraceView {
-    alloc: Global,
-    form: Form,
-    judged: bool,
 }
 
 impl TraceView {
@@ -127,16 +104,18 @@ impl TraceView {
         requires few { count_by count_of picture.old < 2 ^ 64 - 1 }
         requires writes { W.failures output.old < 2 ^ 64 - 1 }
         ensures some { OnOk result (IsSome picture.new) }
-        ensures drawn { OnOk result ((first : Option (List ℕ)) (entries : List Entry) (numbers : List ℕ) →
+        ensures drawn { OnOk result (
+            (first : Option (List ℕ)) (entries : List Entry) (numbers : List ℕ) →
             NothingYet picture.old first (W.taken output.old) →
-            Observes (HasShown self.judged self.form first) (with_output (W.taken output.old) picture.old) setup.now entries numbers →
-            Observes (HasShown self.judged self.form first) (with_output (W.taken output.new) picture.new) setup.now
-            (entries ++ entry.now ∷ []) (numbers ++ number ∷ [])) }
+            Observes (HasShown self first) (with_output (W.taken output.old) picture.old)
+            setup.now entries numbers →
+            Observes (HasShown self first) (with_output (W.taken output.new) picture.new)
+            setup.now (entries ++ entry.now ∷ []) (numbers ++ number ∷ [])) }
         ensures fault { IfErr result IsWriteFault }
         ensures failures { W.failures output.new ≡ W.failures output.old + failed_write result }
     {
         match picture {
-            Some(picture) => picture.take(self.alloc, self.judged, setup, number, entry, output),
+            Some(picture) => picture.take(self, setup, number, entry, output),
             None => {
                 *picture = Some(self.begin_with(setup, number, entry, output)?);
                 Ok(())
@@ -153,24 +132,22 @@ impl TraceView {
     ) -> Result<DrawnTrace, Fault>
         requires good { is_trace_setup setup.now ≡ true }
         requires writes { W.failures output.old < 2 ^ 64 - 1 }
-        ensures drawn { IfOk result (λ d. (first : Option (List ℕ)) (entries : List Entry) (numbers : List ℕ) →
+        ensures drawn { IfOk result (λ d.
+            (first : Option (List ℕ)) (entries : List Entry) (numbers : List ℕ) →
             NothingYet picture.old first (W.taken output.old) →
-            Observes (HasShown self.judged self.form first) (with_output (W.taken output.old) picture.old) setup.now entries numbers →
-            IsTold self.judged (λ s shown told. EndsTrace self.form d s shown told first (W.taken output.new)) d.status setup.now entries numbers) }
+            Observes (HasShown self first) (with_output (W.taken output.old) picture.old)
+            setup.now entries numbers →
+            IsTold self.judged (λ s shown told.
+            EndsTrace self.form self.accesses d s shown told first (W.taken output.new))
+            d.status setup.now entries numbers) }
         ensures fault { IfErr result IsWriteFault }
         ensures failures { W.failures output.new ≡ W.failures output.old + failed_write result }
     {
         match picture {
-            Some(picture) => picture.end(self.alloc, self.judged, setup, output),
+            Some(picture) => picture.end(self, setup, output),
             None => {
-                let mut begun = TracePicture::begin(
-                    self.alloc,
-                    setup,
-                    self.form,
-                    self.judged,
-                    output,
-                )?;
-                begun.end(self.alloc, self.judged, setup, output)
+                let mut begun = TracePicture::begin(self, setup, output)?;
+                begun.end(self, setup, output)
             }
         }
     }
@@ -187,13 +164,14 @@ impl TraceView {
     ) -> Result<TracePicture, Fault>
         requires good { is_trace_setup setup.now ≡ true }
         requires writes { W.failures output.old < 2 ^ 64 - 1 }
-        ensures shown { IfOk result (λ picture. HasShown self.judged self.form (W.taken output.old) (picture, W.taken output.new)
-            setup.now (entry.now ∷ []) (number ∷ [])) }
+        ensures shown { IfOk result (λ picture.
+            HasShown self (W.taken output.old) (picture, W.taken output.new) setup.now
+            (entry.now ∷ []) (number ∷ [])) }
         ensures fault { IfErr result IsWriteFault }
         ensures failures { W.failures output.new ≡ W.failures output.old + failed_write result }
     {
-        let mut picture = TracePicture::begin(self.alloc, setup, self.form, self.judged, output)?;
-        picture.take(self.alloc, self.judged, setup, number, entry, output)?;
+        let mut picture = TracePicture::begin(self, setup, output)?;
+        picture.take(self, setup, number, entry, output)?;
         Ok(picture)
     }
 }

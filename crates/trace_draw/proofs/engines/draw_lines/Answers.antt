@@ -1,14 +1,13 @@
-use Rattle.std.proofs.Common.{◌≡◌, ℕ, ◌+◌, Bool, List, [], Option, Some, Ok, Err, IfSome, IsSome, refl, sym, subst, ap, ◌∙◌, arith}
+use Rattle.std.proofs.Common.{◌≡◌, ℕ, ◌+◌, Bool, Option, Ok, Err, IfSome, IsSome, refl, sym, subst, ap, ◌∙◌, arith}
 use Rattle.files.specs.{Fault, GoesToNext, coming, failed_reading}
 use Rattle.files.specs.declared.faults.Fault.TheVariants.{Line}
 use Rattle.files.specs.declared.faults.FaultKind.TheVariants.{NotFirst}
-use Rattle.picture.specs.{Form}
-use Rattle.trace_file.specs.TraceFiles.{TraceProgress, line_read}
+use Rattle.trace_engine.specs.trace_file.TraceFiles.{TraceProgress, line_read}
 use Rattle.draw.specs.{failed_write}
 use Rattle.draw.proofs.RecordEnds.{drawing_read, next_wrote, no_value, reading_same}
 use Rattle.draw.proofs.Written.{failed_same}
 use Rattle.trace_engine.proofs.Ends.{if_err, next_fault, none_reported}
-use Rattle.trace_draw.specs.{DrawnTrace, DrawsAllBands, DrawsLine, EndsSheet, HasShown, IsDrawFault, with_output}
+use Rattle.trace_draw.specs.{DrawnTrace, DrawsLine, EndsSheet, HasShown, IsDrawFault, TraceView, with_output}
 use Rattle.trace_draw.proofs.Ends.{drawn_all, drawn_fault, drawn_few, drawn_none, drawn_on, drawn_start, input_fault, read_some, write_fault, write_read}
 use Rattle.trace_draw.proofs.engines.draw_lines.Goals as goal
 
@@ -20,25 +19,22 @@ lines-preserved g c =
     let had = c.lines.invariant in
     let now = g.W.Sink.taken c.lines.output in
     let then = g.W.Sink.taken c.read.new.output in
-    let draws = λ (j : Bool) (f : Form). DrawsLine j f c.lines.sheet.reader c.lines.sheet.picture now c.read.new.self.reader c.read.new.self.picture then c.taken.result c.line.result.now in
-    let on = subst (λ (f : Form). draws c.args.sheet.now.judged f) had.form (subst (λ (j : Bool). draws j c.lines.sheet.form) had.judged c.in_ok-read.ensures.ok) in
+    let on = subst (λ (v : TraceView). DrawsLine v c.lines.sheet.reader c.lines.sheet.picture now c.read.new.self.reader c.read.new.self.picture then c.taken.result c.line.result.now) had.view c.in_ok-read.ensures.ok in
     record {
-      drawn = drawn_on c.args.sheet.now.judged c.args.sheet.now.form (g.R.Source.to_come c.args.input.now) mid rest c.lines.lines c.next.new.self c.taken.result c.line.result.now c.lines.sheet.reader c.read.new.self.reader c.lines.sheet.picture c.read.new.self.picture (g.W.Sink.taken c.args.output.now) now then
+      drawn = drawn_on c.args.sheet.now.view (g.R.Source.to_come c.args.input.now) mid rest c.lines.lines c.next.new.self c.taken.result c.line.result.now c.lines.sheet.reader c.read.new.self.reader c.lines.sheet.picture c.read.new.self.picture (g.W.Sink.taken c.args.output.now) now then
           had.drawn takes c.taken.ensures.taken c.line.ensures on;
       holds = c.in_ok-next.ensures.holds had.holds;
-      form = c.in_ok-read.ensures.form ∙ had.form;
-      judged = c.in_ok-read.ensures.judged ∙ had.judged;
+      view = c.in_ok-read.ensures.view ∙ had.view;
       whole = omega (arith, c.in_ok-next.ensures.failures, had.whole);
       wrote = omega (arith, c.in_ok-read.ensures.failures, had.wrote);
     }
 
 pub lines-init : goal.lines-init
 lines-init g c = record {
-  drawn = drawn_start c.args.sheet.now.judged c.args.sheet.now.form (g.R.Source.to_come c.args.input.now) c.args.lines.now.ahead c.args.lines.now.taken c.args.sheet.now.reader c.args.sheet.now.picture (g.W.Sink.taken c.args.output.now)
+  drawn = drawn_start c.args.sheet.now.view (g.R.Source.to_come c.args.input.now) c.args.lines.now.ahead c.args.lines.now.taken c.args.sheet.now.reader c.args.sheet.now.picture (g.W.Sink.taken c.args.output.now)
       c.requires.ahead c.requires.ended c.requires.taken (c.requires.stands (g.W.Sink.taken c.args.output.now));
   holds = none_reported c.args.lines.now.ahead (g.R.Source.to_come c.args.input.now) c.requires.ended;
-  form = refl;
-  judged = refl;
+  view = refl;
   whole = refl;
   wrote = refl;
 }
@@ -56,7 +52,7 @@ returns-in_err-read g c =
     record {
       drawn = no_value r e _ same;
       end = no_value r e _ same;
-      fault = if_err r e (λ (f : Fault). IsDrawFault f all) same (drawn_fault c.args.sheet.now.judged c.args.sheet.now.form all mid rest c.lines.lines c.next.new.self c.taken.result c.line.result.now c.lines.sheet.reader c.lines.sheet.picture (g.W.Sink.taken c.args.output.now) (g.W.Sink.taken c.lines.output) e
+      fault = if_err r e (λ (f : Fault). IsDrawFault f all) same (drawn_fault c.args.sheet.now.view all mid rest c.lines.lines c.next.new.self c.taken.result c.line.result.now c.lines.sheet.reader c.lines.sheet.picture (g.W.Sink.taken c.args.output.now) (g.W.Sink.taken c.lines.output) e
           c.lines.invariant.drawn takes c.taken.ensures.taken c.line.ensures stops);
       read_failures = omega (arith, reading_same r e same, drawing_read e c.taken.result (λ kind. (before : Option TraceProgress) → c.lines.sheet.reader ≡ before → line_read c.line.result.now before ≡ Err kind) stops, c.in_ok-next.ensures.failures, c.lines.invariant.whole);
       write_failures = omega (arith, c.in_err-read.ensures.failures, c.lines.invariant.wrote, failed_same r e same);
@@ -76,7 +72,7 @@ returns-in_err-next g c =
       drawn = no_value r e _ same;
       end = no_value r e _ same;
       fault = if_err r e (λ (f : Fault). IsDrawFault f all) same (input_fault e all
-          (next_fault (HasShown c.args.sheet.now.judged c.args.sheet.now.form first) all mid rest c.lines.lines c.next.new.self c.lines.sheet.reader (with_output (g.W.Sink.taken c.lines.output) c.lines.sheet.picture) e c.lines.invariant.drawn.onwards next));
+          (next_fault (HasShown c.args.sheet.now.view first) all mid rest c.lines.lines c.next.new.self c.lines.sheet.reader (with_output (g.W.Sink.taken c.lines.output) c.lines.sheet.picture) e c.lines.invariant.drawn.onwards next));
       read_failures = omega (arith, c.in_err-next.ensures.failures, c.lines.invariant.whole, reading_same r e same);
       write_failures = omega (arith, failed_same r e same, next_wrote e c.lines.lines c.next.new.self mid rest next, c.lines.invariant.wrote);
     }
@@ -105,7 +101,7 @@ returns-in-None g c =
       drawn = tt;
       end = tt;
       fault = subst (λ (f : Fault). IsDrawFault f all) (sym (c.behind.ensures ∙ ap (λ (n : ℕ). Line (record { line = n + 1; kind = NotFirst })) ends.taken))
-          (drawn_none c.args.sheet.now.judged c.args.sheet.now.form all mid c.lines.lines.taken c.lines.sheet.reader c.lines.sheet.picture (g.W.Sink.taken c.args.output.now) (g.W.Sink.taken c.lines.output) c.lines.invariant.drawn (c.in_ok-end.ensures.none c.in-None.is) ends.before);
+          (drawn_none c.args.sheet.now.view all mid c.lines.lines.taken c.lines.sheet.reader c.lines.sheet.picture (g.W.Sink.taken c.args.output.now) (g.W.Sink.taken c.lines.output) c.lines.invariant.drawn (c.in_ok-end.ensures.none c.in-None.is) ends.before);
       read_failures = subst (λ (f : Fault). g.R.Source.failures c.next.new.input ≡ g.R.Source.failures c.args.input.now + failed_reading {A = Unit {0}} (Err f)) (sym c.behind.ensures) (omega (arith, c.in_ok-next.ensures.failures, c.lines.invariant.whole));
       write_failures = subst (λ (f : Fault). g.W.Sink.failures c.end.new.output ≡ g.W.Sink.failures c.args.output.now + failed_write {A = Unit {0}} (Err f)) (sym c.behind.ensures) (omega (arith, c.in_ok-end.ensures.failures, c.lines.invariant.wrote));
     }
@@ -123,11 +119,10 @@ returns-in-Some g c =
     let d : DrawnTrace = c.in-Some.drawn in
     let had = c.lines.invariant in
     let read = read_some t.reader (subst (λ (o : Option DrawnTrace). IfSome o (λ _. IsSome t.reader)) c.in-Some.is c.in_ok-end.ensures.some) in
-    let sheet = λ (j : Bool) (f : Form). EndsSheet j f d t.reader t.picture now then in
-    let ended = subst (λ (o : Option DrawnTrace). IfSome o (λ d. EndsSheet t.judged t.form d t.reader t.picture now then)) c.in-Some.is c.in_ok-end.ensures.ok in
-    let whole = subst (λ (f : Form). sheet c.args.sheet.now.judged f) had.form (subst (λ (j : Bool). sheet j t.form) had.judged ended) in
+    let ended = subst (λ (o : Option DrawnTrace). IfSome o (λ d. EndsSheet t.view d t.reader t.picture now then)) c.in-Some.is c.in_ok-end.ensures.ok in
+    let whole = subst (λ (v : TraceView). EndsSheet v d t.reader t.picture now then) had.view ended in
     record {
-      drawn = drawn_all c.args.sheet.now.judged c.args.sheet.now.form all mid c.lines.lines.taken t.reader t.picture first now then had.drawn read.0 d read.1 whole ends.before;
+      drawn = drawn_all c.args.sheet.now.view all mid c.lines.lines.taken t.reader t.picture first now then had.drawn read.0 d read.1 whole ends.before;
       end = c.in_ok-next.ensures.holds had.holds (c.in_ok-next.ensures.ended c.if-branch.false);
       fault = tt;
       read_failures = omega (arith, c.in_ok-next.ensures.failures, had.whole);
@@ -139,5 +134,5 @@ read-requires-clause-few g c =
     let mid = coming c.lines.lines.ahead (g.R.Source.to_come c.lines.input) in
     let rest = coming c.next.new.self.ahead (g.R.Source.to_come c.next.new.input) in
     let takes = subst (λ (b : Bool). GoesToNext (Ok b) c.lines.lines c.next.new.self mid rest) c.if-branch.true c.in_ok-next.ensures.next in
-    let few = drawn_few c.args.sheet.now.judged c.args.sheet.now.form (g.R.Source.to_come c.args.input.now) mid c.lines.lines.taken c.lines.sheet.reader c.lines.sheet.picture (g.W.Sink.taken c.args.output.now) (g.W.Sink.taken c.lines.output) c.lines.invariant.drawn in
+    let few = drawn_few c.args.sheet.now.view (g.R.Source.to_come c.args.input.now) mid c.lines.lines.taken c.lines.sheet.reader c.lines.sheet.picture (g.W.Sink.taken c.args.output.now) (g.W.Sink.taken c.lines.output) c.lines.invariant.drawn in
     omega (arith, few, takes.taken, c.taken.ensures.taken, c.taken.ensures.few)

@@ -7,10 +7,9 @@ use Rattle.trace_draw.proofs.engines.draw_lines.Given as goal
 -- end is at it, and no call has failed
 abbrev pub invariant-lines : goal.invariant-lines
 invariant-lines g l = record {
-  drawn : DrawnUpTo l.fn.sheet.judged l.fn.sheet.form (g.R.Source.to_come l.fn.input) (coming l.lines.ahead (g.R.Source.to_come l.input)) l.lines.taken l.sheet.reader l.sheet.picture (g.W.Sink.taken l.fn.output) (g.W.Sink.taken l.output);
+  drawn : DrawnUpTo l.fn.sheet.view (g.R.Source.to_come l.fn.input) (coming l.lines.ahead (g.R.Source.to_come l.input)) l.lines.taken l.sheet.reader l.sheet.picture (g.W.Sink.taken l.fn.output) (g.W.Sink.taken l.output);
   holds : EndHolds l.lines.ahead (g.R.Source.to_come l.input);
-  form : l.sheet.form ≡ l.fn.sheet.form;
-  judged : l.sheet.judged ≡ l.fn.sheet.judged;
+  view : l.sheet.view ≡ l.fn.sheet.view;
   whole : g.R.Source.failures l.input ≡ g.R.Source.failures l.fn.input;
   wrote : g.W.Sink.failures l.output ≡ g.W.Sink.failures l.fn.output;
 }

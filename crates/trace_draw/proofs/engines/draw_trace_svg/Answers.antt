@@ -1,6 +1,6 @@
 use Rattle.std.proofs.Common.{List, ℕ, [], Some, IfSome, subst, sym}
 use Rattle.picture.specs.declared.page.Form.TheVariants as form
-use Rattle.trace_draw.specs.{DrawsAllBands, DrawsTraceSaid, EndsTrace}
+use Rattle.trace_draw.specs.{DrawsAllBands, DrawsTraceSaid, EndsTrace, TraceView}
 use Rattle.trace_draw.proofs.Ends.{all_told}
 use Rattle.trace_draw.proofs.engines.draw_trace_svg.Goals as goal
 
@@ -9,8 +9,9 @@ returns-in-Ok g c =
     let all = g.R.Source.to_come c.args.input.now in
     let bytes : List ℕ = c.draw_bands.new.output.bytes.items in
     let d = c.in-Ok.drawn in
-    let drawn = subst (λ (was : List ℕ). IfSome all (DrawsAllBands c.args.judged (form.Picture 34) d (Some was) (Some bytes))) c.new-bands.ensures.bytes c.in-Ok.ensures.drawn in (
-      all_told c.args.judged (λ s shown told. EndsTrace (form.Picture 34) d s shown told (Some []) (Some bytes)) (λ s shown told. DrawsTraceSaid (form.Picture 34) s shown told (g.W.Sink.taken c.args.output.now) (g.W.Sink.taken c.write_picture.new.output)) d.status
-          (λ s shown told ends. c.in_ok-write_picture-in-Ok.ensures.ok s shown told (subst (λ (now : List ℕ). EndsTrace (form.Picture 34) d s shown told (Some []) (Some now)) (sym c.bytes.ensures) ends)) all drawn,
+    let view : TraceView = record { alloc = c.args.alloc; form = form.Picture 34; judged = c.args.judged; accesses = c.args.accesses } in
+    let drawn = subst (λ (was : List ℕ). IfSome all (DrawsAllBands view d (Some was) (Some bytes))) c.new-bands.ensures.bytes c.in-Ok.ensures.drawn in (
+      all_told c.args.judged (λ s shown told. EndsTrace (form.Picture 34) c.args.accesses d s shown told (Some []) (Some bytes)) (λ s shown told. DrawsTraceSaid (form.Picture 34) c.args.accesses s shown told (g.W.Sink.taken c.args.output.now) (g.W.Sink.taken c.write_picture.new.output)) d.status
+          (λ s shown told ends. c.in_ok-write_picture-in-Ok.ensures.ok c.args.accesses s shown told (subst (λ (now : List ℕ). EndsTrace (form.Picture 34) c.args.accesses d s shown told (Some []) (Some now)) (sym c.bytes.ensures) ends)) all drawn,
       c.in-Ok.ensures.end,
     )

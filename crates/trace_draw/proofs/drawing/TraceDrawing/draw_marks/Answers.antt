@@ -5,13 +5,14 @@ use Rattle.draw.proofs.Drawn.{draws_lines_both, draws_no_lines}
 use Rattle.draw.proofs.Written.{failed_same}
 use Rattle.trace.specs.{LockMark}
 use Rattle.trace.specs.declared.marks.LockMark.TheVariants.{Call}
+use Rattle.trace_draw.specs.{TraceDrawing}
+use Rattle.trace_draw.proofs.Drawn.{rest_on}
 use Rattle.trace_draw.proofs.drawing.TraceDrawing.draw_marks.Goals as goal
 
 pub loop-mark-init : goal.loop-mark-init
 loop-mark-init g c = record {
   drawn = draws_no_lines c.args.self.now.canvas (g.W.Sink.taken c.args.output.now) c.args.self.now.source c.args.self.now.entries;
-  source = refl;
-  entries = refl;
+  rest = refl;
   whole = refl;
 }
 
@@ -20,6 +21,10 @@ draw_mark-requires g c = rw c.loop-mark.invariant.whole c.requires
 
 pub returns-in_err-draw_mark-clause-failures : goal.returns-in_err-draw_mark-clause-failures
 returns-in_err-draw_mark-clause-failures g c = omega (arith, c.in_err-draw_mark.ensures.failures, c.loop-mark.invariant.whole, failed_same c.from_residual.result c.in_err-draw_mark.field-0.0 c.from_residual.ensures.1)
+
+pub returns-in_err-draw_mark-clause-rest : goal.returns-in_err-draw_mark-clause-rest
+returns-in_err-draw_mark-clause-rest g c =
+    rest_on c.args.self.now c.loop-mark.self c.draw_mark.new.self c.loop-mark.invariant.rest c.in_err-draw_mark.ensures.rest
 
 pub loop-mark-preserved : goal.loop-mark-preserved
 loop-mark-preserved g c =
@@ -35,12 +40,13 @@ loop-mark-preserved g c =
     let had = c.loop-mark.invariant in
     let mid = c.loop-mark.self in
     let now = c.draw_mark.new.self in
-    let on = subst (λ (n : ℕ). DrawsLines mid.canvas now.canvas b d n old.entries (SaysLockMark p here ∷ [])) had.source (subst (λ (n : ℕ). DrawsLines mid.canvas now.canvas b d mid.source n (SaysLockMark p here ∷ [])) had.entries c.in_ok-draw_mark.ensures.drawn) in
+    let source : mid.source ≡ old.source = ap (λ (t : TraceDrawing). t.source) had.rest in
+    let entries : mid.entries ≡ old.entries = ap (λ (t : TraceDrawing). t.entries) had.rest in
+    let on = subst (λ (n : ℕ). DrawsLines mid.canvas now.canvas b d n old.entries (SaysLockMark p here ∷ [])) source (subst (λ (n : ℕ). DrawsLines mid.canvas now.canvas b d mid.source n (SaysLockMark p here ∷ [])) entries c.in_ok-draw_mark.ensures.drawn) in
     record {
       drawn = subst (λ (l : List Says). DrawsLines old.canvas now.canvas a d old.source old.entries l) (sym said)
           (draws_lines_both old.canvas mid.canvas now.canvas a b d old.source old.entries (map (SaysLockMark p) marks) (SaysLockMark p here ∷ []) had.drawn on);
-      source = c.draw_mark.ensures.source ∙ had.source;
-      entries = c.draw_mark.ensures.entries ∙ had.entries;
+      rest = rest_on old mid now had.rest c.in_ok-draw_mark.ensures.rest;
       whole = omega (arith, c.in_ok-draw_mark.ensures.failures, had.whole);
     }
 

@@ -6,7 +6,6 @@ use Rattle.trace_draw.proofs.drawing.TraceDrawing.draw_marks.Given as goal
 abbrev pub invariant-loop-mark : goal.invariant-loop-mark
 invariant-loop-mark g l = record {
   drawn : DrawsLines l.fn.self.canvas l.self.canvas (g.W.Sink.taken l.fn.output) (g.W.Sink.taken l.output) l.fn.self.source l.fn.self.entries (map (SaysLockMark l.process) (take l.mark-index l.marks));
-  source : l.self.source ≡ l.fn.self.source;
-  entries : l.self.entries ≡ l.fn.self.entries;
+  rest : l.self ≡ record l.fn.self { canvas = l.self.canvas };
   whole : g.W.Sink.failures l.output ≡ g.W.Sink.failures l.fn.output;
 }

@@ -1,7 +1,6 @@
-use Rattle.std.proofs.Common.{[], ◌∷◌, ◌+◌, ℕ, ap, subst, ◌∙◌}
+use Rattle.std.proofs.Common.{[], ◌∷◌, ◌+◌, ℕ, ap, subst}
 use Rattle.draw.specs.{DrawsLast, DrawsLines, SaysLockEnd, says_judged}
 use Rattle.draw.proofs.Drawn.{draws_last_behind}
-use Rattle.draw.proofs.Written.{if_ok_then}
 use Rattle.trace_draw.specs.{source_of}
 use Rattle.trace_draw.proofs.drawing.TraceDrawing.end.Goals as goal
 
@@ -14,8 +13,6 @@ returns-clause-drawn g c =
     let z = g.W.Sink.taken c.end.new.output in
     let line = ap (λ (n : ℕ). n + 1) c.line_of_entries-source.ensures.line in
     let told = says_judged c.args.told.now in
-    if_ok_then c.end.result
-    (λ height last. draws_last_behind old.canvas c.draw_judged.new.self a b z source old.entries told (SaysLockEnd old.entries ∷ []) height
+    draws_last_behind old.canvas c.draw_judged.new.self a b z source old.entries told (SaysLockEnd old.entries ∷ []) c.in_ok-height.height
     (subst (λ (n : ℕ). DrawsLines old.canvas c.draw_judged.new.self a b n old.entries told) line c.in_ok-draw_judged.ensures.drawn)
-    (subst (λ (n : ℕ). DrawsLast c.draw_judged.new.self b z n old.entries (SaysLockEnd old.entries ∷ []) height) line last))
-    c.end.ensures.ok
+    (subst (λ (n : ℕ). DrawsLast c.draw_judged.new.self b z n old.entries (SaysLockEnd old.entries ∷ []) c.in_ok-height.height) line c.in_ok-height.ensures.ok)

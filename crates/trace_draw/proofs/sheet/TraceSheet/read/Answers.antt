@@ -2,7 +2,7 @@ use Rattle.std.proofs.Common.{◌≡◌, List, [], ◌∷◌, ◌++◌, ℕ, Opt
 use Rattle.std.specs.Option.{option_to_list}
 use Rattle.files.specs.{words_of, words_read}
 use Rattle.trace.specs.{TraceEntry, TraceSetup}
-use Rattle.trace_file.specs.TraceFiles.{TraceProgress, cleared, entry_in, trace_grammar}
+use Rattle.trace_engine.specs.trace_file.TraceFiles.{TraceProgress, cleared, entry_in, trace_grammar}
 use Rattle.trace_engine.specs.{Observes}
 use Rattle.trace_engine.proofs.LineReads.{quiet_is_cleared}
 use Rattle.trace_engine.proofs.Trials.{ends_observed, ends_quiet}
@@ -22,10 +22,10 @@ returns-in_ok-draw_entry-clause-ok g c =
     let left : Some c.forget_entry.new.self ≡ cleared (Some now) = ap (λ (p : TraceProgress). Some p) c.forget_entry.ensures in
     let says : now.entry ≡ Some e = c.in-Some-last_entry.ensures in
     let read : words_read trace_grammar (words_of c.args.line.now) old.reader ≡ Ok (Some now) = c.in-Ok.ensures ∙ ap (λ (o : Option TraceProgress). Ok o) c.in-Some.is in
-    let draws = subst (λ (s : TraceSetup). (first : Option (List ℕ)) (entries : List TraceEntry) (numbers : List ℕ) → NothingYet old.picture first a → Observes (HasShown old.judged old.form first) (with_output a old.picture) s entries numbers →
-    Observes (HasShown old.judged old.form first) (with_output b picture) s (entries ++ e ∷ []) (numbers ++ c.args.number ∷ [])) c.setup.ensures.value c.in_ok-draw_entry.ensures.drawn in
+    let draws = subst (λ (s : TraceSetup). (first : Option (List ℕ)) (entries : List TraceEntry) (numbers : List ℕ) → NothingYet old.picture first a → Observes (HasShown old.view first) (with_output a old.picture) s entries numbers →
+    Observes (HasShown old.view first) (with_output b picture) s (entries ++ e ∷ []) (numbers ++ c.args.number ∷ [])) c.setup.ensures.value c.in_ok-draw_entry.ensures.drawn in
     λ first before entries numbers stands. record {
-      goes_on = ends_observed (HasShown old.judged old.form first) c.args.number c.args.line.now old.reader (Some c.forget_entry.new.self) now e (with_output a old.picture) (with_output b picture) before entries numbers c.requires.short stands.read_up_to read says left
+      goes_on = ends_observed (HasShown old.view first) c.args.number c.args.line.now old.reader (Some c.forget_entry.new.self) now e (with_output a old.picture) (with_output b picture) before entries numbers c.requires.short stands.read_up_to read says left
           (some_shown b picture some) (λ entries numbers observed. draws first entries numbers stands.nothing observed);
       nothing = nothing_more picture first b some;
     }
@@ -39,7 +39,7 @@ returns-in_default-last_entry-clause-ok g c =
     let none : entry_in (Some now) ≡ [] = ap option_to_list says in
     let read : words_read trace_grammar (words_of c.args.line.now) old.reader ≡ Ok (Some now) = c.in-Ok.ensures ∙ ap (λ (o : Option TraceProgress). Ok o) c.in-Some.is in
     λ first before entries numbers stands. record {
-      goes_on = ends_quiet (HasShown old.judged old.form first) c.args.number c.args.line.now old.reader (Some now) (Some now) (with_output a old.picture) before entries numbers c.requires.short stands.read_up_to read (quiet_is_cleared now says) none;
+      goes_on = ends_quiet (HasShown old.view first) c.args.number c.args.line.now old.reader (Some now) (Some now) (with_output a old.picture) before entries numbers c.requires.short stands.read_up_to read (quiet_is_cleared now says) none;
       nothing = stands.nothing;
     }
 
@@ -49,6 +49,6 @@ returns-in_default-clause-ok g c =
     let a = g.W.Sink.taken c.args.output.now in
     let read : words_read trace_grammar (words_of c.args.line.now) old.reader ≡ Ok None = c.in-Ok.ensures ∙ ap (λ (o : Option TraceProgress). Ok o) c.in_default.is in
     λ first before entries numbers stands. record {
-      goes_on = ends_quiet (HasShown old.judged old.form first) c.args.number c.args.line.now old.reader c.read_trace_line.new.read None (with_output a old.picture) before entries numbers c.requires.short stands.read_up_to read c.in_default.is refl;
+      goes_on = ends_quiet (HasShown old.view first) c.args.number c.args.line.now old.reader c.read_trace_line.new.read None (with_output a old.picture) before entries numbers c.requires.short stands.read_up_to read c.in_default.is refl;
       nothing = stands.nothing;
     }

@@ -1,6 +1,0 @@
-use Rattle.std.proofs.Common.{[]}
-use Rattle.trace_draw.proofs.sheet.TraceView.begin_with.Goals as goal
-
-pub returns-clause-shown : goal.returns-clause-shown
-returns-clause-shown g c =
-    c.in_ok-take.ensures.shown c.args.self.form (g.W.Sink.taken c.args.output.now) [] [] c.in_ok-picture.ensures.shown
