@@ -1,21 +1,22 @@
-//! Runs the files of a world of processes. Without words it is `plain -`.
+//! The program `bakerystore`: it runs the engine that its arguments name on a file. Without arguments it is `plain -`.
 #![tactic(auto)]
+
+mod wanted;
 
 ghost use Rattle.std.specs.Prelude.{◌≡◌, ◌-◌, ◌<◌, ◌^◌, IfOk};
 
+use crate::wanted::{Wanted, file_kind, refused_option, wanted_by};
 use command_line::{
-    Engine, Fault, FirstWord, FromRead, FrontSink, Intake, IntoWrite, Invocation, LineFault,
-    NotedReader, NotedWriter, Opened, Output, Request, Sink, Source, Terminals, USAGE_STATUS,
-    Uninterrupted, WatchedInput, Watcher, all_words, exit_status, read_words, reason_of,
-    shown_word,
+    Engine, Fault, FirstWord, FromRead, FrontSink, IntoWrite, Invocation, LineFault, NotedReader,
+    NotedWriter, Opened, Output, Request, Sink, Source, Terminals, USAGE_STATUS, Uninterrupted,
+    WatchedInput, Watcher, all_words, exit_status, read_words, reason_of, shown_word,
 };
 use engines::{
     judge_any_lock, replay, run_audit, run_bits, run_judge, run_plain, run_record, run_sweep,
 };
 use race::{RunFault, run_fault_status, run_race};
 use run_state::{
-    FileKind, KeptFile, KeptInput, events_said, explanation, list_record, run_calls, run_state,
-    state_record,
+    KeptFile, KeptInput, events_said, explanation, list_record, run_calls, run_state, state_record,
 };
 use std::alloc::Global;
 use std::cell::Cell;
@@ -35,15 +36,12 @@ use trace_draw::draw::{
 };
 use trace_draw::{draw_trace, draw_trace_svg, judge_trace};
 
-/// What is told at a terminal where there are no words.
+/// The hint at a terminal if there are no arguments.
 const NO_WORDS: &str =
     "reading a scenario from this terminal until its end (for help: bakerystore --help)";
 
-/// What is told where `--at` of `state` is missing, or no such number.
+/// The message if `--at` of `state` is missing or is not such a number.
 const NO_AT: &str = "state needs --at N, where N is a number below 2^64 or `end`";
-
-/// What is told where `--reads` is asked of a trace.
-const NO_READS: &str = "the picture of a trace shows no reads: leave out --reads";
 
 /// The hint at a terminal, if `judge` finds within ten entries that a record is not one of this lock.
 const OTHER_LOCK: &str = "hint: --any-lock judges the records of other locks";
@@ -64,7 +62,7 @@ fn main(rt: HostRuntime) -> ExitCode {
     ExitCode::from(told(&rt, do_asked(&rt, terminals)))
 }
 
-/// Does what the words ask for, and answers the exit status.
+/// Carries out the arguments, and returns the exit status.
 fn do_asked<T: Env + Files + Input + Print + Eprint + Clock + AllocGlobal + Threads + Wait + Sync>(
     rt: &T,
     terminals: Terminals,
@@ -83,7 +81,7 @@ fn do_asked<T: Env + Files + Input + Print + Eprint + Clock + AllocGlobal + Thre
     }
 }
 
-/// Opens the file and runs the engine on it; answers the exit status that its end stands for.
+/// Opens the file and runs the engine on it; returns the exit status of its end.
 fn run<T: Files + Input + Print + Eprint + Clock + AllocGlobal + Threads + Wait + Sync>(
     rt: &T,
     request: &Request<'_>,
@@ -186,7 +184,7 @@ fn told_with_cause<T: Eprint + AllocGlobal>(
     status
 }
 
-/// Runs the engine from a source to a writer, and tells at a terminal how far it is.
+/// Runs the engine from a source to a writer, and shows its progress at a terminal.
 fn run_between<
     T: Print + Eprint + Clock + AllocGlobal + Threads + Wait + Sync,
     R: Source + Drop,
@@ -205,8 +203,8 @@ fn run_between<
         is_trace: source.first_word == FirstWord::Trace,
         ..wanted
     };
-    if wanted.is_trace && wanted.reads == Reads::Shown {
-        let _ = eprintln!(rt; "{NO_READS}");
+    if let Some(message) = refused_option(wanted) {
+        let _ = eprintln!(rt; "{message}");
         return Ok(USAGE_STATUS);
     }
     let has_place = !terminals.output || wanted.engine == Engine::Sweep;
@@ -241,7 +239,7 @@ fn run_between<
     }
 }
 
-/// Tells a fault of a line, as without `--explain`, and then its place; answers the exit status.
+/// Reports a fault of a line, as without `--explain`, and then its place; returns the exit status.
 fn told_with_place<T: Eprint + AllocGlobal>(
     rt: &T,
     wanted: Wanted,
@@ -253,39 +251,6 @@ fn told_with_place<T: Eprint + AllocGlobal>(
         let _ = rt.eprint(&text);
     }
     status
-}
-
-/// What kind of file an engine reads.
-fn file_kind(wanted: Wanted) -> FileKind {
-    match wanted.engine {
-        Engine::Bits => FileKind::Bits,
-        Engine::Judge | Engine::Calls | Engine::Draw | Engine::DrawSvg if wanted.is_trace => {
-            FileKind::Trace
-        }
-        Engine::Judge => FileKind::Record,
-        _ if wanted.is_record => FileKind::Record,
-        _ => FileKind::Scenario,
-    }
-}
-
-/// What an engine is asked for, beside its file.
-#[derive(Clone, Copy)]
-struct Wanted {
-    engine: Engine,
-    reads: Reads,
-    judge: bool,
-    any_lock: bool,
-    why: bool,
-    quiet: bool,
-    explain: bool,
-    /// Whether the engine runs the file while it reads it.
-    is_streamed: bool,
-    /// Whether the file is a record, where the engine takes scenarios too.
-    is_record: bool,
-    /// Whether the file is a trace, which `judge`, `calls`, `draw` and `draw-svg` read.
-    is_trace: bool,
-    /// After how many events the state is told.
-    at: u64,
 }
 
 /// Opens a source. The engine of `state` reads scenarios and records, those of `calls`, `draw` and `draw-svg` traces too, and
@@ -302,7 +267,7 @@ fn opened<R: Source + Drop>(alloc: Global, engine: Engine, source: R) -> Result<
     }
 }
 
-/// After how many events a request asks for the state, if it does; none, if `--at` is missing there, or no such number.
+/// Returns the number of events after which a request asks for the state: 0 for other commands, `None` if `--at` is not valid.
 fn events_asked(request: &Request<'_>) -> Option<u64> {
     match request.command.engine {
         Engine::State => events_said(request.at?),
@@ -310,29 +275,7 @@ fn events_asked(request: &Request<'_>) -> Option<u64> {
     }
 }
 
-/// What a request asks of its engine, before its file is opened.
-fn wanted_by(request: &Request<'_>, at: u64) -> Wanted {
-    let judge = request.judge | request.any_lock;
-    Wanted {
-        engine: request.command.engine,
-        reads: if request.reads {
-            Reads::Shown
-        } else {
-            Reads::Hidden
-        },
-        judge,
-        any_lock: request.any_lock,
-        why: request.why,
-        quiet: request.quiet,
-        explain: request.explain,
-        is_streamed: request.command.intake == Intake::Streamed,
-        is_record: judge,
-        is_trace: false,
-        at,
-    }
-}
-
-/// Runs the engine from a source to a sink; answers the exit status that its end stands for.
+/// Runs the engine from a source to a sink; returns the exit status of its end.
 fn run_engine<T: AllocGlobal + Threads + Wait + Sync, R: Source, W: Sink, L: Onlooker>(
     rt: &T,
     wanted: Wanted,
@@ -344,7 +287,7 @@ fn run_engine<T: AllocGlobal + Threads + Wait + Sync, R: Source, W: Sink, L: Onl
     requires writes { W.failures output.old < 2 ^ 64 - 1 }
 {
     let alloc = rt.alloc();
-    let reads = wanted.reads;
+    let (reads, accesses) = (wanted.reads, wanted.accesses);
     let by = if wanted.any_lock {
         JudgedBy::AnyLock
     } else {
@@ -366,8 +309,12 @@ fn run_engine<T: AllocGlobal + Threads + Wait + Sync, R: Source, W: Sink, L: Onl
         Engine::Judge if wanted.any_lock => judge_any_lock(alloc, input, output, wanted.why),
         Engine::Judge => run_judge(alloc, input, output, wanted.why),
         Engine::Race => return run_race(rt, alloc, input, output),
-        Engine::Draw if wanted.is_trace => draw_trace(alloc, wanted.judge, input, output),
-        Engine::DrawSvg if wanted.is_trace => draw_trace_svg(alloc, wanted.judge, input, output),
+        Engine::Draw if wanted.is_trace => {
+            draw_trace(alloc, wanted.judge, accesses, input, output)
+        }
+        Engine::DrawSvg if wanted.is_trace => {
+            draw_trace_svg(alloc, wanted.judge, accesses, input, output)
+        }
         Engine::Draw if wanted.judge => draw_judged_record(alloc, by, reads, input, output),
         Engine::DrawSvg if wanted.judge => draw_judged_record_svg(alloc, by, reads, input, output),
         Engine::Draw if wanted.is_record => exit_status(draw_record(alloc, reads, input, output)),
@@ -380,7 +327,7 @@ fn run_engine<T: AllocGlobal + Threads + Wait + Sync, R: Source, W: Sink, L: Onl
     Ok(ran?)
 }
 
-/// Tells a fault on standard error, and answers the exit status.
+/// Reports a fault on standard error, and returns the exit status.
 fn told<T: Eprint>(rt: &T, ran: Result<u8, RunFault>) -> u8 {
     match ran {
         Ok(status) => status,

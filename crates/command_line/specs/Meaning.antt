@@ -102,6 +102,7 @@ pub record Running : Type 0 where
   pub reads : Bool
   pub judge : Bool
   pub any_lock : Bool
+  pub accesses : Bool
   pub why : Bool
   pub at : Option Text
   pub explain : Bool
@@ -128,6 +129,7 @@ asked_by (Run r) = runs (record {
   reads = r.reads;
   judge = r.judge;
   any_lock = r.any_lock;
+  accesses = r.accesses;
   why = r.why;
   at = option_map (λ t. t.now) r.at;
   explain = r.explain;
@@ -161,6 +163,7 @@ asked_of_file quiet command own file = runs (record {
   reads = has_flag (codes "reads") own;
   judge = has_flag (codes "judge") own;
   any_lock = has_flag (codes "any-lock") own;
+  accesses = has_flag (codes "accesses") own;
   why = has_flag (codes "why") own;
   at = first_of (codes "at") own;
   explain = has_flag (codes "explain") own;
@@ -207,6 +210,7 @@ running c file = record {
   reads = false;
   judge = false;
   any_lock = false;
+  accesses = false;
   why = false;
   at = None;
   explain = false;

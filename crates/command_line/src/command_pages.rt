@@ -243,8 +243,11 @@ bit, and what each returned; of those between two lines of the run the first thr
 FILE may also be a record or a trace, good or bad, of any lock; its first word decides.
 With --judge or --any-lock FILE is a record or a trace, and its picture ends with the
 first bad entry. What judge --why, or judge --any-lock --why, prints follows, each line
-in the lane of the process that it names, and the status is that of judge. A trace
-shows no reads, and --reads is refused.
+in the lane of the process that it names, and the status is that of judge.
+The picture of a trace of up to 400 entries shows each access from its begin to its end,
+the writes that overlap it, what each read gave, and the value of each cell; with
+--accesses that of any trace does, and of all cells (otherwise of the first sixteen that
+are written). --reads is refused for a trace, and --accesses for a run or a record.
 What a picture shows: docs/PICTURE.md
 The lines of a scenario: bakerystore help replay
 
@@ -257,7 +260,7 @@ The lines of a scenario: bakerystore help replay
 /// The page of `draw-svg`.
 const DRAW_SVG: &str = r"
 Writes the picture of a scenario's run, of a record, or of a trace, as one SVG without a
-page around it. With --reads, --judge and --any-lock it shows what draw shows.
+page around it. With --reads, --accesses, --judge and --any-lock it shows what draw shows.
 What a picture shows: docs/PICTURE.md
 The lines of a scenario: bakerystore help replay
 

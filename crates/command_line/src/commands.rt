@@ -6,64 +6,64 @@ ghost use Rattle.command_line.specs.Meaning.{command_named, commands, listed, sa
 use crate::command_pages::page_of;
 use std::fmt::{self, Display, Formatter};
 
-/// What runs a file.
+/// The engine that runs a file.
 #[derive(Clone, Copy, PartialEq, Eq)]
 pub enum Engine {
-    /// The calls of a scenario on the one-thread store.
+    /// It makes the calls of a scenario on the sequential store.
     Plain,
-    /// The calls of a bits file on one safe bit.
+    /// It makes the calls of a bits file on one safe bit.
     Bits,
-    /// The run of a scenario, mark by mark.
+    /// It prints the run of a scenario, mark by mark.
     Replay,
-    /// The verdict on the record of a scenario's run.
+    /// It prints the verdict on the record of a scenario's run.
     Audit,
-    /// The runs in which a process fails after one event of a scenario's run, counted.
+    /// It counts the runs in which a process fails after one event of a scenario's run.
     Sweep,
-    /// The calls of a scenario, those of each process on a thread of its own, weighed.
+    /// It makes the calls of each process of a scenario on a thread of its own, and weighs them.
     Race,
-    /// The record of a scenario's run, entry by entry.
+    /// It prints the record of a scenario's run, entry by entry.
     Record,
-    /// The state after the first events of a scenario's run, or after the first entries of a record.
+    /// It prints the state after the first events of a scenario's run, or after the first entries of a record.
     State,
-    /// What became of each call of a scenario's run, or of a record.
+    /// It prints a table of the calls of a scenario's run, of a record or of a trace.
     Calls,
-    /// The verdict on the record that a record file says.
+    /// It prints the verdict on a record or a trace.
     Judge,
-    /// The page of a scenario's run: a picture from which its lines are read back.
+    /// It draws a run, a record or a trace as a page, from which the lines can be read back.
     Draw,
-    /// The same as one picture.
+    /// It draws the same as one picture.
     DrawSvg,
 }
 
-/// How an engine takes its file.
+/// How an engine reads its file.
 #[derive(Clone, Copy, PartialEq, Eq)]
 pub enum Intake {
     /// It reads the whole file before it runs it.
     Whole,
-    /// It runs the file while it reads it, so that the input tells how far it is.
+    /// It runs the file while it reads it, so the input shows the progress.
     Streamed,
 }
 
 /// A command that runs a file.
 #[derive(Clone, Copy)]
 pub struct CommandEntry {
-    /// What it is called by.
+    /// Its name.
     pub name: &'static str,
-    /// What runs the file.
+    /// The engine that runs the file.
     pub engine: Engine,
-    /// How it takes the file.
+    /// How that engine reads the file.
     pub intake: Intake,
-    /// Its options, beside `--quiet` and `--explain`, which all have; `at` has a value.
+    /// Its options, in addition to `--quiet` and `--explain`, which all commands have. `at` has a value.
     pub options: &'static [&'static str],
-    /// What it is, in a line of the page of all words.
+    /// What it does, in a line of the general page.
     pub about: &'static str,
-    /// The file that it runs on that page.
+    /// The file of its example on that page.
     pub example: &'static str,
     /// Its own page, below the usage line.
     pub page: &'static str,
 }
 
-/// A row of the table: the fields of a `CommandEntry` but its page, one by one. (A definition reads no constant of a struct
+/// A row of the table: the fields of a `CommandEntry` except its page, one by one. (A definition reads no constant of a struct
 /// with texts.)
 pub type CommandRow = (
     &'static str,
@@ -74,8 +74,8 @@ pub type CommandRow = (
     &'static str,
 );
 
-/// The commands, in the order in which the page of all words lists them. This and their pages are all that words, pages and
-/// the program know of them.
+/// The commands, in the order in which the general page lists them. Arguments, pages and the program learn of commands
+/// from this table and from the pages alone.
 pub const COMMANDS: [(&str, Engine, Intake, &[&str], &str, &str); 12] = [
     (
         "plain",
@@ -161,22 +161,22 @@ pub const COMMANDS: [(&str, Engine, Intake, &[&str], &str, &str); 12] = [
         "draw",
         Engine::Draw,
         Intake::Whole,
-        &["reads", "judge", "any-lock"],
-        "draws a run or a record, as a page for a browser",
+        &["reads", "judge", "any-lock", "accesses"],
+        "draws a run, a record or a trace, as a page for a browser",
         "examples/torn-commit.bakery",
     ),
     (
         "draw-svg",
         Engine::DrawSvg,
         Intake::Whole,
-        &["reads", "judge", "any-lock"],
+        &["reads", "judge", "any-lock", "accesses"],
         "draws the same as one SVG",
         "examples/torn-commit.bakery",
     ),
 ];
 
 impl CommandEntry {
-    /// What a row says.
+    /// Returns the entry of a row.
     pub fn of(row: &CommandRow) -> CommandEntry
         ensures { says result ≡ listed row.now }
     {
@@ -193,7 +193,7 @@ impl CommandEntry {
     }
 }
 
-/// Two lines of the page of all words: what the command is, and an example.
+/// Writes two lines of the general page: what the command does, and an example.
 impl Display for CommandEntry {
     fn fmt<W: fmt::Write>(&self, f: &mut Formatter<W>) -> fmt::Result {
         let CommandEntry {
@@ -209,14 +209,14 @@ impl Display for CommandEntry {
     }
 }
 
-/// The rows of the table. Others ask for them here, since a function that names a constant of many texts is long to prove.
+/// Returns the rows of the table. A function that names a constant of many texts takes long to prove, so others call this one.
 pub fn command_rows() -> &'static [CommandRow]
     ensures { map listed result.now ≡ commands }
 {
     &COMMANDS
 }
 
-/// The first of some rows that has this name.
+/// Returns the first of some rows with this name.
 fn first_named<'a>(rows: &'a [CommandRow], name: &str) -> Option<&'a CommandRow>
     ensures { option_map (λ e. e.now) result
         ≡ find (λ e. bytes_eq e.0.now name.now) rows.now }
@@ -224,7 +224,7 @@ fn first_named<'a>(rows: &'a [CommandRow], name: &str) -> Option<&'a CommandRow>
     rows.iter().find(|row| row.0 == name)
 }
 
-/// The same, by what each of them says.
+/// Returns it by the entries of the rows.
 fn first_listed<'a>(rows: &'a [CommandRow], name: &str) -> Option<&'a CommandRow>
     ensures { option_map (λ e. listed e.now) result
         ≡ find (λ e. bytes_eq e.name name.now) (map listed rows.now) }
@@ -232,7 +232,7 @@ fn first_listed<'a>(rows: &'a [CommandRow], name: &str) -> Option<&'a CommandRow
     first_named(rows, name)
 }
 
-/// The command of this name.
+/// Returns the command of this name.
 #[tactic(auto, unfolding(crate::specs::Meaning::command_named))]
 pub fn command_named(name: &str) -> Option<CommandEntry>
     ensures { option_map says result ≡ command_named name.now }

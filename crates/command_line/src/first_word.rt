@@ -1,4 +1,4 @@
-//! The first words that tell files apart.
+//! The first words that distinguish kinds of files.
 ghost use Rattle.std.specs.Prelude.{◌≡◌};
 ghost use Rattle.command_line.specs.FirstWords.{word_meant};
 

@@ -1,9 +1,9 @@
-//! The first bytes of an output, from which the program takes a hint.
+//! The first bytes of an output, by which the program decides whether to print a hint.
 ghost use Rattle.std.specs.Prelude.{◌≡◌};
 
 use files::{Failed, Sink};
 
-/// How many bytes are kept.
+/// The number of bytes that are stored.
 const FRONT: usize = 16;
 
 /// The first bytes of an output.
@@ -33,7 +33,7 @@ impl Front {
     }
 }
 
-/// A sink in front of another one, which keeps the first bytes that it takes.
+/// A sink before another one, which stores the first bytes that it receives.
 #[derive(Drop)]
 pub struct FrontSink<S: Sink + Drop> {
     sink: S,

@@ -1,9 +1,9 @@
 //! The pages of the program's arguments and faults. Each line after `$ ` is a command, followed by what it prints. The usage
 //! line above the general page, and above the page of a command, comes from `clap`.
 
-/// What `--version` prints after the program's name: the version, and the logic that the sources are for, as the toolchain names
-/// it. Builds of the toolchain with the same logic prove the same. A program cannot know whether it was built with proof, nor from
-/// which commit, and the line says so.
+/// The text that `--version` prints after the program's name: the version, and the logic that the sources are for, as the toolchain
+/// names it. Builds of the toolchain with the same logic prove the same. A program cannot know whether it was built with proof, nor
+/// from which commit, and the line states this.
 pub const VERSION: &str =
     "0.2.0, sources for Rattle's logic dac8208d650f15bf; the program cannot tell how this copy was built";
 
@@ -26,6 +26,7 @@ pub const MORE_WORDS: &str = r"
 Options:
 
   --at N      state: after how many events; `end` means after all of them
+  --accesses  draw, draw-svg: show all accesses of a trace, also of a long one
   --any-lock  judge, draw, draw-svg: judge the record of any lock
   --explain   show the line and the word at fault, and what was expected there; this
               is so without the option if standard error is a terminal

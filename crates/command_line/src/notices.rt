@@ -1,4 +1,4 @@
-//! What is told in place of a run.
+//! What the program prints if it runs no file.
 ghost use Rattle.std.specs.Prelude.{◌≡◌, ◌⊎◌, IfOk, OnErr};
 ghost use Rattle.clap.specs.Words.{kind_of};
 
@@ -9,24 +9,24 @@ use clap::error::ErrorKind;
 use files::Fault;
 use std::alloc::{AllocError, Global};
 
-/// The exit status where the words ask for nothing that there is.
+/// The exit status of invalid arguments.
 pub const USAGE_STATUS: u8 = 2;
 
-/// What is told where a word is not UTF-8.
+/// The message about a word that is not UTF-8.
 const NOT_TEXT: &str =
     "an argument is not UTF-8 (to read a file of such a name: bakerystore COMMAND - < FILE)";
 
-/// How many bytes of a word an error shows.
+/// The number of bytes of a word that an error shows.
 const MOST_SHOWN: usize = 64;
 
-/// What is told in place of a run: a page, the version, why the words ask for nothing that there is, or want of memory.
+/// What the program prints if it runs no file: a page, the version, an error in its arguments, or an allocation failure.
 #[derive(Drop)]
 pub struct Notice {
     error: Error,
 }
 
 impl Notice {
-    /// Tells it, and answers the exit status.
+    /// Prints it, and returns the exit status.
     pub fn tell<T: Print + Eprint + AllocGlobal>(&self, rt: &T) -> Result<u8, Fault> {
         match self.error.kind() {
             ErrorKind::OutOfMemory => Err(Fault::Memory),
@@ -39,14 +39,14 @@ impl Notice {
         }
     }
 
-    /// Tells the page that `clap` names: the help of each command is the name of its page (`program`).
+    /// Prints the page that `clap` names: the help of each command is the name of its page (`program`).
     fn tell_page<T: Print + AllocGlobal>(&self, rt: &T) -> Result<u8, Fault> {
         let name = self.text(rt.alloc())?;
         let page = HelpPage::named(name.as_str().trim_end());
         page.unwrap_or(HelpPage::Words).tell(rt)
     }
 
-    /// The text that `clap` has for it.
+    /// Prints the text that `clap` has for it.
     fn text(&self, alloc: Global) -> Result<String, Fault> {
         let error = &self.error;
         format!(in alloc; "{error}").map_err(|_| Fault::Memory)
@@ -61,7 +61,7 @@ impl From<Error> for Notice {
     }
 }
 
-/// An error of the same kind, of words that a terminal can show; or want of memory.
+/// Returns an error of the same kind, with words that a terminal can show, or an allocation failure.
 pub fn shown_error(alloc: Global, words: &[String], error: Error) -> Result<Error, AllocError>
     ensures { IfOk result (λ e. (kind_of e ≡ kind_of error)
         ⊎ (kind_of e ≡ ErrorKind.OutOfMemory)) }
@@ -72,7 +72,7 @@ pub fn shown_error(alloc: Global, words: &[String], error: Error) -> Result<Erro
     error_as_shown(alloc, words, error.kind())
 }
 
-/// An error of this kind, of the words as an error shows them; or want of memory.
+/// Returns an error of this kind, with words as an error shows them, or an allocation failure.
 fn error_as_shown(alloc: Global, words: &[String], kind: ErrorKind) -> Result<Error, AllocError>
     ensures { IfOk result (λ e. (kind_of e ≡ kind) ⊎ (kind_of e ≡ ErrorKind.OutOfMemory)) }
 {
@@ -83,7 +83,7 @@ fn error_as_shown(alloc: Global, words: &[String], kind: ErrorKind) -> Result<Er
     }
 }
 
-/// The error that was made, or want of memory for it.
+/// Returns the error that was made, or the allocation failure of making it.
 pub fn told(made: Result<Error, AllocError>) -> Error
     ensures ok { IfOk made (λ e. result ≡ e) }
     ensures memory { OnErr made (kind_of result ≡ ErrorKind.OutOfMemory) }
@@ -94,12 +94,12 @@ pub fn told(made: Result<Error, AllocError>) -> Error
     }
 }
 
-/// The error of words that `clap` does not take.
+/// Returns the error of arguments that `clap` refuses.
 fn error_of(alloc: Global, words: &[String]) -> Option<Error> {
     matched(alloc, words).err()
 }
 
-/// The words, with escapes for what a terminal is not to get, and no longer than an error shows them.
+/// Returns the words as an error shows them: cut to a length, and with escapes for what a terminal must not receive.
 fn shown_words(alloc: Global, words: &[String]) -> Result<Vec<String>, AllocError> {
     let mut shown = Vec::new(alloc);
     for word in words {
@@ -124,7 +124,7 @@ pub fn shown_word(alloc: Global, word: &str) -> Result<String, AllocError> {
     Ok(shown)
 }
 
-/// A letter more, or what stands for it where a terminal is not to get it.
+/// Appends a letter, or an escape for it if a terminal must not receive it.
 fn push_escaped(shown: &mut String, letter: char) -> Result<(), AllocError> {
     for escaped in letter.escape_debug() {
         shown.push(escaped)?;
@@ -132,7 +132,7 @@ fn push_escaped(shown: &mut String, letter: char) -> Result<(), AllocError> {
     Ok(())
 }
 
-/// Why there is no page of this name: what is told where it stands as a command.
+/// Returns why there is no page of this name, which is the message if the name is given as a command.
 pub fn no_such_page(alloc: Global, name: &str) -> Result<Error, AllocError> {
     let mut words = Vec::new(alloc);
     words.push(String::from_str(alloc, "bakerystore")?)?;
@@ -143,12 +143,12 @@ pub fn no_such_page(alloc: Global, name: &str) -> Result<Error, AllocError> {
     }
 }
 
-/// The error of words of which some is not UTF-8.
+/// Returns the error of arguments of which one is not UTF-8.
 pub fn no_text(alloc: Global) -> Result<Error, AllocError> {
     program_error(alloc, ErrorKind::InvalidValue, NOT_TEXT)
 }
 
-/// An error of this kind, with the usage of the program.
+/// Returns an error of this kind, with the usage of the program.
 fn program_error(alloc: Global, kind: ErrorKind, message: &str) -> Result<Error, AllocError>
     ensures { IfOk result (λ e. kind_of e ≡ kind) }
 {

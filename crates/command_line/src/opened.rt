@@ -1,4 +1,4 @@
-//! A source that is looked at, to tell what kind of file it is.
+//! A source whose front is read to find out the kind of the file.
 ghost use Rattle.std.specs.Prelude.{◌≡◌, ◌+◌, ◌-◌, ◌^◌, ◌<◌, ◌≤◌, ◌++◌, cond, false, true, List, ℕ, drop, length, min, take, IfErr, IfOk, IfSome};
 ghost use Rattle.std.specs.Io.KnownBytes.{IsAtEnd, Keeps, prepend_known};
 ghost use Rattle.files.specs.{IsReadFault, failed_reading, input_limit, lines, said_words};
@@ -13,7 +13,7 @@ use std::alloc::Global;
 /// The number of bytes that are read at once.
 const BLOCK: usize = 1024;
 
-/// A source, the bytes of its front that were looked at, and how many of these were given.
+/// A source, the bytes of its front that were read for its kind, and the number of these that were given.
 #[derive(Drop)]
 pub struct Opened<R: Source + Drop> {
     /// The first word of the first line that is not skipped.
@@ -24,7 +24,7 @@ pub struct Opened<R: Source + Drop> {
 }
 
 impl<R: Source + Drop> Opened<R> {
-    /// Looks at the front of a source, at most as far as a scenario file may go. The bytes to come stay the same.
+    /// Reads the front of a source, at most as far as a scenario file may go. The bytes to come stay the same.
     ///
     /// # Errors
     ///
@@ -81,7 +81,7 @@ impl<R: Source + Drop> Source for Opened<R> {
         self.source.next_byte()
     }
 
-    /// Gives the bytes that were looked at, as many as there is room for; after them, a block of the source.
+    /// Gives the bytes of the front, as many as there is room for; after them, a block of the source.
     fn next_bytes(&mut self, buffer: &mut [u8]) -> Result<usize, Failed> {
         if self.given < self.front.len() {
             let count = put_front(&self.front[self.given..], buffer);

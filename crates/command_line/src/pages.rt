@@ -1,4 +1,4 @@
-//! The pages, as they are printed.
+//! The help pages, as they are printed.
 ghost use Rattle.std.specs.Prelude.{◌≡◌, option_map};
 ghost use Rattle.command_line.specs.Meaning.{page_named, told_by};
 
@@ -8,21 +8,21 @@ use crate::program::{file_command, program};
 use files::{DONE, Fault};
 use std::alloc::{AllocError, Global};
 
-/// A page that tells the program's words.
+/// A help page.
 #[derive(Clone, Copy)]
 pub enum HelpPage {
-    /// All words, the statuses, and where to read on.
+    /// The general page: all arguments, the statuses, and where to read on.
     Words,
-    /// The words that a run prints.
+    /// The page of the words that a run prints.
     Run,
-    /// One command.
+    /// The page of a command.
     Command(CommandEntry),
-    /// The faults that are told, with their causes.
+    /// The page of faults, with their causes.
     Faults,
 }
 
 impl HelpPage {
-    /// The page of this name: of a command, or `help`, `run` or `faults`.
+    /// Returns the page of this name: of a command, or `help`, `run` or `faults`.
     pub fn named(name: &str) -> Option<HelpPage>
         ensures { option_map told_by result ≡ page_named name.now }
     {
@@ -34,7 +34,7 @@ impl HelpPage {
         }
     }
 
-    /// Prints it to standard output, and answers the exit status.
+    /// Prints it to standard output, and returns the exit status.
     pub fn tell<T: Print + AllocGlobal>(self, rt: &T) -> Result<u8, Fault> {
         match self.text(rt.alloc()) {
             Ok(text) => tell(rt, text.as_str()),
@@ -42,7 +42,7 @@ impl HelpPage {
         }
     }
 
-    /// Its text.
+    /// Returns its text.
     fn text(self, alloc: Global) -> Result<String, AllocError> {
         match self {
             HelpPage::Words => page_of_words(alloc),
@@ -53,7 +53,7 @@ impl HelpPage {
     }
 }
 
-/// Prints a text to standard output; answers the exit status.
+/// Prints a text to standard output, and returns the exit status.
 pub fn tell<T: Print>(rt: &T, text: &str) -> Result<u8, Fault> {
     match rt.write_all(text.as_bytes()) {
         Ok(()) => Ok(DONE),
@@ -61,7 +61,7 @@ pub fn tell<T: Print>(rt: &T, text: &str) -> Result<u8, Fault> {
     }
 }
 
-/// The page of all words, with each command of the table.
+/// Returns the general page, with each command of the table.
 fn page_of_words(alloc: Global) -> Result<String, AllocError> {
     let mut text = usage(alloc)?;
     text.push_str("\n")?;
@@ -71,12 +71,12 @@ fn page_of_words(alloc: Global) -> Result<String, AllocError> {
     Ok(text)
 }
 
-/// The usage line of the program.
+/// Returns the usage line of the program.
 fn usage(alloc: Global) -> Result<String, AllocError> {
     program(alloc)?.render_usage()
 }
 
-/// Adds the lines of each command of the table.
+/// Appends the lines of each command of the table.
 fn add_commands(text: &mut String) -> Result<(), AllocError> {
     for row in command_rows() {
         let command = CommandEntry::of(row);
@@ -85,7 +85,7 @@ fn add_commands(text: &mut String) -> Result<(), AllocError> {
     Ok(())
 }
 
-/// The page of a command.
+/// Returns the page of a command.
 fn page_of(alloc: Global, command: CommandEntry) -> Result<String, AllocError> {
     let mut text = usage_of(alloc, command)?;
     text.push_str("\n")?;
@@ -93,7 +93,7 @@ fn page_of(alloc: Global, command: CommandEntry) -> Result<String, AllocError> {
     Ok(text)
 }
 
-/// The usage line of a command.
+/// Returns the usage line of a command.
 fn usage_of(alloc: Global, command: CommandEntry) -> Result<String, AllocError> {
     let name = command.name;
     let name = format!(in alloc; "bakerystore {name}")?;

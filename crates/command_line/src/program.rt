@@ -11,7 +11,7 @@ use clap::error::ErrorKind;
 use clap::{Arg, ArgAction, ArgMatches, Command, Error};
 use std::alloc::{AllocError, Global};
 
-/// The matches of the words, of which the first is the program's own name.
+/// Returns the matches of the words, of which the first is the program's own name.
 pub fn matched<'a>(alloc: Global, words: &'a [String]) -> Result<ArgMatches<'a>, Error>
     ensures rows { IfOk result (λ m. rows_of (found_of m)
         ≡ matches_of bakery (map string_bytes words.now)) }
@@ -26,7 +26,7 @@ pub fn matched<'a>(alloc: Global, words: &'a [String]) -> Result<ArgMatches<'a>,
     command.try_get_matches_from(words)
 }
 
-/// The program's command line.
+/// Returns the program's command line.
 pub fn program<'a>(alloc: Global) -> Result<Command<'a>, AllocError>
     ensures shape { IfOk result (λ c. app_of c ≡ bakery) }
 {
@@ -36,7 +36,7 @@ pub fn program<'a>(alloc: Global) -> Result<Command<'a>, AllocError>
     )
 }
 
-/// The program without its commands.
+/// Returns the program without its commands.
 fn bare_program<'a>(alloc: Global) -> Result<Command<'a>, AllocError>
     ensures shape { IfOk result (λ c. app_of c ≡ bare_app) }
     ensures local { IfOk result (λ c. (out-Command c).has_globals ≡ false) }
@@ -49,7 +49,7 @@ fn bare_program<'a>(alloc: Global) -> Result<Command<'a>, AllocError>
         .arg(flag(alloc, "quiet"))
 }
 
-/// The program with the commands of these rows.
+/// Returns the program with the commands of these rows.
 fn with_commands<'a>(
     alloc: Global,
     program: Command<'a>,
@@ -64,7 +64,7 @@ fn with_commands<'a>(
     Ok(program)
 }
 
-/// The program with a command more, which runs a file.
+/// Returns the program with one more command, which runs a file.
 fn with_row<'a>(
     alloc: Global,
     program: Command<'a>,
@@ -75,7 +75,7 @@ fn with_row<'a>(
     with_command(program, file_command(alloc, CommandEntry::of(row)))
 }
 
-/// The program with the command `help`.
+/// Returns the program with the command `help`.
 fn with_help<'a>(alloc: Global, program: Command<'a>) -> Result<Command<'a>, AllocError>
     ensures shape { IfOk result (λ c. app_of c
         ≡ with_subcommand (app_of program.entry) help_app.top) }
@@ -83,7 +83,7 @@ fn with_help<'a>(alloc: Global, program: Command<'a>) -> Result<Command<'a>, All
     with_command(program, help(alloc))
 }
 
-/// The program with a command more, if there was memory for it.
+/// Returns the program with one more command, if that could be allocated.
 fn with_command<'a>(
     program: Command<'a>,
     command: Result<Command<'a>, AllocError>,
@@ -96,7 +96,7 @@ fn with_command<'a>(
     }
 }
 
-/// A command that runs a file.
+/// Returns a command that runs a file.
 pub fn file_command<'a>(alloc: Global, entry: CommandEntry) -> Result<Command<'a>, AllocError>
     ensures shape { IfOk result (λ c. app_of c ≡ command_app (says entry)) }
     ensures local { IfOk result (λ c. (out-Command c).has_globals ≡ false) }
@@ -104,7 +104,7 @@ pub fn file_command<'a>(alloc: Global, entry: CommandEntry) -> Result<Command<'a
     with_options(alloc, plain_command(alloc, entry.name)?, entry.options)
 }
 
-/// A command that runs a file, without options of its own.
+/// Returns a command that runs a file, without options of its own.
 fn plain_command<'a>(alloc: Global, name: &'static str) -> Result<Command<'a>, AllocError>
     ensures shape { IfOk result (λ c. app_of c ≡ plain_app name.now) }
     ensures local { IfOk result (λ c. (out-Command c).has_globals ≡ false) }
@@ -113,7 +113,7 @@ fn plain_command<'a>(alloc: Global, name: &'static str) -> Result<Command<'a>, A
     with_options(alloc, taking(alloc, name, file)?, &["quiet", "explain"])
 }
 
-/// A command that takes an argument, and whose help is the page of its name.
+/// Returns a command with an argument, whose help is the page of its name.
 fn taking<'a>(
     alloc: Global,
     name: &'static str,
@@ -127,7 +127,7 @@ fn taking<'a>(
     Command::new(alloc, name).override_help(name).arg(argument)
 }
 
-/// A command with these options.
+/// Returns a command with these options.
 fn with_options<'a>(
     alloc: Global,
     command: Command<'a>,
@@ -145,7 +145,7 @@ fn with_options<'a>(
     Ok(command)
 }
 
-/// The command `help`, which takes the name of a page.
+/// Returns the command `help`, whose argument is the name of a page.
 fn help<'a>(alloc: Global) -> Result<Command<'a>, AllocError>
     ensures shape { IfOk result (λ c. app_of c ≡ help_app) }
     ensures local { IfOk result (λ c. (out-Command c).has_globals ≡ false) }
@@ -154,7 +154,7 @@ fn help<'a>(alloc: Global) -> Result<Command<'a>, AllocError>
     with_options(alloc, command, &["quiet"])
 }
 
-/// An option of a command: `at` has a value.
+/// Returns an option of a command: `at` has a value.
 fn option<'a>(alloc: Global, name: &'a str) -> Arg<'a>
     ensures rule { rule_of result ≡ option_rule name.now }
     ensures local { result.global ≡ false }
@@ -166,7 +166,7 @@ fn option<'a>(alloc: Global, name: &'a str) -> Arg<'a>
     }
 }
 
-/// An option without a value.
+/// Returns an option without a value.
 fn flag<'a>(alloc: Global, name: &'a str) -> Arg<'a>
     ensures rule { rule_of result ≡ flag_rule name.now }
     ensures local { result.global ≡ false }

@@ -1,20 +1,20 @@
-//! The line that shows how far a run is, on standard error.
+//! The line that shows the progress of a run, on standard error.
 ghost use Rattle.std.specs.Prelude.{◌≡◌};
 
 use files::progress::{LinePlace, Onlooker, Reached};
 use files::{Failed, Source};
 use std::time::{Clock, Duration};
 
-/// How many milliseconds a run goes on before the line is shown.
+/// The number of milliseconds that a run takes before the line is shown.
 const FIRST: u64 = 2000;
 
-/// How many milliseconds the line stands before it is written anew.
+/// The number of milliseconds for which the line stays before it is written anew.
 const NEXT: u64 = 200;
 
-/// What takes back the line: to its begin, and clear to the end.
+/// The characters that remove the line: to its begin, and clear to the end.
 const CLEAR: &str = "\r\x1b[K";
 
-/// Shows how far an engine says that it is.
+/// Shows the progress that an engine reports.
 #[derive(Drop)]
 pub struct Watcher<'a, T> {
     rt: &'a T,
@@ -22,13 +22,13 @@ pub struct Watcher<'a, T> {
 }
 
 impl<'a, T: Clock + Eprint> Watcher<'a, T> {
-    /// Nothing is shown unless `shows`.
+    /// Creates it. Nothing is shown unless `shows` is true.
     pub fn new(rt: &'a T, shows: bool) -> Watcher<'a, T> {
         let progress = if shows { ShownProgress::new(rt) } else { None };
         Watcher { rt, progress }
     }
 
-    /// Takes the line back, where it is shown.
+    /// Removes the line, if it is shown.
     pub fn end(&mut self) {
         if let Some(progress) = &self.progress {
             progress.clear(self.rt);
@@ -52,7 +52,7 @@ impl<'a, T: Clock + Eprint> Onlooker for Watcher<'a, T> {
     }
 }
 
-/// Shows that a line of the file is run, after so many milliseconds.
+/// Shows that a line of the file is run, after this number of milliseconds.
 fn show_line<T: Eprint>(rt: &T, place: LinePlace<'_>, millis: u128) {
     let (events, number) = (place.events(), place.number());
     let speed = in_a_second(events, millis);
@@ -66,24 +66,24 @@ fn show_line<T: Eprint>(rt: &T, place: LinePlace<'_>, millis: u128) {
     );
 }
 
-/// Shows that so many events of a sweep were swept, after so many milliseconds.
+/// Shows the number of events that were swept, after this number of milliseconds.
 fn show_swept<T: Eprint>(rt: &T, events: u64, of: u64, millis: u128) {
     let speed = in_a_second(events, millis);
     let _ = eprint!(rt; "\r{events} of {of} events swept so far, {speed} a second\x1b[K");
 }
 
-/// A source in front of another one, which notes how many lines were read and shows it.
+/// A source before another one, which counts the lines that were read and shows their number.
 #[derive(Drop)]
 pub struct WatchedInput<'a, S: Source + Drop, T> {
     source: S,
     rt: &'a T,
     progress: Option<ShownProgress>,
-    /// How many lines were read.
+    /// The number of lines that were read.
     lines: u64,
 }
 
 impl<'a, S: Source + Drop, T: Clock + Eprint> WatchedInput<'a, S, T> {
-    /// In front of this source; nothing is shown unless `shows`.
+    /// Creates it before a source. Nothing is shown unless `shows` is true.
     pub fn new(source: S, rt: &'a T, shows: bool) -> WatchedInput<'a, S, T>
         ensures to_come { ⟦<WatchedInput<'a, S, T> as Source>⟧.to_come result ≡ S.to_come source }
         ensures failures { ⟦<WatchedInput<'a, S, T> as Source>⟧.failures result ≡ S.failures source }
@@ -107,7 +107,7 @@ impl<'a, S: Source + Drop, T: Clock + Eprint> WatchedInput<'a, S, T> {
         }
     }
 
-    /// Shows how many lines were read, if it is time to.
+    /// Shows the number of lines that were read, if it is time to.
     fn show(&mut self)
         ensures { self.new.source ≡ self.old.source }
     {
@@ -122,7 +122,7 @@ impl<'a, S: Source + Drop, T: Clock + Eprint> WatchedInput<'a, S, T> {
         let _ = eprint!(self.rt; "\r{lines} lines read so far, {speed} a second\x1b[K");
     }
 
-    /// Takes the line back, where it is shown.
+    /// Removes the line, if it is shown.
     pub fn end(&mut self) {
         if let Some(progress) = &self.progress {
             progress.clear(self.rt);
@@ -152,7 +152,7 @@ impl<'a, S: Source + Drop, T: Clock + Eprint> Source for WatchedInput<'a, S, T> 
     }
 }
 
-/// How many lines end among bytes.
+/// Returns the number of lines that end among bytes.
 fn ends_among(bytes: &[u8]) -> u64 {
     let mut ends: u64 = 0;
     for byte in bytes {
@@ -161,7 +161,7 @@ fn ends_among(bytes: &[u8]) -> u64 {
     ends
 }
 
-/// Since when a run goes on, and when the line was shown.
+/// The times at which a run began and at which the line was shown.
 #[derive(Clone, Copy)]
 struct ShownProgress {
     begun: Duration,
@@ -169,7 +169,7 @@ struct ShownProgress {
 }
 
 impl ShownProgress {
-    /// At the begin of a run; none where there is no clock.
+    /// Creates them at the begin of a run, unless there is no clock.
     fn new<T: Clock>(rt: &T) -> Option<ShownProgress> {
         Some(ShownProgress {
             begun: rt.monotonic().ok()?,
@@ -177,7 +177,7 @@ impl ShownProgress {
         })
     }
 
-    /// For how many milliseconds the run has gone on, if it is time to show how far it is.
+    /// Returns the number of milliseconds since the run began, if it is time to show its progress.
     fn millis_to_show<T: Clock>(&mut self, rt: &T) -> Option<u128> {
         let now = rt.monotonic().ok()?;
         let (since, wait) = match self.shown {
@@ -191,7 +191,7 @@ impl ShownProgress {
         Some(now.saturating_sub(self.begun).as_millis())
     }
 
-    /// Takes the line back, where it is shown.
+    /// Removes the line, if it is shown.
     fn clear<T: Eprint>(&self, rt: &T) {
         if self.shown.is_some() {
             let _ = rt.eprint(CLEAR);
@@ -199,7 +199,7 @@ impl ShownProgress {
     }
 }
 
-/// How many in a second, where there were so many in some milliseconds.
+/// Returns the number in a second, from the number in some milliseconds.
 fn in_a_second(count: u64, millis: u128) -> u128 {
     u128::from(count) * 1000 / millis.max(1)
 }

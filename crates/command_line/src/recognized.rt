@@ -1,4 +1,4 @@
-//! The first words of the files that are read without a fault. Each law is a function with nothing to do, whose contract is
+//! The first words of the files that are read without a fault. Each law is a function that does nothing, and whose contract is
 //! the law.
 ghost use Rattle.command_line.specs.FirstWords.{RecordsAreRecognized, ScenariosHaveAnotherWord, TracesAreRecognized};
 

@@ -1,4 +1,4 @@
-//! Reads and writes that a signal may interrupt: they are made again below all streams of the program.
+//! Reads and writes that are repeated if a signal interrupts them, below all streams of the program.
 ghost use Rattle.std.specs.Prelude.{◌≡◌, ◌≢◌, IfErr};
 ghost use Rattle.std.specs.Io.{ReadsAtMost, WritesAtMost};
 ghost use Rattle.std.specs.Io.KnownBytes.{ReadConsumes, WriteAppends};
@@ -7,10 +7,10 @@ ghost use Rattle.std.specs.IoError.{error_kind};
 use std::io;
 use std::io::{Error, ErrorKind, Read, Write};
 
-/// How often a call is made at most. No program lives to see its last.
+/// The most times that a call is made. No program runs long enough to reach it.
 const MOST_TRIES: u64 = u64::MAX;
 
-/// One read, made again where a signal interrupted it.
+/// Reads once, and again whenever a signal interrupts the read.
 pub fn read_again<R: Read>(reader: &mut R, buffer: &mut [u8]) -> io::Result<usize>
     ensures bound { ReadsAtMost result buffer.new }
     ensures bytes { ReadConsumes (R.remaining reader.old) (R.remaining reader.new) result buffer.new }
@@ -25,7 +25,7 @@ pub fn read_again<R: Read>(reader: &mut R, buffer: &mut [u8]) -> io::Result<usiz
     Err(Error::from(ErrorKind::TimedOut))
 }
 
-/// One write, made again where a signal interrupted it.
+/// Writes once, and again whenever a signal interrupts the write.
 pub fn write_again<W: Write>(writer: &mut W, bytes: &[u8]) -> io::Result<usize>
     ensures bound { WritesAtMost result bytes.now }
     ensures bytes { WriteAppends (W.contents writer.old) (W.contents writer.new) result bytes.now }
@@ -40,14 +40,14 @@ pub fn write_again<W: Write>(writer: &mut W, bytes: &[u8]) -> io::Result<usize>
     Err(Error::from(ErrorKind::TimedOut))
 }
 
-/// A reader whose reads are made again where a signal interrupts them.
+/// A reader whose reads are repeated if a signal interrupts them.
 #[derive(Drop)]
 pub struct Uninterrupted<R: Read + Drop> {
     reader: R,
 }
 
 impl<R: Read + Drop> Uninterrupted<R> {
-    /// In front of this reader: it has the same bytes.
+    /// Creates it before a reader. It has the same bytes.
     pub fn new(reader: R) -> Uninterrupted<R>
         ensures { ⟦<Uninterrupted<R> as Read>⟧.remaining result ≡ R.remaining reader }
     {

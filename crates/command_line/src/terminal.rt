@@ -1,4 +1,4 @@
-//! How the program writes: a line at a time to a terminal, else a block; and no more once a write has failed.
+//! How the program writes: a line at a time to a terminal, otherwise a block; and nothing after a write has failed.
 ghost use Rattle.std.specs.Prelude.{◌≡◌, IfOk};
 ghost use Rattle.std.specs.Io.KnownBytes.{Keeps};
 ghost use Rattle.command_line.specs.Outputs.{held_by, held_in};
@@ -7,7 +7,7 @@ use crate::retries::write_again;
 use std::alloc::Global;
 use std::io::{self, BufWriter, ErrorKind, LineWriter, Write};
 
-/// Which of the program's streams are terminals.
+/// The streams of the program that are terminals.
 #[derive(Clone, Copy)]
 pub struct Terminals {
     pub input: bool,
@@ -15,8 +15,8 @@ pub struct Terminals {
     pub error: bool,
 }
 
-/// A writer up to the first write that fails or takes nothing: no later one is made, but one that a signal interrupts is made
-/// again. A buffer in front of it would else write once more what it still holds, as it is flushed and as it is dropped.
+/// A writer up to the first write that fails or takes nothing. No later write is made, except that a write which a signal
+/// interrupts is repeated. Otherwise a buffer before it would write its content again when it is flushed and dropped.
 #[derive(Drop)]
 pub struct UpToFailure<W: Write + Drop> {
     writer: W,
@@ -24,7 +24,7 @@ pub struct UpToFailure<W: Write + Drop> {
 }
 
 impl<W: Write + Drop> UpToFailure<W> {
-    /// In front of this writer, which has not failed.
+    /// Creates it before a writer that has not failed.
     fn new(writer: W) -> UpToFailure<W>
         ensures { held_by W.contents result ≡ W.contents writer }
     {
@@ -56,7 +56,7 @@ impl<W: Write + Drop> Write for UpToFailure<W> {
     }
 }
 
-/// A writer through a buffer: a line is written once it is whole where it goes to a terminal, else a block.
+/// A writer through a buffer, which writes each whole line to a terminal, and otherwise blocks.
 #[derive(Drop)]
 pub enum Output<W: Write + Drop> {
     Lines(LineWriter<UpToFailure<W>>),
@@ -64,7 +64,7 @@ pub enum Output<W: Write + Drop> {
 }
 
 impl<W: Write + Drop> Output<W> {
-    /// The writer in front of this one: it holds the same bytes. The one error is want of memory.
+    /// Returns the writer before this one, which has the same bytes. Fails only if an allocation fails.
     pub fn new(alloc: Global, writer: W, at_terminal: bool) -> io::Result<Output<W>>
         ensures { IfOk result (λ output. Keeps (W.contents writer) (held_in W.contents output)) }
     {

@@ -1,4 +1,4 @@
-//! What the program's words ask for.
+//! The meaning of the program's arguments.
 ghost use Rattle.std.specs.Prelude.{◌≡◌, ◌⊎◌, IfErr, IfOk, None, Some, [], codes, map, option_map, true};
 ghost use Rattle.clap.specs.Words.{HasKind, fault_of, first_of, found_of, kind_of, rows_of, subcommand_rows_of, takes};
 ghost use Rattle.std.specs.String.{string_bytes};
@@ -26,31 +26,33 @@ pub struct Request<'a> {
     pub judge: bool,
     /// Whether a record of any lock is judged, by its bits, calls and critical section.
     pub any_lock: bool,
+    /// Whether the picture of a trace shows all accesses, also if it has more than 400 entries.
+    pub accesses: bool,
     /// Whether a bad verdict has reasons.
     pub why: bool,
-    /// After how many events the state is told, as the words have it.
+    /// The number of events after which the state is printed, as the argument spells it.
     pub at: Option<&'a str>,
-    /// Whether the place of a fault is told, and what was expected there.
+    /// Whether the place of a fault is printed, and what was expected there.
     pub explain: bool,
-    /// Whether nothing is to be shown of how far the run is.
+    /// Whether no progress is shown.
     pub quiet: bool,
 }
 
-/// What the words ask for.
+/// What the arguments ask for.
 #[derive(Clone, Copy)]
 pub enum Invocation<'a> {
-    /// That a command runs a file.
+    /// A command runs a file.
     Run(Request<'a>),
-    /// That a page is printed.
+    /// A page is printed.
     Tell(HelpPage),
 }
 
-/// The program's words, of which the first is its own name.
+/// Returns the program's words, of which the first is its own name.
 pub fn all_words<T: Env + AllocGlobal>(rt: &T) -> Result<Vec<String>, Notice> {
     Ok(given_words(rt)?)
 }
 
-/// The words, or the error of words that cannot be read.
+/// Returns the words, or the error of words that cannot be read.
 fn given_words<T: Env + AllocGlobal>(rt: &T) -> Result<Vec<String>, Error> {
     let arguments = match env::args(rt) {
         Ok(arguments) => arguments,
@@ -64,8 +66,8 @@ fn given_words<T: Env + AllocGlobal>(rt: &T) -> Result<Vec<String>, Error> {
     Ok(words)
 }
 
-/// What the words ask for, of which the first is the program's own name. Else a notice: why `clap` does not take the words, or
-/// that they ask for its help or the version; that no page has the name that they give; or want of memory.
+/// Returns what the words ask for, of which the first is the program's own name. Otherwise returns a notice: why `clap` refuses
+/// the words, its help or the version; that no page has the name that they give; or an allocation failure.
 pub fn read_words<'a>(alloc: Global, words: &'a [String]) -> Result<Invocation<'a>, Notice>
     ensures means { IfOk result (λ a. meaning (map string_bytes words.now) ≡ Some (asked_by a)) }
     ensures faultless { IfOk result (λ _. fault_of bakery (map string_bytes words.now) ≡ []) }
@@ -78,7 +80,7 @@ pub fn read_words<'a>(alloc: Global, words: &'a [String]) -> Result<Invocation<'
     Ok(parse(alloc, words)?)
 }
 
-/// What the words ask for, or the error of words that ask for no run.
+/// Returns what the words ask for, or the error of words that ask for no run.
 fn parse<'a>(alloc: Global, words: &'a [String]) -> Result<Invocation<'a>, Error>
     ensures means { IfOk result (λ a. meaning (map string_bytes words.now) ≡ Some (asked_by a)) }
     ensures faultless { IfOk result (λ _. fault_of bakery (map string_bytes words.now) ≡ []) }
@@ -97,7 +99,7 @@ fn parse<'a>(alloc: Global, words: &'a [String]) -> Result<Invocation<'a>, Error
     }
 }
 
-/// The word behind `help`.
+/// Returns the word after `help`.
 fn page_asked_for<'a>(matches: &ArgMatches<'a>) -> &'a str {
     match matches.subcommand() {
         Some((_, own)) => text_of(own, "PAGE").unwrap_or(""),
@@ -105,7 +107,7 @@ fn page_asked_for<'a>(matches: &ArgMatches<'a>) -> &'a str {
     }
 }
 
-/// What the matches ask for.
+/// Returns what the matches ask for.
 fn asked_of<'a>(matches: &ArgMatches<'a>) -> Option<Invocation<'a>>
     ensures { option_map asked_by result
         ≡ asked_of (rows_of (found_of matches.now)) (subcommand_rows_of matches.now) }
@@ -117,7 +119,7 @@ fn asked_of<'a>(matches: &ArgMatches<'a>) -> Option<Invocation<'a>>
     asked_of_command(quiet, name, own)
 }
 
-/// What words ask for that name no command.
+/// Returns what words ask for that name no command.
 fn asked_of_none<'a>(quiet: bool) -> Option<Invocation<'a>>
     ensures { option_map asked_by result ≡ asked_of_none quiet }
 {
@@ -127,6 +129,7 @@ fn asked_of_none<'a>(quiet: bool) -> Option<Invocation<'a>>
         reads: false,
         judge: false,
         any_lock: false,
+        accesses: false,
         why: false,
         at: None,
         explain: false,
@@ -134,7 +137,7 @@ fn asked_of_none<'a>(quiet: bool) -> Option<Invocation<'a>>
     }))
 }
 
-/// What a command and its matches ask for.
+/// Returns what a command and its matches ask for.
 fn asked_of_command<'a>(quiet: bool, name: &str, own: &ArgMatches<'a>) -> Option<Invocation<'a>>
     ensures { option_map asked_by result
         ≡ asked_of_command quiet name.now (rows_of (found_of own.now)) }
@@ -145,7 +148,7 @@ fn asked_of_command<'a>(quiet: bool, name: &str, own: &ArgMatches<'a>) -> Option
     asked_to_run(quiet, command_named(name)?, own)
 }
 
-/// What a command that runs a file and its matches ask for.
+/// Returns what a command that runs a file and its matches ask for.
 fn asked_to_run<'a>(
     quiet: bool,
     command: CommandEntry,
@@ -159,7 +162,7 @@ fn asked_to_run<'a>(
     Some(Invocation::Run(request_of(quiet, command, own, file)))
 }
 
-/// What `help` and its matches ask for.
+/// Returns what `help` and its matches ask for.
 fn asked_of_help<'a>(own: &ArgMatches<'a>) -> Option<Invocation<'a>>
     ensures { option_map asked_by result
         ≡ asked_of_help (first_of (codes "PAGE") (rows_of (found_of own.now))) }
@@ -170,7 +173,7 @@ fn asked_of_help<'a>(own: &ArgMatches<'a>) -> Option<Invocation<'a>>
     }
 }
 
-/// The request that a command runs a file, with the options among its matches.
+/// Returns the request that a command runs a file, with the options among its matches.
 fn request_of<'a>(
     quiet: bool,
     command: CommandEntry,
@@ -186,6 +189,7 @@ fn request_of<'a>(
         reads: is_set(own, "reads"),
         judge: is_set(own, "judge"),
         any_lock: is_set(own, "any-lock"),
+        accesses: is_set(own, "accesses"),
         why: is_set(own, "why"),
         at: text_of(own, "at"),
         explain: is_set(own, "explain"),
@@ -193,14 +197,14 @@ fn request_of<'a>(
     }
 }
 
-/// The text of an argument.
+/// Returns the text of an argument.
 fn text_of<'a>(matches: &ArgMatches<'a>, id: &str) -> Option<&'a str>
     ensures { option_map (λ s. s.now) result ≡ first_of id.now (rows_of (found_of matches.now)) }
 {
     matches.get_str(id)
 }
 
-/// Whether the words have the flag.
+/// Returns whether the words have the flag.
 fn is_set(matches: &ArgMatches<'_>, id: &str) -> bool
     ensures { result ≡ has_flag id.now (rows_of (found_of matches.now)) }
 {
@@ -210,7 +214,7 @@ fn is_set(matches: &ArgMatches<'_>, id: &str) -> bool
     }
 }
 
-/// A law of the words: each command of the table runs each file whose path begins with no hyphen.
+/// Each command of the table runs each file whose path begins with no hyphen.
 pub fn each_file_runs()
     ensures { RunsEachFile }
 {}
