@@ -1,4 +1,4 @@
-//! What an access is refused for, by where its process stands.
+//! The refusals of an access, by the state of its process.
 ghost use Rattle.std.specs.Prelude.{◌≡◌, Ok};
 ghost use Rattle.plain_store.specs.{checked};
 ghost use Rattle.any_lock.specs.Refusals.{access_refusal, begins_write, ends, first_that, is_end_of, is_of_bit, is_running as runs, is_settling as stage_settles, is_there as bit_is_there, maker_refusals, may_move, move_refusals, reads};
@@ -9,7 +9,7 @@ use plain_store::Setup;
 use record::{Access, Move, Stage, width_of};
 
 impl Standing {
-    /// Why an access of its process, with this number, is refused, if it is.
+    /// Returns why an access of its process, with this number, is refused, if it is.
     #[inline]
     pub(crate) fn refuses_access(
         &self,
@@ -26,7 +26,7 @@ impl Standing {
         }
     }
 
-    /// Why an access of its process is refused by where that stands, if it is.
+    /// Returns why an access of its process is refused by the state of the process, if it is.
     #[inline]
     fn refuses_move(&self, access: &Access) -> Option<AccessRefusal>
         ensures { result ≡ first_that (move_refusals self.now access.now) }
@@ -50,7 +50,7 @@ impl Standing {
     }
 }
 
-/// Why an access of a process with this number is refused by who makes it, if it is.
+/// Returns why an access is refused because this process makes it, if it is.
 #[inline]
 fn refuses_maker(setup: &Setup, process: u8, access: &Access) -> Option<AccessRefusal>
     requires { checked setup.now ≡ Ok tt }
@@ -67,7 +67,7 @@ fn refuses_maker(setup: &Setup, process: u8, access: &Access) -> Option<AccessRe
     }
 }
 
-/// Whether a process runs at a stage: from its call to its answer, unless it fails.
+/// Returns whether a process runs at a stage: from its call to its answer, unless it fails.
 #[inline]
 pub(crate) fn is_running(stage: Stage) -> bool
     ensures { result ≡ runs stage }
@@ -78,7 +78,7 @@ pub(crate) fn is_running(stage: Stage) -> bool
     )
 }
 
-/// Whether its memory unit settles and clears.
+/// Returns whether its memory unit settles and clears.
 #[inline]
 pub(crate) fn settles(stage: Stage) -> bool
     ensures { result ≡ stage_settles stage }
@@ -86,7 +86,7 @@ pub(crate) fn settles(stage: Stage) -> bool
     matches!(stage, Stage::Settling)
 }
 
-/// Whether a process at a stage may make a move, but for settlings.
+/// Returns whether a process at a stage may make a move that does not settle a bit.
 #[inline]
 fn may_move(stage: Stage, how: Move) -> bool
     ensures { result ≡ may_move stage how }
@@ -94,7 +94,7 @@ fn may_move(stage: Stage, how: Move) -> bool
     is_settling(how) || is_running(stage) || (settles(stage) && !reads(how))
 }
 
-/// Whether a move is one of a read.
+/// Returns whether a move is one of a read.
 #[inline]
 fn reads(how: Move) -> bool
     ensures { result ≡ reads how }
@@ -102,7 +102,7 @@ fn reads(how: Move) -> bool
     matches!(how, Move::BeginRead | Move::EndRead(_))
 }
 
-/// Whether a move is an end, of a write or of a read.
+/// Returns whether a move is an end, of a write or of a read.
 #[inline]
 fn ends(how: Move) -> bool
     ensures { result ≡ ends how }
@@ -110,7 +110,7 @@ fn ends(how: Move) -> bool
     matches!(how, Move::EndWrite | Move::EndRead(_))
 }
 
-/// Whether a move begins a write.
+/// Returns whether a move begins a write.
 #[inline]
 fn begins_write(how: Move) -> bool
     ensures { result ≡ begins_write how }
@@ -118,7 +118,7 @@ fn begins_write(how: Move) -> bool
     matches!(how, Move::BeginWrite(_))
 }
 
-/// Whether the bit of an access is there.
+/// Returns whether the bit of an access exists.
 #[inline]
 fn is_there(setup: &Setup, access: &Access) -> bool
     requires { checked setup.now ≡ Ok tt }
@@ -129,7 +129,7 @@ fn is_there(setup: &Setup, access: &Access) -> bool
         && access.bit < width_of(access.field, setup)
 }
 
-/// Whether this is of the bit of an access.
+/// Returns whether an access is of the same bit as another.
 #[inline]
 fn is_of_bit(begun: &Option<Begun>, access: &Access) -> bool
     ensures { result ≡ is_of_bit begun.now access.now }
@@ -140,7 +140,7 @@ fn is_of_bit(begun: &Option<Begun>, access: &Access) -> bool
     }
 }
 
-/// Whether this is the begin of which an access is the end.
+/// Returns whether an access ends the one that began here.
 #[inline]
 fn is_end_of(begun: &Option<Begun>, access: &Access) -> bool
     ensures { result ≡ is_end_of begun.now access.now }

@@ -1,4 +1,4 @@
-//! Entries as they would keep all laws.
+//! Entries with the change after which they keep all laws.
 ghost use Rattle.std.specs.Prelude.{◌≡◌, IfOk, map};
 ghost use Rattle.any_lock.specs.Changes.{access_with, changed as entry_with, mark_with};
 
@@ -8,7 +8,7 @@ use record::{Access, Act, Entry, Mark, Move};
 use smallvec::SmallVec;
 use std::alloc::{AllocError, Global};
 
-/// An entry with a change. The one fault is want of memory.
+/// Returns an entry with a change. Fails only if an allocation fails.
 pub fn changed(alloc: Global, entry: &Entry, change: &Remedy) -> Result<Entry, AllocError>
     ensures { IfOk result (λ with. with ≡ entry_with change.now entry.now) }
 {
@@ -22,7 +22,7 @@ pub fn changed(alloc: Global, entry: &Entry, change: &Remedy) -> Result<Entry, A
     })
 }
 
-/// Its access with a change.
+/// Returns its access with a change.
 fn changed_access(access: &Option<Access>, change: &Remedy) -> Option<Access>
     ensures { result ≡ access_with change.now access.now }
 {
@@ -36,7 +36,7 @@ fn changed_access(access: &Option<Access>, change: &Remedy) -> Option<Access>
     }
 }
 
-/// Its marks with a change.
+/// Returns its marks with a change.
 fn changed_marks(
     alloc: Global,
     marks: &[Mark],
@@ -52,7 +52,7 @@ fn changed_marks(
     Ok(with)
 }
 
-/// A mark with a change.
+/// Returns a mark with a change.
 fn changed_mark(mark: &Mark, change: &Remedy) -> Mark
     ensures { result ≡ mark_with change.now mark.now }
 {

@@ -1,4 +1,4 @@
-//! What a judge makes of one entry: whether it keeps the laws after `Safe`, and what is kept then.
+//! One more entry: whether it keeps the laws after `Safe`, and how the judge's state changes.
 ghost use Rattle.std.specs.Prelude.{◌≡◌, ◌+◌, ◌-◌, ◌^◌, ◌<◌, ◌≤◌, [], IfOk, Some};
 ghost use Rattle.std.specs.List.{list_all, list_any};
 ghost use Rattle.record.specs.{is_entered};
@@ -14,8 +14,8 @@ use plain_store::{NestedTypes, Reply};
 use record::{Access, Mark};
 
 impl Kept {
-    /// Where the process of an entry stands after it, if it keeps all laws after `Safe`; else the first of these that it
-    /// breaks.
+    /// Returns the state of the process of an entry after it, if the entry keeps all laws after `Safe`, and otherwise the first of
+    /// these laws that it breaks.
     pub fn after(
         &self,
         process: u8,
@@ -41,7 +41,7 @@ impl Kept {
         }
     }
 
-    /// The first law that an entry breaks whose access and marks are not refused.
+    /// Returns the first law that an entry breaks whose access and marks are not refused.
     fn broken_by(&self, process: u8, marks: &[Mark]) -> Option<AnyLockLaw>
         requires { process < self.now.setup.processes }
         ensures { IsOfMarks result broken_inside self.now process marks.now }
@@ -57,14 +57,14 @@ impl Kept {
         }
     }
 
-    /// Whether a process gets inside with these marks while another is inside.
+    /// Returns whether a process enters with these marks while another is inside.
     fn joins_another(&self, process: u8, marks: &[Mark]) -> bool
         ensures { IsOfMarks result breaks_together self.now process marks.now }
     {
         enters(marks) && self.other_inside(process).is_some()
     }
 
-    /// Whether a process gets inside with these marks while another is ahead of it.
+    /// Returns whether a process enters with these marks while another is ahead of it.
     fn overtakes(&self, process: u8, marks: &[Mark]) -> bool
         requires { process < self.now.setup.processes }
         ensures { IsOfMarks result breaks_overtaken self.now process marks.now }
@@ -72,7 +72,7 @@ impl Kept {
         enters(marks) && self.other_ahead(process).is_some()
     }
 
-    /// Whether each command that marks take has its place and its reply.
+    /// Returns whether each command that marks take has its position and its reply.
     fn takes_rightly(&self, process: u8, marks: &[Mark]) -> bool
         requires { process < self.now.setup.processes }
         ensures { OfPast self.now (λ s past. result ≡ takes_rightly s past process marks.now) }
@@ -85,8 +85,8 @@ impl Kept {
         are_those(marks, place, &reply)
     }
 
-    /// One more entry, by whether it keeps the law `Safe`: none, if it keeps all laws; else the first that it breaks,
-    /// and nothing is changed.
+    /// Observes one more entry, which keeps the law `Safe` or not, and returns the first law that it breaks, if it breaks one.
+    /// Then nothing is changed.
     pub fn hear(
         &mut self,
         is_safe: bool,
@@ -111,8 +111,8 @@ impl Kept {
         }
     }
 
-    /// An entry that keeps the law `Safe`, whatever its marks: where its process stands is worked out beside what is kept,
-    /// since a mark may be refused behind others.
+    /// Observes an entry that keeps the law `Safe`, with any marks. The new state of its process is computed apart from the
+    /// old one, because a mark may be refused after others.
     #[inline(never)]
     fn hear_marked(
         &mut self,
@@ -137,7 +137,7 @@ impl Kept {
         }
     }
 
-    /// The same of an entry with no mark, as nearly all are: where its process stands is changed in its place.
+    /// Observes such an entry without a mark, as nearly all are. The state of its process is changed in place.
     #[inline]
     fn hear_unmarked(&mut self, process: u8, access: &Option<Access>) -> Option<AnyLockLaw>
         requires { self.old.entries < 2 ^ 64 - 1 }
@@ -161,14 +161,14 @@ impl Kept {
     }
 }
 
-/// Whether a process gets inside with these marks.
+/// Returns whether a process enters with these marks.
 pub(crate) fn enters(marks: &[Mark]) -> bool
     ensures { result ≡ list_any is_entered marks.now }
 {
     marks.iter().any(|mark| matches!(mark, Mark::Entered))
 }
 
-/// Whether each command that marks take has this place and this reply.
+/// Returns whether each command that marks take has this position and this reply.
 fn are_those(marks: &[Mark], place: u64, reply: &Reply) -> bool
     ensures { result ≡ list_all (is_taken_as place reply.now) marks.now }
 {
@@ -176,7 +176,7 @@ fn are_those(marks: &[Mark], place: u64, reply: &Reply) -> bool
     marks.iter().all(|mark| is_taken_as(mark, place, reply))
 }
 
-/// Whether a mark takes no command, or one that has this place and this reply.
+/// Returns whether a mark takes no command, or one that has this position and this reply.
 fn is_taken_as(mark: &Mark, place: u64, reply: &Reply) -> bool
     ensures { result ≡ is_taken_as place reply.now mark.now }
 {

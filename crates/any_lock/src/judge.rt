@@ -14,8 +14,8 @@ use record::{Access, Mark};
 use std::alloc::{AllocError, Global};
 use std::marker::Model;
 
-/// A judge of the record of any lock, whose entries it takes one at a time. It keeps of each bit what the safe rule looks
-/// back at, where each process stands, one store, two counts, the verdict and its reasons: so it needs the same memory
+/// A judge of the record of any lock, which observes entries one at a time. It stores of each bit what the safe rule
+/// looks back at, the state of each process, one store, two counts, the verdict and its reasons. So it needs the same memory
 /// however long the record is.
 #[derive(Drop)]
 pub struct Judge {
@@ -38,7 +38,7 @@ impl Model for Judge {
 }
 
 impl Judge {
-    /// Before the first entry. The one fault is want of memory; no later call takes any.
+    /// Creates a judge before the first entry. Fails only if an allocation fails; no later call allocates.
     pub fn new(alloc: Global, setup: &Setup) -> Result<Judge, AllocError>
         requires { checked setup.now ≡ Ok tt }
         ensures { IfOk result (λ judge. HasJudged judge setup.now []) }
@@ -52,7 +52,7 @@ impl Judge {
         })
     }
 
-    /// One more entry, whatever it is, by its parts. It takes no memory.
+    /// Observes one more entry, which may be any, by its parts. It does not allocate.
     pub fn hear(&mut self, process: u8, access: &Option<Access>, marks: &[Mark])
         requires { self.old.entries < 2 ^ 64 - 1 }
         ensures heard { JudgesOn self.old (entry_by process access.now marks.now) self.new }
@@ -65,7 +65,7 @@ impl Judge {
         }
     }
 
-    /// The verdict with an entry of this number, where that on the entries before it is good.
+    /// Returns the verdict with an entry of this number, if that on the entries before it is good.
     fn verdict_with(
         &mut self,
         number: u64,
@@ -87,8 +87,8 @@ impl Judge {
         Verdict::found(number, law)
     }
 
-    /// The verdict on the entries so far, and how many there are: the lowest entry that breaks a law, and the first law
-    /// that it breaks.
+    /// Returns the verdict on the entries so far, and their number. The verdict is the lowest entry that breaks a law, and the
+    /// first law that it breaks.
     #[inline]
     pub fn judged(&self) -> Audited<AnyLockLaw>
         ensures now { result.verdict ≡ self.now.verdict }
@@ -103,7 +103,7 @@ impl Judge {
         }
     }
 
-    /// The reasons of the verdict on the entries so far: what is looked up for the bad entry, and none of a good verdict.
+    /// Returns the reasons of the verdict on the entries so far, which a good verdict does not have.
     pub fn reasons(&self) -> Option<Reasons>
         ensures { OfJudged self.now (IsExplained result) }
     {

@@ -11,8 +11,8 @@ use read_law::{Audited, parts};
 use record::Entry;
 use std::alloc::{AllocError, Global};
 
-/// The verdict on a record, and how many entries it has: the lowest entry that breaks a law, and the first law that it
-/// breaks. The one fault is want of memory.
+/// Returns the verdict on a record, and the number of its entries. The verdict is the lowest entry that breaks a law, and the
+/// first law that it breaks. Fails only if an allocation fails.
 pub fn judge_all(
     alloc: Global,
     setup: &Setup,
@@ -31,14 +31,14 @@ pub fn judge_all(
     Ok(judge.judged())
 }
 
-/// What a good verdict says, whoever made the record: never two are inside, nobody gets inside while another is ahead,
-/// what is taken has its place and the one-thread store's reply there, no call that was cut is answered, and places keep the
-/// order of calls that do not overlap.
+/// What a good verdict means for any record. No two processes are inside together, and none enters while another is ahead of
+/// it. Each command is taken at its position with the sequential store's reply there, and no interrupted call is answered.
+/// Positions keep the order of calls that do not overlap.
 pub fn good_says_the_headline()
     ensures { GoodSaysTheHeadline }
 {}
 
-/// What reasons say: a bad entry with the change that is told of it keeps all laws.
+/// A bad entry with the change that its reasons state keeps all laws.
 pub fn changed_entries_keep_all_laws()
     ensures { MaysKeepAllLaws }
 {}

@@ -1,5 +1,5 @@
-//! What a judge keeps of the entries that it has heard, but for bits: where each process stands, the one-thread store,
-//! and how many commands and entries there were.
+//! The state that a judge stores of the entries so far, except for bits: the state of each process, the sequential store,
+//! and the numbers of commands and of entries.
 ghost use Rattle.std.specs.Prelude.{◌≡◌, ℕ, ◌+◌, ◌-◌, ◌^◌, ◌<◌, cond, [], IfOk, Ok, Some, option_map, slice_get};
 ghost use Rattle.std.specs.List.{list_any};
 ghost use Rattle.plain_store.specs.{checked};
@@ -39,7 +39,7 @@ impl Model for Kept {
 }
 
 impl Kept {
-    /// Of no entries. The one fault is want of memory.
+    /// Creates the state without entries. Fails only if an allocation fails.
     pub fn new(alloc: Global, setup: &Setup) -> Result<Kept, AllocError>
         requires { checked setup.now ≡ Ok tt }
         ensures setup { IfOk result (λ k. k.setup ≡ setup.now) }
@@ -56,28 +56,28 @@ impl Kept {
         })
     }
 
-    /// How many processes there are.
+    /// Returns the number of processes.
     pub fn processes(&self) -> u8
         ensures { result ≡ self.now.setup.processes }
     {
         self.setup.processes
     }
 
-    /// How many entries there were.
+    /// Returns the number of entries.
     pub fn entries(&self) -> u64
         ensures { result ≡ self.now.entries }
     {
         self.entries
     }
 
-    /// Where a process stands, if it is there.
+    /// Returns the state of a process, if the process exists.
     pub fn standing(&self, process: u8) -> Option<&Standing>
         ensures { option_map (λ k. k.now) result ≡ slice_get self.now.standings process }
     {
         self.standings.get(usize::from(process))
     }
 
-    /// Where a process stands that is there.
+    /// Returns the state of a process that exists.
     pub fn stands(&self, process: u8) -> Standing
         requires { process < self.now.setup.processes }
         ensures { OfPast self.now (λ s past. result ≡ standing_of s process past) }
@@ -85,7 +85,7 @@ impl Kept {
         self.standings[usize::from(process)]
     }
 
-    /// Why the access of an entry is refused, if it is.
+    /// Returns why the access of an entry is refused, if it is.
     pub fn refusal_of_access(&self, process: u8, access: &Option<Access>) -> Option<AccessRefusal>
         ensures { IsOfAccess result refusal_of_access self.now process access.now }
     {
@@ -101,7 +101,7 @@ impl Kept {
         standing.refuses_access(&self.setup, process, access)
     }
 
-    /// Where the process of an entry stands after it, or why the entry's marks are refused.
+    /// Returns the state of the process of an entry after it, or why the entry's marks are refused.
     pub fn marked(
         &self,
         process: u8,
@@ -125,7 +125,7 @@ impl Kept {
         }
     }
 
-    /// Where the process of an entry stands after its access.
+    /// Returns the state of the process of an entry after its access.
     fn accessed(&self, process: u8, access: &Option<Access>) -> Standing
         requires { process < self.now.setup.processes }
         ensures { OfPast self.now (λ _ past. result ≡ made_at self.now process access.now past) }
@@ -137,7 +137,7 @@ impl Kept {
         standing
     }
 
-    /// The lowest process but this one that is inside.
+    /// Returns the lowest other process that is inside.
     pub fn other_inside(&self, process: u8) -> Option<u8>
         ensures { OfPast self.now (λ s past. result ≡ other_inside s past process) }
     {
@@ -149,7 +149,7 @@ impl Kept {
         None
     }
 
-    /// Whether one process is inside, and is another than this one.
+    /// Returns whether `other` is another process than this one, and inside.
     fn is_inside_beside(&self, other: u8, process: u8) -> bool
         requires { other < self.now.setup.processes }
         ensures { OfPast self.now (λ s past. result ≡ is_other_inside s past process other) }
@@ -157,7 +157,7 @@ impl Kept {
         other != process && self.standings[usize::from(other)].inside
     }
 
-    /// The lowest process that is ahead of this one.
+    /// Returns the lowest process that is ahead of this one.
     pub fn other_ahead(&self, process: u8) -> Option<u8>
         requires { process < self.now.setup.processes }
         ensures { OfPast self.now (λ s past. result ≡ other_ahead s past process) }
@@ -170,7 +170,7 @@ impl Kept {
         None
     }
 
-    /// Whether one process is ahead of another: it waits, since before the doorway of that one began.
+    /// Returns whether one process is ahead of another: it has waited since before the doorway of the other began.
     pub fn is_ahead(&self, other: u8, process: u8) -> bool
         requires other { other < self.now.setup.processes }
         requires process { process < self.now.setup.processes }
@@ -179,7 +179,7 @@ impl Kept {
         other != process && self.waits_before(other, process)
     }
 
-    /// Whether one process waits, since before the doorway of a process began.
+    /// Returns whether a process has waited since before the doorway of a process began.
     fn waits_before(&self, other: u8, process: u8) -> bool
         requires other { other < self.now.setup.processes }
         requires process { process < self.now.setup.processes }
@@ -190,7 +190,7 @@ impl Kept {
         waits(standing.stage) && precedes(standing.waits, doorway)
     }
 
-    /// The place and the reply of a command of a process that is taken now.
+    /// Returns the right position and reply of a command that a process takes now.
     pub fn right_taking(&self, process: u8) -> (u64, Reply)
         requires { process < self.now.setup.processes }
         ensures place { result.0 ≡ self.now.taken }
@@ -207,7 +207,7 @@ impl Kept {
         (self.taken, reply)
     }
 
-    /// One more entry, with this access of a process, which breaks no law and has no mark.
+    /// Adds an entry with this access of a process, which breaks no law and has no mark.
     #[inline]
     pub fn make(&mut self, process: u8, access: Access)
         requires process { process < self.old.setup.processes }
@@ -221,7 +221,7 @@ impl Kept {
         self.entries += 1;
     }
 
-    /// One more entry, with these marks, which breaks no law and after which its process stands so.
+    /// Adds an entry with these marks, which breaks no law and after which its process is in this state.
     pub fn go_on(&mut self, process: u8, standing: &Standing, marks: &[Mark])
         requires process { process < self.old.setup.processes }
         requires few { self.old.entries < 2 ^ 64 - 1 }
@@ -234,7 +234,7 @@ impl Kept {
         self.stand(process, standing);
     }
 
-    /// There is one entry more.
+    /// Counts one more entry.
     fn count(&mut self)
         requires { self.old.entries < 2 ^ 64 - 1 }
         ensures same { self.new ≡ record self.old { entries = self.old.entries + 1 } }
@@ -243,7 +243,7 @@ impl Kept {
         self.entries += 1;
     }
 
-    /// A command of a process is taken, if one is.
+    /// Takes the command of a process, if `takes` is true.
     fn take(&mut self, process: u8, takes: bool)
         requires process { process < self.old.setup.processes }
         requires few { self.old.taken < self.old.entries }
@@ -266,7 +266,7 @@ impl Kept {
         self.taken += 1;
     }
 
-    /// A process stands so.
+    /// Sets the state of a process.
     fn stand(&mut self, process: u8, standing: &Standing)
         requires { process < self.old.setup.processes }
         ensures { self.new ≡ with_standing process standing.now self.old }
@@ -275,28 +275,28 @@ impl Kept {
     }
 }
 
-/// Whether an entry has neither an access nor a mark.
+/// Returns whether an entry has neither an access nor a mark.
 fn has_nothing(access: &Option<Access>, marks: &[Mark]) -> bool
     ensures { (p : ℕ) → result ≡ has_nothing (entry_by p access.now marks.now) }
 {
     access.is_none() && marks.len() == 0
 }
 
-/// Whether one of the marks of an entry stands alone, and is not alone.
+/// Returns whether an entry has a mark that must be alone, and something else too.
 fn is_crowded(access: &Option<Access>, marks: &[Mark]) -> bool
     ensures { (p : ℕ) → result ≡ is_crowded (entry_by p access.now marks.now) }
 {
     any_stands_alone(marks) && !(access.is_none() && marks.len() == 1)
 }
 
-/// Whether one of the marks stands alone.
+/// Returns whether one of the marks must be alone.
 fn any_stands_alone(marks: &[Mark]) -> bool
     ensures { result ≡ list_any is_alone marks.now }
 {
     marks.iter().any(stands_alone)
 }
 
-/// Whether a command is taken with these marks.
+/// Returns whether a command is taken with these marks.
 pub(crate) fn takes(marks: &[Mark]) -> bool
     ensures { result ≡ list_any is_taken marks.now }
 {

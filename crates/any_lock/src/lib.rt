@@ -1,5 +1,5 @@
 //! The judge of records of any lock on safe bits. It names no algorithm: it judges a record by its bits, its calls and
-//! its critical section. The laws are look-backs over the entries before an entry; the judge hears the entries one by
+//! its critical section. The laws are look-backs over the entries before an entry; the judge observes the entries one by
 //! one, in memory of a fixed size, and gives its reasons.
 #![tactic(auto)]
 

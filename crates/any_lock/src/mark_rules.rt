@@ -1,4 +1,4 @@
-//! What a mark is refused for, by where its process stands.
+//! The refusals of a mark, by the state of its process.
 ghost use Rattle.std.specs.Prelude.{◌≡◌, ◌||◌, ◌∷◌, [], ℕ, Bool};
 ghost use Rattle.plain_store.specs.declared.Command.{Command as Asked};
 ghost use Rattle.plain_store.specs.declared.Reply.{Reply as Replied};
@@ -16,7 +16,7 @@ use record::{Mark, Stage};
 const MOST_CALLS: u16 = 65_535;
 
 impl Standing {
-    /// Why a mark of its process is refused, if it is.
+    /// Returns why a mark of its process is refused, if it is.
     pub(crate) fn refuses_mark(&self, mark: &Mark) -> Option<MarkRefusal>
         ensures { result ≡ mark_refusal self.now mark.now }
     {
@@ -39,7 +39,7 @@ impl Standing {
         }
     }
 
-    /// Why a call is refused, if it is.
+    /// Returns why a call is refused, if it is.
     fn refuses_call(&self) -> Option<MarkRefusal>
         ensures { (c : Asked) → result ≡ mark_refusal self.now (Called c) }
     {
@@ -54,7 +54,7 @@ impl Standing {
         }
     }
 
-    /// Why taking a command is refused, if it is.
+    /// Returns why taking a command is refused, if it is.
     fn refuses_taking(&self) -> Option<MarkRefusal>
         ensures { (n : ℕ) (reply : Replied) → result ≡ mark_refusal self.now (Taken n reply) }
     {
@@ -67,7 +67,7 @@ impl Standing {
         }
     }
 
-    /// Why an answer is refused, if it is.
+    /// Returns why an answer is refused, if it is.
     fn refuses_answer(&self, answer: &Answer) -> Option<MarkRefusal>
         ensures { result ≡ mark_refusal self.now (Answered answer.now) }
     {
@@ -90,7 +90,7 @@ impl Standing {
         }
     }
 
-    /// Why it is refused that its unit has settled a bit, if it is.
+    /// Returns why the mark that its unit has settled a bit is refused, if it is.
     fn refuses_settled(&self) -> Option<MarkRefusal>
         ensures { (value : Bool) → result ≡ mark_refusal self.now (Settled value) }
     {
@@ -103,7 +103,7 @@ impl Standing {
         }
     }
 
-    /// Why the end of its unit's work is refused, if it is.
+    /// Returns why the end of its unit's work is refused, if it is.
     fn refuses_down(&self) -> Option<MarkRefusal>
         ensures { result ≡ mark_refusal self.now Down }
     {
@@ -120,7 +120,7 @@ impl Standing {
         }
     }
 
-    /// Whether it has failed and was not restarted.
+    /// Returns whether it has failed and was not restarted.
     fn has_failed(&self) -> bool
         ensures { result ≡ (is_settling self.now.stage || is_down self.now.stage) }
     {
@@ -128,14 +128,14 @@ impl Standing {
     }
 }
 
-/// This refusal, if a test holds.
+/// Returns this refusal if `holds` is true.
 fn refused_if(holds: bool, refusal: MarkRefusal) -> Option<MarkRefusal>
     ensures { result ≡ first_that ((holds, refusal) ∷ []) }
 {
     if holds { Some(refusal) } else { None }
 }
 
-/// Whether a mark stands alone: without an access and without another mark.
+/// Returns whether a mark must be alone: without an access and without another mark.
 pub(crate) fn stands_alone(mark: &Mark) -> bool
     ensures { result ≡ is_alone mark.now }
 {
@@ -145,35 +145,35 @@ pub(crate) fn stands_alone(mark: &Mark) -> bool
     )
 }
 
-/// Whether a process waits.
+/// Returns whether a process waits.
 pub(crate) fn waits(stage: Stage) -> bool
     ensures { result ≡ is_waiting_stage stage }
 {
     matches!(stage, Stage::Waiting)
 }
 
-/// Whether a process is down.
+/// Returns whether a process is down.
 fn is_down(stage: Stage) -> bool
     ensures { result ≡ is_down stage }
 {
     matches!(stage, Stage::Down)
 }
 
-/// Whether a process is in its doorway.
+/// Returns whether a process is in its doorway.
 fn is_in_doorway(stage: Stage) -> bool
     ensures { result ≡ is_in_doorway stage }
 {
     matches!(stage, Stage::Doorway)
 }
 
-/// Whether a process leaves.
+/// Returns whether a process leaves.
 fn is_leaving(stage: Stage) -> bool
     ensures { result ≡ is_leaving stage }
 {
     matches!(stage, Stage::Leaving)
 }
 
-/// Whether an answer is that of a withdrawal.
+/// Returns whether an answer is that of a withdrawal.
 fn is_withdrawn(answer: &Answer) -> bool
     ensures { result ≡ is_withdrawn answer.now }
 {
@@ -181,7 +181,7 @@ fn is_withdrawn(answer: &Answer) -> bool
     matches!(answer, Answer::Withdrawn)
 }
 
-/// Whether an answer is a reply.
+/// Returns whether an answer is a reply.
 fn is_reply(answer: &Answer) -> bool
     ensures { result ≡ answers_reply answer.now }
 {
@@ -189,7 +189,7 @@ fn is_reply(answer: &Answer) -> bool
     matches!(answer, Answer::Reply(_))
 }
 
-/// Whether a command was taken with another reply than this answer.
+/// Returns whether a command was taken with another reply than this answer.
 fn has_other_reply(taken: &Option<Reply>, answer: &Answer) -> bool
     ensures { result ≡ has_other_reply taken.now answer.now }
 {
@@ -201,7 +201,7 @@ fn has_other_reply(taken: &Option<Reply>, answer: &Answer) -> bool
     }
 }
 
-/// Whether two replies are the same.
+/// Returns whether two replies are equal.
 pub(crate) fn same_reply(reply: &Reply, other: &Reply) -> bool
     ensures { result ≡ same_reply reply.now other.now }
 {

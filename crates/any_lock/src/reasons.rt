@@ -1,4 +1,4 @@
-//! The reasons of a verdict: what is looked up for the bad entry.
+//! The reasons of a verdict, which are looked up for the bad entry.
 ghost use Rattle.std.specs.Prelude.{◌≡◌, None};
 ghost use Rattle.any_lock.specs.declared.any_lock_law.AnyLockLaw.TheVariants as broken;
 ghost use Rattle.any_lock.specs.Judging.{AreReasonsBy, AreReasonsIf, TellsDoorway, TellsEntered};
@@ -12,16 +12,16 @@ use crate::standings::{Begun, Standing};
 use plain_store::{NestedTypes, Reply};
 use record::{Access, Mark, Move, Stage};
 
-/// How an entry has to be changed to keep all laws.
+/// The change after which an entry keeps all laws.
 #[derive(Clone, Copy)]
 pub enum Remedy {
     /// Its read ends with this value.
     Value(bool),
-    /// Its command is taken at this place, with this reply, which is its answer too.
+    /// Its command is taken at this position, with this reply, which is its answer too.
     Taking(u64, Reply),
 }
 
-/// Why an entry is refused: by the table of accesses, or else by that of marks.
+/// Why an entry is refused: by the table of accesses, or otherwise by that of marks.
 #[derive(Clone, Copy)]
 pub enum Refused {
     Access(AccessRefusal),
@@ -31,30 +31,30 @@ pub enum Refused {
 /// The most processes of a record.
 const MOST_PROCESSES: usize = 16;
 
-/// What is looked up for an entry that breaks a law. Entries are told by their numbers, from 0.
+/// The reasons of an entry that breaks a law. Entries are given by their numbers, from 0.
 #[derive(Clone, Copy)]
 pub struct Reasons {
-    /// How the entry would keep all laws: with the other value (`Safe`), or with the right place and reply
+    /// The change after which the entry keeps all laws: another value (`Safe`), or the right position and reply
     /// (`History`).
     pub may: Option<Remedy>,
-    /// Why it is refused, whatever the law.
+    /// Why it is refused, for any law.
     pub refused: Option<Refused>,
-    /// The stage of its process; none if that is not there.
+    /// The stage of its process, if that exists.
     pub stage: Option<Stage>,
-    /// Where the access began that its process has open.
+    /// The entry that began the access which its process has open.
     pub opened: Option<u64>,
-    /// Where the write of its torn bit began.
+    /// The entry that began the write of its torn bit.
     pub torn: Option<u64>,
-    /// `Together`: who is inside, and since which entry.
+    /// `Together`: the process that is inside, and the entry since which it is.
     pub inside: Option<(u8, u64)>,
-    /// `Overtaken`: of each process that is ahead the entry of its `wait`.
+    /// `Overtaken`: for each process that is ahead the entry of its `wait`.
     pub waits: [Option<u64>; MOST_PROCESSES],
-    /// `Overtaken`: where the doorway of its process began, in the past or with this entry.
+    /// `Overtaken`: the entry with which the doorway of its process began, before this entry or with it.
     pub doorway: Option<u64>,
 }
 
 impl Kept {
-    /// The reasons of an entry that breaks this law first, if it breaks one.
+    /// Returns the reasons of an entry that breaks this law first, if it breaks one.
     #[inline]
     pub(crate) fn reasons_of(
         &self,
@@ -72,7 +72,7 @@ impl Kept {
         }
     }
 
-    /// The reasons of an entry that breaks this law first.
+    /// Returns the reasons of an entry that breaks this law first.
     #[inline(never)]
     fn reasons(
         &self,
@@ -96,7 +96,7 @@ impl Kept {
         }
     }
 
-    /// Where a process stands, if it is there.
+    /// Returns the state of a process, if the process exists.
     fn looked_up(&self, process: u8) -> Option<Standing>
         ensures { OfPast self.now (λ s past. result ≡ stands s past process) }
     {
@@ -107,7 +107,7 @@ impl Kept {
         }
     }
 
-    /// The stage of a process, if it is there.
+    /// Returns the stage of a process, if it exists.
     fn stage(&self, process: u8) -> Option<Stage>
         ensures { OfPast self.now (λ s past. result ≡ stage_of s past process) }
     {
@@ -117,7 +117,7 @@ impl Kept {
         }
     }
 
-    /// Where the access began that a process has open.
+    /// Returns the entry that began the access which a process has open.
     fn opened(&self, process: u8) -> Option<u64>
         ensures { OfPast self.now (λ s past. result ≡ opened_by s past process) }
     {
@@ -127,7 +127,7 @@ impl Kept {
         }
     }
 
-    /// Where the write of its torn bit began.
+    /// Returns the entry that began the write of its torn bit.
     fn torn(&self, process: u8) -> Option<u64>
         ensures { OfPast self.now (λ s past. result ≡ torn_by s past process) }
     {
@@ -137,7 +137,7 @@ impl Kept {
         }
     }
 
-    /// Why an entry is refused, if it is.
+    /// Returns why an entry is refused, if it is.
     fn refusal(&self, process: u8, access: &Option<Access>, marks: &[Mark]) -> Option<Refused>
         ensures { IsOfEntry result refused self.now process access.now marks.now }
     {
@@ -153,7 +153,7 @@ impl Kept {
         }
     }
 
-    /// How it would keep all laws.
+    /// Returns the change after which it keeps all laws.
     fn change(
         &self,
         law: AnyLockLaw,
@@ -171,7 +171,7 @@ impl Kept {
         }
     }
 
-    /// The right place and reply of a command that is taken, if its process is there.
+    /// Returns the right position and reply of a command that is taken, if its process exists.
     fn right_change(&self, process: u8) -> Option<Remedy>
         ensures { IsOfProcess result (change_of broken.History) self.now process }
     {
@@ -183,7 +183,7 @@ impl Kept {
         Some(Remedy::Taking(place, reply))
     }
 
-    /// The other value of a read's end, if the entry would keep all later laws with it.
+    /// Returns the other value of a read's end, if the entry keeps all later laws with it.
     fn other_value(&self, process: u8, access: &Option<Access>, marks: &[Mark]) -> Option<Remedy>
         ensures { IsOfEntry result other_value self.now process access.now marks.now }
     {
@@ -203,7 +203,7 @@ impl Kept {
         }
     }
 
-    /// `Together`: who but a process is inside, and since which entry.
+    /// Returns for `Together` the other process that is inside, and the entry since which it is.
     fn inside(&self, law: AnyLockLaw, process: u8) -> Option<(u8, u64)>
         ensures { OfPast self.now (λ s past. result ≡ inside_by law s past process) }
     {
@@ -213,7 +213,7 @@ impl Kept {
         self.inside_since(process)
     }
 
-    /// Who but a process is inside, and since which entry.
+    /// Returns the other process that is inside, and the entry since which it is.
     fn inside_since(&self, process: u8) -> Option<(u8, u64)>
         ensures { OfPast self.now (λ s past. result ≡ inside_since s past process) }
     {
@@ -223,7 +223,7 @@ impl Kept {
         }
     }
 
-    /// A process, and the entry of its call with which it got inside.
+    /// Returns a process, and the entry of its call with which it entered.
     fn entered(&self, process: u8) -> Option<(u8, u64)>
         ensures { TellsEntered self.now process result }
     {
@@ -233,7 +233,7 @@ impl Kept {
         }
     }
 
-    /// `Overtaken`: of each process that is ahead of this one the entry of its `wait`.
+    /// Returns for `Overtaken` the entry of the `wait` of each process that is ahead of this one.
     fn waits(&self, law: AnyLockLaw, process: u8) -> [Option<u64>; MOST_PROCESSES]
         ensures { OfPast self.now (λ s past. AreWaits result (wait_by law s past process)) }
     {
@@ -243,7 +243,7 @@ impl Kept {
         self.waits_ahead(process)
     }
 
-    /// Of each process that is ahead of this one the entry of its `wait`.
+    /// Returns the entry of the `wait` of each process that is ahead of this one.
     fn waits_ahead(&self, process: u8) -> [Option<u64>; MOST_PROCESSES]
         ensures { OfPast self.now (λ s past. AreWaits result (wait_ahead s past process)) }
     {
@@ -254,7 +254,7 @@ impl Kept {
         waits
     }
 
-    /// The entry of the `wait` of a process, if that is there and is ahead of another that is there.
+    /// Returns the entry of the `wait` of a process, if both processes exist and it is ahead of the other.
     fn wait_ahead(&self, other: u8, process: u8) -> Option<u64>
         ensures { OfPast self.now (λ s past. result ≡ wait_ahead s past process other) }
     {
@@ -267,7 +267,7 @@ impl Kept {
         self.stands(other).waits
     }
 
-    /// `Overtaken`: where the doorway of a process began, in the past or with this access.
+    /// Returns for `Overtaken` the entry with which the doorway of a process began, before this access or with it.
     fn doorway(&self, law: AnyLockLaw, process: u8, access: &Option<Access>) -> Option<u64>
         ensures { IsOfAccess result (doorway_by law) self.now process access.now }
     {
@@ -277,7 +277,7 @@ impl Kept {
         self.doorway_with(process, access)
     }
 
-    /// Where the doorway of a process began, in the past or with this access.
+    /// Returns the entry with which the doorway of a process began, before this access or with it.
     fn doorway_with(&self, process: u8, access: &Option<Access>) -> Option<u64>
         ensures { IsOfAccess result doorway_of self.now process access.now }
     {
@@ -287,7 +287,7 @@ impl Kept {
         }
     }
 
-    /// Where the doorway of a process that stands so began, in the past or with this access.
+    /// Returns the entry with which the doorway of a process in this state began, before this access or with it.
     fn doorway_of(&self, standing: &Standing, access: &Option<Access>) -> Option<u64>
         ensures { TellsDoorway self.now access.now standing.now result }
     {
@@ -299,7 +299,7 @@ impl Kept {
     }
 }
 
-/// A process, and an entry, if there is one.
+/// Returns a process, and an entry, if there is one.
 fn since(process: u8, entry: Option<u64>) -> Option<(u8, u64)>
     ensures { result ≡ since process entry }
 {
@@ -309,7 +309,7 @@ fn since(process: u8, entry: Option<u64>) -> Option<(u8, u64)>
     }
 }
 
-/// The entry with which an access began.
+/// Returns the entry with which an access began.
 fn entry_of(begun: &Option<Begun>) -> Option<u64>
     ensures { result ≡ began_at begun.now }
 {

@@ -1,21 +1,21 @@
-//! Why an access or a mark is refused, whatever the algorithm.
+//! Why an access or a mark is refused, for any algorithm.
 
-/// Why an access is refused. Where several apply, the first in this order is given.
+/// Why an access is refused. If several reasons apply, the first in this order is given.
 #[derive(Clone, Copy)]
 pub enum AccessRefusal {
-    /// There is no such process. Without an access it is refused too.
+    /// The process does not exist. An entry without an access is refused too.
     NoProcess,
-    /// The owner, the reader or the bit is not there.
+    /// The owner, the reader or the bit does not exist.
     NoBit,
-    /// Another than the owner writes, ends a write or settles.
+    /// A process that is not the owner writes, ends a write or settles.
     NotOwner,
-    /// Another than the reader reads or ends that.
+    /// A process that is not the reader reads or ends a read.
     NotReader,
-    /// A settling, but the process does not settle.
+    /// A settling, and the process does not settle.
     NotSettling,
     /// Another move of a process that does not run; one that settles may write and end that.
     NotRunning,
-    /// The end of what is not open.
+    /// The end of an access that is not open.
     NotOpen,
     /// A begin or a settling while an access is open.
     AccessOpen,
@@ -28,9 +28,9 @@ pub enum AccessRefusal {
 /// Why the marks of an entry are refused: the first refusal of the first refused mark.
 #[derive(Clone, Copy)]
 pub enum MarkRefusal {
-    /// There is neither an access nor a mark.
+    /// The entry has neither an access nor a mark.
     Nothing,
-    /// A call, a failure, a withdrawal or a restart beside an access or a mark.
+    /// A call, a failure, a withdrawal or a restart with an access or another mark.
     NotAlone,
     /// A call: the process is running.
     Busy,
@@ -40,7 +40,7 @@ pub enum MarkRefusal {
     CallsFull,
     /// A failure: the process is settling or down.
     AlreadyFailed,
-    /// A withdrawal, or getting inside: the process does not wait.
+    /// A withdrawal, or entering: the process does not wait.
     NotWaiting,
     /// A restart: the process is not down.
     NotDown,
@@ -52,11 +52,11 @@ pub enum MarkRefusal {
     TakenBefore,
     /// An answer: the process is neither in its doorway nor leaving.
     NotLeaving,
-    /// Another answer than `Withdrawn` to a call that was withdrawn.
+    /// An answer other than `Withdrawn` to a call that was withdrawn.
     WasWithdrawn,
-    /// Another answer than the reply with which the command was taken.
+    /// An answer other than the reply with which the command was taken.
     OtherReply,
-    /// A reply, but no command was taken.
+    /// A reply, and no command was taken.
     NotTaken,
     /// The answer `Withdrawn` to a call that was not withdrawn.
     NotWithdrawn,

@@ -1,4 +1,4 @@
-//! Where a process stands, kept up access by access and mark by mark.
+//! The state of a process, updated access by access and mark by mark.
 ghost use Rattle.std.specs.Prelude.{◌≡◌, ◌<◌, ℕ, None, Some, IfErr, OnOk};
 ghost use Rattle.plain_store.specs.declared.Setup.{Setup as Given};
 ghost use Rattle.record.specs.declared.marks.Mark.TheVariants.{Called, Left};
@@ -18,7 +18,7 @@ pub struct Begun {
     pub access: Access,
 }
 
-/// Where a process stands after the entries so far. Entries are told by their numbers, from 0.
+/// The state of a process after the entries so far. Entries are given by their numbers, from 0.
 #[derive(Clone, Copy)]
 pub struct Standing {
     pub stage: Stage,
@@ -26,7 +26,7 @@ pub struct Standing {
     pub inside: bool,
     /// Whether its call was withdrawn.
     pub withdrawn: bool,
-    /// The number of its last call: in version 2 how many it has made, in version 1 always 0.
+    /// The number of its last call: in version 2 the number of calls it has made, in version 1 always 0.
     pub number: u16,
     /// The command of its last call.
     pub command: Command,
@@ -40,12 +40,12 @@ pub struct Standing {
     pub doorway: Option<u64>,
     /// The entry of its call with which it waits.
     pub waits: Option<u64>,
-    /// The entry of its call with which it got inside.
+    /// The entry of its call with which it entered.
     pub enters: Option<u64>,
 }
 
 impl Standing {
-    /// Without an entry.
+    /// Returns the state without an entry.
     pub(crate) fn at_rest() -> Standing
         ensures { result ≡ at_rest }
     {
@@ -64,7 +64,7 @@ impl Standing {
         }
     }
 
-    /// After the access of this entry.
+    /// Updates the state by the access of this entry.
     #[inline]
     pub(crate) fn make(&mut self, entry: u64, access: Access)
         ensures { self.new ≡ accessed entry self.old access }
@@ -80,7 +80,7 @@ impl Standing {
         self.doorway = first_of(self.doorway, entry);
     }
 
-    /// After the marks of this entry, or else why the first refused one is refused.
+    /// Updates the state by the marks of this entry, or returns why the first refused one is refused.
     pub(crate) fn mark_all(
         &mut self,
         setup: &Setup,
@@ -101,7 +101,7 @@ impl Standing {
         Ok(())
     }
 
-    /// After a mark of this entry, which is not refused.
+    /// Updates the state by a mark of this entry, which is not refused.
     fn mark(&mut self, setup: &Setup, entry: u64, mark: &Mark)
         requires { mark_refusal self.old mark.now ≡ None }
         ensures { self.new ≡ marked setup.now entry self.old mark.now }
@@ -136,7 +136,7 @@ impl Standing {
         }
     }
 
-    /// A call begins.
+    /// Updates the state by a call.
     fn call(&mut self, setup: &Setup, command: &Command)
         requires { self.old.number < 65535 }
         ensures { (entry : ℕ) → self.new ≡ marked setup.now entry self.old (Called command.now) }
@@ -156,7 +156,7 @@ impl Standing {
         self.enters = None;
     }
 
-    /// It leaves; while its memory unit settles, it stays settling.
+    /// Updates the state by leaving. While its memory unit settles, the process stays settling.
     fn leave(&mut self)
         ensures { (s : Given) (entry : ℕ) → self.new ≡ marked s entry self.old Left }
     {
@@ -167,7 +167,7 @@ impl Standing {
     }
 }
 
-/// Whether a move begins an access.
+/// Returns whether a move begins an access.
 #[inline]
 fn is_begin(how: Move) -> bool
     ensures { result ≡ begins_access how }
@@ -175,7 +175,7 @@ fn is_begin(how: Move) -> bool
     matches!(how, Move::BeginWrite(_) | Move::BeginRead)
 }
 
-/// Whether a move settles.
+/// Returns whether a move settles.
 #[inline]
 pub(crate) fn is_settling(how: Move) -> bool
     ensures { result ≡ settles_bit how }
@@ -183,7 +183,7 @@ pub(crate) fn is_settling(how: Move) -> bool
     matches!(how, Move::Settle(_))
 }
 
-/// The first of two entries, of which there may be none before.
+/// Returns the first of two entries, of which the earlier may be missing.
 #[inline]
 fn first_of(before: Option<u64>, entry: u64) -> Option<u64>
     ensures { result ≡ first_of before (Some entry) }
@@ -194,7 +194,7 @@ fn first_of(before: Option<u64>, entry: u64) -> Option<u64>
     }
 }
 
-/// What is open, if it is a write.
+/// Returns the open access, if it is a write.
 fn write_of(opened: Option<Begun>) -> Option<Begun>
     ensures { result ≡ write_in opened }
 {

@@ -1,5 +1,5 @@
-//! The engine `audit`: the verdict on the record of a scenario's run, of which an auditor hears each entry as the
-//! run makes it. No record is held.
+//! The engine `audit`: the verdict on the record of a scenario's run. An auditor observes each entry as the
+//! run makes it. No record is stored.
 ghost use Rattle.std.specs.Prelude.{◌≡◌, ◌+◌, ◌-◌, ◌^◌, ◌<◌, IfErr, IfOk, OnOk};
 ghost use Rattle.judge.specs.read_law.declared.verdicts.Verdict.TheVariants.{Good};
 ghost use Rattle.scenario.specs.files.Engines.{Ran, streams};
@@ -17,10 +17,10 @@ use scenario::{Fault, Scenario, Sink, Source, read_input, read_scenario};
 use std::alloc::{AllocError, Global};
 use sweeper::progress::Onlooker;
 
-/// Reads a whole file, makes its run, of which an auditor hears each entry, and then writes the verdict on its
-/// record, on one line; answers the exit status. However it ends, at most `INPUT_LIMIT` bytes are taken from the
+/// Reads a whole file, makes its run, while an auditor observes each entry, and then writes the verdict on its
+/// record, on one line. Returns the exit status. However it ends, at most `INPUT_LIMIT` bytes are taken from the
 /// front of the input.
-/// An onlooker hears how far it is: `Nobody`, where nobody is to know.
+/// `onlooker` receives the progress; [`Nobody`] ignores it.
 pub fn run_audit<R: Source, W: Sink, L: Onlooker>(
     alloc: Global,
     input: &mut R,
@@ -41,7 +41,7 @@ pub fn run_audit<R: Source, W: Sink, L: Onlooker>(
     audit_scenario(alloc, &scenario, output, onlooker)
 }
 
-/// Makes the run of a file's scenario, writes the verdict on its record, and answers the exit status.
+/// Makes the run of a file's scenario, writes the verdict on its record, and returns the exit status.
 fn audit_scenario<W: Sink, L: Onlooker>(
     alloc: Global,
     scenario: &Scenario,
@@ -61,7 +61,7 @@ fn audit_scenario<W: Sink, L: Onlooker>(
     Ok(status_of(&audited.verdict))
 }
 
-/// Makes the run of a file's scenario, of which an auditor hears each entry. The one fault is want of memory.
+/// Makes the run of a file's scenario, while an auditor observes each entry. Fails only if an allocation fails.
 fn audit_run<L: Onlooker>(
     alloc: Global,
     scenario: &Scenario,

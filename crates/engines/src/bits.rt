@@ -10,7 +10,7 @@ use safe_bit::SafeBit;
 use scenario::{BitLine, Fault, Sink, Source, read_bits, read_input, write_all};
 use std::alloc::{AllocError, Global};
 
-/// Whether the line's call may be made on the bit now.
+/// Returns whether the line's call may be made on the bit now.
 fn may_make(bit: &SafeBit, line: BitLine) -> bool
     ensures { result ≡ can_take bit.now line }
 {
@@ -22,7 +22,7 @@ fn may_make(bit: &SafeBit, line: BitLine) -> bool
     }
 }
 
-/// Makes the line's call, and answers what is printed.
+/// Makes the line's call, and returns what is printed.
 fn make(bit: &mut SafeBit, line: BitLine) -> &'static str
     requires { can_take bit.old line ≡ true }
     ensures text { result.now ≡ made_text bit.old line }
@@ -39,7 +39,7 @@ fn make(bit: &mut SafeBit, line: BitLine) -> &'static str
     ""
 }
 
-/// Does a line, and answers what is printed: a call that is not in its turn is refused.
+/// Carries out a line, and returns what is printed: a call out of turn is refused.
 fn do_line(bit: &mut SafeBit, line: BitLine) -> &'static str
     ensures text { result.now ≡ bit_line_text bit.old line }
     ensures after { bit.new ≡ bit_after bit.old line }
@@ -51,7 +51,7 @@ fn do_line(bit: &mut SafeBit, line: BitLine) -> &'static str
     }
 }
 
-/// What the lines of a file print.
+/// Returns what the lines of a file print.
 #[tactic(auto, using(crate::proofs::BitLists::bits_text_more))]
 fn text_of(alloc: Global, lines: &[BitLine]) -> Result<String, AllocError>
     ensures { IfOk result (λ text. string_bytes text ≡ bits_printed lines.now) }
@@ -65,8 +65,8 @@ fn text_of(alloc: Global, lines: &[BitLine]) -> Result<String, AllocError>
 }
 
 /// Reads a whole bits file, and then writes a line for each read that ended and each call that was refused.
-/// A fault of a line, or of reading, is told before a byte is written; where writing fails, or memory is wanting,
-/// a front of the text may have been written. However it ends, at most `INPUT_LIMIT` bytes are taken from the
+/// A fault of a line, or of reading, is reported before a byte is written. If writing or an allocation fails,
+/// the start of the text may have been written. However it ends, at most `INPUT_LIMIT` bytes are taken from the
 /// front of the input.
 pub fn run_bits<R: Source, W: Sink>(
     alloc: Global,

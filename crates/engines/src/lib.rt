@@ -1,8 +1,8 @@
-//! The engines: each reads a whole file, runs what it says, and writes what its command prints. `plain` and `bits` do the calls
-//! of a file on one store or on one safe bit; `replay`, `record`, `audit` and `sweep` make the run of a scenario on a world. The
-//! calls by which a program has the accepted events of a run, and the record of a list of events, stand beside them.
+//! The engines: each reads a whole file, runs it, and writes what its command prints. `plain` and `bits` make the calls
+//! of a file on one store or on one safe bit; `replay`, `record`, `audit` and `sweep` make the run of a scenario on a world. Two
+//! more calls give a program the accepted events of a run, and the record of a list of events.
 //!
-//! With `course`, `read_law`, `auditor` and `sweeper`, this crate is what the request calls `replayer`.
+//! The crates `course`, `read_law`, `auditor` and `sweeper` belong to it.
 //!
 //! ```rust
 //! replay(alloc, input, output, &mut Nobody)

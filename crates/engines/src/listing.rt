@@ -15,7 +15,7 @@ use scenario::{Fault, Scenario};
 use std::alloc::{AllocError, Global};
 use sweeper::progress::Nobody;
 
-/// The events of a scenario's run that are accepted, in order. The one fault is want of memory.
+/// Returns the accepted events of a scenario's run, in their order. Fails only if an allocation fails.
 pub fn events_of(alloc: Global, scenario: &Scenario) -> Result<Vec<Event>, AllocError>
     ensures { IfOk result (λ events. events.items ≡ accepted_events (script scenario.now)) }
 {
@@ -28,7 +28,7 @@ pub fn events_of(alloc: Global, scenario: &Scenario) -> Result<Vec<Event>, Alloc
     Ok(lister.events)
 }
 
-/// Lists the accepted events of a run as it hears them.
+/// Lists the accepted events of a run as it observes them.
 #[derive(Drop)]
 struct Lister {
     events: Vec<Event>,
@@ -75,7 +75,7 @@ impl Listener for Lister {
     ghost stops_on = { λ a b c s x y z fault p q. tt };
 }
 
-/// Lists the event that is told, if one is.
+/// Lists the event of this turn, if there is one.
 fn list(told: &Told, events: &mut Vec<Event>) -> Result<(), AllocError>
     ensures { OnOk result (events.new.items ≡ events.old.items ++ event_told told.now) }
 {
@@ -94,9 +94,9 @@ fn add(event: Event, events: &mut Vec<Event>) -> Result<(), AllocError>
     Ok(events.push(event)?)
 }
 
-/// The record of a list of events: an entry for each that is accepted. The one fault is want of memory. Names,
-/// values and counts of the events are what their types allow, and of each entry of the record the headline holds. Each
-/// fits its line in a record file, and what is printed for the record is read as its setup and that record.
+/// Returns the record of a list of events, with an entry for each accepted event. Fails only if an allocation fails. Names,
+/// values and counts of the events are what their types allow, and the headline holds of each entry of the record. Each
+/// fits its line in a record file, and reading what is printed for the record gives its setup and that record.
 pub fn record_of(alloc: Global, setup: &Setup, events: &[Event]) -> Result<Record, AllocError>
     requires { checked setup.now ≡ Ok tt }
     ensures entries { IfOk result (λ made. made ≡ record_made setup.now events.now) }
@@ -132,7 +132,7 @@ fn record_event(
     }
 }
 
-/// A refused event adds nothing; want of memory is no refusal of the record.
+/// Returns success for a refused event, which adds nothing. A failed allocation is not a refusal of the record.
 fn passed_over(refusal: Refusal) -> Result<(), AllocError>
     ensures { OnOk result (refusal ≡ Memory → ⊥) }
 {

@@ -13,7 +13,7 @@ use scenario::{Fault, Line, Scenario, Sink, Source, read_input, read_scenario, w
 use std::alloc::{AllocError, Global};
 use std::marker::Model;
 
-/// A run of `plain`: the store, and the calls that were applied, in all and of each process.
+/// A run of `plain`: the store, and the numbers of calls that were applied, in all and of each process.
 #[derive(Drop)]
 struct PlainRun {
     store: PlainStore,
@@ -46,7 +46,7 @@ impl PlainRun {
         })
     }
 
-    /// Does a line, and answers what is printed.
+    /// Carries out a line, and returns what is printed.
     fn line(&mut self, alloc: Global, setup: &Setup, line: &Line) -> Result<String, AllocError>
         requires known { length self.old.counts ≡ setup.now.processes }
         requires few { self.old.place < 2 ^ 16 - 1 }
@@ -98,7 +98,7 @@ impl PlainRun {
         reply_line(alloc, place, process, &reply)
     }
 
-    /// Who makes the process's next call.
+    /// Returns the caller of the process's next call.
     fn caller(&self, setup: &Setup, process: u8) -> Caller
         requires known { process < length self.now.counts }
         requires few { self.now.place < 2 ^ 16 - 1 }
@@ -122,7 +122,7 @@ impl PlainRun {
     }
 }
 
-/// The line that is printed for a call.
+/// Returns the line that is printed for a call.
 #[tactic(auto, using(crate::proofs::Lists::reply_line_is))]
 fn reply_line(alloc: Global, place: u64, process: u8, reply: &Reply) -> Result<String, AllocError>
     ensures { GivesText result (line_of_reply place process (reply_text reply.now)) }
@@ -130,7 +130,7 @@ fn reply_line(alloc: Global, place: u64, process: u8, reply: &Reply) -> Result<S
     format!(in alloc; "{place} {process} {reply}\n")
 }
 
-/// What a scenario prints.
+/// Returns what a scenario prints.
 fn text_of(alloc: Global, scenario: &Scenario) -> Result<String, AllocError>
     ensures { GivesText result (printed (script scenario.now)) }
 {
@@ -140,8 +140,8 @@ fn text_of(alloc: Global, scenario: &Scenario) -> Result<String, AllocError>
     Ok(text)
 }
 
-/// The same behind a text, lent a run that has just begun. It is a function of its own, since values that are dropped at each
-/// way out of a function are dear to prove.
+/// Appends it to a text, by a run that has just begun. It borrows the run, because a value that is dropped at each
+/// way out of a function takes long to prove.
 fn push_lines(
     alloc: Global,
     scenario: &Scenario,
@@ -159,8 +159,8 @@ fn push_lines(
 }
 
 /// Reads a whole scenario file, and then writes a line for each call and each `show`; other lines do nothing.
-/// A fault of a line, or of reading, is told before a byte is written; where writing fails, or memory is wanting,
-/// a front of the text may have been written. However it ends, at most `INPUT_LIMIT` bytes are taken from the
+/// A fault of a line, or of reading, is reported before a byte is written. If writing or an allocation fails,
+/// the start of the text may have been written. However it ends, at most `INPUT_LIMIT` bytes are taken from the
 /// front of the input.
 pub fn run_plain<R: Source, W: Sink>(
     alloc: Global,

@@ -1,5 +1,5 @@
 //! The engine `record`: the record of a scenario's run as text, each entry written before the next event is made. No
-//! record is held.
+//! record is stored.
 ghost use Rattle.std.specs.Prelude.{◌≡◌, ◌+◌, ◌-◌, ◌^◌, ◌<◌, IfErr, IsOk, OnErr, OnOk, ⊤, true, refl};
 ghost use Rattle.std.proofs.Common.{◌∙◌};
 ghost use Rattle.scenario.specs.files.Engines.{Ran, streams};
@@ -18,10 +18,10 @@ use std::alloc::{AllocError, Global};
 use sweeper::progress::Onlooker;
 
 /// Reads a whole scenario file, and then writes the record of its run, as it is made: the setup, and a line for each
-/// entry. However it ends, at most `INPUT_LIMIT` bytes are taken from the front of the input. What is written of a
-/// scenario is read, as `judge` reads it, as its setup and the record of its run: the record of whatever events, each of
-/// whose entries fits its line, is read again.
-/// An onlooker hears how far it is: `Nobody`, where nobody is to know.
+/// entry. However it ends, at most `INPUT_LIMIT` bytes are taken from the front of the input. If `judge` reads what is
+/// written, it reads the setup and the record of the run. This holds for the record of any events, as long as each
+/// entry fits its line.
+/// `onlooker` receives the progress; [`Nobody`] ignores it.
 pub fn run_record<R: Source, W: Sink, L: Onlooker>(
     alloc: Global,
     input: &mut R,
@@ -74,7 +74,7 @@ fn record_scenario<W: Sink, L: Onlooker>(
     Ok(())
 }
 
-/// What is kept from one entry to the next: how many there were, and room for a line.
+/// What is stored from one entry to the next: their number, and room for a line.
 #[derive(Drop)]
 struct Room {
     events: u64,
@@ -82,7 +82,7 @@ struct Room {
     printed: StepLine,
 }
 
-/// Writes the entries of a run as it hears them.
+/// Writes the entries of a run as it observes them.
 #[derive(Drop)]
 struct Copier<'a, W: Sink> {
     alloc: Global,
@@ -149,12 +149,12 @@ fn write_step<W: Sink>(made: Stepped, printed: &mut StepLine, output: &mut W) ->
     write_all(output, printed.as_bytes())
 }
 
-/// How many events were accepted where this is told: one or none.
+/// Returns the number of events that were accepted in this turn: one or none.
 fn accepted_by(told: &Told) -> u64 {
     u64::from(matches!(told, Told::Accepted(_)))
 }
 
-/// Writes the line of the entry that is told, if one is.
+/// Writes the line of the entry of this turn, if there is one.
 fn write_entry<W: Sink>(
     alloc: Global,
     told: &Told,
@@ -176,7 +176,7 @@ fn write_entry<W: Sink>(
     }
 }
 
-/// Writes the line of an entry, by a text that is cleared for it, unless there was no memory for the line.
+/// Writes the line of an entry, by a text that is cleared for it, unless an allocation failed for the line.
 #[tactic(auto, using(course::proofs::Written::front_none))]
 fn write_entry_line<W: Sink>(
     alloc: Global,
@@ -195,7 +195,7 @@ fn write_entry_line<W: Sink>(
     write_all(output, text.as_slice())
 }
 
-/// Writes bytes, unless there was no memory for them.
+/// Writes bytes, unless an allocation failed for them.
 fn write_bytes<W: Sink>(output: &mut W, bytes: Result<Vec<u8>, AllocError>) -> Result<(), Fault>
     requires { W.failures output.old < 2 ^ 64 - 1 }
     ensures ok { WroteBytes W.taken result output.old output.new bytes }

@@ -18,10 +18,10 @@ use sweeper::progress::Onlooker;
 /// Reads a whole file, and then writes the marks of its run, as they are made, and its three numbers. However it
 /// ends, at most `INPUT_LIMIT` bytes are taken from the front of the input.
 ///
-/// Where all of it is written, the headline holds of each entry of the run: no two processes are inside the
-/// critical section together; nobody overtakes a process whose doorway finished first; every store answer is the
-/// one-thread store's at its place in one history that keeps the order of calls that do not overlap.
-/// An onlooker hears how far it is: `Nobody`, where nobody is to know.
+/// If all of it is written, the headline holds of each entry of the run: no two processes are inside the
+/// critical section together; no process overtakes one whose doorway ended before its own began; every store reply is the
+/// sequential store's at its position in one history that keeps the order of calls that do not overlap.
+/// `onlooker` receives the progress; [`Nobody`] ignores it.
 pub fn replay<R: Source, W: Sink, L: Onlooker>(
     alloc: Global,
     input: &mut R,
@@ -71,7 +71,7 @@ fn replay_scenario<W: Sink, L: Onlooker>(
     Ok(summary)
 }
 
-/// Writes the marks of a run as it hears them, and counts. Steps without a mark tell nothing, and are counted.
+/// Writes the marks of a run as it observes them, and counts. Steps without a mark print nothing, and are counted.
 #[derive(Drop)]
 struct Printer<'a, W: Sink> {
     alloc: Global,

@@ -1,4 +1,4 @@
-//! The engine `sweep`: what a sweep over a scenario's run finds.
+//! The engine `sweep`: the findings of a sweep over a scenario's run.
 ghost use Rattle.std.specs.Prelude.{◌≡◌, ◌+◌, ◌++◌, ◌-◌, ◌^◌, ◌<◌, ◌≤◌, ℕ, List, false, length, true, IfErr, IfOk, OnOk, Ok, ⊤};
 ghost use Rattle.std.specs.String.{string_bytes};
 ghost use Rattle.plain_store.specs.declared.commands.Command.{Command as Said};
@@ -20,14 +20,14 @@ use std::alloc::{AllocError, Global};
 use sweeper::progress::{Nobody, Onlooker, Reached};
 use sweeper::{Sweeper, Swept};
 
-/// More calls than any memory holds. Up to so many a sweep has room for.
+/// More calls than any memory can store. A sweep has room for this number of them.
 const MOST_CALLS: usize = 1 << 56;
 
-/// Reads a whole file, makes a sweep over its run, and then writes what that finds: the counts on one line, and on a
+/// Reads a whole file, makes a sweep over its run, and then writes its findings: the counts on one line, and on a
 /// second one the first bad run, if there is one. The sweep goes along the accepted events of the run, and in each of its
-/// runs the accepted calls of the file follow. It answers the exit status. However it ends, at most `INPUT_LIMIT`
+/// runs the accepted calls of the file follow. Returns the exit status. However it ends, at most `INPUT_LIMIT`
 /// bytes are taken from the front of the input.
-/// An onlooker hears how far it is: `Nobody`, where nobody is to know.
+/// `onlooker` receives the progress; [`Nobody`] ignores it.
 pub fn run_sweep<R: Source, W: Sink, L: Onlooker>(
     alloc: Global,
     input: &mut R,
@@ -48,7 +48,7 @@ pub fn run_sweep<R: Source, W: Sink, L: Onlooker>(
     sweep_scenario(alloc, &scenario, output, onlooker)
 }
 
-/// The exit status that what a sweep finds stands for: 3 where a run is bad, else 0.
+/// Returns the exit status of the findings of a sweep: 3 if a run is bad, otherwise 0.
 pub fn status_of_sweep(found: &Swept) -> u8
     ensures { result ≡ status_of_swept found.now }
 {
@@ -58,7 +58,7 @@ pub fn status_of_sweep(found: &Swept) -> u8
     }
 }
 
-/// Makes a sweep over a scenario's run, writes what it finds, and answers the exit status.
+/// Makes a sweep over a scenario's run, writes its findings, and returns the exit status.
 fn sweep_scenario<W: Sink, L: Onlooker>(
     alloc: Global,
     scenario: &Scenario,
@@ -78,8 +78,8 @@ fn sweep_scenario<W: Sink, L: Onlooker>(
     Ok(status_of_sweep(&found))
 }
 
-/// Makes a sweep over a scenario's run. That is made twice: for its calls, which end each run of the sweep, and then before the
-/// sweeper, which goes along its events as they are made. So none is kept. The one fault is want of memory.
+/// Makes a sweep over a scenario's run. The run is made twice: for its calls, which end each run of the sweep, and then for
+/// the sweeper, which goes along its events as they are made. So no event is stored. Fails only if an allocation fails.
 fn sweep_run<L: Onlooker>(
     alloc: Global,
     scenario: &Scenario,
@@ -99,7 +99,7 @@ fn sweep_run<L: Onlooker>(
     sweep_lines(scenario, &mut course, &mut along)
 }
 
-/// The accepted calls of a scenario's run, in their order, and how many events it has.
+/// Returns the accepted calls of a scenario's run, in their order, and the number of its events.
 fn calls_of(alloc: Global, scenario: &Scenario) -> Result<Calls, AllocError>
     ensures calls { IfOk result (λ heard. heard.calls.items ≡ accepted_calls (script scenario.now)) }
     ensures few { IfOk result (λ heard. length heard.calls.items ≤ 2 ^ 56) }
@@ -116,8 +116,8 @@ fn calls_of(alloc: Global, scenario: &Scenario) -> Result<Calls, AllocError>
     Ok(heard)
 }
 
-/// The same sweep, lent a course and a sweeper that have just begun: values that are dropped at each way out of a function
-/// are dear to prove.
+/// Makes the same sweep by a course and a sweeper that have just begun. It borrows them, because a value that is dropped at
+/// each way out of a function takes long to prove.
 fn sweep_lines<L: Onlooker>(
     scenario: &Scenario,
     course: &mut Course,
@@ -137,7 +137,7 @@ fn sweep_lines<L: Onlooker>(
     Ok(along.sweeper.found())
 }
 
-/// Lists the accepted calls of a run as it hears them, and counts its events.
+/// Lists the accepted calls of a run as it observes them, and counts its events.
 #[derive(Drop)]
 struct Calls {
     calls: Vec<(u8, Command)>,
@@ -190,7 +190,7 @@ impl Listener for Calls {
     ghost stops_on = { λ a b c s x y z fault p q. tt };
 }
 
-/// One call more, if what is told is one that is accepted.
+/// Adds the call of this turn, if it is one and was accepted.
 fn keep_told(told: &Told, calls: &mut Vec<(u8, Command)>) -> Result<(), AllocError>
     ensures { OnOk result (calls.new.items ≡ calls.old.items ++ calls_in (event_told told.now)) }
 {
@@ -203,7 +203,7 @@ fn keep_told(told: &Told, calls: &mut Vec<(u8, Command)>) -> Result<(), AllocErr
     Ok(())
 }
 
-/// A sweep that goes along a run as it is made, before an onlooker, who hears how many of so many events it has gone along.
+/// A sweep that goes along a run as it is made, and tells an onlooker how many of its events it has passed.
 #[derive(Drop)]
 struct Along<'a, L: Onlooker> {
     sweeper: Sweeper,
@@ -213,7 +213,7 @@ struct Along<'a, L: Onlooker> {
 }
 
 impl<'a, L: Onlooker> Along<'a, L> {
-    /// The sweep goes along one more event.
+    /// Lets the sweep go along one more event.
     fn go_on(&mut self, event: &Event)
         requires room { CanSweep self.old.calls.now 1 self.old.sweeper }
         ensures swept { SweepsOn self.old.calls.now event.now self.old.sweeper self.new.sweeper }
@@ -275,7 +275,7 @@ impl<'a, L: Onlooker> Listener for Along<'a, L> {
     ghost stops_on = { λ a b c s x y z fault p q. tt };
 }
 
-/// The lines of what a sweep finds.
+/// Returns the lines of the findings of a sweep.
 fn swept_lines(alloc: Global, found: &Swept) -> Result<String, AllocError>
     ensures { IfOk result (λ lines. string_bytes lines ≡ lines_of_swept found.now) }
 {

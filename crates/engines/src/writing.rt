@@ -1,4 +1,4 @@
-//! How what is told is written, a line at a time.
+//! Writing the lines of a run, one at a time.
 ghost use Rattle.std.specs.Prelude.{◌≡◌, ◌+◌, ◌-◌, ◌^◌, ◌<◌, IfOk, IfErr, IsOk, OnOk, OnErr};
 ghost use Rattle.std.specs.String.{string_bytes};
 ghost use Rattle.engines.specs.Replayings.{mark_lines, text_next};
@@ -10,7 +10,7 @@ use course::{Mark, ReplayLine, Summary, Told, newest_words};
 use scenario::{Fault, Sink, write_all};
 use std::alloc::{AllocError, Global};
 
-/// Writes what is told; `number` is how many events were accepted before it.
+/// Writes the lines of a turn, before which `number` events were accepted.
 fn write_told<W: Sink>(alloc: Global, number: u64, told: &Told, output: &mut W) -> Result<(), Fault>
     requires { W.failures output.old < 2 ^ 64 - 1 }
     ensures ok { Wrote W.taken result output.old output.new (told_text number told.now) }
@@ -79,7 +79,7 @@ fn ended_line(alloc: Global, line: &ReplayLine) -> Result<String, AllocError>
     format!(in alloc; "{line}\n")
 }
 
-/// Writes a line, unless there was no memory for it.
+/// Writes a line, unless an allocation failed for it.
 pub(crate) fn write_line<W: Sink>(
     output: &mut W,
     line: Result<String, AllocError>,
@@ -116,7 +116,7 @@ pub(crate) fn write_end<W: Sink>(
     write_run_line(alloc, &line, output)
 }
 
-/// Writes and counts what is told.
+/// Writes and counts the lines of a turn.
 pub(crate) fn tell<W: Sink>(
     alloc: Global,
     told: &Told,

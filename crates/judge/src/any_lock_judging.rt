@@ -1,4 +1,4 @@
-//! The judge of records of any lock, among judges of records.
+//! The judge of records of any lock, as one of the judges of records.
 ghost use Rattle.any_lock.specs.{HasJudged as HasHeardAll, IsVerdict as IsTheVerdict};
 ghost use Rattle.judge.specs.AnyLockVerdicts.{newest_is_bad, none_is_bad, one_verdict, stays_bad};
 ghost use Rattle.judge.specs.AnyReasons.{AreAnyLockReasons};

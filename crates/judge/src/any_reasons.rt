@@ -30,7 +30,7 @@ pub(crate) fn push_reasons(
     push_others(alloc, reasons, text)
 }
 
-/// The entry as it would keep all laws.
+/// Writes the entry with the change after which it keeps all laws.
 #[tactic(auto, using(crate::proofs::Texts::none))]
 fn push_may(
     alloc: Global,
@@ -50,7 +50,7 @@ fn push_may(
     }
 }
 
-/// Why it is refused.
+/// Writes why it is refused.
 #[tactic(auto, using(crate::proofs::Texts::none))]
 fn push_refused(
     alloc: Global,
@@ -84,7 +84,7 @@ fn mark_text(alloc: Global, refusal: &MarkRefusal) -> Result<String, AllocError>
     format!(in alloc; "refused {refusal}\n")
 }
 
-/// Where its process stands.
+/// Writes the stage of its process, and what that has open or torn.
 #[tactic(auto, using(crate::proofs::Texts::three))]
 fn push_standing(alloc: Global, reasons: &Reasons, text: &mut Vec<u8>) -> Result<(), AllocError>
     ensures { OnOk result (text.new.items ≡ text.old.items ++ standing_lines reasons.now) }
@@ -94,7 +94,7 @@ fn push_standing(alloc: Global, reasons: &Reasons, text: &mut Vec<u8>) -> Result
     push_if(alloc, "torn", reasons.torn, text)
 }
 
-/// Where others stand.
+/// Writes the processes that are inside or ahead, and the begin of the doorway.
 #[tactic(auto, using(crate::proofs::Texts::three))]
 fn push_others(alloc: Global, reasons: &Reasons, text: &mut Vec<u8>) -> Result<(), AllocError>
     ensures { OnOk result (text.new.items ≡ text.old.items ++ others_lines reasons.now) }
@@ -104,7 +104,7 @@ fn push_others(alloc: Global, reasons: &Reasons, text: &mut Vec<u8>) -> Result<(
     push_if(alloc, "doorway", reasons.doorway, text)
 }
 
-/// The number of an entry, if there is one.
+/// Writes a word and the number of an entry, if there is one.
 #[tactic(auto, using(crate::proofs::Texts::none))]
 fn push_if(
     alloc: Global,
@@ -120,7 +120,7 @@ fn push_if(
     }
 }
 
-/// Who is inside.
+/// Writes the process that is inside.
 #[tactic(auto, using(crate::proofs::Texts::none))]
 fn push_inside(
     alloc: Global,
@@ -135,7 +135,7 @@ fn push_inside(
     }
 }
 
-/// Who waits ahead.
+/// Writes the processes that are ahead.
 fn push_waits(alloc: Global, waits: &[Option<u64>], text: &mut Vec<u8>) -> Result<(), AllocError>
     ensures { OnOk result (text.new.items ≡ text.old.items ++ waits_from 0 waits.now) }
 {

@@ -1,4 +1,4 @@
-//! The engine: it reads a record file line by line, and writes what is told of its record.
+//! The engine that reads a record file line by line, and writes the report on its record.
 ghost use Rattle.std.specs.Prelude.{◌≡◌, ◌+◌, ◌-◌, ◌^◌, ◌<◌, IfErr, IfOk, IfSome};
 ghost use Rattle.std.specs.Io.KnownBytes.{IsAtEnd};
 ghost use Rattle.files.specs.{failed_reading, streams};
@@ -11,8 +11,8 @@ use files::source_lines::Lines;
 use files::{Fault, FaultKind, Sink, Source, write_all};
 use std::alloc::Global;
 
-/// Reads a whole record file, line by line, and then writes what is told of its record, or of the first `limit` entries if
-/// there is a limit. Returns the exit status. It stores a line, a block and what hears the entries, however long the file is.
+/// Reads a whole record file, line by line, and then writes the report on its record, or on its first `limit` entries if
+/// there is a limit. Returns the exit status. It stores a line, a block and an observer, however long the file is.
 ///
 /// # Errors
 ///
@@ -37,7 +37,7 @@ pub fn run_trial<H: Hearer, R: Source, W: Sink>(
     Ok(telling.status)
 }
 
-/// Reads a whole record file, and returns who has heard its entries, or the first `limit` of them.
+/// Reads a whole record file, and returns the observer of its entries, or of the first `limit` of them.
 fn hear_file<H: Hearer, R: Source>(
     alloc: Global,
     limit: Option<u64>,

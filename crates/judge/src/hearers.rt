@@ -1,4 +1,4 @@
-//! Who hears the entries of a record file.
+//! Observers of the entries of a record file.
 ghost use Rattle.std.specs.Prelude.{◌≡◌, ◌-◌, ◌^◌, ◌<◌, ◌∷◌, ◌++◌, [], IfOk, List, Ok, OnOk, length, ℕ};
 ghost use Rattle.plain_store.specs.{checked};
 ghost use Rattle.auditor.specs.read_law.{entry_by};
@@ -7,28 +7,28 @@ use plain_store::Setup;
 use record::{Access, Mark};
 use std::alloc::{AllocError, Global};
 
-/// What is told of a record: a text, and an exit status.
+/// The report on a record: a text, and an exit status.
 #[derive(Drop)]
 pub struct Telling {
     pub text: Vec<u8>,
     pub status: u8,
 }
 
-/// Who hears the entries of a record, each with the number of its line, and then tells of them.
+/// An observer of the entries of a record, each with the number of its line. It then gives a report on them.
 pub trait Hearer: Sized + Drop {
     ghost use Rattle.plain_store.specs.declared.setups.Setup.{Setup as Given};
     ghost use Rattle.record.specs.{Entry as Noted};
 
-    /// It has heard these entries of a record with this setup, and these are the numbers of their lines.
+    /// It has observed these entries of a record with this setup, and these are the numbers of their lines.
     ghost HasHeard: { Self → Given → List Noted → List ℕ → Type 0 };
 
-    /// How many entries it has heard.
+    /// The number of entries that it has observed.
     ghost count: { Self → ℕ };
 
-    /// This text and this status are told of such a record.
+    /// This text and this status are the report on such a record.
     ghost Tells: { Given → List Noted → List ℕ → List ℕ → ℕ → Type 0 };
 
-    /// Before the first entry. The one fault is want of memory.
+    /// Creates the observer before the first entry. Fails only if an allocation fails.
     fn begin(alloc: Global, setup: &Setup) -> Result<Self, AllocError>
         requires { checked setup.now ≡ Ok tt }
         ensures { IfOk result (λ hearer. HasHeard hearer setup.now [] []) };
@@ -49,18 +49,18 @@ pub trait Hearer: Sized + Drop {
         requires { count self.old < 2 ^ 64 - 1 }
         ensures { OnOk result ((s : Given) (entries : List Noted) (numbers : List ℕ) → HasHeard self.old s entries numbers → HasHeard self.new s (entries ++ entry_by process access.now marks.now ∷ []) (numbers ++ number ∷ [])) };
 
-    /// Returns the number of entries that it has heard.
+    /// Returns the number of entries that it has observed.
     fn entries(&self) -> u64
         ensures { result ≡ count self.now };
 
-    /// What is told of the entries so far. The one fault is want of memory.
+    /// Returns the report on the entries so far. Fails only if an allocation fails.
     fn tell(&self, alloc: Global) -> Result<Telling, AllocError>
         ensures { IfOk result (λ telling. (s : Given) (entries : List Noted) (numbers : List ℕ) → HasHeard self.now s entries numbers → Tells s entries numbers telling.text.items telling.status) };
 
     ghost counts: { (hearer : Self) (s : Given) (entries : List Noted) (numbers : List ℕ) → HasHeard hearer s entries numbers → count hearer ≡ length entries };
 }
 
-/// A hearer who finds out whether each entry so far keeps all laws.
+/// An observer that finds out whether each entry so far keeps all laws.
 pub trait Judging: Hearer {
     ghost use Rattle.std.specs.Prelude.{Bool, true, false};
     ghost use Rattle.plain_store.specs.declared.setups.Setup.{Setup as Given};
@@ -69,10 +69,10 @@ pub trait Judging: Hearer {
     /// Each entry of such a record keeps all laws.
     ghost Keeps: { Given → List Noted → Type 0 };
 
-    /// It finds that each does.
+    /// It finds that each entry does.
     ghost finds_good: { Self → Bool };
 
-    /// Whether each entry so far keeps all laws.
+    /// Returns whether each entry so far keeps all laws.
     fn is_good(&self) -> bool
         ensures { result ≡ finds_good self.now };
 

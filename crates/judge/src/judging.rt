@@ -1,4 +1,4 @@
-//! The engine `judge`: the verdict on the record that a file says, which is read line by line.
+//! The engine `judge`: the verdict on the record in a file, which is read line by line.
 ghost use Rattle.std.specs.Prelude.{◌-◌, ◌^◌, ◌<◌};
 ghost use Rattle.any_lock.specs.{IsVerdict as IsAnyLockVerdict, law_text as any_lock_law};
 ghost use Rattle.auditor.specs.read_law.{law_text};
@@ -18,8 +18,8 @@ use files::{Fault, Sink, Source};
 use std::alloc::Global;
 
 /// Reads a whole record file, line by line, and then writes the verdict on its record by the laws of this project's lock, on
-/// one line, and behind a bad one its reasons, if they are asked for. Returns the exit status. It holds a line, a block and
-/// the reasons, however long the file is. A file of 2^64 - 1 lines or more, whose numbers want more than 64 bits, ends with
+/// one line, and after a bad one its reasons, if they are asked for. Returns the exit status. It stores a line, a block and
+/// the reasons, however long the file is. A file of 2^64 - 1 lines or more, whose numbers need more than 64 bits, ends with
 /// `Memory`.
 pub fn run_judge<R: Source, W: Sink>(
     alloc: Global,

@@ -1,6 +1,6 @@
-//! Judging records. A record file is heard line by line, whoever wrote it, by a judge of this project's lock or by one of any
-//! lock on safe bits; the reading, its faults and limits, and how such an engine ends stand here once. No record is held.
-//! Behind a bad verdict stand its reasons, if they are asked for.
+//! Judging records. A record file of any author is read line by line, by a judge of this project's lock or by one of any
+//! lock on safe bits. Reading, its faults and limits, and the end of such an engine are defined here once. No record is stored.
+//! If reasons are asked for, they follow a bad verdict.
 //!
 //! ```rust
 //! Engine::Judge => run_judge(alloc, input, output, wanted.why),

@@ -102,7 +102,7 @@ pub fn push_bad(
     push_entry(alloc, "is", entry, text)
 }
 
-/// Writes the stage of its process, if that is there.
+/// Writes the stage of its process, if that exists.
 #[tactic(auto, using(crate::proofs::Texts::none))]
 pub fn push_stage(alloc: Global, stage: Option<Stage>, text: &mut Vec<u8>) -> Result<(), AllocError>
     ensures { OnOk result (text.new.items ≡ text.old.items ++ stage_line stage) }

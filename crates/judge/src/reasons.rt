@@ -29,7 +29,7 @@ pub(crate) fn push_reasons(
     push_stage(alloc, auditor.stage(entry.process), lines)
 }
 
-/// Writes what a Step of a process adds: with flick 0, and with flick 1 if that is another entry.
+/// Writes the entry that a Step of a process adds: with flick 0, and with flick 1 if that is another entry.
 fn push_may(
     alloc: Global,
     process: u8,
@@ -44,7 +44,7 @@ fn push_may(
     push_both(&with_0, &with_1, lines)
 }
 
-/// The line of what a Step of a process adds by this flick.
+/// Returns the line of the entry that a Step of a process adds with this flick.
 fn stepped_line(
     alloc: Global,
     process: u8,
@@ -56,7 +56,7 @@ fn stepped_line(
     may_line(alloc, &auditor.stepped(process, flick))
 }
 
-/// The line of an entry, if there is one.
+/// Returns the line of an entry, if there is one.
 fn may_line(alloc: Global, entry: &Option<Entry>) -> Result<Vec<u8>, AllocError>
     ensures { IfOk result (λ line. line.items ≡ line_of_may entry.now) }
 {
@@ -68,7 +68,7 @@ fn may_line(alloc: Global, entry: &Option<Entry>) -> Result<Vec<u8>, AllocError>
     Ok(line)
 }
 
-/// Writes a line and another one, unless they are the same.
+/// Writes a line and another one, unless they are equal.
 fn push_both(line: &[u8], other: &[u8], lines: &mut Vec<u8>) -> Result<(), AllocError>
     ensures { OnOk result (lines.new.items ≡ lines.old.items ++ without_twin line.now other.now) }
 {
@@ -79,8 +79,8 @@ fn push_both(line: &[u8], other: &[u8], lines: &mut Vec<u8>) -> Result<(), Alloc
     lines.extend_from_slice(other)
 }
 
-/// Writes why an entry is refused, if it is: the event that its mark tells, or else a Step. The mark of such an event in
-/// company does not stand alone.
+/// Writes why an entry is refused, if it is: by the event of its mark, or otherwise by a Step. If the mark of such an event
+/// has an access or another mark beside it, the refusal is that it is not alone.
 fn push_refused(
     alloc: Global,
     entry: &Entry,
@@ -96,7 +96,7 @@ fn push_refused(
     push_refusal(alloc, &auditor.refusal(&event_or_step(entry)), lines)
 }
 
-/// Whether the mark of an event that is no Step is in company, in an entry of a process that is there.
+/// Returns whether the mark of an event other than a Step is not alone, in an entry of a process that exists.
 fn is_crowded(stage: Option<Stage>, entry: &Entry) -> bool
     ensures { result ≡ is_crowded stage entry.now }
 {
@@ -104,7 +104,7 @@ fn is_crowded(stage: Option<Stage>, entry: &Entry) -> bool
     stage.is_some() && event_in(entry.process, access, marks).is_none() && tells_event(marks)
 }
 
-/// The event that an entry tells, or else a Step.
+/// Returns the event of an entry: that of its mark, or otherwise a Step.
 fn event_or_step(entry: &Entry) -> Event
     ensures { result ≡ event_or_step entry.now }
 {

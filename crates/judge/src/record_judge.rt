@@ -16,7 +16,7 @@ pub trait RecordJudge: Sized + Drop {
     ghost use Rattle.record.specs.{Entry as Noted, Past};
     ghost use Rattle.auditor.specs.read_law.declared.verdicts.Verdict.{Verdict as Found};
 
-    /// The laws that it looks at.
+    /// The laws that it checks.
     type Law: NamedLaw + Drop;
 
     /// This is the verdict on such a record.
@@ -42,7 +42,7 @@ pub trait RecordJudge: Sized + Drop {
         requires { checked setup.now ≡ Ok tt }
         ensures { IfOk result (λ judge. HasJudged judge setup.now []) };
 
-    /// Observes one more entry, whatever it is, by its parts. It does not allocate.
+    /// Observes one more entry, which may be any, by its parts. It does not allocate.
     fn hear(&mut self, process: u8, access: &Option<Access>, marks: &[Mark])
         requires { count self.old < 2 ^ 64 - 1 }
         ensures heard { (s : Given) (entries : List Noted) → HasJudged self.old s entries → HasJudged self.new s (entries ++ entry_by process access.now marks.now ∷ []) }

@@ -17,7 +17,7 @@ use record::{Access, Entry, Mark};
 use std::alloc::{AllocError, Global};
 use std::marker::Model;
 
-/// The judge of records of this project's lock. It keeps what a watch and an auditor keep, and the verdict so far.
+/// The judge of records of this project's lock. It stores a watch, an auditor, and the verdict so far.
 #[derive(Drop)]
 pub struct ThisLockJudge {
     watch: Watch,
@@ -42,14 +42,14 @@ impl ThisLockJudge {
         self.auditor.core()
     }
 
-    /// Returns how many entries it has observed.
+    /// Returns the number of entries that it has observed.
     pub fn entries(&self) -> u64
         ensures { result ≡ self.now.entries }
     {
         self.entries
     }
 
-    /// Observes one more entry, whatever it is, by its parts. The setup of its core stays.
+    /// Observes one more entry, which may be any, by its parts. The setup of its core stays.
     #[inline]
     pub fn observe(&mut self, process: u8, access: &Option<Access>, marks: &[Mark])
         requires { self.old.entries < 2 ^ 64 - 1 }
@@ -64,7 +64,7 @@ impl ThisLockJudge {
         self.entries += 1;
     }
 
-    /// Returns the verdict with one more entry, where that on the entries before it is good.
+    /// Returns the verdict with one more entry, if that on the entries before it is good.
     #[inline]
     fn verdict_with(&mut self, process: u8, access: &Option<Access>, marks: &[Mark]) -> Verdict
         ensures verdict { self.new.verdict ≡ self.old.verdict }
@@ -139,7 +139,7 @@ impl RecordJudge for ThisLockJudge {
     ghost newest = { newest_is_bad };
 }
 
-/// The verdict with an entry, by what a watch and an auditor say of it.
+/// Returns the verdict with an entry, by the findings of a watch and an auditor.
 fn found(entry: u64, is_safe: bool, law: Option<Law>) -> Verdict
     ensures { result ≡ verdict_found entry is_safe law }
 {

@@ -13,7 +13,7 @@ use record::Entry;
 use record_file::{RecordReader, read_step};
 use std::alloc::{AllocError, Global};
 
-/// A record file that is heard line by line: what was read, and who hears its entries, once there is one.
+/// A record file that is read line by line: what was read, and the observer of its entries, once there is one.
 #[derive(Drop)]
 pub struct Trial<H: Hearer> {
     alloc: Global,
@@ -22,7 +22,7 @@ pub struct Trial<H: Hearer> {
 }
 
 impl<H: Hearer> Trial<H> {
-    /// Nothing was read.
+    /// Creates a trial of which no line was read.
     pub fn new(alloc: Global) -> Trial<H>
         ensures { Stands H.HasHeard result.reader result.hearer None [] [] }
     {
@@ -33,7 +33,7 @@ impl<H: Hearer> Trial<H> {
         }
     }
 
-    /// One more line, with its number, which is not too long.
+    /// Reads one more line, with its number, which is not too long.
     pub fn line(&mut self, number: u64, line: &[u8]) -> Result<(), FaultKind>
         requires short { length line.now ≤ 128 }
         requires few { count_in H.count self.old.hearer < 2 ^ 64 - 1 }
@@ -45,8 +45,8 @@ impl<H: Hearer> Trial<H> {
         self.any_line(number, line)
     }
 
-    /// Reads one more line, with its number, which is not too long. Its entry, if it has one, is heard unless `limit` entries
-    /// were heard.
+    /// Reads one more line, with its number, which is not too long. The observer gets its entry, if it has one, unless `limit`
+    /// entries were observed.
     #[inline(always)]
     pub(crate) fn line_within(
         &mut self,
@@ -69,7 +69,7 @@ impl<H: Hearer> Trial<H> {
         self.pass(limit, number, line)
     }
 
-    /// Returns the number of entries that were heard.
+    /// Returns the number of entries that were observed.
     fn heard(&self) -> u64
         ensures { result ≡ count_in H.count self.now.hearer }
     {
@@ -79,7 +79,7 @@ impl<H: Hearer> Trial<H> {
         }
     }
 
-    /// Reads one more line, with its number, and hears no entry, because `limit` entries were heard.
+    /// Reads one more line, with its number, and observes no entry, because `limit` entries were observed.
     fn pass(&mut self, limit: u64, number: u64, line: &[u8]) -> Result<(), FaultKind>
         requires short { length line.now ≤ 128 }
         requires full { limit ≤ count_in H.count self.old.hearer }
@@ -101,8 +101,8 @@ impl<H: Hearer> Trial<H> {
         Ok(())
     }
 
-    /// Whether behind an entry the line is as it is printed for a Step with an access and no mark, as most lines are: then
-    /// that was heard. Else nothing is changed, and nothing is known of the line.
+    /// Observes a line after an entry if it is printed as a Step with an access and no mark, as most lines are, and returns
+    /// whether it is. Otherwise nothing is changed.
     fn hears_step(&mut self, number: u64, line: &[u8]) -> Result<bool, AllocError>
         requires short { length line.now ≤ 128 }
         requires few { count_in H.count self.old.hearer < 2 ^ 64 - 1 }
@@ -119,7 +119,7 @@ impl<H: Hearer> Trial<H> {
         Ok(true)
     }
 
-    /// Any line, by its words.
+    /// Reads any line, by its words.
     fn any_line(&mut self, number: u64, line: &[u8]) -> Result<(), FaultKind>
         requires short { length line.now ≤ 128 }
         requires few { count_in H.count self.old.hearer < 2 ^ 64 - 1 }
@@ -136,7 +136,7 @@ impl<H: Hearer> Trial<H> {
         Ok(())
     }
 
-    /// Who has heard the entries of the lines so far, unless all of these were skipped. The one fault is want of memory.
+    /// Returns the observer of the entries so far, unless all lines were skipped. Fails only if an allocation fails.
     pub fn into_hearer(self) -> Result<Option<H>, AllocError>
         ensures { IfOk result (λ heard. (limit : Option ℕ) (before : Option Progress) (entries : List Noted) (numbers : List ℕ) →
             Stands (HasHeardFirsts limit H.HasHeard) self.reader self.hearer before entries numbers →
@@ -158,7 +158,7 @@ impl<H: Hearer> Trial<H> {
 }
 
 impl<H: Judging> Trial<H> {
-    /// Whether each entry so far keeps all laws.
+    /// Returns whether each entry so far keeps all laws.
     pub fn is_good(&self) -> bool
         ensures { result ≡ good_in H.finds_good self.now.hearer }
     {
@@ -169,7 +169,7 @@ impl<H: Judging> Trial<H> {
     }
 }
 
-/// One more entry is heard; with the first one there is who hears it.
+/// Lets the observer have one more entry. The first entry creates it.
 fn hear<H: Hearer>(
     alloc: Global,
     setup: &Setup,
@@ -192,7 +192,7 @@ fn hear<H: Hearer>(
     Ok(())
 }
 
-/// Passes by one more entry. With the first entry there is who hears, even if no entry is to be heard.
+/// Passes over one more entry. The first entry creates the observer, even if it is not to observe any.
 fn pass_entry<H: Hearer>(
     alloc: Global,
     limit: u64,
@@ -212,8 +212,8 @@ fn pass_entry<H: Hearer>(
     Ok(())
 }
 
-/// Now there is one, who has heard nothing. It is a function of its own, since the room in which one is made would else be
-/// cleared before each entry.
+/// Creates the observer, without entries. It is a function of its own, because the room in which one is made would otherwise
+/// be cleared before each entry.
 #[inline(never)]
 fn begin<H: Hearer>(alloc: Global, setup: &Setup, hearer: &mut Option<H>) -> Result<(), AllocError>
     requires good { checked setup.now ≡ Ok tt }

@@ -1,4 +1,4 @@
-//! What engines write and answer for verdicts.
+//! The lines and exit statuses of verdicts.
 ghost use Rattle.std.specs.Prelude.{◌≡◌};
 ghost use Rattle.files.specs.{GivesText};
 ghost use Rattle.judge.specs.Judgements.{status_of_verdict, verdict_line as line_of_verdict};
@@ -7,7 +7,7 @@ use auditor::{Audited, NamedLaw, Verdict};
 use files::DONE;
 use std::alloc::{AllocError, Global};
 
-/// The exit status where a law is broken.
+/// The exit status if a law is broken.
 const BAD: u8 = 3;
 
 /// Returns the exit status of a verdict: 0 for a good one, 3 for a bad one.
