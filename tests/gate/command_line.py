@@ -22,6 +22,9 @@ SWEEP = (0, "sweep runs 2 good 2 stuck 0\n", "")
 RACE = (0, "0 0 no-name\nshow empty\ngood\n", "")
 RECORD = (0, "record 1\nprocesses 2\ntickets 4\nstamps 4\nslots 1\n0 : call add a 1\n", "")
 
+NO_READS = "--reads is for runs and records; a trace of up to 400 entries shows all accesses, and a longer one with --accesses\n"
+NO_ACCESSES = "--accesses is for traces; a run or a record shows overlapped reads with --reads\n"
+
 WHY = "bad 1 marks\nline 3\nis 0 : enter\nrefused not-waiting\nstage doorway\n"
 OWN_WHY = "bad 1 program\nline 3\nis 0 : enter\nmay 0 0.choosing.0.0 write 1\nstage doorway\n"
 
@@ -46,6 +49,7 @@ CASES = [
     (["judge", "--why", "-"], "record 1\n0 : call read a\n0 : enter\n", (3, OWN_WHY, "")),
     (["judge", "--any-lock", "-"], "record 1\n0 : call read a\n0 : enter\n", (3, "bad 1 marks\n", "")),
     (["judge", "a file"], "", (1, "", "line 1: not-first\n")),
+    *((["draw", "--accesses", "-"], text, (2, "", NO_ACCESSES)) for text in [SCENARIO, RECORD[1]]),
     (["bits", "-"], "bits 1\nend\n", (0, "refused\n", "")),
     (["bits", "a file"], "", (1, "", "line 1: not-first\n")),
     (["plain", "no such file"], SCENARIO, (1, "", "read fault\n")),
@@ -74,7 +78,7 @@ CASES = [
     (["draw-svg", "--judge", "--any-lock", "-"], "record 1\n0 : enter\n0 : frob\n", (1, "", "line 3: unknown\n")),
     (["draw-svg", "-"], "trace 1\nprocesses 0\n", (1, "", "line 2: bad-setup\n")),
     (["draw", "--judge", "-"], "# no line\ntrace 2\n", (1, "", "line 2: not-first\n")),
-    (["draw", "--reads", "-"], "trace 1\n0 : call\n", (2, "", "the picture of a trace shows no reads: leave out --reads\n")),
+    (["draw", "--reads", "-"], "trace 1\n0 : call\n", (2, "", NO_READS)),
 ]
 
 

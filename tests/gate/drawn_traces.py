@@ -11,6 +11,9 @@ as a trace, and lists its headings and registers; it has no history and no store
 `draw-svg` and `judge`, of which the page alone may have begun. `--reads` is refused. The pictures that examples/traces/ has are those
 that the program draws.
 
+The boxes, ties and waves of accesses are those of `second/drawn_accesses.py` (drawn_accesses.py compares them). A picture of 400 entries
+has them, and one of 401 only with `--accesses`.
+
 tests/gate/drawn_traces.py [NUMBER]: the first of the traces that are made up, by default 1.
 """
 
@@ -21,19 +24,23 @@ import xml.etree.ElementTree as tree
 
 sys.path.insert(0, str(pathlib.Path(__file__).resolve().parents[1]))
 
+from drawn_accesses import access_faults, seen_in
 from drawn_records import lanes_told, run, stray_words
 from lib.counting import Counter
 from lib.places import TOP
 from lib.random_traces import trace
 from pictures import SVG, Groups, Run, picture_faults, title
+from second.drawn_accesses import MOST_WAVES, shown_accesses
 from second.scenario_files import Fault
 from second.trace_files import read_trace
 
 TRACES = TOP / "examples" / "traces"
 MANY = 100
+# the most entries of a picture that shows accesses without being asked to
+MOST_ENTRIES = 400
 # what asks for a verdict in a picture
 JUDGES = ["--judge", "--any-lock"]
-REFUSED = (2, b"", b"the picture of a trace shows no reads: leave out --reads\n")
+REFUSED = (2, b"", b"--reads is for runs and records; a trace of up to 400 entries shows all accesses, and a longer one with --accesses\n")
 # the words for each picture next to an example
 KEPT = {"draw.html": ["draw"], "draw-svg.svg": ["draw-svg"], "draw-svg-judge.svg": ["draw-svg", "--judge"]}
 # what only a run or a record has
@@ -108,11 +115,32 @@ def drawn_faults(file, read, options, status, told):
     if list(lanes_told(root)) != list(lanes_wanted(read, told)):
         yield "lines of the judge stand in other lanes"
     if all(entry.process < read.processes for entry in read.entries):
-        yield from picture_faults(picture[1].decode(), Run([], wanted, []), is_good=False)
+        yield from picture_faults(picture[1].decode(), Run([], wanted, None), is_good=False)
+    yield from shown_faults(root, read, count_in(wanted), "--accesses" in options)
 
 
-def trace_faults(file):
-    """What is wrong with the pictures of a trace, or with how drawing it ends."""
+def count_in(wanted):
+    """The number of entries that a picture shows, by its last line."""
+    return int(wanted[-1].split()[-1])
+
+
+def bands_of(root):
+    """The bands of a picture. The last group is the legend."""
+    return [group for group in root if group.get("transform")][:-1]
+
+
+def shown_faults(root, read, count, shows_all):
+    """What is wrong with the accesses of a picture of so many entries."""
+    if count > MOST_ENTRIES and not shows_all:
+        seen = [seen_in(band) for band in bands_of(root)]
+        yield from (f"accesses are shown: {band.titles[:3]}" for band in seen if band.titles or band.places or band.boxes or band.waves)
+        return
+    shown = shown_accesses(read, None if shows_all else MOST_WAVES)
+    yield from access_faults(bands_of(root), [access for access in shown if access.event < count])
+
+
+def trace_faults(file, is_made_up):
+    """What is wrong with the pictures of a trace, or with how drawing it ends. One that is made up is drawn with fewer options."""
     judged = run(file, "judge", "--why")
     try:
         read = read_trace(file)
@@ -127,8 +155,9 @@ def trace_faults(file):
                 if output and (command == "draw-svg" or b"</html>" in output):
                     yield f"{command} {options} has written {len(output)} bytes"
         return
-    yield from drawn_faults(file, read, [], 0, [])
-    for judge in JUDGES:
+    for options in [[]] if is_made_up else [[], ["--accesses"]]:
+        yield from (f"{options}: {fault}" for fault in drawn_faults(file, read, options, 0, []))
+    for judge in JUDGES[:1] if is_made_up else JUDGES:
         yield from (f"{judge}: {fault}" for fault in drawn_faults(file, read, [judge], judged[0], judged[1].decode().splitlines()))
     for command in ("draw", "draw-svg"):
         if run(file, command, "--reads") != REFUSED:
@@ -147,6 +176,15 @@ def files(first):
         yield folder.name, (folder / "trace").read_bytes()
     for number in range(first, first + MANY):
         yield f"trace {number}", trace(number)
+    for entries in MOST_ENTRIES, MOST_ENTRIES + 1:
+        yield f"a trace of {entries} entries", long_trace(entries)
+
+
+def long_trace(entries):
+    """A trace of so many entries, in which process 0 makes calls of four."""
+    call = ["0 : call", "0 flag[0] write 1", "0 flag[0] end", "0 : answer"]
+    lines = ["trace 1", "register flag 1", *(call[number % len(call)] for number in range(entries))]
+    return "".join(f"{line}\n" for line in lines).encode()
 
 
 def kept_pictures(counter):
@@ -166,7 +204,7 @@ def main():
         # what begins otherwise is no trace for the program, and draws as a scenario
         if not is_trace(file):
             continue
-        faults = list(trace_faults(file))
+        faults = list(trace_faults(file, name.startswith("trace ")))
         counter.count(not faults, f"{name}: {faults[:4]}")
     counter.end()
 
