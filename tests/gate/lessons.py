@@ -50,7 +50,7 @@ MINUTES = re.compile(r"\bAbout (\d+) minutes\b")
 ROW_OF_INDEX = re.compile(r"^\| \[(?P<title>[^]]+)\]\((?P<page>[\w.-]+)\) \| [^|]+ \| (?P<minutes>\d+) \| [^|]+ \|$", re.M)
 ROW_OF_TEACHING = re.compile(r"^\| \[(?P<number>\d+)\]\((?P<page>[\w.-]+)\) \| [^|]+ \| (?P<minutes>\d+) \|$", re.M)
 # the commands of which no picture is drawn: the accesses of one bit, one line about many runs, and threads, which leave no record
-NOT_DRAWN = {"bits", "sweep", "race"}
+NOT_DRAWN = {"sweep", "race"}
 RACES = 50
 
 
@@ -150,17 +150,38 @@ def fault_of_text(lesson):
     return None
 
 
+def drawn_file(lesson):
+    """Returns the file that the picture of a lesson is drawn from. Of a bits file it is a trace of the same accesses."""
+    stem = lesson.file.stem
+    return {"python3": f"expected/{stem}.txt", "bits": f"pictures/{stem}.trace"}.get(lesson.words, lesson.file.name)
+
+
+def accesses_in(text):
+    """Returns the accesses of a bits file, or of a trace of one bit."""
+    words = [line.split() for line in text.splitlines()[1:] if not line.startswith(("#", "register"))]
+    return [it[2:] if it[0].isdigit() else it for it in words if ":" not in it]
+
+
+def fault_of_accesses(lesson):
+    """Returns what is wrong with the accesses that the picture of a bits file is drawn from, or None. Each read has the value that is printed."""
+    values = iter(contents_of(LESSONS / "expected" / f"{lesson.file.stem}.txt").split())
+    wanted = [["value", next(values)] if it[0] == "value" else it for it in accesses_in(lesson.file.read_text())]
+    return None if accesses_in(contents_of(LESSONS / drawn_file(lesson))) == wanted else "draws other accesses"
+
+
 def fault_of_picture(lesson):
     """Returns what is wrong with the picture that a page shows, or None."""
-    stem, file = lesson.file.stem, lesson.file.name
+    stem = lesson.file.stem
     pictures = [*PICTURE.finditer(lesson.text)]
     if len(pictures) != 1 or lesson.text.count("](pictures/") != 1 or pictures[0]["stem"] != stem:
         return "does not show its picture, once, with the command that draws it"
     picture, of_any_lock = pictures[0], lesson.words == "python3" or "--any-lock" in lesson.words
-    if picture["file"] != (f"expected/{stem}.txt" if lesson.words == "python3" else file):
+    if picture["file"] != drawn_file(lesson):
         return f"shows a picture of another file: {picture['file']}"
     if ("--any-lock" in picture["words"]) != of_any_lock:
         return "shows a picture with another kind of verdict"
+    if lesson.words == "bits" and (fault := fault_of_accesses(lesson)):
+        return fault
     drawn = output_of(picture["words"], LESSONS / picture["file"])
     if drawn is None or drawn != contents_of(LESSONS / "pictures" / f"{stem}.svg"):
         command = f"bakerystore {picture['words']} lessons/{picture['file']} > lessons/pictures/{stem}.svg"
