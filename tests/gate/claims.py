@@ -4,14 +4,18 @@
 A page names a clause as [`crate::function`, `clause`](..) or [`crate::Type::function`, `one`, `another`](..), a clause without a
 name as `its clause`, a test as `its test`, a fact of a type as [`crate::Type`, `fact`](..), and a definition as [`Name`, in
 `crate/specs/File.antt`](..). Each must be there, once; and the link behind it must lead to its file and line. With `--write` the
-links are written anew. What a page of docs/ or bench/README.md names otherwise, as `Type::function`, is there too; so is each
-lemma that the pages on the two proofs name.
+links are written anew. CONTRIBUTING.md is checked like a page of docs/. What one of these pages or bench/README.md names otherwise,
+as `Type::function`, is there too; so is each lemma that the pages on the two proofs name.
 
-docs/CLAIMS.md has each promise of README.md, word for word and in its order. Each of its rows says how strong it is, and whether it
-is about the code that the program runs, other calls of the library, or the reference calls; one that names a clause of a reference
-crate is about these. One that is proved names a clause, and one that is tested a script or a test that is there. docs/TESTING.md
-names each must-fail edit, and no other, and what an edit changes is there. The numbers before the words of `counts` on that page
-are counted again, and `--write` writes them anew.
+docs/CLAIMS.md has each promise of README.md, word for word and in its order. Each row of it and of docs/CLAIMS_IN_DETAIL.md has a
+number of its own, and the numbers by which these pages cite claims exist. Each row with a promise states how strong it is, and
+whether it is about the code that the program runs, other calls of the library, or the reference calls. A row that names a clause of
+a reference crate is about these calls. A row that is proved names a clause, and a row that is tested names a script or a test that
+exists. On docs/CLAIMS.md a row that is proved also names a definition, unless it states that no clause has the promise. The crates
+of the kit that this page trusts are those that crates.txt names.
+
+docs/TESTING.md names each must-fail edit, and no other, and what an edit changes is there. The numbers before the words of `counts`
+on that page are counted again, and `--write` writes them anew.
 """
 
 import os
@@ -27,18 +31,26 @@ from lib.places import TOP
 from lib.sources import FOLDER, definition_at, facts_of, functions_named, names, tests_named, words_in
 from lib.wrong_bodies import wrong_bodies
 
-CLAIMS, TESTING = TOP / "docs" / "CLAIMS.md", TOP / "docs" / "TESTING.md"
+CLAIMS, DETAILS, TESTING = (TOP / "docs" / name for name in ("CLAIMS.md", "CLAIMS_IN_DETAIL.md", "TESTING.md"))
+# the heads of the tables with promises, on each of the two pages, and of the tables of what is not proved
+HEADS = {
+    CLAIMS: ["No.", "Promise", "Clause and definition", "Premises", "Strength", "Caveat"],
+    DETAILS: ["No.", "Promise", "Clause", "Premises", "Strength"],
+}
+LIMITS, TRUSTED = ["No.", "Not promised", "What is known instead"], ["No.", "Trusted", "What it includes"]
 CLAUSES = re.compile(r"\[`(?P<path>\w+(?:::\w+)+)`(?P<words>(?:, (?:`\w+`|its clause|its test))*)\]\((?P<link>[^()\s]*)\)")
 DEFINITION = re.compile(r"\[`(?P<name>[^`\s]+)`, in `(?P<file>\w+/specs/[\w/]+\.antt)`\]\((?P<link>[^()\s]*)\)")
 SCRIPT = re.compile(r"`(tests/[\w/]+\.\w+)`")
 NAME = re.compile(r"(?<!\[)`(\w+(?:::\w+)+)`")
 EDIT = re.compile(r"`(\w+)/([\w-]+)`")
+# claims that a page of claims cites by their numbers
+CITED = re.compile(r"\bclaims? (\d+)(?: and (\d+))?", re.I)
 # the second half of a row of the hostile tests: how many runs, and how many failures
 TRIES = re.compile(r" \| ([\d,]+) \| \d+ \|$", re.M)
 LEMMA = re.compile(r"`([\w'-]+(?:\.antt)?)`")
 # the crates whose lemmas a page on a proof names
 PROOFS = {"PROOF_OF_THE_LOCK.md": ["laws", "record"], "PROOF_OF_THE_HISTORY.md": ["history_laws", "laws", "record", "plain_store"]}
-STRENGTHS = {"proved", "tested", "measured", "trusted"}
+STRENGTHS = {"proved", "tested", "measured"}
 PATHS = {"program", "library", "reference"}
 # the crates of the reference calls, as far as the program does not run them
 REFERENCE = {"bakery", "reader_copies", "safe_number"}
@@ -105,29 +117,47 @@ def promises():
     return [line.rstrip(";.") for line in re.findall(r"^- (.*)$", part, re.M)]
 
 
-def rows(text):
-    """The rows of the page's tables, without their heads."""
+def cells_of(line):
+    """The cells of a row of a table."""
+    return [cell.strip() for cell in line.strip().removeprefix("|").removesuffix("|").split(" | ")]
+
+
+def tables(text):
+    """The tables of a page: the cells of the head of each, and those of its rows."""
+    found, within = [], False
     for line in text.splitlines():
-        if line.startswith("| ") and not line.startswith("| Promise |"):
-            yield [cell.strip() for cell in line.strip("|").split(" | ")]
+        if line.startswith("|") and not within:
+            found.append((cells_of(line), []))
+        elif line.startswith("|") and line.strip("|-"):
+            found[-1][1].append(cells_of(line))
+        within = line.startswith("|")
+    return found
 
 
-def fault_of_row(cells):
-    """What is wrong with a row of the claims; none, if nothing is."""
-    if len(cells) != 5:
-        return f"has not five cells: {cells}"
-    told, where, _, path, strength = cells
-    if not PATHS.issuperset(path.split(", ")):
+def rows(text, *heads):
+    """The rows of the tables with these heads."""
+    return [cells for head, cells_of_rows in tables(text) if head in heads for cells in cells_of_rows]
+
+
+def fault_of_row(page, cells):
+    """What is wrong with a row of the claims of a page; none, if nothing is."""
+    if len(cells) != len(HEADS[page]) or not all(cells):
+        return f"has not {len(HEADS[page])} cells with words: {cells}"
+    _, told, where, _, strengths, *_ = cells
+    strength, *paths = strengths.split(", ")
+    if not paths or not PATHS.issuperset(paths):
         return f"says not which code it is about: {told}"
     named = {found["path"].partition("::")[0] for found in CLAUSES.finditer(where)}
-    if bool(named & REFERENCE) != ("reference" in path):
-        return f"is about {path}, and names clauses of {sorted(named)}: {told}"
+    if bool(named & REFERENCE) != ("reference" in paths):
+        return f"is about {paths}, and names clauses of {sorted(named)}: {told}"
     if strength not in STRENGTHS:
         return f"says not how strong it is: {told}"
     if strength == "proved" and not CLAUSES.search(where):
         return f"is proved and names no clause: {told}"
     if strength == "tested" and not SCRIPT.search(where) and "its test" not in where:
         return f"is tested and names no test: {told}"
+    if page == CLAIMS and strength == "proved" and not DEFINITION.search(where) and not where.startswith("No clause"):
+        return f"is proved and names no definition: {told}"
     return None
 
 
@@ -149,17 +179,35 @@ def check_names(counter, page):
     counter.count(not lost, f"{page.name} names what is not there: {sorted(lost)}")
 
 
-def check_claims(counter):
-    """Whether docs/CLAIMS.md has each promise of the README, and each of its rows is one."""
-    text = CLAIMS.read_text()
+def check_rows(counter, page):
+    """Whether the scripts that a page of claims names exist, its tables have known heads, and its rows of promises are claims."""
+    text = page.read_text()
     for script in SCRIPT.findall(text):
-        counter.count((TOP / script).exists(), f"CLAIMS.md: {script} is not there")
-    claimed = list(rows(text))
-    for cells in claimed:
-        fault = fault_of_row(cells)
-        counter.count(fault is None, f"CLAIMS.md: a row {fault}")
-    told = [cells[0].rstrip(".") for cells in claimed]
+        counter.count((TOP / script).exists(), f"{page.name}: {script} is not there")
+    for head, _ in tables(text):
+        counter.count(head in (HEADS[page], LIMITS, TRUSTED), f"{page.name}: a table has the head {head}")
+    for cells in rows(text, HEADS[page]):
+        fault = fault_of_row(page, cells)
+        counter.count(fault is None, f"{page.name}: a row {fault}")
+    for cells in rows(text, LIMITS, TRUSTED):
+        counter.count(len(cells) == 3 and all(cells), f"{page.name}: a row has not 3 cells with words: {cells}")
+
+
+def check_claims(counter):
+    """Whether docs/CLAIMS.md has each promise of the README and trusts each crate of the kit, and no number has two rows."""
+    for page in HEADS:
+        check_rows(counter, page)
+    text = CLAIMS.read_text()
+    told = [cells[1].rstrip(".") for cells in rows(text, HEADS[CLAIMS])]
     counter.count(told[: len(promises())] == promises(), "CLAIMS.md does not begin with the promises of README.md, word for word")
+    numbers = [cells[0] for page, head in HEADS.items() for cells in rows(page.read_text(), head, LIMITS, TRUSTED)]
+    twice = sorted({number for number in numbers if numbers.count(number) > 1 or not number.isdecimal()})
+    counter.count(not twice, f"rows of the claims have the numbers {twice}, which are those of other rows or no numbers")
+    cited = {number for page in HEADS for found in CITED.findall(page.read_text()) for number in found if number}
+    counter.count(cited <= set(numbers), f"the claims cite claims {sorted(cited - set(numbers))}, which are not there")
+    named = [set(re.findall(r"`(\w+)`", cells[-1])) for cells in rows(text, TRUSTED) if "kit's crates" in cells[1]]
+    wanted = {name for crate in crates().values() for name in crate.takes}
+    counter.compare("the crates of the kit that CLAIMS.md trusts", named, [wanted])
 
 
 def check_edits(counter):
@@ -222,7 +270,7 @@ def check_counts(counter):
 
 
 def main():
-    counter, pages = Counter(), sorted((TOP / "docs").glob("*.md"))
+    counter, pages = Counter(), [TOP / "CONTRIBUTING.md", *sorted((TOP / "docs").glob("*.md"))]
     if sys.argv[1:] == ["--write"]:
         for page in pages:
             page.write_text(written(page, page.read_text()))
