@@ -1,9 +1,9 @@
 #!/usr/bin/env python3
 """Makes what docs/ARCHITECTURE.md, docs/HOW_IT_IS_PROVED.md and crates/README.md show of the crates, from crates.txt and the sources.
 
-The first has a picture, in which each crate stands a row above the highest one that it stands on, and a table of all crates. The
-second counts the lines of each group up to that of the program, in hundreds, with comments. What is made stands between two
-comments of a page. With `--write` it is written; without it, it is compared. And crates.txt is held to its rules: each crate is
+The first has a figure of the layers with their sizes, a picture in which each crate is a row above the highest one that it depends
+on, and a table of all crates. The second counts the lines of each group up to that of the program, in hundreds, with comments. What
+is made is between two comments of a page. With `--write` it is written; without it, it is compared. And crates.txt is held to its rules: each crate is
 listed, says what it does, and stands on few crates, all of the lines before its own. So a crate uses no later layer. crates/README.md
 describes each layer, of which there are at most ten.
 """
@@ -23,6 +23,8 @@ PAGES = [TOP / name for name in ("crates/README.md", "docs/ARCHITECTURE.md", "do
 # the most layers
 MOST_LAYERS = 10
 FOLDERS = ["src", "specs", "proofs"]
+# the signs of a bar, one for each folder
+SIGNS = "=:."
 # the most crates of the repository that one of them names on its line
 MOST_BELOW = 6
 
@@ -54,7 +56,7 @@ def picture():
 
 def table():
     """All crates, group by group from the bottom up."""
-    lines = ["| Crate | What it does | Stands on |", "|---|---|---|"]
+    lines = ["| Crate | What it does | Depends on |", "|---|---|---|"]
     for group in groups():
         lines.append(f"| **{group.heading}** | | |")
         for crate in group.crates:
@@ -77,11 +79,27 @@ def layers():
     return "".join(f"{line}\n" for line in lines)
 
 
-def lines_in(group, folder):
+def count_in(group, folder):
     """The lines of the files in a folder of a group's crates, in hundreds."""
     paths = [path for crate in group.crates for path in (TOP / "crates" / crate.name / folder).rglob("*")]
     counted = [len(path.read_text().splitlines()) for path in paths if path.suffix in (".rt", ".antt")]
-    return f"{round(sum(counted), -2):,}"
+    return round(sum(counted), -2)
+
+
+def lines_in(group, folder):
+    """The same count, as text."""
+    return f"{count_in(group, folder):,}"
+
+
+def sizes():
+    """Returns the figure of the layers up to that of the program, the highest first, each with a bar of its lines."""
+    rows = [f"{'layer':<9}{'crates':>6}{'code':>9}{'definitions':>13}{'proofs':>9}   one sign for 1,000 lines"]
+    for group in reversed([*groups_of_program()]):
+        counts = [count_in(group, folder) for folder in FOLDERS]
+        code, definitions, proofs = (f"{count:,}" for count in counts)
+        bar = "".join(sign * round(count / 1000) for sign, count in zip(SIGNS, counts, strict=True))
+        rows.append(f"{layer_of(group):<9}{len(group.crates):>6}{code:>9}{definitions:>13}{proofs:>9}   {bar}")
+    return "".join(f"{row}\n" for row in ["```text", *rows, "```"])
 
 
 def costs():
@@ -95,7 +113,7 @@ def costs():
 
 def made(text):
     """A page with what is made of it anew, and the names of these parts."""
-    parts = {"picture": picture, "table": table, "layers": layers, "costs": costs}
+    parts = {"picture": picture, "table": table, "layers": layers, "costs": costs, "sizes": sizes}
     names = [found["what"] for found in MADE.finditer(text)]
     return MADE.sub(lambda found: found["begin"] + parts[found["what"]]() + found["end"], text), names
 
