@@ -1,6 +1,6 @@
 """A second reading of the accesses that a picture shows: for each entry of a trace, what its column says of an access.
 
-It is written from docs/PICTURE.md, and shares nothing with the program that it is held against. The entries may break any law. An
+docs/PICTURE.md explains what it computes. It shares no code with the program that it is held against. The entries may break any law. An
 access is open from the entry that begins it up to the next access of its process.
 """
 
