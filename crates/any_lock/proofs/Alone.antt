@@ -1,18 +1,20 @@
 -- Entries that keep all laws: nobody is inside beside another, nobody overtakes, and what is taken has its place and reply.
-use Rattle.std.proofs.Common.{◌≡◌, ◌≢◌, ℕ, zero, suc, ◌<◌, ◌≤◌, ◌==◌, Bool, true, false, not, ◌&&◌, cond, List, [], ◌∷◌, Option, None, Some, fold, length, get_or, refl, sym, ap, ◌∙◌, subst, arith, true≢false, ◌⊎◌, inl, inr, ne_eqb, eq-eqb, eqb-true}
+use Rattle.std.proofs.Common.{◌≡◌, ◌≢◌, ℕ, zero, suc, ◌<◌, ◌≤◌, ◌==◌, Bool, true, false, not, ◌&&◌, cond, List, [], ◌∷◌, None, fold, length, get_or, refl, sym, ap, ◌∙◌, subst, arith, true≢false, ◌⊎◌, inl, inr, ne_eqb, eq-eqb, eqb-true}
 use Rattle.std.specs.List.{list_all, list_any}
 use Rattle.std.proofs.lemmas.Bool.{and_parts, cases_eq, cases_lt}
 use Rattle.std.proofs.lemmas.Bool.Decides.{Decides-int_eq}
 use Rattle.plain_store.specs.{Reply, Setup}
 use Rattle.plain_store.specs.declared.Reply.TheVariants as reply
 use Rattle.plain_store.proofs.Changes.{same_value-Decides}
-use Rattle.record.specs.{Entry, IsAlone, Mark, Past, TakesItsPlace, first_of, has, history, inside, inside_after, is_before, is_entered, is_waiting_stage, stage as stage_at, stage_after, takings}
+use Rattle.record.specs.{Entry, IsAlone, Mark, Past, TakesItsPlace, has, history, inside, inside_after, is_before, is_entered, is_waiting_stage, stage as stage_at, stage_after, takings}
 use Rattle.record.specs.declared.marks.Mark.TheVariants as mark
 use Rattle.record.specs.declared.stages.Stage.TheVariants as stage
 use Rattle.any_lock.specs.declared.any_lock_law.AnyLockLaw.TheVariants as law
-use Rattle.any_lock.specs.{AnyLockLaw, Verdict, OvertakesNobody, breaks_access, breaks_history, breaks_marks, breaks_overtaken, breaks_together, first_broken, is_that, lowest_below, refusal_of_access, refusal_of_marks, right_reply, same_reply, standing, verdict_after, verdict_with, waits_before}
+use Rattle.any_lock.specs.{AnyLockLaw, Verdict, OvertakesNobody, breaks_access, breaks_history, breaks_marks, breaks_overtaken, breaks_together, first_broken, is_that, passage_in, refusal_of_access, refusal_of_marks, right_reply, same_reply, verdict_after, verdict_with}
 use Rattle.read_law.specs.declared.verdicts.Verdict.TheVariants.{Good, Bad}
-use Rattle.any_lock.proofs.Breaks.{none_else, none_if, process_there, unbroken, unrefused, unsome}
+use Rattle.any_lock.proofs.Breaks.{none_else, none_if, process_there, unbroken, unrefused}
+use Rattle.lock_stages.proofs.Entering.{none_ahead, none_inside}
+use Rattle.lock_stages.proofs.Lowest.{unsome}
 use Rattle.any_lock.proofs.Told.{found_good}
 
 -- What an entry that breaks no law keeps.
@@ -66,48 +68,24 @@ stray s (e ∷ past) all j out =
       ap (λ b. cond b (fold inside_after (inside j past) e.marks) (inside j past)) (ne_eqb e.process j apart) ∙ before.1,
     )
 
--- The lowest number for which a test holds: there is none.
-
-first_nothing : (o more : Option ℕ) → first_of o more ≡ None → (o ≡ None) × (more ≡ None)
-first_nothing None more h = (refl, h)
-first_nothing (Some k) more h = absurd (let both : Some k ≡ None = h in cc)
-
-none_there : (n : ℕ) (b : Bool) → cond b (Some n) None ≡ None → b ≡ false
-none_there n true h = absurd (let both : Some n ≡ None = h in cc)
-none_there n false h = refl
-
-pub none_below : (n : ℕ) (test : ℕ → Bool) → lowest_below n test ≡ None → (k : ℕ) → k < n → test k ≡ false
-none_below zero test none k below = absurd (omega arith)
-none_below (suc n) test none k below =
-    let parts = first_nothing (lowest_below n test) (cond (test n) (Some n) None) none in
-    go (cases_eq k n) (none_below n test parts.0 k) (none_there n (test n) parts.1)
-  where
-    go : (k ≡ n) ⊎ (k ≢ n) → (k < n → test k ≡ false) → test n ≡ false → test k ≡ false
-    go (inl same) more here = ap test same ∙ here
-    go (inr apart) more here = more (omega arith)
-
 -- Nobody is inside beside who enters, and nobody is ahead.
 
-and_false : (a b : Bool) → (a && b) ≡ false → a ≡ true → b ≡ false
-and_false true b h is = h
-and_false false b h is = absurd (true≢false (sym is))
+and-none : (b : Bool) → (b && false) ≡ false
+and-none true = refl
+and-none false = refl
 
 pub enters_alone : (s : Setup) (past : Past) (e : Entry) → AllKeep s past → Keeps s past e → has is_entered e ≡ true → (j : ℕ) → j ≢ e.process → inside j past ≡ false
 enters_alone s past e all kept enters j apart = elim (cases_lt j s.processes) [
-  | inl below ↦ and_false (not (j == e.process)) (inside j past)
-      (none_below s.processes (λ q. not (q == e.process) && (standing s q past).inside)
-      (unsome _ (and_false (has is_entered e) _ kept.together enters)) j below)
-      (ap not (ne_eqb j e.process apart))
+  | inl below ↦ none_inside (passage_in past) s.processes e.process (has is_entered e) kept.together enters j below apart
   | inr out ↦ (stray s past all j out).1
 ]
 
-pub overtakes_nobody : (s : Setup) (past : Past) (e : Entry) → AllKeep s past → Keeps s past e → OvertakesNobody s past e
-overtakes_nobody s past e all kept enters j apart = elim (cases_lt j s.processes) [
-  | inl below ↦ and_false (not (j == e.process)) (waits_before (standing s j past) (standing s e.process past))
-      (none_below s.processes (λ q. not (q == e.process) && waits_before (standing s q past) (standing s e.process past))
-      (unsome _ (and_false (has is_entered e) _ kept.overtaken enters)) j below)
-      (ap not (ne_eqb j e.process apart))
-  | inr out ↦ ap (λ x. is_waiting_stage x && is_before (standing s j past).waits (standing s e.process past).doorway) (stray s past all j out).0
+pub overtakes_nobody : (s : Setup) (past : Past) (e : Entry) → AllKeep s past → Keeps s past e → OvertakesNobody past e
+overtakes_nobody s past e all kept enters j = elim (cases_lt j s.processes) [
+  | inl below ↦ none_ahead (passage_in past) s.processes e.process (has is_entered e) kept.overtaken enters j below
+  | inr out ↦
+      ap (λ x. not (j == e.process) && (is_waiting_stage x && is_before (passage_in past j).waits (passage_in past e.process).doorway)) (stray s past all j out).0
+      ∙ and-none (not (j == e.process))
 ]
 
 -- No two are inside.

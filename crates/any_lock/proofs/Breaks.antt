@@ -8,6 +8,7 @@ use Rattle.plain_store.specs.{Setup}
 use Rattle.record.specs.{Access, Entry, Past, begins_read, moves_of, opening_bit, width}
 use Rattle.read_law.specs.{IsOfThere, KeepsSafe, MatchBool}
 use Rattle.any_lock.specs.{AccessRefusal, access_refusal, breaks_access, breaks_history, breaks_marks, breaks_overtaken, breaks_safe, breaks_together, broken_inside, broken_later, ends_wrongly, first_broken, first_that, is_there, refusal_of_access, refusal_of_marks, same_truth, standing}
+use Rattle.lock_stages.proofs.Lowest.{unsome}
 use Rattle.any_lock.specs.declared.refusals.AccessRefusal.TheVariants as access
 use Rattle.any_lock.specs.declared.any_lock_law.AnyLockLaw.TheVariants as law
 
@@ -123,10 +124,6 @@ at_inside s past e h k = let a : breaks_access s past e ≡ false = ap is_some h
 -- an entry that breaks none has an access that is not refused
 pub unbroken : (s : Setup) (past : Past) (e : Entry) → first_broken s past e ≡ None → (breaks_safe s past e ≡ false) × (broken_later s past e ≡ None)
 unbroken s past e h = (none_if (breaks_safe s past e) law.Safe (broken_later s past e) h, none_else (breaks_safe s past e) law.Safe (broken_later s past e) h)
-
-pub unsome : {A : Type 0} (o : Option A) → is_some o ≡ false → o ≡ None
-unsome None h = refl
-unsome (Some x) h = absurd (true≢false h)
 
 pub unrefused : (s : Setup) (past : Past) (e : Entry) → broken_later s past e ≡ None → refusal_of_access s past e ≡ None
 unrefused s past e h = unsome (refusal_of_access s past e) (none_if (breaks_access s past e) law.Access _ h)

@@ -64,7 +64,7 @@ cut_after cut mark.Failed = true
 cut_after cut _ = cut
 
 pub record IsSound (k : Standing) (is_cut : Bool) : Type 0 where
-  pub inside : k.inside ≡ true → holds k.stage ≡ true
+  pub inside : k.passage.inside ≡ true → holds k.stage ≡ true
   pub cut : is_cut ≡ true → rests k.stage ≡ true
 
 is_doorway : (x : Stage) → is_in_doorway x ≡ true → x ≡ stage.Doorway
@@ -108,7 +108,7 @@ sound_marked s n k mark.Entered cut none sound =
     let is : k.stage ≡ stage.Waiting = is_waits k.stage (not_not (is_waiting_stage k.stage) (none_if (not (is_waiting_stage k.stage)) refusal.NotWaiting _ none)) in
     record { inside = λ i. refl; cut = λ h. absurd (clash (rests k.stage) (sound.cut h) (ap rests is)) }
 sound_marked s n k (mark.Taken j r) cut none sound = record { inside = sound.inside; cut = sound.cut }
-sound_marked s n k mark.Left cut none sound = record { inside = λ i. absurd (true≢false (sym i)); cut = λ h. by k.stage (sound.cut h) (sound.inside (not_not k.inside (none_if (not k.inside) refusal.NotInside _ none))) }
+sound_marked s n k mark.Left cut none sound = record { inside = λ i. absurd (true≢false (sym i)); cut = λ h. by k.stage (sound.cut h) (sound.inside (not_not k.passage.inside (none_if (not k.passage.inside) refusal.NotInside _ none))) }
   where
     by : (x : Stage) → rests x ≡ true → holds x ≡ true → rests (stage_after x mark.Left) ≡ true
     by stage.Settling a b = refl
@@ -125,7 +125,7 @@ sound_marked s n k mark.Failed cut none sound = record { inside = λ i. refl; cu
 sound_marked s n k (mark.Settled v) cut none sound = record { inside = sound.inside; cut = sound.cut }
 sound_marked s n k mark.Down cut none sound =
     let rest = none_else (not (is_settling k.stage)) refusal.NotSettling _ none in
-    record { inside = λ i. absurd (clash k.inside i (none_if k.inside refusal.StillInside _ rest)); cut = λ h. refl }
+    record { inside = λ i. absurd (clash k.passage.inside i (none_if k.passage.inside refusal.StillInside _ rest)); cut = λ h. refl }
 sound_marked s n k mark.Withdrew cut none sound =
     let is : k.stage ≡ stage.Waiting = is_waits k.stage (not_not (is_waiting_stage k.stage) (none_if (not (is_waiting_stage k.stage)) refusal.NotWaiting _ none)) in
     record { inside = λ i. absurd (clash (holds k.stage) (sound.inside i) (ap holds is)); cut = λ h. absurd (clash (rests k.stage) (sound.cut h) (ap rests is)) }

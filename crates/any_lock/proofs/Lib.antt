@@ -1,8 +1,8 @@
+pub use Rattle.lock_stages.proofs as lock_stages
 pub use Rattle.read_law.proofs as read_law
 pub mod Steps
 pub mod Markings
 pub mod Whole
-pub mod Lowest
 pub mod Breaks
 pub mod Loops
 pub mod Going

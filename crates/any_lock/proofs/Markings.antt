@@ -4,11 +4,13 @@ use Rattle.std.specs.List.{list_any}
 use Rattle.std.proofs.lemmas.List.Folds.{list_any-append}
 use Rattle.std.proofs.lemmas.List.Sums.{fold-append}
 use Rattle.plain_store.specs.{Command, Reply, Setup}
-use Rattle.record.specs.{Access, Entry, Mark, Past, call_number, called_in, calls_in, first_of, has, inside, inside_after, is_called, is_entered, is_failed, is_waiting, last_command, number_in_call, own, reply_taken, since, stage as stage_at, stage_after}
+use Rattle.record.specs.{Access, Entry, Mark, Past, Stage, call_number, called_in, calls_in, first_of, has, inside, inside_after, is_called, is_entered, is_failed, is_waiting, is_waiting_stage, last_command, number_in_call, own, reply_taken, since, stage as stage_at, stage_after}
 use Rattle.record.specs.declared.marks.Mark.TheVariants as mark
-use Rattle.any_lock.specs.{Standing, begun_by, first_that, has_access, is_withdrawal, left_open, mark_refusal, marked, opened, reply_in, standing, stands_alone}
+use Rattle.record.specs.declared.stages.Stage.TheVariants as stages
+use Rattle.lock_stages.specs.{with_call, with_enter, with_wait, without_wait}
+use Rattle.any_lock.specs.{Passage, Standing, begun_by, first_that, has_access, is_withdrawal, left_open, mark_refusal, marked, opened, passage_in, reply_in, standing, stands_alone}
 use Rattle.any_lock.specs.declared.refusals.MarkRefusal.TheVariants as refusal
-use Rattle.any_lock.proofs.Steps.{first_none, if_there, inside-mine, number-called, number-mine, opened-mine, own-mine, stage-mine, standing_by, torn-mine}
+use Rattle.any_lock.proofs.Steps.{first_none, if_there, inside-mine, number-called, number-mine, opened-mine, own-mine, passage_by, stage-mine, standing_by, torn-mine}
 
 -- Marks that need not stand alone.
 
@@ -152,23 +154,42 @@ reply-taken p o ms n r past plain none =
     ∙ first_reply (reply_taken ms) (reply_in (since is_called (own p past))) r (sym (reply-plain p o ms past plain) ∙ none)
 
 -- where p stands with one mark more, field by field
+abbrev pub moved_on : ℕ → Stage → Passage → Mark → Passage
+moved_on n at t m = record t {
+  inside = inside_after t.inside m;
+  waiting = is_waiting_stage (stage_after at m);
+  waits = first_of t.waits (if_there (is_waiting m) n);
+  enters = first_of t.enters (if_there (is_entered m) n);
+}
+
 abbrev pub moved : ℕ → Standing → Mark → Standing
 moved n k m = record k {
   stage = stage_after k.stage m;
-  inside = inside_after k.inside m;
   reply = reply_by k.reply m;
   opened = left_open k.opened m;
-  waits = first_of k.waits (if_there (is_waiting m) n);
-  enters = first_of k.enters (if_there (is_entered m) n);
+  passage = moved_on n k.stage k.passage m;
 }
 
 module _ (s : Setup) (p : ℕ) (o : Option Access) (ms : List Mark) (m : Mark) (past : Past) (plain : ArePlain ms) (is : stands_alone m ≡ false) where
+  stage_to : stage_at p (with_marks p o (ms ++ m ∷ []) ∷ past) ≡ stage_after (stage_at p (with_marks p o ms ∷ past)) m
+  stage_to =
+      stage-mine p (with_marks p o (ms ++ m ∷ [])) past refl ∙ fold-append stage_after (stage_at p past) ms (m ∷ [])
+      ∙ ap (λ x. stage_after x m) (sym (stage-mine p (with_marks p o ms) past refl))
+
+  passage_to : passage_in (with_marks p o (ms ++ m ∷ []) ∷ past) p ≡ moved_on (length past) (stage_at p (with_marks p o ms ∷ past)) (passage_in (with_marks p o ms ∷ past) p) m
+  passage_to =
+      passage_by (passage_in (with_marks p o (ms ++ m ∷ []) ∷ past) p) (moved_on (length past) (stage_at p (with_marks p o ms ∷ past)) (passage_in (with_marks p o ms ∷ past) p) m)
+      (inside-mine p (with_marks p o (ms ++ m ∷ [])) past refl ∙ fold-append inside_after (inside p past) ms (m ∷ []) ∙ ap (λ x. inside_after x m) (sym (inside-mine p (with_marks p o ms) past refl)))
+      (ap is_waiting_stage stage_to)
+      (numbered-plain p has_access o (ms ++ m ∷ []) past (plain-more ms m plain is) ∙ sym (numbered-plain p has_access o ms past plain))
+      (numbered-more p is_waiting o ms m past plain is)
+      (numbered-more p is_entered o ms m past plain is)
+
   moved_to : reply_in (since is_called (own p (with_marks p o (ms ++ m ∷ []) ∷ past))) ≡ reply_by (reply_in (since is_called (own p (with_marks p o ms ∷ past)))) m →
       standing s p (with_marks p o (ms ++ m ∷ []) ∷ past) ≡ moved (length past) (standing s p (with_marks p o ms ∷ past)) m
   moved_to reply =
       standing_by (standing s p (with_marks p o (ms ++ m ∷ []) ∷ past)) (moved (length past) (standing s p (with_marks p o ms ∷ past)) m)
-      (stage-mine p (with_marks p o (ms ++ m ∷ [])) past refl ∙ fold-append stage_after (stage_at p past) ms (m ∷ []) ∙ ap (λ x. stage_after x m) (sym (stage-mine p (with_marks p o ms) past refl)))
-      (inside-mine p (with_marks p o (ms ++ m ∷ [])) past refl ∙ fold-append inside_after (inside p past) ms (m ∷ []) ∙ ap (λ x. inside_after x m) (sym (inside-mine p (with_marks p o ms) past refl)))
+      stage_to
       (withdrawn-plain p o (ms ++ m ∷ []) past (plain-more ms m plain is) ∙ sym (withdrawn-plain p o ms past plain))
       (number-plain s p o (ms ++ m ∷ []) past (plain-more ms m plain is) ∙ sym (number-plain s p o ms past plain))
       (command-plain p o (ms ++ m ∷ []) past (plain-more ms m plain is) ∙ sym (command-plain p o ms past plain))
@@ -178,18 +199,21 @@ module _ (s : Setup) (p : ℕ) (o : Option Access) (ms : List Mark) (m : Mark) (
       ∙ ap (λ x. left_open x m) (sym (opened-mine p (with_marks p o ms) past refl)))
       (torn-mine p (with_marks p o (ms ++ m ∷ [])) past refl false (none_of is_failed no_failure (ms ++ m ∷ []) (plain-more ms m plain is))
       ∙ sym (torn-mine p (with_marks p o ms) past refl false (none_of is_failed no_failure ms plain)))
-      (numbered-plain p has_access o (ms ++ m ∷ []) past (plain-more ms m plain is) ∙ sym (numbered-plain p has_access o ms past plain))
-      (numbered-more p is_waiting o ms m past plain is)
-      (numbered-more p is_entered o ms m past plain is)
+      passage_to
 
 -- A mark that is not refused.
 pub untaken : (k : Standing) (n : ℕ) (r : Reply) → mark_refusal k (mark.Taken n r) ≡ None → k.reply ≡ None
-untaken k n r h = by k.inside k.reply h
+untaken k n r h = by k.passage.inside k.reply h
   where
     by : (i : Bool) (o : Option Reply) → first_that ((not i, refusal.NotInside) ∷ (is_some o, refusal.TakenBefore) ∷ []) ≡ None → o ≡ None
     by true None h = refl
     by true (Some q) h = cc
     by false o h = cc
+
+-- a process that leaves does not wait
+waits-left : (at : Stage) → is_waiting_stage (stage_after at mark.Left) ≡ false
+waits-left stages.Settling = refl
+waits-left _ = refl
 
 -- where p stands with it
 pub standing-marked : (s : Setup) (p : ℕ) (o : Option Access) (ms : List Mark) (m : Mark) (past : Past) → ArePlain ms → stands_alone m ≡ false →
@@ -200,21 +224,28 @@ standing-marked s p o ms m past plain is allowed = by m is allowed
     k : Standing
     k = standing s p (with_marks p o ms ∷ past)
 
+    t : Passage
+    t = passage_in (with_marks p o ms ∷ past) p
+
     -- the two entries of a mark that begins neither
-    same : (n : Standing) → n ≡ record n { waits = first_of n.waits None; enters = first_of n.enters None }
-    same n = standing_by n (record n { waits = first_of n.waits None; enters = first_of n.enters None }) refl refl refl refl refl refl refl refl refl (sym (first_none n.waits)) (sym (first_none n.enters))
+    same : (then : Passage) → then.waits ≡ t.waits → then.enters ≡ t.enters → record then { waits = first_of t.waits None; enters = first_of t.enters None } ≡ then
+    same then waits enters = passage_by (record then { waits = first_of t.waits None; enters = first_of t.enters None }) then refl refl refl (first_none t.waits ∙ sym waits) (first_none t.enters ∙ sym enters)
 
     by : (m : Mark) → stands_alone m ≡ false → mark_refusal k m ≡ None → standing s p (with_marks p o (ms ++ m ∷ []) ∷ past) ≡ marked s (length past) k m
-    by (mark.Waiting t) is h = moved_to s p o ms (mark.Waiting t) past plain is (reply-same p o ms (mark.Waiting t) past plain is refl)
-        ∙ ap (λ x. record (marked s (length past) k (mark.Waiting t)) { enters = x }) (first_none k.enters)
+    by (mark.Waiting n) is h = moved_to s p o ms (mark.Waiting n) past plain is (reply-same p o ms (mark.Waiting n) past plain is refl)
+        ∙ ap (λ x. record k { stage = stages.Waiting; passage = record (with_wait (length past) t) { enters = x } }) (first_none t.enters)
     by mark.Entered is h = moved_to s p o ms mark.Entered past plain is (reply-same p o ms mark.Entered past plain is refl)
-        ∙ ap (λ x. record (marked s (length past) k mark.Entered) { waits = x }) (first_none k.waits)
+        ∙ ap (λ x. record k { stage = stages.Inside; passage = record (with_enter (length past) t) { waits = x } }) (first_none t.waits)
     by (mark.Taken n r) is h = moved_to s p o ms (mark.Taken n r) past plain is (reply-taken p o ms n r past plain (untaken k n r h))
-        ∙ sym (same (marked s (length past) k (mark.Taken n r)))
-    by mark.Left is h = moved_to s p o ms mark.Left past plain is (reply-same p o ms mark.Left past plain is refl) ∙ sym (same (marked s (length past) k mark.Left))
-    by (mark.Answered a) is h = moved_to s p o ms (mark.Answered a) past plain is (reply-same p o ms (mark.Answered a) past plain is refl) ∙ sym (same (marked s (length past) k (mark.Answered a)))
-    by (mark.Settled v) is h = moved_to s p o ms (mark.Settled v) past plain is (reply-same p o ms (mark.Settled v) past plain is refl) ∙ sym (same (marked s (length past) k (mark.Settled v)))
-    by mark.Down is h = moved_to s p o ms mark.Down past plain is (reply-same p o ms mark.Down past plain is refl) ∙ sym (same (marked s (length past) k mark.Down))
+        ∙ ap (λ x. record k { reply = Some r; passage = x }) (same t refl refl)
+    by mark.Left is h = moved_to s p o ms mark.Left past plain is (reply-same p o ms mark.Left past plain is refl)
+        ∙ (λ i. record k { stage = stage_after k.stage mark.Left; passage = record t { inside = false; waiting = waits-left k.stage i; waits = first_none t.waits i; enters = first_none t.enters i } })
+    by (mark.Answered a) is h = moved_to s p o ms (mark.Answered a) past plain is (reply-same p o ms (mark.Answered a) past plain is refl)
+        ∙ ap (λ x. record k { stage = stages.Idle; passage = x }) (same (without_wait t) refl refl)
+    by (mark.Settled v) is h = moved_to s p o ms (mark.Settled v) past plain is (reply-same p o ms (mark.Settled v) past plain is refl)
+        ∙ ap (λ x. record k { passage = x }) (same t refl refl)
+    by mark.Down is h = moved_to s p o ms mark.Down past plain is (reply-same p o ms mark.Down past plain is refl)
+        ∙ ap (λ x. record k { stage = stages.Down; passage = x }) (same (without_wait t) refl refl)
     by _ is h = absurd (true≢false is)
 
 -- One mark that stands alone.
@@ -233,16 +264,18 @@ standing-alone s p m past is = by m is
     by (mark.Called c) h = let mine = own-mine p (with_marks p None (mark.Called c ∷ [])) past refl in
         standing_by (standing s p (with_marks p None (mark.Called c ∷ []) ∷ past)) (marked s (length past) k (mark.Called c))
         (stage-mine p (with_marks p None (mark.Called c ∷ [])) past refl)
-        (inside-mine p (with_marks p None (mark.Called c ∷ [])) past refl)
         (ap (λ l. list_any (has is_withdrawal) (since is_called l)) mine)
         (ap (call_number s) mine ∙ next-call (s.version == 2) (calls_in (own p past)))
         (ap last_command mine)
         (ap (λ l. reply_in (since is_called l)) mine)
         (opened-mine p (with_marks p None (mark.Called c ∷ [])) past refl)
         (torn-mine p (with_marks p None (mark.Called c ∷ [])) past refl false refl)
+        (passage_by (passage_in (with_marks p None (mark.Called c ∷ []) ∷ past) p) (with_call (passage_in past p))
+        (inside-mine p (with_marks p None (mark.Called c ∷ [])) past refl)
+        (ap is_waiting_stage (stage-mine p (with_marks p None (mark.Called c ∷ [])) past refl))
         (number-called p has_access (with_marks p None (mark.Called c ∷ [])) past refl refl)
         (number-called p (has is_waiting) (with_marks p None (mark.Called c ∷ [])) past refl refl)
-        (number-called p (has is_entered) (with_marks p None (mark.Called c ∷ [])) past refl refl)
+        (number-called p (has is_entered) (with_marks p None (mark.Called c ∷ [])) past refl refl))
     by (mark.Waiting t) h = absurd (true≢false (sym h))
     by mark.Entered h = absurd (true≢false (sym h))
     by (mark.Taken n r) h = absurd (true≢false (sym h))
@@ -253,13 +286,15 @@ standing-alone s p m past is = by m is
     by m h = let mine = own-mine p (with_marks p None (m ∷ [])) past refl in
         standing_by (standing s p (with_marks p None (m ∷ []) ∷ past)) (marked s (length past) k m)
         (stage-mine p (with_marks p None (m ∷ [])) past refl)
-        (inside-mine p (with_marks p None (m ∷ [])) past refl)
         (ap (λ l. list_any (has is_withdrawal) (since is_called l)) mine)
         (ap (call_number s) mine)
         (ap last_command mine)
         (ap (λ l. reply_in (since is_called l)) mine)
         (opened-mine p (with_marks p None (m ∷ [])) past refl)
         (torn-mine p (with_marks p None (m ∷ [])) past refl (is_failed m) refl)
-        (number-mine p has_access (with_marks p None (m ∷ [])) past refl refl false refl ∙ first_none k.doorway)
-        (number-mine p (has is_waiting) (with_marks p None (m ∷ [])) past refl refl false refl ∙ first_none k.waits)
-        (number-mine p (has is_entered) (with_marks p None (m ∷ [])) past refl refl false refl ∙ first_none k.enters)
+        (passage_by (passage_in (with_marks p None (m ∷ []) ∷ past) p) (without_wait (passage_in past p))
+        (inside-mine p (with_marks p None (m ∷ [])) past refl)
+        (ap is_waiting_stage (stage-mine p (with_marks p None (m ∷ [])) past refl))
+        (number-mine p has_access (with_marks p None (m ∷ [])) past refl refl false refl ∙ first_none k.passage.doorway)
+        (number-mine p (has is_waiting) (with_marks p None (m ∷ [])) past refl refl false refl ∙ first_none k.passage.waits)
+        (number-mine p (has is_entered) (with_marks p None (m ∷ [])) past refl refl false refl ∙ first_none k.passage.enters))

@@ -12,12 +12,13 @@ use Rattle.plain_store.specs.declared.Reply.TheVariants as reply
 use Rattle.plain_store.proofs.Changes.{same_value-Decides}
 use Rattle.record.specs.{Access, Entry, Mark, Past, begins_read, has, history, is_entered, moves_of, opening_bit, takings}
 use Rattle.record.specs.declared.marks.Mark.TheVariants as mark
-use Rattle.any_lock.specs.{AnyLockLaw, MarkRefusal, MaysKeepAllLaws, Remedy, Standing, accessed_by, breaks_access, breaks_history, breaks_marks, breaks_overtaken, breaks_safe, breaks_together, broken_inside, broken_later, change_of, changed, ends_with, ends_wrongly, first_broken, first_that, has_other_reply, is_in_doorway, is_leaving, is_reply, is_that, is_withdrawn, lowest_other, mark_refusal, mark_with, marked, other_value, refusal_of_marks, refusal_on, right_reply, same_reply, same_truth, standing, stands_alone, value_in, waits_before, with_value}
+use Rattle.any_lock.specs.{AnyLockLaw, MarkRefusal, MaysKeepAllLaws, Remedy, Standing, accessed_by, breaks_access, breaks_history, breaks_marks, breaks_overtaken, breaks_safe, breaks_together, broken_inside, broken_later, change_of, changed, ends_with, ends_wrongly, first_broken, first_that, has_other_reply, is_in_doorway, is_leaving, is_reply, is_that, is_withdrawn, mark_refusal, mark_with, marked, other_ahead, other_inside, other_value, passage_in, refusal_of_marks, refusal_on, right_reply, same_reply, same_truth, standing, stands_alone, value_in, with_value}
 use Rattle.any_lock.specs.declared.reasons.Remedy.TheVariants.{Value, Taking}
 use Rattle.any_lock.specs.declared.any_lock_law.AnyLockLaw.TheVariants as law
 use Rattle.any_lock.specs.declared.refusals.MarkRefusal.TheVariants as refusal
 use Rattle.any_lock.proofs.Alone.{AllKeep, all_keep}
-use Rattle.any_lock.proofs.Breaks.{none_else, none_if, unsome}
+use Rattle.any_lock.proofs.Breaks.{none_else, none_if}
+use Rattle.lock_stages.proofs.Lowest.{unsome}
 use Rattle.any_lock.proofs.Cuts.{IsSound, Orderly, all_sound, answers_not, cut_after, first_unrefused, is_cut, orderly, rest_unrefused, sound_accessed, sound_marked, unrefused_on}
 use Rattle.any_lock.proofs.Loops.{refused_later}
 use Rattle.any_lock.proofs.Markings.{ArePlain, or_left, or_right, untaken, with_marks}
@@ -179,7 +180,7 @@ module _ (n : ℕ) (r : Reply) where
           refused_later s j k (mark.Taken n r) (map put ms) first
           ∙ marks_after s j ms (marked s j k (mark.Taken i q)) q refl later more
       by on (mark.Answered a) apart first more takes =
-          let out : k.inside ≡ false = outside k cut sound (answers_not k.stage (none_if (not (is_in_doorway k.stage || is_leaving k.stage)) refusal.NotLeaving _ first)).0 in
+          let out : k.passage.inside ≡ false = outside k cut sound (answers_not k.stage (none_if (not (is_in_doorway k.stage || is_leaving k.stage)) refusal.NotLeaving _ first)).0 in
           absurd (takes (ap takings (at_rest_none s j (marked s j k (mark.Answered a)) ms refl out more later)))
       by on (mark.Waiting t) apart first more takes = refused_later s j k (mark.Waiting t) (map put ms) first ∙ on (mark.Waiting t) first more takes
       by on mark.Entered apart first more takes = refused_later s j k mark.Entered (map put ms) first ∙ on mark.Entered first more takes
@@ -206,9 +207,9 @@ with_right_taking s past e all breaks =
     ap (λ b. if b then Some law.Safe else broken_later s past x) is.0
     ∙ ap (λ b. if b then Some law.Access else (if breaks_marks s past x then Some law.Marks else broken_inside s past x)) is.1
     ∙ ap (λ (w : Option MarkRefusal). if is_some w then Some law.Marks else broken_inside s past x) marks
-    ∙ ap (λ b. first_that ((b && is_some (lowest_other s p (λ q. (standing s q past).inside)), law.Together) ∷ (breaks_overtaken s past x, law.Overtaken) ∷ (breaks_history s past x, law.History) ∷ [])) entered
+    ∙ ap (λ b. first_that ((b && is_some (other_inside (passage_in past) s.processes p), law.Together) ∷ (breaks_overtaken s past x, law.Overtaken) ∷ (breaks_history s past x, law.History) ∷ [])) entered
     ∙ ap (λ b. if b then Some law.Together else first_that ((breaks_overtaken s past x, law.Overtaken) ∷ (breaks_history s past x, law.History) ∷ [])) is.3
-    ∙ ap (λ b. first_that ((b && is_some (lowest_other s p (λ q. waits_before (standing s q past) (standing s p past))), law.Overtaken) ∷ (breaks_history s past x, law.History) ∷ [])) entered
+    ∙ ap (λ b. first_that ((b && is_some (other_ahead (passage_in past) s.processes p), law.Overtaken) ∷ (breaks_history s past x, law.History) ∷ [])) entered
     ∙ ap (λ b. if b then Some law.Overtaken else first_that ((breaks_history s past x, law.History) ∷ [])) is.4
     ∙ ap (λ b. if not b then Some law.History else None) (put_taken n r ms)
   where

@@ -25,7 +25,7 @@ use Rattle.any_lock.proofs.Whole.{stands_whole}
 -- its process is not inside, and no call runs
 record IsOver (k : Standing) : Type 0 where
   pub rest : rests k.stage ≡ true
-  pub out : k.inside ≡ false
+  pub out : k.passage.inside ≡ false
 
 clash : (b : Bool) → b ≡ true → b ≡ false → ⊥
 clash b t f = true≢false (sym t ∙ f)
@@ -52,8 +52,8 @@ over_marked : (s : Setup) (n : ℕ) (k : Standing) (m : Mark) → is_called m �
 over_marked s n k (mark.Called c) uncalled none over = absurd (true≢false uncalled)
 over_marked s n k (mark.Waiting t) uncalled none over = absurd (clash (not (is_in_doorway k.stage)) (never_chooses k.stage over.rest) (none_if (not (is_in_doorway k.stage)) refusal.NotInDoorway _ none))
 over_marked s n k mark.Entered uncalled none over = absurd (clash (not (is_waiting_stage k.stage)) (never_waits k.stage over.rest) (none_if (not (is_waiting_stage k.stage)) refusal.NotWaiting _ none))
-over_marked s n k (mark.Taken j r) uncalled none over = absurd (clash (not k.inside) (ap not over.out) (none_if (not k.inside) refusal.NotInside _ none))
-over_marked s n k mark.Left uncalled none over = absurd (clash (not k.inside) (ap not over.out) (none_if (not k.inside) refusal.NotInside _ none))
+over_marked s n k (mark.Taken j r) uncalled none over = absurd (clash (not k.passage.inside) (ap not over.out) (none_if (not k.passage.inside) refusal.NotInside _ none))
+over_marked s n k mark.Left uncalled none over = absurd (clash (not k.passage.inside) (ap not over.out) (none_if (not k.passage.inside) refusal.NotInside _ none))
 over_marked s n k (mark.Answered a) uncalled none over = absurd (clash (rests k.stage) over.rest (answers_not k.stage (none_if (not (is_in_doorway k.stage || is_leaving k.stage)) refusal.NotLeaving _ none)).1)
 over_marked s n k (mark.Settled v) uncalled none over = (over, refl)
 over_marked s n k mark.Withdrew uncalled none over = absurd (clash (not (is_waiting_stage k.stage)) (never_waits k.stage over.rest) (none_if (not (is_waiting_stage k.stage)) refusal.NotWaiting _ none))
@@ -83,10 +83,10 @@ ends_all s n (m ∷ ms) k cut uncalled ends none sound =
 
     by : ((m : Mark) → list_any ends_span ms ≡ true → mark_refusal k m ≡ None → refusal_on s n (marked s n k m) ms ≡ None → IsOver (marked_all s n (marked s n k m) ms)) → (m : Mark) → list_any ends_span (m ∷ ms) ≡ true → is_called m ≡ false → mark_refusal k m ≡ None → refusal_on s n (marked s n k m) ms ≡ None → IsOver (marked_all s n (marked s n k m) ms)
     by on (mark.Answered a) ends uncalled first rest =
-        let out : k.inside ≡ false = outside k cut sound (answers_not k.stage (none_if (not (is_in_doorway k.stage || is_leaving k.stage)) refusal.NotLeaving _ first)).0 in
+        let out : k.passage.inside ≡ false = outside k cut sound (answers_not k.stage (none_if (not (is_in_doorway k.stage || is_leaving k.stage)) refusal.NotLeaving _ first)).0 in
         (over_all s n ms (marked s n k (mark.Answered a)) later rest (record { rest = refl; out = out })).0
     by on mark.Down ends uncalled first rest =
-        let out : k.inside ≡ false = none_if k.inside refusal.StillInside _ (none_else (not (is_settling k.stage)) refusal.NotSettling _ first) in
+        let out : k.passage.inside ≡ false = none_if k.passage.inside refusal.StillInside _ (none_else (not (is_settling k.stage)) refusal.NotSettling _ first) in
         (over_all s n ms (marked s n k mark.Down) later rest (record { rest = refl; out = out })).0
     by on (mark.Called c) ends uncalled first rest = absurd (true≢false uncalled)
     by on (mark.Waiting t) ends uncalled first rest = on (mark.Waiting t) ends first rest

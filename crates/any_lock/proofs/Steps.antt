@@ -2,27 +2,29 @@
 use Rattle.std.proofs.Common.{◌≡◌, ℕ, ◌==◌, Bool, true, false, cond, [], ◌∷◌, Option, None, Some, fold, length, refl, ap, ◌∙◌, eq-eqb}
 use Rattle.std.specs.List.{list_any}
 use Rattle.plain_store.specs.{Setup}
-use Rattle.record.specs.{Access, Entry, Past, call_number, first_of, has, inside, inside_after, is_called, is_entered, is_failed, is_waiting, last_command, number_in_call, own, since, stage as stage_at, stage_after}
-use Rattle.any_lock.specs.{Begun, Standing, accessed_by, at_rest, begun_by, has_access, is_withdrawal, left_open, opened, reply_in, standing, torn, torn_after, write_of}
+use Rattle.record.specs.{Access, Entry, Past, call_number, first_of, has, inside, inside_after, is_called, is_entered, is_failed, is_waiting, is_waiting_stage, last_command, number_in_call, own, since, stage as stage_at, stage_after}
+use Rattle.lock_stages.specs.{with_access}
+use Rattle.any_lock.specs.{Begun, Passage, Standing, accessed_by, at_rest, begun_by, has_access, is_withdrawal, left_open, opened, passage_in, reply_in, standing, torn, torn_after, write_of}
 
 -- Standings by their fields.
 
 -- two standings with the same fields
-pub standing_by : (k : Standing) (m : Standing) → k.stage ≡ m.stage → k.inside ≡ m.inside → k.withdrawn ≡ m.withdrawn → k.number ≡ m.number → k.command ≡ m.command →
-    k.reply ≡ m.reply → k.opened ≡ m.opened → k.torn ≡ m.torn → k.doorway ≡ m.doorway → k.waits ≡ m.waits → k.enters ≡ m.enters → k ≡ m
-standing_by k m a b c d e f g h i j l = λ x. record {
+pub standing_by : (k : Standing) (m : Standing) → k.stage ≡ m.stage → k.withdrawn ≡ m.withdrawn → k.number ≡ m.number → k.command ≡ m.command →
+    k.reply ≡ m.reply → k.opened ≡ m.opened → k.torn ≡ m.torn → k.passage ≡ m.passage → k ≡ m
+standing_by k m a c d e f g h i = λ x. record {
   stage = a x;
-  inside = b x;
   withdrawn = c x;
   number = d x;
   command = e x;
   reply = f x;
   opened = g x;
   torn = h x;
-  doorway = i x;
-  waits = j x;
-  enters = l x;
+  passage = i x;
 }
+
+-- two passages with the same fields
+pub passage_by : (t u : Passage) → t.inside ≡ u.inside → t.waiting ≡ u.waiting → t.doorway ≡ u.doorway → t.waits ≡ u.waits → t.enters ≡ u.enters → t ≡ u
+passage_by t u a b c d e = λ x. record { inside = a x; waiting = b x; doorway = c x; waits = d x; enters = e x }
 
 -- At rest.
 
@@ -31,25 +33,28 @@ no_calls true = refl
 no_calls false = refl
 
 pub at_first : (s : Setup) (p : ℕ) → standing s p [] ≡ at_rest
-at_first s p = standing_by (standing s p []) at_rest refl refl refl (no_calls (s.version == 2)) refl refl refl refl refl refl refl
+at_first s p = standing_by (standing s p []) at_rest refl refl (no_calls (s.version == 2)) refl refl refl refl refl
 
 -- Another process's entry.
 
 pub standing-other : (s : Setup) (q : ℕ) (e : Entry) (past : Past) → (e.process == q) ≡ false → standing s q (e ∷ past) ≡ standing s q past
 standing-other s q e past h =
     let mine : own q (e ∷ past) ≡ own q past = ap (λ b. cond b (e ∷ own q past) (own q past)) h in
+    let same : stage_at q (e ∷ past) ≡ stage_at q past = ap (λ b. cond b (fold stage_after (stage_at q past) e.marks) (stage_at q past)) h in
     standing_by (standing s q (e ∷ past)) (standing s q past)
-    (ap (λ b. cond b (fold stage_after (stage_at q past) e.marks) (stage_at q past)) h)
-    (ap (λ b. cond b (fold inside_after (inside q past) e.marks) (inside q past)) h)
+    same
     (ap (λ l. list_any (has is_withdrawal) (since is_called l)) mine)
     (ap (call_number s) mine)
     (ap last_command mine)
     (ap (λ l. reply_in (since is_called l)) mine)
     (rw (h, opened) refl)
     (rw (h, torn) refl)
+    (passage_by (passage_in (e ∷ past) q) (passage_in past q)
+    (ap (λ b. cond b (fold inside_after (inside q past) e.marks) (inside q past)) h)
+    (ap is_waiting_stage same)
     (rw (h, number_in_call) refl)
     (rw (h, number_in_call) refl)
-    (rw (h, number_in_call) refl)
+    (rw (h, number_in_call) refl))
 
 -- Its own entry.
 
@@ -114,27 +119,31 @@ standing-access s p None past =
     let mine = own-mine p (bare p None) past refl in
     standing_by (standing s p (bare p None ∷ past)) (standing s p past)
     (stage-mine p (bare p None) past refl)
-    (inside-mine p (bare p None) past refl)
     (ap (λ l. list_any (has is_withdrawal) (since is_called l)) mine)
     (ap (call_number s) mine)
     (ap last_command mine)
     (ap (λ l. reply_in (since is_called l)) mine)
     (opened-mine p (bare p None) past refl)
     (torn-mine p (bare p None) past refl false refl)
+    (passage_by (passage_in (bare p None ∷ past) p) (passage_in past p)
+    (inside-mine p (bare p None) past refl)
+    (ap is_waiting_stage (stage-mine p (bare p None) past refl))
     (number-mine p has_access (bare p None) past refl refl false refl ∙ first_none (number_in_call p has_access past))
     (number-mine p (has is_waiting) (bare p None) past refl refl false refl ∙ first_none (number_in_call p (has is_waiting) past))
-    (number-mine p (has is_entered) (bare p None) past refl refl false refl ∙ first_none (number_in_call p (has is_entered) past))
+    (number-mine p (has is_entered) (bare p None) past refl refl false refl ∙ first_none (number_in_call p (has is_entered) past)))
 standing-access s p (Some a) past =
     let mine = own-mine p (bare p (Some a)) past refl in
     standing_by (standing s p (bare p (Some a) ∷ past)) (accessed_by (length past) (standing s p past) (Some a))
     (stage-mine p (bare p (Some a)) past refl)
-    (inside-mine p (bare p (Some a)) past refl)
     (ap (λ l. list_any (has is_withdrawal) (since is_called l)) mine)
     (ap (call_number s) mine)
     (ap last_command mine)
     (ap (λ l. reply_in (since is_called l)) mine)
     (opened-mine p (bare p (Some a)) past refl)
     (torn-mine p (bare p (Some a)) past refl false refl)
+    (passage_by (passage_in (bare p (Some a) ∷ past) p) (with_access (length past) (passage_in past p))
+    (inside-mine p (bare p (Some a)) past refl)
+    (ap is_waiting_stage (stage-mine p (bare p (Some a)) past refl))
     (number-mine p has_access (bare p (Some a)) past refl refl true refl)
     (number-mine p (has is_waiting) (bare p (Some a)) past refl refl false refl ∙ first_none (number_in_call p (has is_waiting) past))
-    (number-mine p (has is_entered) (bare p (Some a)) past refl refl false refl ∙ first_none (number_in_call p (has is_entered) past))
+    (number-mine p (has is_entered) (bare p (Some a)) past refl refl false refl ∙ first_none (number_in_call p (has is_entered) past)))

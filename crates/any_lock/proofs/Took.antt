@@ -113,7 +113,7 @@ all_take s (e ∷ past) all p = go (cases_eq e.process p) (all_take s past all.1
 -- An answer that is no reply.
 
 -- no mark follows at rest
-pub at_rest_none : (s : Setup) (n : ℕ) (k : Standing) (ms : List Mark) → k.stage ≡ stage.Idle → k.inside ≡ false → refusal_on s n k ms ≡ None → ArePlain ms → ms ≡ []
+pub at_rest_none : (s : Setup) (n : ℕ) (k : Standing) (ms : List Mark) → k.stage ≡ stage.Idle → k.passage.inside ≡ false → refusal_on s n k ms ≡ None → ArePlain ms → ms ≡ []
 at_rest_none s n k [] idle out none plain = refl
 at_rest_none s n k (m ∷ ms) idle out none plain = absurd (by m (first_unrefused s n k m ms none) (or_left (stands_alone m) (list_any stands_alone ms) plain))
   where
@@ -123,8 +123,8 @@ at_rest_none s n k (m ∷ ms) idle out none plain = absurd (by m (first_unrefuse
     by : (m : Mark) → mark_refusal k m ≡ None → stands_alone m ≡ false → ⊥
     by (mark.Waiting t) h apart = clashes (not (is_in_doorway k.stage)) (none_if (not (is_in_doorway k.stage)) refusal.NotInDoorway _ h) (ap (λ x. not (is_in_doorway x)) idle)
     by mark.Entered h apart = clashes (not (is_waiting_stage k.stage)) (none_if (not (is_waiting_stage k.stage)) refusal.NotWaiting _ h) (ap (λ x. not (is_waiting_stage x)) idle)
-    by (mark.Taken j q) h apart = clashes (not k.inside) (none_if (not k.inside) refusal.NotInside _ h) (ap not out)
-    by mark.Left h apart = clashes (not k.inside) (none_if (not k.inside) refusal.NotInside _ h) (ap not out)
+    by (mark.Taken j q) h apart = clashes (not k.passage.inside) (none_if (not k.passage.inside) refusal.NotInside _ h) (ap not out)
+    by mark.Left h apart = clashes (not k.passage.inside) (none_if (not k.passage.inside) refusal.NotInside _ h) (ap not out)
     by (mark.Answered a) h apart = clashes (not (is_in_doorway k.stage || is_leaving k.stage)) (none_if (not (is_in_doorway k.stage || is_leaving k.stage)) refusal.NotLeaving _ h) (ap (λ x. not (is_in_doorway x || is_leaving x)) idle)
     by (mark.Settled v) h apart = clashes (not (is_settling k.stage)) (none_if (not (is_settling k.stage)) refusal.NotSettling _ h) (ap (λ x. not (is_settling x)) idle)
     by mark.Down h apart = clashes (not (is_settling k.stage)) (none_if (not (is_settling k.stage)) refusal.NotSettling _ h) (ap (λ x. not (is_settling x)) idle)
@@ -138,10 +138,10 @@ unreplied (Some q) (answer.TicketsFull j) not_reply other = absurd (true≢false
 unreplied (Some q) answer.StampsFull not_reply other = absurd (true≢false other)
 unreplied (Some q) answer.Withdrawn not_reply other = absurd (true≢false other)
 
-pub outside : (k : Standing) (cut : Bool) → IsSound k cut → holds k.stage ≡ false → k.inside ≡ false
-outside k cut sound h = by k.inside refl
+pub outside : (k : Standing) (cut : Bool) → IsSound k cut → holds k.stage ≡ false → k.passage.inside ≡ false
+outside k cut sound h = by k.passage.inside refl
   where
-    by : (b : Bool) → k.inside ≡ b → k.inside ≡ false
+    by : (b : Bool) → k.passage.inside ≡ b → k.passage.inside ≡ false
     by false is = is
     by true is = absurd (true≢false (sym (sound.inside is) ∙ h))
 
@@ -153,7 +153,7 @@ answered_none s n (m ∷ ms) k cut zero a none sound plain within is not_reply =
     let b = none_else (not (is_in_doorway k.stage || is_leaving k.stage)) refusal.NotLeaving _ first in
     let d = none_else (k.withdrawn && not (is_withdrawn a)) refusal.WasWithdrawn _ b in
     let reply : k.reply ≡ None = unreplied k.reply a not_reply (none_if (has_other_reply k.reply a) refusal.OtherReply _ d) in
-    let out : k.inside ≡ false = outside k cut sound (answers_not k.stage (none_if (not (is_in_doorway k.stage || is_leaving k.stage)) refusal.NotLeaving _ first)).0 in
+    let out : k.passage.inside ≡ false = outside k cut sound (answers_not k.stage (none_if (not (is_in_doorway k.stage || is_leaving k.stage)) refusal.NotLeaving _ first)).0 in
     let rest : refusal_on s n (marked s n k (mark.Answered a)) ms ≡ None = subst (λ x. refusal_on s n (marked s n k x) ms ≡ None) is (rest_unrefused s n k m ms none) in
     let last : ms ≡ [] = at_rest_none s n (marked s n k (mark.Answered a)) ms refl out rest (or_right (stands_alone m) (list_any stands_alone ms) plain) in
     ap (λ x. (marked_all s n (marked s n k x) ms).reply) is ∙ ap (λ l. (marked_all s n (marked s n k (mark.Answered a)) l).reply) last ∙ reply

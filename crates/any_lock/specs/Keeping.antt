@@ -2,9 +2,10 @@
 use Rattle.std.specs.Prelude.{slice_set, Result, MatchResult, ◌≡◌, ℕ, ◌+◌, ◌==◌, ◌<◌, ◌≤◌, Bool, true, false, ◌&&◌, List, [], ◌∷◌, fold, length, slice_get, cond, Option, None, Some, Ok}
 use Rattle.plain_store.specs.declared.Command.TheVariants.{Ask}
 use Rattle.plain_store.specs.{Contents, Reply, Setup, after, checked}
-use Rattle.record.specs.{Access, Entry, Mark, Past, first_of, history, stage_after, store_after}
+use Rattle.record.specs.{Access, Entry, Mark, Past, history, stage_after, store_after}
 use Rattle.record.specs.declared.marks.Mark.TheVariants as mark
 use Rattle.record.specs.declared.stages.Stage.TheVariants as stage
+use Rattle.lock_stages.specs.{no_passage, with_access, with_call, with_enter, with_leave, with_wait, without_wait}
 use Rattle.any_lock.specs.declared.refusals.MarkRefusal.{MarkRefusal}
 use Rattle.any_lock.specs.declared.standings.Standing.{Standing}
 use Rattle.any_lock.specs.declared.any_lock_law.AnyLockLaw.{AnyLockLaw}
@@ -13,14 +14,14 @@ use Rattle.any_lock.specs.Standings.{begun_by, standing, torn_after, write_of}
 
 -- where a process stands that has no entries
 abbrev pub at_rest : Standing
-at_rest = record { stage = stage.Idle; inside = false; withdrawn = false; number = 0; command = Ask; reply = None; opened = None; torn = None; doorway = None; waits = None; enters = None }
+at_rest = record { stage = stage.Idle; withdrawn = false; number = 0; command = Ask; reply = None; opened = None; torn = None; passage = no_passage }
 
 -- where its process stands after the access of an entry with this number
 abbrev pub accessed : ℕ → Standing → Access → Standing
 accessed entry k a = record k {
   opened = begun_by entry (Some a) k.opened;
   torn = torn_after (Some a) k.torn;
-  doorway = first_of k.doorway (Some entry);
+  passage = with_access entry k.passage;
 }
 
 -- the same, if there is one
@@ -40,20 +41,18 @@ marked s entry k (mark.Called c) = record k {
   number = next_number s k.number;
   command = c;
   reply = None;
-  doorway = None;
-  waits = None;
-  enters = None;
+  passage = with_call k.passage;
 }
-marked s entry k (mark.Waiting t) = record k { stage = stage.Waiting; waits = first_of k.waits (Some entry) }
-marked s entry k mark.Entered = record k { stage = stage.Inside; inside = true; enters = first_of k.enters (Some entry) }
+marked s entry k (mark.Waiting t) = record k { stage = stage.Waiting; passage = with_wait entry k.passage }
+marked s entry k mark.Entered = record k { stage = stage.Inside; passage = with_enter entry k.passage }
 marked s entry k (mark.Taken n r) = record k { reply = Some r }
-marked s entry k mark.Left = record k { stage = stage_after k.stage mark.Left; inside = false }
-marked s entry k (mark.Answered a) = record k { stage = stage.Idle }
-marked s entry k mark.Failed = record k { stage = stage.Settling; opened = None; torn = write_of k.opened }
+marked s entry k mark.Left = record k { stage = stage_after k.stage mark.Left; passage = with_leave k.passage }
+marked s entry k (mark.Answered a) = record k { stage = stage.Idle; passage = without_wait k.passage }
+marked s entry k mark.Failed = record k { stage = stage.Settling; opened = None; torn = write_of k.opened; passage = without_wait k.passage }
 marked s entry k (mark.Settled v) = k
-marked s entry k mark.Down = record k { stage = stage.Down }
-marked s entry k mark.Withdrew = record k { stage = stage.Leaving; withdrawn = true; opened = write_of k.opened }
-marked s entry k mark.Restarted = record k { stage = stage.Idle }
+marked s entry k mark.Down = record k { stage = stage.Down; passage = without_wait k.passage }
+marked s entry k mark.Withdrew = record k { stage = stage.Leaving; withdrawn = true; opened = write_of k.opened; passage = without_wait k.passage }
+marked s entry k mark.Restarted = record k { stage = stage.Idle; passage = without_wait k.passage }
 
 -- the first of these marks that is refused, where its process stands so
 abbrev pub refusal_on : Setup → ℕ → Standing → List Mark → Option MarkRefusal

@@ -1,15 +1,15 @@
 -- The laws that an entry of the record of any lock keeps, by looking back over the entries before it.
-use Rattle.std.specs.Prelude.{◌≡◌, ℕ, zero, suc, ◌==◌, Bool, false, not, ◌&&◌, List, [], ◌∷◌, length, cond, Option, None, Some, is_some, if◌then◌else◌}
+use Rattle.std.specs.Prelude.{◌≡◌, ℕ, ◌==◌, Bool, false, not, ◌&&◌, List, [], ◌∷◌, length, Option, None, Some, is_some, if◌then◌else◌}
 use Rattle.std.specs.List.{list_all}
 use Rattle.record.specs.safe_bit.{Move, before_read, is_overlapped, last_written}
 use Rattle.record.specs.safe_bit.declared.Move.TheVariants.{EndRead}
 use Rattle.plain_store.specs.{Reply, Setup, reply_to}
-use Rattle.record.specs.{Entry, Mark, Past, begins_read, first_of, has, history, is_before, is_entered, is_waiting_stage, moves_of, opening_bit, store_after, takings}
+use Rattle.record.specs.{Entry, Mark, Past, begins_read, has, history, is_entered, moves_of, opening_bit, store_after, takings}
+use Rattle.lock_stages.specs.{overtakes_another, joins_another}
 use Rattle.any_lock.specs.declared.any_lock_law.AnyLockLaw.{AnyLockLaw}
 use Rattle.any_lock.specs.declared.any_lock_law.AnyLockLaw.TheVariants as law
-use Rattle.any_lock.specs.declared.standings.Standing.{Standing}
 use Rattle.any_lock.specs.Refusals.{first_that, refusal_of_access, refusal_of_marks, same_reply, same_truth}
-use Rattle.any_lock.specs.Standings.{standing}
+use Rattle.any_lock.specs.Standings.{passage_in, standing}
 
 -- after these moves of a bit a read ends with a value that it may not give: no write overlapped the read, and another was written last before it began
 abbrev pub ends_wrongly : Bool → List Move → Move → Bool
@@ -28,46 +28,13 @@ breaks_access s past e = is_some (refusal_of_access s past e)
 abbrev pub breaks_marks : Setup → Past → Entry → Bool
 breaks_marks s past e = is_some (refusal_of_marks s past e)
 
--- the lowest number below n for which a test holds
-abbrev pub lowest_below : ℕ → (ℕ → Bool) → Option ℕ
-lowest_below zero test = None
-lowest_below (suc n) test = first_of (lowest_below n test) (cond (test n) (Some n) None)
-
--- the lowest process but p for which a test holds
-abbrev pub lowest_other : Setup → ℕ → (ℕ → Bool) → Option ℕ
-lowest_other s p test = lowest_below s.processes (λ q. not (q == p) && test q)
-
--- q is another than p, and is inside
-abbrev pub is_other_inside : Setup → Past → ℕ → ℕ → Bool
-is_other_inside s past p q = not (q == p) && (standing s q past).inside
-
--- the lowest that is
-abbrev pub other_inside : Setup → Past → ℕ → Option ℕ
-other_inside s past p = lowest_other s p (λ q. (standing s q past).inside)
-
 -- Together: who gets inside does so while no other is inside.
 abbrev pub breaks_together : Setup → Past → Entry → Bool
-breaks_together s past e = has is_entered e && is_some (other_inside s past e.process)
-
--- one that stands so waits, and its `wait` stands before the doorway of another began, or that has not begun
-abbrev pub waits_before : Standing → Standing → Bool
-waits_before k other = is_waiting_stage k.stage && is_before k.waits other.doorway
-
--- q is ahead of p: it waits since before p's doorway began
-abbrev pub is_ahead : Setup → Past → ℕ → ℕ → Bool
-is_ahead s past p q = waits_before (standing s q past) (standing s p past)
-
--- it is another than p, and is ahead of it
-abbrev pub is_other_ahead : Setup → Past → ℕ → ℕ → Bool
-is_other_ahead s past p q = not (q == p) && is_ahead s past p q
-
--- the lowest that is
-abbrev pub other_ahead : Setup → Past → ℕ → Option ℕ
-other_ahead s past p = lowest_other s p (is_ahead s past p)
+breaks_together s past e = joins_another (passage_in past) s.processes e.process (has is_entered e)
 
 -- Overtaken: nobody is ahead of who gets inside.
 abbrev pub breaks_overtaken : Setup → Past → Entry → Bool
-breaks_overtaken s past e = has is_entered e && is_some (other_ahead s past e.process)
+breaks_overtaken s past e = overtakes_another (passage_in past) s.processes e.process (has is_entered e)
 
 -- the one-thread store's reply to p's command, after the history
 abbrev pub right_reply : Setup → Past → ℕ → Reply

@@ -1,8 +1,9 @@
 -- The reasons of an entry that breaks a law, by looking back.
-use Rattle.std.specs.Prelude.{◌≡◌, ℕ, ◌<◌, nat_lt, Bool, true, false, not, ◌&&◌, List, length, slice_index_or, cond, Option, None, Some, is_none}
+use Rattle.std.specs.Prelude.{◌≡◌, ℕ, nat_lt, Bool, true, false, not, length, cond, Option, None, Some, is_none}
 use Rattle.record.specs.safe_bit.declared.Move.TheVariants.{BeginWrite, EndWrite, BeginRead, EndRead, Settle}
 use Rattle.plain_store.specs.{Setup}
 use Rattle.record.specs.{Access, Entry, Past, Stage, first_of, history}
+use Rattle.lock_stages.specs.{AreSince, ahead_since, other_inside}
 use Rattle.any_lock.specs.declared.reasons.Remedy.{Remedy}
 use Rattle.any_lock.specs.declared.reasons.Remedy.TheVariants.{Value, Taking}
 use Rattle.any_lock.specs.declared.reasons.Reasons.{Reasons}
@@ -12,9 +13,9 @@ use Rattle.any_lock.specs.declared.standings.Begun.{Begun}
 use Rattle.any_lock.specs.declared.standings.Standing.{Standing}
 use Rattle.any_lock.specs.declared.any_lock_law.AnyLockLaw.{AnyLockLaw}
 use Rattle.any_lock.specs.declared.any_lock_law.AnyLockLaw.TheVariants as law
-use Rattle.any_lock.specs.Laws.{broken_later, is_other_ahead, other_inside, right_reply}
+use Rattle.any_lock.specs.Laws.{broken_later, right_reply}
 use Rattle.any_lock.specs.Refusals.{refusal_of_access, refusal_of_marks}
-use Rattle.any_lock.specs.Standings.{has_access, standing}
+use Rattle.any_lock.specs.Standings.{has_access, passage_in, standing}
 
 -- its refusal by the table of accesses, or else by that of marks, whatever the law
 abbrev pub refused : Setup → Past → Entry → Option Refused
@@ -56,19 +57,19 @@ since q (Some entry) = Some (q, entry)
 
 -- q, and the entry of its call with which it got inside
 abbrev pub entered : ℕ → Standing → Option (ℕ × ℕ)
-entered q k = since q k.enters
+entered q k = since q k.passage.enters
 
 -- who but p is inside, and since which entry
 abbrev pub inside_since : Setup → Past → ℕ → Option (ℕ × ℕ)
-inside_since s past p = elim (other_inside s past p) [ None ↦ None | Some q ↦ entered q (standing s q past) ]
+inside_since s past p = elim (other_inside (passage_in past) s.processes p) [ None ↦ None | Some q ↦ entered q (standing s q past) ]
 
 -- the entry of q's `wait`, if q is ahead of p
 abbrev pub wait_ahead : Setup → Past → ℕ → ℕ → Option ℕ
-wait_ahead s past p q = cond (nat_lt q s.processes && nat_lt p s.processes && is_other_ahead s past p q) (standing s q past).waits None
+wait_ahead s past p q = cond (nat_lt p s.processes) (ahead_since (passage_in past) s.processes p q) None
 
 -- where its process's doorway began, in the past or with its access
 abbrev pub doorway_with : Past → Entry → Standing → Option ℕ
-doorway_with past e k = first_of k.doorway (cond (has_access e) (Some (length past)) None)
+doorway_with past e k = first_of k.passage.doorway (cond (has_access e) (Some (length past)) None)
 
 -- the same, if its process is there
 abbrev pub doorway_of : Setup → Past → Entry → Option ℕ
@@ -120,10 +121,6 @@ wait_by l s past p q = cond (is_overtaken l) (wait_ahead s past p q) None
 abbrev pub doorway_by : AnyLockLaw → Setup → Past → Entry → Option ℕ
 doorway_by l s past e = cond (is_overtaken l) (doorway_of s past e) None
 
--- of each process this is told
-abbrev pub AreWaits : List (Option ℕ) → (ℕ → Option ℕ) → Type 0
-AreWaits waits told = (q : ℕ) → q < 16 → slice_index_or waits q None ≡ told q
-
 -- these are the reasons of an entry that breaks this law first
 pub record AreReasons (s : Setup) (past : Past) (e : Entry) (l : AnyLockLaw) (r : Reasons) : Type 0 where
   pub may : r.may ≡ change_of l s past e
@@ -132,5 +129,5 @@ pub record AreReasons (s : Setup) (past : Past) (e : Entry) (l : AnyLockLaw) (r 
   pub opened : r.opened ≡ opened_by s past e.process
   pub torn : r.torn ≡ torn_by s past e.process
   pub inside : r.inside ≡ inside_by l s past e.process
-  pub waits : AreWaits r.waits (wait_by l s past e.process)
+  pub waits : AreSince r.waits (wait_by l s past e.process)
   pub doorway : r.doorway ≡ doorway_by l s past e

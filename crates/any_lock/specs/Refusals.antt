@@ -166,9 +166,9 @@ mark_refusal k Withdrew = first_that ((not (is_waiting_stage k.stage), mark.NotW
 mark_refusal k Entered = first_that ((not (is_waiting_stage k.stage), mark.NotWaiting) ∷ [])
 mark_refusal k Restarted = first_that ((not (is_down k.stage), mark.NotDown) ∷ [])
 mark_refusal k (Waiting t) = first_that ((not (is_in_doorway k.stage), mark.NotInDoorway) ∷ [])
-mark_refusal k Left = first_that ((not k.inside, mark.NotInside) ∷ [])
+mark_refusal k Left = first_that ((not k.passage.inside, mark.NotInside) ∷ [])
 mark_refusal k (Taken n r) = first_that (
-    (not k.inside, mark.NotInside)
+    (not k.passage.inside, mark.NotInside)
     ∷ (is_some k.reply, mark.TakenBefore)
     ∷ [])
 mark_refusal k (Answered a) = first_that (
@@ -185,7 +185,7 @@ mark_refusal k (Settled v) = first_that (
     ∷ [])
 mark_refusal k Down = first_that (
     (not (is_settling k.stage), mark.NotSettling)
-    ∷ (k.inside, mark.StillInside)
+    ∷ (k.passage.inside, mark.StillInside)
     ∷ (is_some k.opened, mark.AccessOpen)
     ∷ (is_some k.torn, mark.Torn)
     ∷ [])

@@ -4,8 +4,9 @@ use Rattle.std.specs.List.{list_any}
 use Rattle.record.specs.safe_bit.{Move}
 use Rattle.record.specs.safe_bit.declared.Move.TheVariants.{BeginWrite, EndWrite, BeginRead, EndRead, Settle}
 use Rattle.plain_store.specs.{Reply, Setup}
-use Rattle.record.specs.{Access, Entry, Mark, Past, call_number, doorway_end, has, inside, is_called, is_entered, is_failed, last_command, number_in_call, own, reply_taken, since, stage}
+use Rattle.record.specs.{Access, Entry, Mark, Past, call_number, doorway_end, has, inside, is_called, is_entered, is_failed, is_waiting_stage, last_command, number_in_call, own, reply_taken, since, stage}
 use Rattle.record.specs.declared.marks.Mark.TheVariants.{Failed, Withdrew}
+use Rattle.lock_stages.specs.{Passage}
 use Rattle.any_lock.specs.declared.standings.Begun.{Begun}
 use Rattle.any_lock.specs.declared.standings.Standing.{Standing}
 
@@ -73,18 +74,25 @@ torn p (e ∷ past) = cond (e.process == p)
     (elim (has is_failed e) [ true ↦ write_of (opened p past) | false ↦ torn_after e.access (torn p past) ])
     (torn p past)
 
+-- p's passage through the lock
+abbrev pub passage_in : Past → ℕ → Passage
+passage_in past p = record {
+  inside = inside p past;
+  waiting = is_waiting_stage (stage p past);
+  doorway = number_in_call p has_access past;  -- the entry of the first access of its call
+  waits = doorway_end p past;  -- that of its call's `wait`
+  enters = number_in_call p (has is_entered) past;  -- and that of its `enter`
+}
+
 -- where p stands
 abbrev pub standing : Setup → ℕ → Past → Standing
 standing s p past = record {
   stage = stage p past;
-  inside = inside p past;
   withdrawn = list_any (has is_withdrawal) (its_call p past);
   number = call_number s (own p past);
   command = last_command (own p past);
   reply = reply_in (its_call p past);
   opened = opened p past;
   torn = torn p past;
-  doorway = number_in_call p has_access past;  -- the entry of the first access of its call
-  waits = doorway_end p past;  -- that of its call's `wait`
-  enters = number_in_call p (has is_entered) past;  -- and that of its `enter`
+  passage = passage_in past p;
 }

@@ -4,15 +4,16 @@ ghost use Rattle.std.specs.Prelude.{◌≡◌, ℕ, ◌+◌, ◌-◌, ◌^◌, �
 ghost use Rattle.std.specs.List.{list_any};
 ghost use Rattle.plain_store.specs.{checked};
 ghost use Rattle.read_law.specs.{entry_by};
+ghost use Rattle.lock_stages.specs.{AreSince, ahead_since as wait_ahead, other_ahead as lowest_ahead, other_inside as lowest_inside};
 ghost use Rattle.any_lock.specs.Keeping.{IsOfAccess, Knows, KnowsOn, KnowsOnAt, OfEntry, OfPast, StandsAfter, TakesInto, made_at, is_taken, with_standing};
-ghost use Rattle.any_lock.specs.Laws.{is_ahead, is_other_ahead, is_other_inside, other_ahead, other_inside, right_reply};
+ghost use Rattle.any_lock.specs.Laws.{right_reply};
 ghost use Rattle.any_lock.specs.Refusals.{has_nothing, is_crowded, refusal_of_access, refusal_of_marks, stands_alone as is_alone};
-ghost use Rattle.any_lock.specs.Standings.{standing as standing_of};
+ghost use Rattle.any_lock.specs.Standings.{passage_in, standing as standing_of};
 
-use crate::mark_rules::{stands_alone, waits};
+use crate::mark_rules::stands_alone;
 use crate::refusals::{AccessRefusal, MarkRefusal};
 use crate::standings::Standing;
-use lock_stages::precedes;
+use lock_stages::{MOST_PROCESSES, ahead_since, other_ahead, other_inside};
 use plain_store::{Caller, NestedTypes, Reply, Setup, Store, opened};
 use record::{Access, Mark};
 use std::alloc::{AllocError, Global};
@@ -139,55 +140,25 @@ impl Kept {
 
     /// Returns the lowest other process that is inside.
     pub fn other_inside(&self, process: u8) -> Option<u8>
-        ensures { OfPast self.now (λ s past. result ≡ other_inside s past process) }
+        ensures { OfPast self.now (λ s past. result ≡ lowest_inside (passage_in past) s.processes process) }
     {
-        for other in 0..self.processes() {
-            if self.is_inside_beside(other, process) {
-                return Some(other);
-            }
-        }
-        None
-    }
-
-    /// Returns whether `other` is another process than this one, and inside.
-    fn is_inside_beside(&self, other: u8, process: u8) -> bool
-        requires { other < self.now.setup.processes }
-        ensures { OfPast self.now (λ s past. result ≡ is_other_inside s past process other) }
-    {
-        other != process && self.standings[usize::from(other)].inside
+        other_inside(&self.standings, self.processes(), process)
     }
 
     /// Returns the lowest process that is ahead of this one.
     pub fn other_ahead(&self, process: u8) -> Option<u8>
         requires { process < self.now.setup.processes }
-        ensures { OfPast self.now (λ s past. result ≡ other_ahead s past process) }
+        ensures { OfPast self.now (λ s past. result ≡ lowest_ahead (passage_in past) s.processes process) }
     {
-        for other in 0..self.processes() {
-            if self.is_ahead(other, process) {
-                return Some(other);
-            }
-        }
-        None
+        other_ahead(&self.standings, self.processes(), process)
     }
 
-    /// Returns whether one process is ahead of another: it has waited since before the doorway of the other began.
-    pub fn is_ahead(&self, other: u8, process: u8) -> bool
-        requires other { other < self.now.setup.processes }
-        requires process { process < self.now.setup.processes }
-        ensures { OfPast self.now (λ s past. result ≡ is_other_ahead s past process other) }
+    /// Returns of each process that is ahead of this one the entry with which it began to wait.
+    pub fn ahead_since(&self, process: u8) -> [Option<u64>; MOST_PROCESSES]
+        requires { process < self.now.setup.processes }
+        ensures { OfPast self.now (λ s past. AreSince result (wait_ahead (passage_in past) s.processes process)) }
     {
-        other != process && self.waits_before(other, process)
-    }
-
-    /// Returns whether a process has waited since before the doorway of a process began.
-    fn waits_before(&self, other: u8, process: u8) -> bool
-        requires other { other < self.now.setup.processes }
-        requires process { process < self.now.setup.processes }
-        ensures { OfPast self.now (λ s past. result ≡ is_ahead s past process other) }
-    {
-        let standing = &self.standings[usize::from(other)];
-        let doorway = self.standings[usize::from(process)].doorway;
-        waits(standing.stage) && precedes(standing.waits, doorway)
+        ahead_since(&self.standings, self.processes(), process)
     }
 
     /// Returns the right position and reply of a command that a process takes now.

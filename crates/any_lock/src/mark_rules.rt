@@ -31,7 +31,7 @@ impl Standing {
             Mark::Waiting(_) => {
                 refused_if(!is_in_doorway(self.stage), MarkRefusal::NotInDoorway)
             }
-            Mark::Left => refused_if(!self.inside, MarkRefusal::NotInside),
+            Mark::Left => refused_if(!self.passage.inside, MarkRefusal::NotInside),
             Mark::Taken(_place, _reply) => self.refuses_taking(),
             Mark::Answered(answer) => self.refuses_answer(answer),
             Mark::Settled(_value) => self.refuses_settled(),
@@ -58,7 +58,7 @@ impl Standing {
     fn refuses_taking(&self) -> Option<MarkRefusal>
         ensures { (n : ℕ) (reply : Replied) → result ≡ mark_refusal self.now (Taken n reply) }
     {
-        if !self.inside {
+        if !self.passage.inside {
             Some(MarkRefusal::NotInside)
         } else if self.reply.is_some() {
             Some(MarkRefusal::TakenBefore)
@@ -109,7 +109,7 @@ impl Standing {
     {
         if !settles(self.stage) {
             Some(MarkRefusal::NotSettling)
-        } else if self.inside {
+        } else if self.passage.inside {
             Some(MarkRefusal::StillInside)
         } else if self.opened.is_some() {
             Some(MarkRefusal::AccessOpen)
@@ -146,7 +146,7 @@ pub(crate) fn stands_alone(mark: &Mark) -> bool
 }
 
 /// Returns whether a process waits.
-pub(crate) fn waits(stage: Stage) -> bool
+fn waits(stage: Stage) -> bool
     ensures { result ≡ is_waiting_stage stage }
 {
     matches!(stage, Stage::Waiting)

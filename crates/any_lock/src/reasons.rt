@@ -1,14 +1,16 @@
 //! The reasons of a verdict, which are looked up for the bad entry.
 ghost use Rattle.std.specs.Prelude.{◌≡◌, None};
+ghost use Rattle.lock_stages.specs.{AreSince};
 ghost use Rattle.any_lock.specs.declared.any_lock_law.AnyLockLaw.TheVariants as broken;
 ghost use Rattle.any_lock.specs.Judging.{AreReasonsBy, AreReasonsIf, TellsDoorway, TellsEntered};
 ghost use Rattle.any_lock.specs.Keeping.{IsOfAccess, IsOfEntry, IsOfProcess, OfEntry, OfPast};
-ghost use Rattle.any_lock.specs.Reasons.{AreWaits, change_of, doorway_by, doorway_of, entry_of as began_at, inside_by, inside_since, opened_by, other_value, refused, since, stage_of, stands, torn_by, wait_ahead, wait_by};
+ghost use Rattle.any_lock.specs.Reasons.{change_of, doorway_by, doorway_of, entry_of as began_at, inside_by, inside_since, opened_by, other_value, refused, since, stage_of, stands, torn_by, wait_ahead, wait_by};
 
 use crate::any_lock_law::AnyLockLaw;
 use crate::kept::Kept;
 use crate::refusals::{AccessRefusal, MarkRefusal};
 use crate::standings::{Begun, Standing};
+use lock_stages::MOST_PROCESSES;
 use plain_store::{NestedTypes, Reply};
 use record::{Access, Mark, Move, Stage};
 
@@ -27,9 +29,6 @@ pub enum Refused {
     Access(AccessRefusal),
     Marks(MarkRefusal),
 }
-
-/// The most processes of a record.
-const MOST_PROCESSES: usize = 16;
 
 /// The reasons of an entry that breaks a law. Entries are given by their numbers, from 0.
 #[derive(Clone, Copy)]
@@ -229,13 +228,13 @@ impl Kept {
     {
         match self.looked_up(process) {
             None => None,
-            Some(standing) => since(process, standing.enters),
+            Some(standing) => since(process, standing.passage.enters),
         }
     }
 
     /// Returns for `Overtaken` the entry of the `wait` of each process that is ahead of this one.
     fn waits(&self, law: AnyLockLaw, process: u8) -> [Option<u64>; MOST_PROCESSES]
-        ensures { OfPast self.now (λ s past. AreWaits result (wait_by law s past process)) }
+        ensures { OfPast self.now (λ s past. AreSince result (wait_by law s past process)) }
     {
         if !matches!(law, AnyLockLaw::Overtaken) {
             return [None; MOST_PROCESSES];
@@ -245,26 +244,12 @@ impl Kept {
 
     /// Returns the entry of the `wait` of each process that is ahead of this one.
     fn waits_ahead(&self, process: u8) -> [Option<u64>; MOST_PROCESSES]
-        ensures { OfPast self.now (λ s past. AreWaits result (wait_ahead s past process)) }
+        ensures { OfPast self.now (λ s past. AreSince result (wait_ahead s past process)) }
     {
-        let mut waits = [None; MOST_PROCESSES];
-        for other in 0..MOST_PROCESSES {
-            waits[other] = self.wait_ahead(other as u8, process);
+        if process >= self.processes() {
+            return [None; MOST_PROCESSES];
         }
-        waits
-    }
-
-    /// Returns the entry of the `wait` of a process, if both processes exist and it is ahead of the other.
-    fn wait_ahead(&self, other: u8, process: u8) -> Option<u64>
-        ensures { OfPast self.now (λ s past. result ≡ wait_ahead s past process other) }
-    {
-        if other >= self.processes() || process >= self.processes() {
-            return None;
-        }
-        if !self.is_ahead(other, process) {
-            return None;
-        }
-        self.stands(other).waits
+        self.ahead_since(process)
     }
 
     /// Returns for `Overtaken` the entry with which the doorway of a process began, before this access or with it.
@@ -291,7 +276,7 @@ impl Kept {
     fn doorway_of(&self, standing: &Standing, access: &Option<Access>) -> Option<u64>
         ensures { TellsDoorway self.now access.now standing.now result }
     {
-        match standing.doorway {
+        match standing.passage.doorway {
             Some(entry) => Some(entry),
             None if access.is_some() => Some(self.entries()),
             None => None,

@@ -2,12 +2,13 @@
 ghost use Rattle.std.specs.Prelude.{◌≡◌, ◌<◌, ℕ, None, Some, IfErr, OnOk};
 ghost use Rattle.plain_store.specs.declared.Setup.{Setup as Given};
 ghost use Rattle.record.specs.declared.marks.Mark.TheVariants.{Called, Left};
-ghost use Rattle.record.specs.{first_of};
+ghost use Rattle.lock_stages.specs.{without_wait};
 ghost use Rattle.any_lock.specs.Keeping.{IsRefusedFor, accessed, at_rest, marked, marked_all, refusal_on};
 ghost use Rattle.any_lock.specs.Refusals.{mark_refusal};
 ghost use Rattle.any_lock.specs.Standings.{begins as begins_access, settles as settles_bit, write_of as write_in};
 
 use crate::refusals::MarkRefusal;
+use lock_stages::{HasPassage, Passage};
 use plain_store::{Command, NestedTypes, Reply, Setup};
 use record::{Access, Mark, Move, Stage};
 
@@ -22,8 +23,6 @@ pub struct Begun {
 #[derive(Clone, Copy)]
 pub struct Standing {
     pub stage: Stage,
-    /// Whether it has entered and not left since.
-    pub inside: bool,
     /// Whether its call was withdrawn.
     pub withdrawn: bool,
     /// The number of its last call: in version 2 the number of calls it has made, in version 1 always 0.
@@ -36,12 +35,16 @@ pub struct Standing {
     pub opened: Option<Begun>,
     /// The write that was open as it last failed, until it is settled.
     pub torn: Option<Begun>,
-    /// The first entry of its call with an access: there its doorway began.
-    pub doorway: Option<u64>,
-    /// The entry of its call with which it waits.
-    pub waits: Option<u64>,
-    /// The entry of its call with which it entered.
-    pub enters: Option<u64>,
+    /// Its passage through the lock. A process that fails stays inside until its memory unit leaves.
+    pub passage: Passage,
+}
+
+impl HasPassage for Standing {
+    ghost passage_of = { λ standing. standing.passage };
+
+    fn passage(&self) -> &Passage {
+        &self.passage
+    }
 }
 
 impl Standing {
@@ -51,16 +54,13 @@ impl Standing {
     {
         Standing {
             stage: Stage::Idle,
-            inside: false,
             withdrawn: false,
             number: 0,
             command: Command::Ask,
             reply: None,
             opened: None,
             torn: None,
-            doorway: None,
-            waits: None,
-            enters: None,
+            passage: Passage::none(),
         }
     }
 
@@ -77,7 +77,7 @@ impl Standing {
         if is_settling(access.how) {
             self.torn = None;
         }
-        self.doorway = first_of(self.doorway, entry);
+        self.passage.access(entry);
     }
 
     /// Updates the state by the marks of this entry, or returns why the first refused one is refused.
@@ -111,25 +111,24 @@ impl Standing {
             Mark::Called(command) => self.call(setup, command),
             Mark::Waiting(_) => {
                 self.stage = Stage::Waiting;
-                self.waits = first_of(self.waits, entry);
+                self.passage.wait(entry);
             }
             Mark::Entered => {
                 self.stage = Stage::Inside;
-                self.inside = true;
-                self.enters = first_of(self.enters, entry);
+                self.passage.enter(entry);
             }
             Mark::Taken(_, reply) => self.reply = Some(*reply),
             Mark::Left => self.leave(),
-            Mark::Answered(_) | Mark::Restarted => self.stage = Stage::Idle,
+            Mark::Answered(_) | Mark::Restarted => self.stop_at(Stage::Idle),
             Mark::Failed => {
-                self.stage = Stage::Settling;
+                self.stop_at(Stage::Settling);
                 self.torn = write_of(self.opened);
                 self.opened = None;
             }
             Mark::Settled(_) => {}
-            Mark::Down => self.stage = Stage::Down,
+            Mark::Down => self.stop_at(Stage::Down),
             Mark::Withdrew => {
-                self.stage = Stage::Leaving;
+                self.stop_at(Stage::Leaving);
                 self.withdrawn = true;
                 self.opened = write_of(self.opened);
             }
@@ -151,9 +150,15 @@ impl Standing {
         };
         self.command = *command;
         self.reply = None;
-        self.doorway = None;
-        self.waits = None;
-        self.enters = None;
+        self.passage.call();
+    }
+
+    /// Updates the stage of a process that stops waiting and does not enter.
+    fn stop_at(&mut self, stage: Stage)
+        ensures { self.new ≡ record self.old { stage = stage; passage = without_wait self.old.passage } }
+    {
+        self.stage = stage;
+        self.passage.stop_waiting();
     }
 
     /// Updates the state by leaving. While its memory unit settles, the process stays settling.
@@ -163,7 +168,7 @@ impl Standing {
         if self.stage != Stage::Settling {
             self.stage = Stage::Leaving;
         }
-        self.inside = false;
+        self.passage.leave();
     }
 }
 
@@ -181,17 +186,6 @@ pub(crate) fn is_settling(how: Move) -> bool
     ensures { result ≡ settles_bit how }
 {
     matches!(how, Move::Settle(_))
-}
-
-/// Returns the first of two entries, of which the earlier may be missing.
-#[inline]
-fn first_of(before: Option<u64>, entry: u64) -> Option<u64>
-    ensures { result ≡ first_of before (Some entry) }
-{
-    match before {
-        Some(before) => Some(before),
-        None => Some(entry),
-    }
 }
 
 /// Returns the open access, if it is a write.

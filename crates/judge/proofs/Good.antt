@@ -8,7 +8,7 @@ use Rattle.plain_store.specs.{Reply, Setup}
 use Rattle.record.specs.{Entry, Past, TakesItsPlace, has, history, inside, is_entered, takings}
 use Rattle.judge.specs.auditor.{KeepsTogether}
 use Rattle.judge.specs.read_law.declared.verdicts.Law.TheVariants as law
-use Rattle.any_lock.specs.{breaks_history, breaks_together, is_that, lowest_other, right_reply, same_reply, standing}
+use Rattle.any_lock.specs.{breaks_history, breaks_together, is_other_inside, is_that, other_inside, passage_in, right_reply, same_reply}
 use Rattle.any_lock.proofs.Breaks.{broken_by}
 use Rattle.judge.specs.{GoodKeepsOfAny}
 use Rattle.judge.proofs.NoneBelow.{none_below}
@@ -17,7 +17,7 @@ use Rattle.judge.proofs.SameReply.{same_as_itself}
 pub keeps_together : (s : Setup) (past : Past) (e : Entry) → KeepsTogether past e → breaks_together s past e ≡ false
 keeps_together s past e kept = by (has is_entered e) refl
   where
-    other : has is_entered e ≡ true → (q : ℕ) → (not (q == e.process) && (standing s q past).inside) ≡ false
+    other : has is_entered e ≡ true → (q : ℕ) → is_other_inside (passage_in past) e.process q ≡ false
     other entered q = go (inside q past) refl (cases_eq q e.process)
       where
         and_false : (b : Bool) → (b && false) ≡ false
@@ -30,10 +30,10 @@ keeps_together s past e kept = by (has is_entered e) refl
         go true is (inr apart) = absurd (apart (kept entered q is))
 
     by : (b : Bool) → has is_entered e ≡ b → breaks_together s past e ≡ false
-    by false outside = ap (λ b. b && is_some (lowest_other s e.process (λ q. (standing s q past).inside))) outside
+    by false outside = ap (λ b. b && is_some (other_inside (passage_in past) s.processes e.process)) outside
     by true enters =
-        ap (λ b. b && is_some (lowest_other s e.process (λ q. (standing s q past).inside))) enters
-        ∙ ap is_some (none_below s.processes (λ q. not (q == e.process) && (standing s q past).inside) (other enters))
+        ap (λ b. b && is_some (other_inside (passage_in past) s.processes e.process)) enters
+        ∙ ap is_some (none_below s.processes (is_other_inside (passage_in past) e.process) (other enters))
 
 all_true : {A : Type 0} (test : A → Bool) (xs : List A) → ((x : A) → Contains xs x → test x ≡ true) → list_all test xs ≡ true
 all_true test [] each = refl

@@ -1,7 +1,7 @@
 -- None is the lowest where there is none.
 use Rattle.std.proofs.Common.{◌≡◌, ℕ, zero, suc, Bool, false, None, refl, sym, ap, ◌∙◌, add-one}
 use Rattle.any_lock.specs.{lowest_below}
-use Rattle.any_lock.proofs.Lowest.{lowest_none}
+use Rattle.any_lock.proofs.lock_stages.Lowest.{lowest_none}
 
 pub none_below : (n : ℕ) (test : ℕ → Bool) → ((k : ℕ) → test k ≡ false) → lowest_below n test ≡ None
 none_below zero test never = refl

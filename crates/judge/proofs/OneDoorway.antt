@@ -15,7 +15,7 @@ use Rattle.any_lock.proofs.read_law.laws.Frame.{Happens, a_call, a_withdrawal, a
 use Rattle.any_lock.proofs.read_law.laws.FrameDoorways.{begins-is, begins_at, begins_with}
 use Rattle.any_lock.proofs.read_law.laws.FrameEvents.{accepted}
 use Rattle.any_lock.proofs.read_law.laws.FrameMarks.{called-is, is_raising, is_resting, is_running}
-use Rattle.any_lock.specs.{Standing, breaks_overtaken, has_access, lowest_other, standing, waits_before}
+use Rattle.any_lock.specs.{Standing, breaks_overtaken, has_access, is_ahead, other_ahead, passage_in}
 use Rattle.any_lock.proofs.Steps.{if_there, number-called, number-mine, standing-other}
 use Rattle.judge.proofs.NoneBelow.{none_below}
 
@@ -153,7 +153,7 @@ doorways s g = own-induction s (λ (past : Past) (p : ℕ). DoorwayOf past p (do
   where
     kept : (past : Past) (e : Entry) (p : ℕ) (b : Bool) → (e.process == p) ≡ false → OneDoorway past p b → OneDoorway (e ∷ past) p b
     kept past e p b apart h =
-        let any : number_in_call p has_access (e ∷ past) ≡ number_in_call p has_access past = ap (λ (k : Standing). k.doorway) (standing-other s p e past apart) in
+        let any : number_in_call p has_access (e ∷ past) ≡ number_in_call p has_access past = ap (λ (k : Standing). k.passage.doorway) (standing-other s p e past apart) in
         let own : doorway_begin p (e ∷ past) ≡ doorway_begin p past = rw (apart, number_in_call) refl in
         record { same = any ∙ h.same ∙ sym own; begun = λ none. h.begun (sym any ∙ none) }
 
@@ -190,15 +190,12 @@ keeps_overtaken s g events event e is kept = by (has is_entered e) refl
     p : ℕ
     p = e.process
 
-    ahead : ℕ → Bool
-    ahead q = waits_before (standing s q past) (standing s p past)
-
-    none : has is_entered e ≡ true → (q : ℕ) → (not (q == p) && ahead q) ≡ false
+    none : has is_entered e ≡ true → (q : ℕ) → is_ahead (passage_in past) p q ≡ false
     none enters q =
         let one = entering_runs s past p e (doing s p past) (doing s p (e ∷ past)) (accepted s g events event e is).happens enters (doorways s g events p) in
         ap (λ o. not (q == p) && (is_waiting_stage (stage q past) && is_before (doorway_end q past) o)) one
         ∙ ap (λ b. not (q == p) && b) (kept enters q) ∙ and_false (not (q == p))
 
     by : (b : Bool) → has is_entered e ≡ b → breaks_overtaken s past e ≡ false
-    by false outside = ap (λ b. b && is_some (lowest_other s p ahead)) outside
-    by true enters = ap (λ b. b && is_some (lowest_other s p ahead)) enters ∙ ap is_some (none_below s.processes (λ q. not (q == p) && ahead q) (none enters))
+    by false outside = ap (λ b. b && is_some (other_ahead (passage_in past) s.processes p)) outside
+    by true enters = ap (λ b. b && is_some (other_ahead (passage_in past) s.processes p)) enters ∙ ap is_some (none_below s.processes (is_ahead (passage_in past) p) (none enters))

@@ -22,7 +22,7 @@ use Rattle.judge.proofs.Withdrawals.{WithdrawnIn, answers_withdrawn}
 -- where a process stands once the access at a place is made, before the marks; last: it is the last one of its part
 pub record AtPart (k : Standing) (ts : List (ℕ × Reply)) (c : Call) (x : Part) (fresh last : Bool) (bits : List Bool) : Type 0 where
   pub at_stage : k.stage ≡ stage_of x fresh
-  pub inside : k.inside ≡ is_inside_at x fresh
+  pub inside : k.passage.inside ≡ is_inside_at x fresh
   pub unwithdrawn : k.withdrawn ≡ false
   pub replies : Takes k.reply ts
   pub took : TookAt x ts
@@ -101,7 +101,7 @@ is_settler _ = false
 -- where a process stands once the access of a closing is made, before the marks
 pub record AtClosing (s : Setup) (p : ℕ) (k : Standing) (ts : List (ℕ × Reply)) (command : Command) (number : ℕ) (x : Closing) (flick : Bool) : Type 0 where
   pub at_stage : k.stage ≡ closing_stage x
-  pub inside : k.inside ≡ is_inside_closing x
+  pub inside : k.passage.inside ≡ is_inside_closing x
   pub withdrawn : WithdrawnIn k.withdrawn (Closes command number x)
   pub replies : Takes k.reply ts
   pub took : TookIn x ts

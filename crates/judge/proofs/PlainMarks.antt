@@ -19,16 +19,16 @@ waits k t st = ap (λ x. first_that ((not (is_in_doorway x), refusal.NotInDoorwa
 pub enters : (k : Standing) → k.stage ≡ stages.Waiting → mark_refusal k Entered ≡ None
 enters k st = ap (λ x. first_that ((not (is_waiting_stage x), refusal.NotWaiting) ∷ [])) st
 
-pub leaves : (k : Standing) → k.inside ≡ true → mark_refusal k Left ≡ None
+pub leaves : (k : Standing) → k.passage.inside ≡ true → mark_refusal k Left ≡ None
 leaves k is = ap (λ x. first_that ((not x, refusal.NotInside) ∷ [])) is
 
-pub takes : (k : Standing) (n : ℕ) (r : Reply) → k.inside ≡ true → k.reply ≡ None → mark_refusal k (Taken n r) ≡ None
+pub takes : (k : Standing) (n : ℕ) (r : Reply) → k.passage.inside ≡ true → k.reply ≡ None → mark_refusal k (Taken n r) ≡ None
 takes k n r is none = λ i. first_that ((not (is i), refusal.NotInside) ∷ (is_some (none i), refusal.TakenBefore) ∷ [])
 
 pub settles : (k : Standing) (v : Bool) → k.stage ≡ stages.Settling → k.torn ≡ None → mark_refusal k (Settled v) ≡ None
 settles k v st none = λ i. first_that ((not (is_settling (st i)), refusal.NotSettling) ∷ (is_some (none i), refusal.Torn) ∷ [])
 
-pub lies_down : (k : Standing) → k.stage ≡ stages.Settling → k.inside ≡ false → k.opened ≡ None → k.torn ≡ None → mark_refusal k Down ≡ None
+pub lies_down : (k : Standing) → k.stage ≡ stages.Settling → k.passage.inside ≡ false → k.opened ≡ None → k.torn ≡ None → mark_refusal k Down ≡ None
 lies_down k st out closed whole = λ i. first_that ((not (is_settling (st i)), refusal.NotSettling) ∷ (out i, refusal.StillInside) ∷ (is_some (closed i), refusal.AccessOpen) ∷ (is_some (whole i), refusal.Torn) ∷ [])
 
 -- what an answer has that is not refused

@@ -1,6 +1,7 @@
 pub mod Ahead
+pub mod Entering
+pub mod Lowest
 pub mod Observed
-pub mod Others
 pub mod Refused
 pub mod Sound
 pub mod Steps

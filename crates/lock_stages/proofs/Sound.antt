@@ -1,12 +1,14 @@
 -- If no entry breaks a law, no two processes are inside together, and none enters while another is ahead.
-use Rattle.std.proofs.Common.{◌≡◌, ◌≢◌, ℕ, ◌<◌, ◌≤◌, ◌==◌, Bool, true, false, not, ◌||◌, cond, List, [], ◌∷◌, fold, refl, sym, ap, ◌∙◌, arith, true≢false, inl, inr, eq-eqb, ne_eqb}
+use Rattle.std.proofs.Common.{◌≡◌, ◌≢◌, ℕ, ◌<◌, ◌≤◌, ◌==◌, Bool, true, false, not, ◌&&◌, ◌||◌, cond, List, [], ◌∷◌, fold, refl, sym, ap, ◌∙◌, arith, true≢false, inl, inr, eq-eqb, ne_eqb}
 use Rattle.std.specs.List.{list_any}
-use Rattle.std.proofs.lemmas.Bool.{and_from, and_parts, cases_Bool, cases_eq, cases_lt, false_from_ne_true}
+use Rattle.std.proofs.lemmas.Bool.{cases_Bool, cases_eq, cases_lt}
+use Rattle.record.specs.{is_before}
 use Rattle.trace.specs.{LockMark}
 use Rattle.trace.specs.declared.marks.LockMark.TheVariants.{Call, Wait, Enter, Leave, Answer}
 use Rattle.lock_stages.specs.declared.states.LockStage.TheVariants.{Idle}
-use Rattle.lock_stages.specs.{EntersAlone, EntersInTurn, IsAloneInside, LockEntry, LockPast, LockStage, any_below, breaks_overtaken, breaks_together, has_mark, is_ahead, is_enter, is_inside, is_other_inside, is_waiting, lock_stage, stage_after}
-use Rattle.lock_stages.proofs.Others.{one_below}
+use Rattle.lock_stages.specs.{EntersAlone, EntersInTurn, IsAloneInside, LockEntry, LockPast, LockStage, breaks_overtaken, breaks_together, has_mark, is_enter, is_inside, is_waiting, lock_passage, lock_stage, stage_after}
+use Rattle.lock_stages.proofs.Entering.{none_ahead, none_inside}
+use Rattle.lock_stages.proofs.Steps.{tied}
 
 -- only these processes have entries
 abbrev pub AreBelow : ℕ → LockPast → Type 0
@@ -24,18 +26,16 @@ stage-mine e past = ap (λ b. cond b (fold stage_after (lock_stage e.process pas
 pub more-below : (n : ℕ) (e : LockEntry) (past : LockPast) → e.process < n → AreBelow n past → AreBelow n (e ∷ past)
 more-below n e past below are q above = stage-other q e past (λ h. absurd (omega (arith, h))) ∙ are q above
 
--- a process that is inside, or waits, is one of these
+-- a process that is inside is one of these
 inside-below : (n : ℕ) (past : LockPast) (q : ℕ) → AreBelow n past → is_inside (lock_stage q past) ≡ true → q < n
 inside-below n past q are inside = elim (cases_lt q n) [
   | inl below ↦ below
   | inr above ↦ absurd (true≢false (sym inside ∙ ap is_inside (are q above)))
 ]
 
-waiting-below : (n : ℕ) (past : LockPast) (q : ℕ) → AreBelow n past → is_waiting (lock_stage q past) ≡ true → q < n
-waiting-below n past q are waits = elim (cases_lt q n) [
-  | inl below ↦ below
-  | inr above ↦ absurd (true≢false (sym waits ∙ ap is_waiting (are q above)))
-]
+and-false : (b : Bool) → (b && false) ≡ false
+and-false true = refl
+and-false false = refl
 
 -- without an enter a process is inside only if it was
 or_right : (b : Bool) (c : Bool) → (b || c) ≡ false → c ≡ false
@@ -57,10 +57,8 @@ was-inside (m ∷ ms) at none inside = by m none (was-inside ms (stage_after at 
 pub enters-alone : (n : ℕ) (past : LockPast) (e : LockEntry) → AreBelow n past → breaks_together n past e ≡ false → EntersAlone past e
 enters-alone n past e are keeps enters q inside = elim (cases_eq q e.process) [
   | inl same ↦ same
-  | inr apart ↦
-      let other : is_other_inside past e.process q ≡ true = and_from (not (q == e.process)) (is_inside (lock_stage q past)) (ap not (ne_eqb q e.process apart)) inside in
-      let any : any_below n (is_other_inside past e.process) ≡ true = one_below n q (is_other_inside past e.process) other (inside-below n past q are inside) in
-      absurd (true≢false (sym (and_from (has_mark is_enter e) (any_below n (is_other_inside past e.process)) enters any) ∙ keeps))
+  | inr apart ↦ absurd (true≢false (
+      sym inside ∙ sym (tied past q).inside ∙ none_inside (lock_passage past) n e.process (has_mark is_enter e) keeps enters q (inside-below n past q are inside) apart))
 ]
 
 -- No two are inside after it.
@@ -88,15 +86,11 @@ alone-on n past e are keeps alone p q p_inside q_inside = elim (cases_eq p e.pro
       | inr none ↦ alone e.process r (was-inside e.marks (lock_stage e.process past) none h) there
     ]
 
-waits_ahead : (past : LockPast) (p q : ℕ) → is_ahead past p q ≡ true → is_waiting (lock_stage q past) ≡ true
-waits_ahead past p q ahead = (and_parts _ _ (and_parts _ _ ahead).0).1
-
 -- An entry that enters overtakes no process.
 pub enters-in-turn : (n : ℕ) (past : LockPast) (e : LockEntry) → AreBelow n past → breaks_overtaken n past e ≡ false → EntersInTurn past e
-enters-in-turn n past e are keeps enters q = false_from_ne_true (is_ahead past e.process q) none
-  where
-    none : is_ahead past e.process q ≡ true → ⊥
-    none ahead =
-        let waits : is_waiting (lock_stage q past) ≡ true = waits_ahead past e.process q ahead in
-        let any : any_below n (is_ahead past e.process) ≡ true = one_below n q (is_ahead past e.process) ahead (waiting-below n past q are waits) in
-        true≢false (sym (and_from (has_mark is_enter e) (any_below n (is_ahead past e.process)) enters any) ∙ keeps)
+enters-in-turn n past e are keeps enters q = elim (cases_lt q n) [
+  | inl below ↦ none_ahead (lock_passage past) n e.process (has_mark is_enter e) keeps enters q below
+  | inr above ↦
+      ap (λ b. not (q == e.process) && (b && is_before (lock_passage past q).waits (lock_passage past e.process).doorway)) ((tied past q).waiting ∙ ap is_waiting (are q above))
+      ∙ and-false (not (q == e.process))
+]

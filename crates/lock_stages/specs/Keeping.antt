@@ -1,28 +1,23 @@
 -- What is kept of the entries so far, and what it becomes with one more entry.
-use Rattle.std.specs.Prelude.{◌≡◌, ℕ, ◌<◌, Bool, List, length, slice_get, slice_index_or, fold, cond, Option, None, Some}
-use Rattle.record.specs.{first_of}
+use Rattle.std.specs.Prelude.{◌≡◌, ℕ, ◌<◌, Bool, List, length, slice_get, fold, cond, Some}
 use Rattle.trace.specs.{LockMark}
-use Rattle.trace.specs.declared.marks.LockMark.TheVariants as mark
-use Rattle.lock_stages.specs.declared.states.LockStage.TheVariants.{Idle, Doorway, Waiting, Inside, Leaving}
+use Rattle.lock_stages.specs.declared.states.LockStage.TheVariants.{Idle}
 use Rattle.lock_stages.specs.declared.states.ProcessState.{ProcessState}
 use Rattle.lock_stages.specs.Entries.{LockPast}
-use Rattle.lock_stages.specs.States.{process_state}
+use Rattle.lock_stages.specs.Passages.{no_passage, with_access}
+use Rattle.lock_stages.specs.States.{passage_marked, process_state, stage_after}
 
 -- a process without entries
 abbrev pub at_rest : ProcessState
-at_rest = record { stage = Idle; doorway = None; waits = None; enters = None }
+at_rest = record { stage = Idle; passage = no_passage }
 
 -- after the access of entry n, if that has one
 abbrev pub accessed : ℕ → Bool → ProcessState → ProcessState
-accessed n accesses k = record k { doorway = first_of k.doorway (cond accesses (Some n) None) }
+accessed n accesses k = record k { passage = cond accesses (with_access n k.passage) k.passage }
 
 -- after a mark of entry n
 abbrev pub marked : ℕ → ProcessState → LockMark → ProcessState
-marked n k mark.Call = record k { stage = Doorway; doorway = None }
-marked n k mark.Wait = record k { stage = Waiting; waits = Some n }
-marked n k mark.Enter = record k { stage = Inside; enters = Some n }
-marked n k mark.Leave = record k { stage = Leaving }
-marked n k mark.Answer = record k { stage = Idle }
+marked n k m = record { stage = stage_after k.stage m; passage = passage_marked n k.passage m }
 
 -- after entry n, with its access and its marks
 abbrev pub process_state_after : ℕ → Bool → List LockMark → ProcessState → ProcessState
@@ -42,7 +37,3 @@ pub record HasObserved (k : StagesState) (past : LockPast) : Type 0 where
 -- this holds of each past that has been observed
 abbrev pub OfObserved : StagesState → (LockPast → Type 0) → Type 0
 OfObserved k P = (past : LockPast) → HasObserved k past → P past
-
--- of each of sixteen processes this is the entry, if there is one
-abbrev pub AreSince : List (Option ℕ) → (ℕ → Option ℕ) → Type 0
-AreSince entries since = (q : ℕ) → q < 16 → slice_index_or entries q None ≡ since q

@@ -1,12 +1,13 @@
--- The stage of a process, and the entries since which it waits or is inside, by looking back over a past.
-use Rattle.std.specs.Prelude.{ℕ, ◌==◌, Bool, ◌&&◌, [], ◌∷◌, fold, length, cond, Option, None, Some}
-use Rattle.record.specs.{first_of}
+-- The stage of a process and its passage through the lock, by looking back over a past.
+use Rattle.std.specs.Prelude.{ℕ, ◌==◌, [], ◌∷◌, fold, length, cond}
 use Rattle.trace.specs.{LockMark}
 use Rattle.trace.specs.declared.marks.LockMark.TheVariants as mark
+use Rattle.lock_stages.specs.declared.passages.Passage.{Passage}
 use Rattle.lock_stages.specs.declared.states.LockStage.{LockStage}
 use Rattle.lock_stages.specs.declared.states.LockStage.TheVariants.{Idle, Doorway, Waiting, Inside, Leaving}
 use Rattle.lock_stages.specs.declared.states.ProcessState.{ProcessState}
-use Rattle.lock_stages.specs.Entries.{LockEntry, LockPast, has_mark, is_call, is_enter, is_wait}
+use Rattle.lock_stages.specs.Entries.{LockEntry, LockPast}
+use Rattle.lock_stages.specs.Passages.{no_passage, with_access, with_call, with_enter, with_leave, with_wait}
 
 -- the stage after a mark
 abbrev pub stage_after : LockStage → LockMark → LockStage
@@ -21,25 +22,23 @@ abbrev pub lock_stage : ℕ → LockPast → LockStage
 lock_stage p [] = Idle
 lock_stage p (e ∷ past) = cond (e.process == p) (fold stage_after (lock_stage p past) e.marks) (lock_stage p past)
 
--- the number of p's latest entry with such a mark
-abbrev pub latest : (LockMark → Bool) → ℕ → LockPast → Option ℕ
-latest test p [] = None
-latest test p (e ∷ past) = cond ((e.process == p) && has_mark test e) (Some (length past)) (latest test p past)
+-- the passage after a mark of entry n: a process is at one stage at a time, so it is inside after `enter` alone
+abbrev pub passage_marked : ℕ → Passage → LockMark → Passage
+passage_marked n t mark.Call = with_call (with_leave t)
+passage_marked n t mark.Wait = with_wait n (with_leave t)
+passage_marked n t mark.Enter = with_enter n t
+passage_marked n t mark.Leave = with_leave t
+passage_marked n t mark.Answer = with_leave t
 
--- where a doorway began, after an entry of its process with this number: a call has none before its first access
-abbrev pub doorway_after : ℕ → LockEntry → Option ℕ → Option ℕ
-doorway_after n e before = cond (has_mark is_call e) None (first_of before (cond e.accesses (Some n) None))
+-- the passage of a process after its entry n: after the access, if there is one, and then after each mark
+abbrev pub passage_after : ℕ → LockEntry → Passage → Passage
+passage_after n e t = fold (passage_marked n) (cond e.accesses (with_access n t) t) e.marks
 
--- the number of the first entry of p's last call with an access: there its doorway began
-abbrev pub doorway : ℕ → LockPast → Option ℕ
-doorway p [] = None
-doorway p (e ∷ past) = cond (e.process == p) (doorway_after (length past) e (doorway p past)) (doorway p past)
+-- the passage of a process
+abbrev pub lock_passage : LockPast → ℕ → Passage
+lock_passage [] p = no_passage
+lock_passage (e ∷ past) p = cond (e.process == p) (passage_after (length past) e (lock_passage past p)) (lock_passage past p)
 
--- all of these
+-- both
 abbrev pub process_state : ℕ → LockPast → ProcessState
-process_state p past = record {
-  stage = lock_stage p past;
-  doorway = doorway p past;
-  waits = latest is_wait p past;
-  enters = latest is_enter p past;
-}
+process_state p past = record { stage = lock_stage p past; passage = lock_passage past p }

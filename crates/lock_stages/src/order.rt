@@ -1,132 +1,140 @@
-//! Which process is inside, and which is ahead of another.
-ghost use Rattle.std.specs.Prelude.{◌≡◌, ◌<◌};
-ghost use Rattle.record.specs.{is_before};
-ghost use Rattle.lock_stages.specs.Entries.{lock_entry};
-ghost use Rattle.lock_stages.specs.Keeping.{AreSince, OfObserved};
-ghost use Rattle.lock_stages.specs.Order.{ahead_since as wait_ahead, any_below, breaks_overtaken, breaks_together, inside_since as enter_inside, is_ahead as ahead, is_other_inside as other_inside};
+//! Which process is inside, and which is ahead of another. The judges of traces and of the records of any lock share these
+//! functions, each for its own states of processes.
+ghost use Rattle.std.specs.Prelude.{◌≡◌, ◌<◌, ◌≤◌, ℕ, length};
+ghost use Rattle.lock_stages.specs.Passages.{AreSince, HasPassage as Has, OfPassages, ahead_since as wait_ahead, inside_since as enter_inside, is_ahead as ahead, is_other_inside as inside, other_ahead as lowest_ahead, other_inside as lowest_inside, waits_before as waited};
+ghost use Rattle.lock_stages.specs.declared.passages.Passage.{Passage as Passed};
 
-use crate::refusals::enters;
-use crate::stages::{LockStages, MOST_PROCESSES};
-use trace::LockMark;
+use crate::passages::Passage;
 
-impl LockStages {
-    /// Returns whether a process enters with these marks while another is inside.
-    pub fn breaks_together(&self, process: u8, accesses: bool, marks: &[LockMark]) -> bool
-        ensures { OfObserved self.now (λ past. result ≡ breaks_together self.now.processes past (lock_entry process accesses marks.now)) }
-    {
-        enters(marks) && self.is_any_inside(process)
-    }
+/// The most processes.
+pub const MOST_PROCESSES: usize = 16;
 
-    /// Returns whether a process enters with these marks while another is ahead of it.
-    pub fn breaks_overtaken(&self, process: u8, accesses: bool, marks: &[LockMark]) -> bool
-        requires { process < 16 }
-        ensures { OfObserved self.now (λ past. result ≡ breaks_overtaken self.now.processes past (lock_entry process accesses marks.now)) }
-    {
-        enters(marks) && self.is_any_ahead(process)
-    }
+/// The state of a process that has a passage through the lock.
+pub trait HasPassage {
+    ghost use Rattle.lock_stages.specs.declared.passages.Passage.{Passage as Passed};
 
-    /// Returns whether another process is inside.
-    fn is_any_inside(&self, process: u8) -> bool
-        ensures { OfObserved self.now (λ past. result ≡ any_below self.now.processes (other_inside past process)) }
-    {
-        for other in 0..self.processes() {
-            if self.is_other_inside(process, other) {
-                return true;
-            }
-        }
-        false
-    }
+    /// The passage of a state.
+    ghost passage_of: { Self → Passed };
 
-    /// Returns whether another process is ahead.
-    fn is_any_ahead(&self, process: u8) -> bool
-        requires { process < 16 }
-        ensures { OfObserved self.now (λ past. result ≡ any_below self.now.processes (ahead past process)) }
-    {
-        for other in 0..self.processes() {
-            if self.is_ahead(process, other) {
-                return true;
-            }
-        }
-        false
-    }
+    /// Returns the passage of the process.
+    fn passage(&self) -> &Passage
+        ensures { result.now ≡ passage_of self.now };
+}
 
-    /// Returns whether `other` is another process, and inside.
-    fn is_other_inside(&self, process: u8, other: u8) -> bool
-        requires { other < 16 }
-        ensures { OfObserved self.now (λ past. result ≡ other_inside past process other) }
-    {
-        other != process && self.state(other).stage.is_inside()
-    }
-
-    /// Returns whether `other` is ahead of a process.
-    fn is_ahead(&self, process: u8, other: u8) -> bool
-        requires process { process < 16 }
-        requires other { other < 16 }
-        ensures { OfObserved self.now (λ past. result ≡ ahead past process other) }
-    {
-        let state = self.state(other);
-        other != process
-            && state.stage.is_waiting()
-            && precedes(state.waits, self.state(process).doorway)
-    }
-
-    /// Returns of each other process that is inside the entry with which it entered.
-    pub fn inside_since(&self, process: u8) -> [Option<u64>; MOST_PROCESSES]
-        ensures { OfObserved self.now (λ past. AreSince result (enter_inside self.now.processes past process)) }
-    {
-        let mut entries = [None; MOST_PROCESSES];
-        for other in 0..MOST_PROCESSES {
-            entries[other] = self.enter_inside(process, other as u8);
-        }
-        entries
-    }
-
-    /// Returns the entry with which `other` entered, if it is another process that is inside.
-    fn enter_inside(&self, process: u8, other: u8) -> Option<u64>
-        requires { other < 16 }
-        ensures { OfObserved self.now (λ past. result ≡ enter_inside self.now.processes past process other) }
-    {
-        if other < self.processes() && self.is_other_inside(process, other) {
-            self.state(other).enters
-        } else {
-            None
+/// Returns the lowest process that is inside, other than this one, of the first `processes` of these states.
+pub fn other_inside<S: HasPassage>(states: &[S], processes: u8, process: u8) -> Option<u8>
+    requires { processes ≤ length states.now }
+    ensures { OfPassages S.passage_of states.now (λ passage. result ≡ lowest_inside passage processes process) }
+{
+    for other in 0..processes {
+        if is_other_inside(states, process, other) {
+            return Some(other);
         }
     }
+    None
+}
 
-    /// Returns of each process that is ahead the entry with which it began to wait.
-    pub fn ahead_since(&self, process: u8) -> [Option<u64>; MOST_PROCESSES]
-        requires { process < 16 }
-        ensures { OfObserved self.now (λ past. AreSince result (wait_ahead self.now.processes past process)) }
-    {
-        let mut entries = [None; MOST_PROCESSES];
-        for other in 0..MOST_PROCESSES {
-            entries[other] = self.wait_ahead(process, other as u8);
+/// Returns whether `other` is another process, and inside.
+fn is_other_inside<S: HasPassage>(states: &[S], process: u8, other: u8) -> bool
+    requires { other < length states.now }
+    ensures { (passage : ℕ → Passed) → Has S.passage_of states.now passage other → result ≡ inside passage process other }
+{
+    other != process && states[usize::from(other)].passage().inside
+}
+
+/// Returns the lowest process that is ahead of this one, of the first `processes` of these states.
+pub fn other_ahead<S: HasPassage>(states: &[S], processes: u8, process: u8) -> Option<u8>
+    requires processes { processes ≤ length states.now }
+    requires process { process < length states.now }
+    ensures { OfPassages S.passage_of states.now (λ passage. result ≡ lowest_ahead passage processes process) }
+{
+    for other in 0..processes {
+        if is_ahead(states, process, other) {
+            return Some(other);
         }
-        entries
     }
+    None
+}
 
-    /// Returns the entry with which `other` began to wait, if it is ahead.
-    fn wait_ahead(&self, process: u8, other: u8) -> Option<u64>
-        requires process { process < 16 }
-        requires other { other < 16 }
-        ensures { OfObserved self.now (λ past. result ≡ wait_ahead self.now.processes past process other) }
-    {
-        if other < self.processes() && self.is_ahead(process, other) {
-            self.state(other).waits
-        } else {
-            None
-        }
+/// Returns whether `other` is ahead of a process.
+fn is_ahead<S: HasPassage>(states: &[S], process: u8, other: u8) -> bool
+    requires other { other < length states.now }
+    requires process { process < length states.now }
+    ensures { (passage : ℕ → Passed) → Has S.passage_of states.now passage other → Has S.passage_of states.now passage process
+        → result ≡ ahead passage process other }
+{
+    other != process
+        && waits_before(
+            states[usize::from(other)].passage(),
+            states[usize::from(process)].passage(),
+        )
+}
+
+/// Returns whether a process waits since before the doorway of another began, or that has not begun.
+fn waits_before(passage: &Passage, other: &Passage) -> bool
+    ensures { result ≡ waited passage.now other.now }
+{
+    match (passage.waits, other.doorway) {
+        (Some(wait), Some(begin)) => passage.waiting && wait < begin,
+        (Some(_), None) => passage.waiting,
+        (None, _) => false,
     }
 }
 
-/// Returns whether the entry of a `wait`, if there is one, precedes that with which a doorway began, or the doorway has not begun.
-/// The judges of traces and of the records of any lock compare both by it.
-pub fn precedes(wait: Option<u64>, begin: Option<u64>) -> bool
-    ensures { result ≡ is_before wait begin }
+/// Returns of each other process that is inside the entry with which it entered.
+pub fn inside_since<S: HasPassage>(
+    states: &[S],
+    processes: u8,
+    process: u8,
+) -> [Option<u64>; MOST_PROCESSES]
+    requires { processes ≤ length states.now }
+    ensures { OfPassages S.passage_of states.now (λ passage. AreSince result (enter_inside passage processes process)) }
 {
-    match (wait, begin) {
-        (None, _) => false,
-        (Some(_), None) => true,
-        (Some(wait), Some(begin)) => wait < begin,
+    let mut entries = [None; MOST_PROCESSES];
+    for other in 0..MOST_PROCESSES {
+        entries[other] = enter_inside(states, processes, process, other as u8);
+    }
+    entries
+}
+
+/// Returns the entry with which `other` entered, if it is another process that is inside.
+fn enter_inside<S: HasPassage>(states: &[S], processes: u8, process: u8, other: u8) -> Option<u64>
+    requires { processes ≤ length states.now }
+    ensures { OfPassages S.passage_of states.now (λ passage. result ≡ enter_inside passage processes process other) }
+{
+    if other < processes && is_other_inside(states, process, other) {
+        states[usize::from(other)].passage().enters
+    } else {
+        None
+    }
+}
+
+/// Returns of each process that is ahead the entry with which it began to wait.
+pub fn ahead_since<S: HasPassage>(
+    states: &[S],
+    processes: u8,
+    process: u8,
+) -> [Option<u64>; MOST_PROCESSES]
+    requires processes { processes ≤ length states.now }
+    requires process { process < length states.now }
+    ensures { OfPassages S.passage_of states.now (λ passage. AreSince result (wait_ahead passage processes process)) }
+{
+    let mut entries = [None; MOST_PROCESSES];
+    for other in 0..MOST_PROCESSES {
+        entries[other] = wait_ahead(states, processes, process, other as u8);
+    }
+    entries
+}
+
+/// Returns the entry with which `other` began to wait, if it is ahead.
+fn wait_ahead<S: HasPassage>(states: &[S], processes: u8, process: u8, other: u8) -> Option<u64>
+    requires processes { processes ≤ length states.now }
+    requires process { process < length states.now }
+    ensures { OfPassages S.passage_of states.now (λ passage. result ≡ wait_ahead passage processes process other) }
+{
+    if other < processes && is_ahead(states, process, other) {
+        states[usize::from(other)].passage().waits
+    } else {
+        None
     }
 }

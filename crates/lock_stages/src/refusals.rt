@@ -80,7 +80,7 @@ fn answer_refusal(stage: LockStage, is_open: bool) -> Option<LockMarkRefusal>
 }
 
 /// Returns the stage after a mark.
-fn stage_after(mark: LockMark) -> LockStage
+pub(crate) fn stage_after(mark: LockMark) -> LockStage
     ensures { (before : Stage) → result ≡ stage_after before mark }
 {
     match mark {

@@ -1,16 +1,16 @@
 ghost use Rattle.std.specs.Prelude.{◌≡◌, ◌<◌, ◌≤◌, ◌+◌, ◌-◌, ◌^◌, ◌∷◌, []};
 ghost use Rattle.lock_stages.specs.Entries.{lock_entry};
 ghost use Rattle.lock_stages.specs.Keeping.{HasObserved, OfObserved};
+ghost use Rattle.lock_stages.specs.Order.{breaks_overtaken, breaks_together};
+ghost use Rattle.lock_stages.specs.Passages.{AreSince, ahead_since as wait_ahead, inside_since as enter_inside};
 ghost use Rattle.lock_stages.specs.Refusals.{refusal_of_marks};
-ghost use Rattle.lock_stages.specs.States.{process_state};
+ghost use Rattle.lock_stages.specs.States.{lock_passage, process_state};
 
-use crate::refusals::{LockMarkRefusal, calls, first_refusal};
+use crate::order::{MOST_PROCESSES, ahead_since, inside_since, other_ahead, other_inside};
+use crate::refusals::{LockMarkRefusal, calls, enters, first_refusal};
 use crate::states::ProcessState;
 use std::marker::Model;
 use trace::LockMark;
-
-/// The most processes.
-pub(crate) const MOST_PROCESSES: usize = 16;
 
 /// The states of up to sixteen processes. It observes entries one by one and needs the same memory however many
 /// there are. Contracts see what it keeps of them.
@@ -85,6 +85,36 @@ impl LockStages {
             return Some(LockMarkRefusal::NotAlone);
         }
         first_refusal(self.state(process).stage, is_open, marks)
+    }
+
+    /// Returns whether a process enters with these marks while another is inside.
+    pub fn breaks_together(&self, process: u8, accesses: bool, marks: &[LockMark]) -> bool
+        ensures { OfObserved self.now (λ past. result ≡ breaks_together self.now.processes past (lock_entry process accesses marks.now)) }
+    {
+        enters(marks) && other_inside(&self.states, self.processes, process).is_some()
+    }
+
+    /// Returns whether a process enters with these marks while another is ahead of it.
+    pub fn breaks_overtaken(&self, process: u8, accesses: bool, marks: &[LockMark]) -> bool
+        requires { process < 16 }
+        ensures { OfObserved self.now (λ past. result ≡ breaks_overtaken self.now.processes past (lock_entry process accesses marks.now)) }
+    {
+        enters(marks) && other_ahead(&self.states, self.processes, process).is_some()
+    }
+
+    /// Returns of each other process that is inside the entry with which it entered.
+    pub fn inside_since(&self, process: u8) -> [Option<u64>; MOST_PROCESSES]
+        ensures { OfObserved self.now (λ past. AreSince result (enter_inside (lock_passage past) self.now.processes process)) }
+    {
+        inside_since(&self.states, self.processes, process)
+    }
+
+    /// Returns of each process that is ahead the entry with which it began to wait.
+    pub fn ahead_since(&self, process: u8) -> [Option<u64>; MOST_PROCESSES]
+        requires { process < 16 }
+        ensures { OfObserved self.now (λ past. AreSince result (wait_ahead (lock_passage past) self.now.processes process)) }
+    {
+        ahead_since(&self.states, self.processes, process)
     }
 
     /// Observes the next entry.

@@ -1,8 +1,12 @@
 //! The state of one process, updated access by access and mark by mark.
 ghost use Rattle.std.specs.Prelude.{◌≡◌};
 ghost use Rattle.lock_stages.specs.Keeping.{accessed, at_rest, marked, process_state_after};
-ghost use Rattle.lock_stages.specs.Refusals.{is_idle as has_no_call, is_inside as is_entered, is_waiting as is_queued};
+ghost use Rattle.lock_stages.specs.Refusals.{is_idle as has_no_call};
+ghost use Rattle.lock_stages.specs.States.{passage_marked};
 
+use crate::order::HasPassage;
+use crate::passages::Passage;
+use crate::refusals::stage_after;
 use trace::LockMark;
 
 /// The stage of a process.
@@ -20,16 +24,19 @@ pub enum LockStage {
     Leaving,
 }
 
-/// The stage of a process, and three entries of its calls. Entries are given by their numbers, from 0.
+/// The stage of a process, and its passage through the lock.
 #[derive(Clone, Copy)]
 pub struct ProcessState {
     pub stage: LockStage,
-    /// The first entry of its last call with an access: there its doorway began.
-    pub doorway: Option<u64>,
-    /// Its latest entry whose marks end a doorway.
-    pub waits: Option<u64>,
-    /// Its latest entry whose marks enter.
-    pub enters: Option<u64>,
+    pub passage: Passage,
+}
+
+impl HasPassage for ProcessState {
+    ghost passage_of = { λ state. state.passage };
+
+    fn passage(&self) -> &Passage {
+        &self.passage
+    }
 }
 
 impl ProcessState {
@@ -39,9 +46,7 @@ impl ProcessState {
     {
         ProcessState {
             stage: LockStage::Idle,
-            doorway: None,
-            waits: None,
-            enters: None,
+            passage: Passage::none(),
         }
     }
 
@@ -60,8 +65,8 @@ impl ProcessState {
     fn access(&mut self, entry: u64, accesses: bool)
         ensures { self.new ≡ accessed entry accesses self.old }
     {
-        if accesses && self.doorway.is_none() {
-            self.doorway = Some(entry);
+        if accesses {
+            self.passage.access(entry);
         }
     }
 
@@ -70,22 +75,27 @@ impl ProcessState {
     fn mark(&mut self, entry: u64, mark: LockMark)
         ensures { self.new ≡ marked entry self.old mark }
     {
-        match mark {
-            LockMark::Call => {
-                self.stage = LockStage::Doorway;
-                self.doorway = None;
-            }
-            LockMark::Wait => {
-                self.stage = LockStage::Waiting;
-                self.waits = Some(entry);
-            }
-            LockMark::Enter => {
-                self.stage = LockStage::Inside;
-                self.enters = Some(entry);
-            }
-            LockMark::Leave => self.stage = LockStage::Leaving,
-            LockMark::Answer => self.stage = LockStage::Idle,
+        self.stage = stage_after(mark);
+        mark_passage(&mut self.passage, entry, mark);
+    }
+}
+
+/// Updates a passage by a mark of an entry. A process is at one stage at a time, so each mark except `enter` ends its stay inside.
+#[inline]
+fn mark_passage(passage: &mut Passage, entry: u64, mark: LockMark)
+    ensures { passage.new ≡ passage_marked entry passage.old mark }
+{
+    match mark {
+        LockMark::Call => {
+            passage.leave();
+            passage.call();
         }
+        LockMark::Wait => {
+            passage.leave();
+            passage.wait(entry);
+        }
+        LockMark::Enter => passage.enter(entry),
+        LockMark::Leave | LockMark::Answer => passage.leave(),
     }
 }
 
@@ -95,19 +105,5 @@ impl LockStage {
         ensures { result ≡ has_no_call self }
     {
         matches!(self, LockStage::Idle)
-    }
-
-    /// Returns whether the process waits.
-    pub fn is_waiting(self) -> bool
-        ensures { result ≡ is_queued self }
-    {
-        matches!(self, LockStage::Waiting)
-    }
-
-    /// Returns whether the process is inside.
-    pub fn is_inside(self) -> bool
-        ensures { result ≡ is_entered self }
-    {
-        matches!(self, LockStage::Inside)
     }
 }

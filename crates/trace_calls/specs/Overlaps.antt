@@ -1,8 +1,7 @@
 -- Reads that a write overlaps, of any trace, good or bad. Entries of processes that do not exist count for nothing.
-use Rattle.std.specs.Prelude.{ℕ, nat_lt, Bool, true, false, ◌&&◌, ◌||◌, is_some}
+use Rattle.std.specs.Prelude.{ℕ, zero, suc, nat_lt, Bool, true, false, ◌&&◌, ◌||◌, is_some}
 use Rattle.std.specs.Option.{option_map_or}
 use Rattle.std.specs.List.{list_any}
-use Rattle.trace_engine.specs.trace_judge.lock_stages.{any_below}
 use Rattle.trace.specs.{Cell, CellAccess, CellMove, TraceEntry, TracePast, value_read, value_written}
 use Rattle.trace.specs.declared.accesses.CellMove.TheVariants.{Read, Value, Write}
 use Rattle.trace_engine.specs.trace_judge.trace_memory.{MadeAccess, opened, same_cell}
@@ -25,6 +24,11 @@ ends_read _ = false
 -- the access that q has open is a write of a cell
 abbrev pub is_writing : Cell → TracePast → ℕ → Bool
 is_writing c past q = option_map_or (λ m. opens_write m.access.how && same_cell m.access.cell c) (opened q past) false
+
+-- a test holds for a number below n
+abbrev pub any_below : ℕ → (ℕ → Bool) → Bool
+any_below zero test = false
+any_below (suc n) test = any_below n test || test n
 
 -- one of n processes has a write of a cell open
 abbrev pub is_written : ℕ → Cell → TracePast → Bool

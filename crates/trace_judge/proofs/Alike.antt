@@ -1,12 +1,14 @@
 -- Pasts that are alike: they leave the same cells, open accesses, stages and order.
-use Rattle.std.proofs.Common.{◌≡◌, if◌then◌else◌, ℕ, zero, suc, ◌==◌, Bool, true, false, not, ◌&&◌, ◌||◌, cond, List, [], ◌∷◌, ◌++◌, Option, None, Some, fold, is_some, length, nat_lt, option_map, refl, sym, ap, ◌∙◌, inl, inr}
+use Rattle.std.proofs.Common.{◌≡◌, if◌then◌else◌, ℕ, ◌==◌, Bool, true, false, not, ◌&&◌, cond, List, [], ◌∷◌, ◌++◌, Option, None, Some, fold, is_some, length, nat_lt, option_map, refl, sym, ap, ◌∙◌, inl, inr}
 use Rattle.std.proofs.lemmas.Bool.{cases_eq, not-false}
 use Rattle.trace.proofs.Tables.{neither_table, none_applies}
 use Rattle.trace.specs.{Cell, CellAccess, CellMove, LockMark, TraceEntry, TraceMemory, TracePast, TraceSetup, begins, ends, first_that, is_trace_setup, trace_entry, value_read}
 use Rattle.trace.specs.declared.accesses.CellMove.TheVariants.{Value}
-use Rattle.lock_stages.specs.{any_below, first_refusal, has_mark, is_ahead, is_crowded, is_enter, is_idle, is_inside, is_other_inside, is_waiting, lock_stage, stage_after}
+use Rattle.lock_stages.specs.{first_refusal, has_mark, is_ahead, is_crowded, is_enter, is_idle, is_other_inside, lock_passage, lock_stage, stage_after}
 use Rattle.lock_stages.specs.declared.refusals.LockMarkRefusal.TheVariants as mark
 use Rattle.lock_stages.proofs.Ahead.{AlikeOrder, alike-more}
+use Rattle.lock_stages.proofs.Lowest.{lowest_agree}
+use Rattle.lock_stages.proofs.Steps.{inside-same, waiting-same}
 use Rattle.trace_memory.specs.{CellRefusal, CellState, OpenAccess, allowed_first, allowed_open, cell_after, cell_refusal, cell_state, ends_kept, has_cell, is_end_of, kept_access, kept_open, move_on, moves_on, open_refusals, opened, opened_by, reads_wrongly, register_of, same_cell, seen, setup_refusals, state_after, with_move}
 use Rattle.trace_memory.specs.declared.refusals.CellRefusal.TheVariants as refusal
 use Rattle.trace_memory.proofs.Made.{cell-with}
@@ -103,10 +105,6 @@ alike-on s p o marks past other alike = record {
 pub cell-there : (s : TraceSetup) (past : TracePast) (p : ℕ) (idle : Bool) (a : CellAccess) → cell_refusal s past p idle a ≡ None → has_cell s a.cell ≡ true
 cell-there s past p idle a h = not-false (has_cell s a.cell) (none_applies (setup_refusals s p a) (neither_table (setup_refusals s p a) (open_refusals idle (opened p past) a) h).first).1.0
 
-pub any-agree : (n : ℕ) (t u : ℕ → Bool) → ((q : ℕ) → t q ≡ u q) → any_below n t ≡ any_below n u
-any-agree zero t u same = refl
-any-agree (suc n) t u same = λ i. any-agree n t u same i || same n i
-
 bare-ends : (o : Option OpenAccess) (a : CellAccess) → ends_kept (bare o) a ≡ ends_kept o a
 bare-ends None a = refl
 bare-ends (Some k) a = refl
@@ -182,13 +180,14 @@ module _ (s : TraceSetup) (past other : TracePast) (alike : Alike s past other) 
   marks-same e = λ i. is_some (if is_crowded (lock_part e) then Some mark.NotAlone else first_refusal (alike.stage e.process i) (open-same e i) e.marks)
 
   together-same : (e : TraceEntry) → breaks_together s past e ≡ breaks_together s other e
-  together-same e = ap (λ b. has_mark is_enter (lock_part e) && b)
-      (any-agree s.processes (is_other_inside (lock_past past) e.process) (is_other_inside (lock_past other) e.process) (λ q. ap (λ x. not (q == e.process) && is_inside x) (alike.stage q)))
+  together-same e = ap (λ o. has_mark is_enter (lock_part e) && is_some o)
+      (lowest_agree s.processes (is_other_inside (lock_passage (lock_past past)) e.process) (is_other_inside (lock_passage (lock_past other)) e.process)
+      (λ q. ap (λ b. not (q == e.process) && b) (inside-same (lock_past past) (lock_past other) q (alike.stage q))))
 
   overtaken-same : (e : TraceEntry) → breaks_overtaken s past e ≡ breaks_overtaken s other e
-  overtaken-same e = ap (λ b. has_mark is_enter (lock_part e) && b)
-      (any-agree s.processes (is_ahead (lock_past past) e.process) (is_ahead (lock_past other) e.process)
-      (λ q i. not (q == e.process) && is_waiting (alike.stage q i) && alike.order.order e.process q i))
+  overtaken-same e = ap (λ o. has_mark is_enter (lock_part e) && is_some o)
+      (lowest_agree s.processes (is_ahead (lock_passage (lock_past past)) e.process) (is_ahead (lock_passage (lock_past other)) e.process)
+      (λ q i. not (q == e.process) && (waiting-same (lock_past past) (lock_past other) q (alike.stage q) i && alike.order.order e.process q i)))
 
   pub unbroken-alike : (e : TraceEntry) → is_trace_setup s ≡ true → first_broken s past e ≡ None → first_broken s other e ≡ None
   unbroken-alike e good h =

@@ -2,7 +2,7 @@
 use Rattle.std.proofs.Common.{◌≡◌, ℕ, ◌+◌, ◌++◌, [], ◌∷◌, List, length, reverse, Some, None, refl, ap, sym, subst, ◌∙◌}
 use Rattle.std.proofs.lemmas.List.{length-append, length-reverse, reverse-append}
 use Rattle.trace.specs.{TraceEntry, TracePast, TraceSetup}
-use Rattle.trace_judge.specs.{AreReasons, AreReasonsAt, AreReasonsOf, HasJudged, Explains, HasSeen, JudgeState, TraceLaw, TraceState, TraceVerdict, first_broken, verdict_after, verdict_of, verdict_with}
+use Rattle.trace_judge.specs.{AreReasonsAt, AreReasonsOf, HasJudged, Explains, HasSeen, JudgeState, TraceLaw, TraceState, TraceVerdict, first_broken, verdict_after, verdict_of, verdict_with}
 use Rattle.trace_judge.specs.declared.verdicts.TraceVerdict.TheVariants.{Good, Bad}
 
 -- some entries and one more, the newest first

@@ -3,13 +3,14 @@ use Rattle.std.proofs.Common.{◌≡◌, ℕ, ◌==◌, Bool, true, false, not, 
 use Rattle.trace.proofs.Tables.{first_of_two, neither_table, none_applies, none_first}
 use Rattle.trace.specs.{Cell, LockMark, TraceEntry, TracePast, TraceSetup, begins, first_that, is_atomic, trace_entry}
 use Rattle.trace.specs.declared.accesses.CellMove.TheVariants.{Write, End, Read, Value, Set, Get}
-use Rattle.lock_stages.specs.{first_refusal, has_mark, is_ahead, is_crowded, is_enter, is_idle, is_inside, is_other_inside, is_waiting, lock_entry}
+use Rattle.lock_stages.specs.{first_refusal, has_mark, is_ahead, is_crowded, is_enter, is_idle, is_other_inside, lock_entry, lock_passage}
 use Rattle.lock_stages.specs.declared.refusals.LockMarkRefusal.TheVariants as mark
 use Rattle.lock_stages.proofs.Ahead.{first-keeps}
+use Rattle.lock_stages.proofs.Lowest.{lowest_agree}
+use Rattle.lock_stages.proofs.Steps.{inside-same, waiting-same}
 use Rattle.trace_memory.specs.{CellRead, CellRefusal, cell_refusal, is_end_of, may_give, open_refusals, opened, read_since, reads_wrongly, register_of, setup_refusals, whole_read}
 use Rattle.trace_memory.proofs.Overlaps.{opens}
 use Rattle.trace_judge.specs.{breaks_marks, breaks_memory, breaks_overtaken, breaks_together, first_broken, leaves_open, lock_past, stage}
-use Rattle.trace_judge.proofs.Alike.{any-agree}
 use Rattle.trace_judge.proofs.InTwo.{access_to, begin_move, end_move, ends-first, opened-first, stage-first, whole_move}
 use Rattle.trace_judge.proofs.Unbroken.{broken_none, is_none_of, keeps}
 
@@ -121,13 +122,14 @@ module _ (s : TraceSetup) (p : ℕ) (c : Cell) (w : Bool) (v : ℕ) (marks : Lis
   marks-is = λ i. is_some (if is_crowded (lock_entry p true marks) then Some mark.NotAlone else first_refusal (stage-is p i) (open-is i) marks)
 
   together-is : breaks_together s (first ∷ past) second ≡ breaks_together s past whole
-  together-is = ap (λ b. has_mark is_enter (lock_entry p true marks) && b)
-      (any-agree s.processes (is_other_inside (lock_past (first ∷ past)) p) (is_other_inside (lock_past past) p) (λ q. ap (λ x. not (q == p) && is_inside x) (stage-is q)))
+  together-is = ap (λ o. has_mark is_enter (lock_entry p true marks) && is_some o)
+      (lowest_agree s.processes (is_other_inside (lock_passage (lock_past (first ∷ past))) p) (is_other_inside (lock_passage (lock_past past)) p)
+      (λ q. ap (λ b. not (q == p) && b) (inside-same (lock_past (first ∷ past)) (lock_past past) q (stage-is q))))
 
   overtaken-is : breaks_overtaken s (first ∷ past) second ≡ breaks_overtaken s past whole
-  overtaken-is = ap (λ b. has_mark is_enter (lock_entry p true marks) && b)
-      (any-agree s.processes (is_ahead (lock_past (first ∷ past)) p) (is_ahead (lock_past past) p)
-      (λ q i. not (q == p) && is_waiting (stage-is q i) && first-keeps p p q (lock_past past) i))
+  overtaken-is = ap (λ o. has_mark is_enter (lock_entry p true marks) && is_some o)
+      (lowest_agree s.processes (is_ahead (lock_passage (lock_past (first ∷ past))) p) (is_ahead (lock_passage (lock_past past)) p)
+      (λ q i. not (q == p) && (waiting-same (lock_past (first ∷ past)) (lock_past past) q (stage-is q) i && first-keeps p p q (lock_past past) i)))
 
   memory-is : breaks_memory s (first ∷ past) second ≡ breaks_memory s past whole
   memory-is = reads-second w v s past (first ∷ past) p c (opened-first s p c w v marks past)

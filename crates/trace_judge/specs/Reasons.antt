@@ -1,7 +1,7 @@
 -- The reasons of an entry that breaks a law, by looking back.
 use Rattle.std.specs.Prelude.{◌≡◌, ℕ, nat_lt, Bool, List, [], filter, length, cond, option_map, Option, None, Some, is_none, is_some}
 use Rattle.trace.specs.{TraceEntry, TracePast, TraceSetup, access_reading}
-use Rattle.lock_stages.specs.{AreSince, LockStage, ahead_since, doorway, inside_since}
+use Rattle.lock_stages.specs.{AreSince, LockStage, ahead_since, inside_since, lock_passage}
 use Rattle.lock_stages.specs.runs.{first_of}
 use Rattle.trace_memory.specs.{allowed_values, if_few, number_of, opened, present, read_ended, register_of}
 use Rattle.trace_judge.specs.declared.reasons.TraceReasons.{TraceReasons}
@@ -28,7 +28,7 @@ opened_at s past p = cond (nat_lt p s.processes) (option_map number_of (opened p
 
 -- the doorway of its process began there, in the past or with its access
 abbrev pub doorway_of : TracePast → TraceEntry → Option ℕ
-doorway_of past e = first_of (doorway e.process (lock_past past)) (cond (is_some e.access) (Some (length past)) None)
+doorway_of past e = first_of (lock_passage (lock_past past) e.process).doorway (cond (is_some e.access) (Some (length past)) None)
 
 -- an entry whose access reads this value
 abbrev pub entry_reading : ℕ → TraceEntry → TraceEntry
@@ -51,11 +51,11 @@ mays_by law.Memory s past e = mays_of s past e
 mays_by _ s past e = []
 
 abbrev pub inside_by : TraceLaw → TraceSetup → TracePast → TraceEntry → ℕ → Option ℕ
-inside_by law.Together s past e q = inside_since s.processes (lock_past past) e.process q
+inside_by law.Together s past e q = inside_since (lock_passage (lock_past past)) s.processes e.process q
 inside_by _ s past e q = None
 
 abbrev pub waits_by : TraceLaw → TraceSetup → TracePast → TraceEntry → ℕ → Option ℕ
-waits_by law.Overtaken s past e q = ahead_since s.processes (lock_past past) e.process q
+waits_by law.Overtaken s past e q = ahead_since (lock_passage (lock_past past)) s.processes e.process q
 waits_by _ s past e q = None
 
 abbrev pub doorway_by : TraceLaw → TraceSetup → TracePast → TraceEntry → Option ℕ

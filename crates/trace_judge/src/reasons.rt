@@ -185,7 +185,7 @@ impl TraceState {
         if law != TraceLaw::Overtaken || process >= self.stages.processes() {
             return None;
         }
-        match self.stages.state(process).doorway {
+        match self.stages.state(process).passage.doorway {
             Some(entry) => Some(entry),
             None if access.is_some() => Some(self.stages.entries()),
             None => None,

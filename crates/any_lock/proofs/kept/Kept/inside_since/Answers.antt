@@ -1,6 +1,6 @@
 use Rattle.std.proofs.Common.{ℕ, Option, None, Some, sym, ap, ◌∙◌}
 use Rattle.any_lock.specs.{entered, standing}
-use Rattle.any_lock.proofs.Lowest.{lowest_within}
+use Rattle.lock_stages.proofs.Lowest.{lowest_within}
 use Rattle.any_lock.proofs.kept.Kept.inside_since.Goals as goal
 
 pub returns-in-None : goal.returns-in-None

@@ -1,7 +1,6 @@
 use Rattle.std.proofs.Common.{◌≡◌, ◌≤◌, false}
 use Rattle.trace.specs.{TracePast}
-use Rattle.trace_calls.specs.{HasOpened, is_writing}
-use Rattle.trace_engine.specs.trace_judge.lock_stages.{any_below}
+use Rattle.trace_calls.specs.{HasOpened, any_below, is_writing}
 use Rattle.trace_calls.proofs.opened.OpenMoves.is_written.Given as goal
 
 -- no process below the present one has a write open

@@ -1,4 +1,4 @@
-use Rattle.std.proofs.Common.{◌≡◌, Some, ap, reverse, sym, subst, ◌∙◌}
+use Rattle.std.proofs.Common.{◌≡◌, ap, reverse, sym, subst, ◌∙◌}
 use Rattle.trace.specs.{TraceEntry, TraceSetup, trace_entry}
 use Rattle.trace_judge.specs.{Explains, HasJudged, JudgeState, first_broken}
 use Rattle.trace_judge.specs.declared.verdicts.TraceVerdict.TheVariants.{Good, Bad}
