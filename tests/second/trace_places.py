@@ -242,10 +242,17 @@ def shown(text, span, told):
     return f"  {line}\n  {carets}\nexpected {told}\n"
 
 
-def colon_hint(line):
-    """What is added for an entry that has a word with a colon and other bytes."""
-    is_entry = re.match(rb"[0-9]", line.words[0])
-    return "; a colon has blanks around it" if is_entry and any(b":" in word and word != b":" for word in line.words) else ""
+def hints(line):
+    """What is added for an entry: of a word with a colon and other bytes, of two marks in a row, and of a comment."""
+    if not re.match(rb"[0-9]", line.words[0]):
+        return ""
+    marks = [word.decode("latin-1") in MARKS for word in line.words]
+    shown = {
+        "; a colon has blanks around it": any(b":" in word and word != b":" for word in line.words),
+        "; each mark has a colon before it": any(one and next_one for one, next_one in zip(marks, marks[1:])),
+        "; a comment has a line of its own": any(word.startswith(b"#") for word in line.words),
+    }
+    return "".join(hint for hint, is_shown in shown.items() if is_shown)
 
 
 def explained(text):
@@ -267,6 +274,6 @@ def explained(text):
             if kind is None:
                 continue
             span, told = FOUND[kind](line)
-            place = span, told + colon_hint(line)
+            place = span, told + hints(line)
         return f"{Fault(at, kind)}\n{shown(each, *place)}".encode()
     return None

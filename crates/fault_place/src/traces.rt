@@ -13,7 +13,7 @@ use files::FaultKind;
 use std::alloc::AllocError;
 use trace_file::TraceReader;
 use trace_file::forms::TraceOperand;
-use trace_file::keywords::TraceLine;
+use trace_file::keywords::{TraceLine, lock_mark};
 
 /// A trace that has a fault, and what the lines before the fault have declared.
 #[derive(Clone, Copy)]
@@ -38,7 +38,7 @@ impl<'r> FaultyTrace<'r> {
         let words = line.words.as_slice();
         if let Some(TraceLine::Entry) = TraceLine::of(word_at(words, 0)) {
             let place = self.in_entry(line, what)?;
-            add_colon_hint(words, what)?;
+            add_hints(words, what)?;
             return Ok(place);
         }
         let form = trace_head_form(self.faulty.alloc, words)?;
@@ -222,11 +222,31 @@ fn too_late(line: &SplitLine<'_>, what: &mut String) -> Found {
     found(line.word(0), expected, what)
 }
 
-/// Adds that a colon has blanks around it, if a word of an entry has a colon and other bytes.
-fn add_colon_hint(words: &[&[u8]], what: &mut String) -> Result<(), AllocError> {
+/// Adds what the words of an entry show besides the fault: a colon without blanks around it, two marks after one colon, or a
+/// comment.
+fn add_hints(words: &[&[u8]], what: &mut String) -> Result<(), AllocError> {
     let has_colon = |word: &&[u8]| word.len() > 1 && word.iter().any(|byte| *byte == b':');
     if words.iter().any(has_colon) {
         what.push_str("; a colon has blanks around it")?;
     }
+    if has_adjacent_marks(words) {
+        what.push_str("; each mark has a colon before it")?;
+    }
+    if words.iter().any(|word| word.starts_with(b"#")) {
+        what.push_str("; a comment has a line of its own")?;
+    }
     Ok(())
+}
+
+/// Returns whether a mark follows another one with no colon between them.
+fn has_adjacent_marks(words: &[&[u8]]) -> bool {
+    let mut follows = false;
+    for word in words {
+        let is_mark = lock_mark(word).is_some();
+        if follows && is_mark {
+            return true;
+        }
+        follows = is_mark;
+    }
+    false
 }
