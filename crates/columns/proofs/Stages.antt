@@ -6,7 +6,7 @@ use Rattle.std.proofs.lemmas.List.{length-set, get_or-set_same, get_or-set_other
 use Rattle.record.specs.{Mark, Past, Stage, stage, stage_after}
 use Rattle.record.specs.declared.stages.Stage.TheVariants.{Idle}
 use Rattle.columns.specs.{Saying, StagesAreTheRecords, like, marks_in, marks_said, nothing_told, stage_among, stages_marked, stages_told}
-use Rattle.columns.specs.declared.told.Saying.TheVariants.{Marked, Refused, Tired, Shown, Judged, Ended, LockMarked, LockEnded}
+use Rattle.columns.specs.declared.told.Saying.TheVariants.{Marked, Refused, Tired, Shown, Ended, LockMarked, LockEnded}
 
 -- the stage of a process after a mark of one
 abbrev pub stage_told : ℕ → Stage → ℕ × Mark → Stage
@@ -25,7 +25,6 @@ told_length processes stages (Marked q mark change) = either_length (nat_lt q pr
 told_length processes stages (Refused q refusal) = refl
 told_length processes stages (Tired q) = refl
 told_length processes stages (Shown words) = refl
-told_length processes stages (Judged q words) = refl
 told_length processes stages (Ended events taken refused) = refl
 told_length processes stages (LockMarked q mark) = either_length (nat_lt q processes) stages q (like mark)
 told_length processes stages (LockEnded entries) = refl
@@ -54,7 +53,6 @@ line_stage processes stages (Marked q mark change) p is within = either_stage pr
 line_stage processes stages (Refused q refusal) p is within = refl
 line_stage processes stages (Tired q) p is within = refl
 line_stage processes stages (Shown words) p is within = refl
-line_stage processes stages (Judged q words) p is within = refl
 line_stage processes stages (Ended events taken refused) p is within = refl
 line_stage processes stages (LockMarked q mark) p is within = either_stage processes stages q (like mark) p is within
 line_stage processes stages (LockEnded entries) p is within = refl

@@ -19,7 +19,7 @@ use Rattle.columns.specs.declared.state.State.{State}
 use Rattle.columns.specs.declared.told.TakenChange.{TakenChange}
 use Rattle.columns.specs.declared.told.RunLine.{RunLine}
 use Rattle.columns.specs.declared.told.Saying.{Saying}
-use Rattle.columns.specs.declared.told.Saying.TheVariants.{Ended, Judged, LockEnded, LockMarked, Marked, Refused, Shown, Tired}
+use Rattle.columns.specs.declared.told.Saying.TheVariants.{Ended, LockEnded, LockMarked, Marked, Refused, Shown, Tired}
 
 -- words in one row: whether they stand out, their bytes, and how many characters they are
 pub record Wording : Type 0 where
@@ -117,7 +117,6 @@ rows_told in_lane (Marked p mark change) = rows_marked mark
 rows_told in_lane (Refused p refusal) = verb_and_rest (verb_refused in_lane p) (refusal_text refusal)
 rows_told in_lane (Tired p) = verb (codes "turns") ∷ []
 rows_told in_lane (Shown words) = rows_named (codes "show") (string_bytes words)
-rows_told in_lane (Judged p words) = rows_named (codes "judge") words.items
 rows_told in_lane (Ended events taken refused) = verb_and_rest (codes "end events " ++ decimal events) (counts_text taken refused)
 rows_told in_lane (LockMarked p mark) = verb (lock_mark_text mark) ∷ []
 rows_told in_lane (LockEnded entries) = verb (lock_ended_text entries) ∷ []

@@ -24,7 +24,7 @@ pub use Overlaps.{bit_text, read_text, saw_text, title_text}
 pub use Placings.{drawn_apart, end_of_words, event_stands, has_room_at, last_of, moved_to, place_of, placing_at_first, put_at, stretched_all, widened}
 pub use Stages.{StagesAreTheRecords, marks_in, marks_said, nothing_told, stage_among, stages_after, stages_marked, stages_told}
 pub use States.{at_first, before_in, behind_in, first_waiting, freed_by, group_of, inside_marked, is_in_doorway, line_of_first, lined_up, no_seat, not_awaiting, places_from, places_marked, queue_of, seats_marked, state_lock_marked, state_marked, state_told, ticket_in, with_seats_marked, word_of}
-pub use Told.{change_told, judged_text, mark_told, place_told, saying_text, tells_lock_mark, tells_refusal, text_of, texts, told_in}
+pub use Told.{change_told, mark_told, place_told, saying_text, tells_lock_mark, tells_refusal, text_of, texts, told_in}
 pub use Waves.{SeenWave, change_in, row_begun, row_set, seen_wave, seen_waves, wave_before, wave_behind, waves_after, waves_begun}
 pub use declared.access_state.AccessState.{AccessState}
 pub use declared.accesses.AccessKind.{AccessKind}

@@ -1,5 +1,5 @@
 -- The lines of the text of a run or of a trace, as values.
-use Rattle.std.specs.Prelude.{ℕ, Bool, true, false, List, ◌++◌, codes, map, string_bytes, Option, None, Some, option_map}
+use Rattle.std.specs.Prelude.{ℕ, Bool, true, false, List, map, string_bytes, Option, None, Some, option_map}
 use Rattle.record.specs.{Mark}
 use Rattle.record.specs.declared.marks.Mark.TheVariants.{Taken}
 use Rattle.run_lines.specs.{ended_text, marked_text, refused_text, shown_text, tired_text}
@@ -8,11 +8,7 @@ use Rattle.columns.specs.declared.columns.Column.{Column}
 use Rattle.columns.specs.declared.told.TakenChange.{TakenChange}
 use Rattle.columns.specs.declared.told.RunLine.{RunLine}
 use Rattle.columns.specs.declared.told.Saying.{Saying}
-use Rattle.columns.specs.declared.told.Saying.TheVariants.{Marked, Refused, Tired, Shown, Judged, Ended, LockMarked, LockEnded}
-
--- what a judge tells
-abbrev pub judged_text : List ℕ → List ℕ
-judged_text words = codes "judge " ++ words
+use Rattle.columns.specs.declared.told.Saying.TheVariants.{Marked, Refused, Tired, Shown, Ended, LockMarked, LockEnded}
 
 -- what a line says, where so many events were accepted before it
 abbrev pub saying_text : ℕ → Saying → List ℕ
@@ -20,7 +16,6 @@ saying_text at (Marked p mark change) = marked_text at p mark
 saying_text at (Refused p refusal) = refused_text p refusal
 saying_text at (Tired p) = tired_text p
 saying_text at (Shown words) = shown_text (string_bytes words)
-saying_text at (Judged p words) = judged_text words.items
 saying_text at (Ended events taken refused) = ended_text events taken refused
 saying_text at (LockMarked p mark) = lock_marked_text at p mark
 saying_text at (LockEnded entries) = lock_ended_text entries
@@ -43,7 +38,6 @@ process_told (Marked p mark change) = Some p
 process_told (Refused p refusal) = Some p
 process_told (Tired p) = Some p
 process_told (Shown words) = None
-process_told (Judged p words) = p
 process_told (Ended events taken refused) = None
 process_told (LockMarked p mark) = Some p
 process_told (LockEnded entries) = None

@@ -272,7 +272,6 @@ fn rows_alone(alloc: Global, line: &RunLine, in_lane: bool) -> Result<Vec<TextRo
         ),
         Saying::Tired(_) => one_row(alloc, String::from_str(alloc, "turns")?),
         Saying::Shown(words) => named_rows(alloc, "show", words.as_bytes()),
-        Saying::Judged { words, .. } => named_rows(alloc, "judge", words.as_slice()),
         Saying::Ended {
             events,
             taken,

@@ -2,7 +2,7 @@
 ghost use Rattle.std.specs.Prelude.{◌≡◌, IfOk, option_copied};
 ghost use Rattle.run_lines.specs.{line_text};
 ghost use Rattle.columns.specs.LockLines.{lock_ended_text, lock_marked_text};
-ghost use Rattle.columns.specs.Told.{change_told, event_told, judged_text, mark_told, place_told, process_told, tells_lock_mark, tells_refusal, text_of};
+ghost use Rattle.columns.specs.Told.{change_told, event_told, mark_told, place_told, process_told, tells_lock_mark, tells_refusal, text_of};
 
 use crate::lock_lines::{drawn_like, ended_line, marked_line};
 use record::{Mark, Refusal};
@@ -37,11 +37,6 @@ pub enum Saying {
     Tired(u8),
     /// The newest store: the words after `show`.
     Shown(String),
-    /// A line of a judge, and the process in whose lane it is drawn.
-    Judged {
-        process: Option<u8>,
-        words: Vec<u8>,
-    },
     /// The run has ended, with these numbers.
     Ended {
         events: u64,
@@ -78,7 +73,6 @@ impl RunLine {
             Saying::Marked { process, .. } => Some(*process),
             Saying::Refused { process, .. } => Some(*process),
             Saying::Tired(process) => Some(*process),
-            Saying::Judged { process, .. } => *process,
             Saying::LockMarked { process, .. } => Some(*process),
             Saying::Shown(_) | Saying::Ended { .. } | Saying::LockEnded { .. } => None,
         }
@@ -164,7 +158,6 @@ impl RunLine {
             }
             Saying::Tired(process) => printed(alloc, &ReplayLine::Tired(*process)),
             Saying::Shown(words) => printed(alloc, &ReplayLine::Shown(words.as_str())),
-            Saying::Judged { words, .. } => judged(alloc, words.as_slice()),
             Saying::Ended {
                 events,
                 taken,
@@ -188,14 +181,4 @@ fn printed(alloc: Global, line: &ReplayLine) -> Result<Vec<u8>, AllocError>
     ensures { IfOk result (λ text. text.items ≡ line_text line.now) }
 {
     Ok(line.to_string(alloc)?.into_bytes())
-}
-
-/// Returns a line of a judge.
-fn judged(alloc: Global, words: &[u8]) -> Result<Vec<u8>, AllocError>
-    ensures { IfOk result (λ text. text.items ≡ judged_text words.now) }
-{
-    let mut text = Vec::new(alloc);
-    text.extend_from_slice(b"judge ")?;
-    text.extend_from_slice(words)?;
-    Ok(text)
 }
