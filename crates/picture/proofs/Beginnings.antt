@@ -11,6 +11,10 @@ pub attributes_said : (place source : Attribute) (more : List Attribute) (x y : 
     flat_map attribute_text (place ∷ source ∷ more) ≡ flat_map said_text (x ∷ y ∷ (store_said told ++ queue_said is_last queue))
 attributes_said place source more x y queue change told last is_last p q said same so = λ i. p i ++ (q i ++ (said ∙ (λ j. flat_map said_text (store_said (same j) ++ queue_said (so j) queue))) i)
 
+-- its place and its source alone
+pub two_said : (place source : Attribute) (x y : Said) → attribute_text place ≡ said_text x → attribute_text source ≡ said_text y → flat_map attribute_text (place ∷ source ∷ []) ≡ flat_map said_text (x ∷ y ∷ [])
+two_said place source x y p q = λ i. p i ++ (q i ++ [])
+
 -- the mark that begins by them
 pub mark_drawn : {A E : Type 0} (r : Result A E) (old new text line : List ℕ) (attributes : List Attribute) (says : List Said) →
     OnOk r (new ≡ old ++ marking attributes text) → flat_map attribute_text attributes ≡ flat_map said_text says → text ≡ line → OnOk r (new ≡ old ++ drawings (Mark says line ∷ []))

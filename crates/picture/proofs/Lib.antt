@@ -7,5 +7,6 @@ mod Tellings
 mod Held
 mod Framing
 mod Pagings
+mod VerdictLines
 mod Standings
 mod Sheetings

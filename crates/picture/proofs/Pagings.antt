@@ -5,11 +5,11 @@ use Rattle.std.proofs.Math.Seq.{take-append_seam}
 use Rattle.std.proofs.lemmas.List.{length-map}
 use Rattle.markup.specs.{drawings}
 use Rattle.record.specs.{Mark}
-use Rattle.picture.specs.{Accesses, Bands, BeginsColumn, DrawsBand, GivesRest, GoesOn, Item, MakesRoom, Places, Plan, Puts, Reads, SeenPage, Tells, accesses_behind, accesses_in, band_shapes, band_text, bands_of, begun_by, behind_columns, columns_of, filled, framed, full_bytes, heights, held_in_64, layout_in, line_by, newest, newest_at, older, page_by, page_holding, placing_before, placing_in, room_by, state_after, with_line, with_placed, with_put, with_room}
+use Rattle.picture.specs.{Accesses, Bands, BeginsColumn, DrawsBand, GivesRest, GoesOn, Item, Judges, MakesRoom, Places, Plan, Puts, Reads, SeenPage, Tells, ShownVerdict, accesses_behind, accesses_in, band_text, bands_of, bands_told, begun_by, behind_columns, columns_of, filled, framed, full_bytes, height_with, heights, heights_of, heights_told, held_in_64, judged_shapes, judged_with, layout_in, line_by, newest, newest_at, older, page_by, page_holding, page_of, placing_before, placing_in, room_by, state_after, verdict_in, whole_bytes, with_line, with_placed, with_put, with_room}
 use Rattle.columns.specs.{Column, Layout, OverlappedRead, Placing, RunLine, Saying, Seen, SeenAccesses, ShownAccess, State, accesses_after, accesses_at, alone, column_of_access, column_of_read, drawn_apart, end_of_words, freed_by, has_room_at, joined, joins, last_of, layout_of, moved_to, place_of, placing_at_first, put_at, seen, state_lock_marked, state_marked, state_told, stretched_all, widened}
 use Rattle.columns.specs.trace.{LockMark}
 use Rattle.columns.specs.trace.declared.marks.LockMark.TheVariants as lock
-use Rattle.columns.specs.declared.told.Saying.TheVariants.{Ended, Judged, LockEnded, LockMarked, Marked, Refused, Shown, Tired}
+use Rattle.columns.specs.declared.told.Saying.TheVariants.{Ended, LockEnded, LockMarked, Marked, Refused, Shown, Tired}
 
 -- a column is put behind the others
 abbrev pub put_page : Seen → SeenPage → SeenPage
@@ -29,8 +29,8 @@ put_parts column placed x old placing columns are stands put at = puts_column co
     ∙ ap (λ (x : ℕ). record old { columns = old.columns ++ moved_to column x ∷ []; placing = put_at old.placing column x }) at)
 
 -- the band that is begun is drawn
-abbrev pub filled_page : SeenPage → SeenPage
-filled_page page = record page {
+abbrev pub filled_page : Option ShownVerdict → SeenPage → SeenPage
+filled_page verdict page = record page {
   opens = [];
   before = (behind_columns page.columns (page.before, page.before_at)).0;
   before_at = (behind_columns page.columns (page.before, page.before_at)).1;
@@ -38,13 +38,13 @@ filled_page page = record page {
   columns = [];
   accesses = accesses_after (accesses_in page.accesses page.columns) (stretched_all page.columns);
   bands = held_in_64 (page.bands + 1);
-  height = held_in_64 (page.height + ((layout_in page.state.processes page.accesses page.columns false).height + 16));
+  height = held_in_64 (page.height + (height_with verdict (layout_in page.state.processes page.accesses page.columns false).height + 16));
 }
 
-abbrev pub drawn_by : Bool → ℕ → SeenPage → List ℕ
-drawn_by is_last processes page =
-    framed page.form (held_in_64 (page.bands + 1)) page.height (layout_in processes page.accesses page.columns is_last).height
-    (drawings (band_shapes (record {
+abbrev pub drawn_by : Bool → Option ShownVerdict → ℕ → SeenPage → List ℕ
+drawn_by is_last verdict processes page =
+    framed page.form (held_in_64 (page.bands + 1)) page.height (height_with verdict (layout_in processes page.accesses page.columns is_last).height)
+    (drawings (judged_shapes verdict (record {
       columns = stretched_all page.columns;
       before = page.before;
       before_at = page.before_at;
@@ -54,11 +54,11 @@ drawn_by is_last processes page =
       subject = page.subject;
     }) (accesses_in page.accesses page.columns)))
 
-pub draws_begun : (is_last : Bool) (old : SeenPage) (band : List ℕ) (new : SeenPage) → new ≡ filled_page old → band ≡ drawn_by is_last old.state.processes old → DrawsBand is_last old band new
-draws_begun is_last old band new is drawn plan state pending last_at bands same holds = (
-  is ∙ ap filled_page holds
-      ∙ (λ i. record (page_holding plan state pending last_at (filled bands)) { height = held_in_64 (heights plan.processes bands.full + ((layout_in (same i) (accesses_behind bands.full) bands.begun false).height + 16)) }),
-  drawn ∙ ap (λ (page : SeenPage). drawn_by is_last page.state.processes page) holds ∙ ap (λ (n : ℕ). drawn_by is_last n (page_holding plan state pending last_at bands)) same,
+pub draws_begun : (is_last : Bool) (verdict : Option ShownVerdict) (old : SeenPage) (band : List ℕ) (new : SeenPage) → new ≡ filled_page verdict old → band ≡ drawn_by is_last verdict old.state.processes old → DrawsBand is_last verdict old band new
+draws_begun is_last verdict old band new is drawn plan state pending last_at bands same holds = (
+  is ∙ ap (filled_page verdict) holds
+      ∙ (λ i. record (page_holding plan state pending last_at (filled bands)) { height = held_in_64 (heights plan.processes bands.full + (height_with verdict (layout_in (same i) (accesses_behind bands.full) bands.begun false).height + 16)) }),
+  drawn ∙ ap (λ (page : SeenPage). drawn_by is_last verdict page.state.processes page) holds ∙ ap (λ (n : ℕ). drawn_by is_last verdict n (page_holding plan state pending last_at bands)) same,
 )
 
 -- columns that are drawn apart are as many, and so fill the vector that lent them
@@ -75,26 +75,26 @@ stretched_within len items now fits is =
     ap (λ n. take n (now ++ drop (length now) items)) (sym same) ∙ take-append_seam now (drop (length now) items)
 
 -- and so by the parts of the page and of the band
-pub draws_parts : (is_last : Bool) (old : SeenPage) (opens shown : List ℕ) (behind : State × ℕ) (placing : Placing) (columns apart : List Seen) (at left : SeenAccesses) (layout : Layout) (bands height : ℕ) (markup : List ℕ) →
+pub draws_parts : (is_last : Bool) (verdict : Option ShownVerdict) (old : SeenPage) (opens shown : List ℕ) (behind : State × ℕ) (placing : Placing) (columns apart : List Seen) (at left : SeenAccesses) (layout : Layout) (bands height : ℕ) (markup : List ℕ) →
     opens ≡ [] → shown ≡ old.opens → behind ≡ behind_columns old.columns (old.before, old.before_at) → placing ≡ placing_at_first 0 → columns ≡ [] → apart ≡ stretched_all old.columns →
     at ≡ accesses_at old.accesses apart → left ≡ accesses_after at apart → layout ≡ layout_of old.state.processes at apart is_last →
-    bands ≡ held_in_64 (old.bands + 1) → height ≡ held_in_64 (old.height + (layout.height + 16)) →
-    markup ≡ framed old.form bands old.height layout.height (drawings (band_shapes (record { columns = apart; before = old.before; before_at = old.before_at; layout = layout; is_last = is_last; opens = shown; subject = old.subject }) at)) →
-    DrawsBand is_last old markup (record old { opens = opens; before = behind.0; before_at = behind.1; accesses = left; placing = placing; columns = columns; bands = bands; height = height })
-draws_parts is_last old opens shown behind placing columns apart at left layout bands height markup none same stands new empty stretched begun passed laid count high drawn =
+    bands ≡ held_in_64 (old.bands + 1) → height ≡ held_in_64 (old.height + (height_with verdict layout.height + 16)) →
+    markup ≡ framed old.form bands old.height (height_with verdict layout.height) (drawings (judged_shapes verdict (record { columns = apart; before = old.before; before_at = old.before_at; layout = layout; is_last = is_last; opens = shown; subject = old.subject }) at)) →
+    DrawsBand is_last verdict old markup (record old { opens = opens; before = behind.0; before_at = behind.1; accesses = left; placing = placing; columns = columns; bands = bands; height = height })
+draws_parts is_last verdict old opens shown behind placing columns apart at left layout bands height markup none same stands new empty stretched begun passed laid count high drawn =
     let shows : at ≡ accesses_in old.accesses old.columns = begun ∙ ap (accesses_at old.accesses) stretched in
     let leaves : left ≡ accesses_after (accesses_in old.accesses old.columns) (stretched_all old.columns) = passed ∙ (λ i. accesses_after (shows i) (stretched i)) in
     let lies : layout ≡ layout_in old.state.processes old.accesses old.columns is_last = laid ∙ (λ i. layout_of old.state.processes (shows i) (stretched i) is_last) in
-    let higher : height ≡ held_in_64 (old.height + ((layout_in old.state.processes old.accesses old.columns is_last).height + 16)) = high ∙ ap (λ (l : Layout). held_in_64 (old.height + (l.height + 16))) lies in
-    draws_begun is_last old markup (record old { opens = opens; before = behind.0; before_at = behind.1; accesses = left; placing = placing; columns = columns; bands = bands; height = height })
+    let higher : height ≡ held_in_64 (old.height + (height_with verdict (layout_in old.state.processes old.accesses old.columns is_last).height + 16)) = high ∙ ap (λ (l : Layout). held_in_64 (old.height + (height_with verdict l.height + 16))) lies in
+    draws_begun is_last verdict old markup (record old { opens = opens; before = behind.0; before_at = behind.1; accesses = left; placing = placing; columns = columns; bands = bands; height = height })
     (λ i. record old { opens = none i; before = (stands i).0; before_at = (stands i).1; accesses = leaves i; placing = new i; columns = empty i; bands = count i; height = higher i })
-    (drawn ∙ (λ i. framed old.form (count i) old.height (lies i).height (drawings (band_shapes (record { columns = stretched i; before = old.before; before_at = old.before_at; layout = lies i; is_last = is_last; opens = same i; subject = old.subject }) (shows i)))))
+    (drawn ∙ (λ i. framed old.form (count i) old.height (height_with verdict (lies i).height) (drawings (judged_shapes verdict (record { columns = stretched i; before = old.before; before_at = old.before_at; layout = lies i; is_last = is_last; opens = same i; subject = old.subject }) (shows i)))))
 
 -- the column has room, or another band begins
 abbrev pub has_room_in : Seen → SeenPage → Bool
 has_room_in column page = has_room_at page.placing (place_of page.placing column)
 
-pub begins_next : (column : Seen) (old : SeenPage) (band : List ℕ) (new : SeenPage) → has_room_in column old ≡ false → DrawsBand false old band new → MakesRoom column old (Some band) new
+pub begins_next : (column : Seen) (old : SeenPage) (band : List ℕ) (new : SeenPage) → has_room_in column old ≡ false → DrawsBand false None old band new → MakesRoom column old (Some band) new
 begins_next column old band new room draws plan state pending last_at bands same holds =
     let has : has_room_in column (page_holding plan state pending last_at bands) ≡ false = ap (has_room_in column) (sym holds) ∙ room in
     let drawn = draws plan state pending last_at bands same holds in (
@@ -137,7 +137,6 @@ told_processes state (Marked p mark change) = marked_processes (nat_lt p state.p
 told_processes state (Refused p refusal) = refl
 told_processes state (Tired p) = refl
 told_processes state (Shown words) = refl
-told_processes state (Judged p words) = refl
 told_processes state (Ended events taken refused) = refl
 told_processes state (LockMarked p mark) = lock_marked_processes (nat_lt p state.processes) state p mark
 told_processes state (LockEnded entries) = refl
@@ -147,6 +146,14 @@ processes_after n [] = refl
 processes_after n (Tells line ∷ before) = told_processes (state_after n before) line.saying ∙ processes_after n before
 processes_after n (Reads read ∷ before) = processes_after n before
 processes_after n (Accesses access ∷ before) = processes_after n before
+processes_after n (Judges verdict ∷ before) = processes_after n before
+
+-- a page without a verdict has taken in items of which the newest is none
+no_verdict : (old : SeenPage) (plan : Plan) (items : List Item) → old.verdict ≡ None → old ≡ page_of plan items → verdict_in items ≡ None
+no_verdict old plan items none holds = sym (ap (λ (p : SeenPage). p.verdict) holds) ∙ none
+
+unjudged : (old : SeenPage) (plan : Plan) (items : List Item) → old.verdict ≡ None → old ≡ page_of plan items → old ≡ page_by plan (state_after plan.processes items) (columns_of plan.processes items)
+unjudged old plan items none holds = holds ∙ (λ i. record (page_by plan (state_after plan.processes items) (columns_of plan.processes items)) { verdict = no_verdict old plan items none holds i })
 
 -- a line joins the column that is not placed yet
 abbrev pub joined_page : RunLine → Seen → SeenPage → SeenPage
@@ -180,8 +187,8 @@ joins_by line column old new plan state (other ∷ before) one does is holds =
           ∙ sym (append-nil (full_bytes plan (bands_of plan.opening before).full)),
     )
 
-pub joins_pending : (line : RunLine) (column : Seen) (old new : SeenPage) → old.pending ≡ Some column → joins column line ≡ true → new ≡ joined_page line column old → GoesOn (Tells line) old None new
-joins_pending line column old new one does is plan items holds = joins_by line column old new plan (state_after plan.processes items) (columns_of plan.processes items) one does is holds
+pub joins_pending : (line : RunLine) (column : Seen) (old new : SeenPage) → old.verdict ≡ None → old.pending ≡ Some column → joins column line ≡ true → new ≡ joined_page line column old → GoesOn (Tells line) old None new
+joins_pending line column old new none one does is plan items holds = joins_by line column old new plan (state_after plan.processes items) (columns_of plan.processes items) one does is (unjudged old plan items none holds)
 
 -- or has a column of its own
 abbrev pub told_page : RunLine → SeenPage → SeenPage
@@ -194,8 +201,9 @@ begins_line : (line : RunLine) (frees : Option ℕ) (after : State) (columns : L
 begins_line line frees after [] other = refl
 begins_line line frees after (column ∷ before) other = ap (λ (b : Bool). line_by b line frees after column before) (sym (other column refl))
 
-pub begins_alone : (line : RunLine) (old told new : SeenPage) (frees : Option ℕ) (full : Option (List ℕ)) → JoinsNone line old.pending → told ≡ told_page line old → frees ≡ freed_by old.state line.saying → BeginsColumn line frees told full new → GoesOn (Tells line) old full new
-begins_alone line old told new frees full other says free begun plan items holds =
+pub begins_alone : (line : RunLine) (old told new : SeenPage) (frees : Option ℕ) (full : Option (List ℕ)) → old.verdict ≡ None → JoinsNone line old.pending → told ≡ told_page line old → frees ≡ freed_by old.state line.saying → BeginsColumn line frees told full new → GoesOn (Tells line) old full new
+begins_alone line old told new frees full none other says free begun plan items is =
+    let holds : old ≡ page_by plan (state_after plan.processes items) (columns_of plan.processes items) = unjudged old plan items none is in
     let before : State = state_after plan.processes items in
     let state : State = state_told before line.saying in
     let freed : Option ℕ = freed_by before line.saying in
@@ -219,10 +227,10 @@ pub read_is : (read : OverlappedRead) (placed : SeenPage) (column : Seen) (gap :
     (let page : SeenPage = record placed { pending = Some column; last_at = read.end } in page) ≡ read_page read placed
 read_is read placed column gap is far = ap (λ (c : Seen). (let page : SeenPage = record placed { pending = Some c; last_at = read.end } in page)) (is ∙ ap (λ (g : ℕ). column_of_read read g placed.state) far)
 
-pub begins_read : (read : OverlappedRead) (old placed new : SeenPage) (full : Option (List ℕ)) → Places old full placed → new ≡ read_page read placed → GoesOn (Reads read) old full new
-begins_read read old placed new full places is plan items holds =
+pub begins_read : (read : OverlappedRead) (old placed new : SeenPage) (full : Option (List ℕ)) → old.verdict ≡ None → Places old full placed → new ≡ read_page read placed → GoesOn (Reads read) old full new
+begins_read read old placed new full none places is plan items holds =
     let columns : List Seen = columns_of plan.processes items in
-    let put = places plan (state_after plan.processes items) (newest_at columns) columns (processes_after plan.processes items) holds in
+    let put = places plan (state_after plan.processes items) (newest_at columns) columns (processes_after plan.processes items) (unjudged old plan items none holds) in
     (is ∙ ap (read_page read) put.0, put.1)
 
 -- and so has an access
@@ -233,20 +241,36 @@ pub access_is : (access : ShownAccess) (placed : SeenPage) (column : Seen) (gap 
     (let page : SeenPage = record placed { pending = Some column; last_at = access.event } in page) ≡ access_page access placed
 access_is access placed column gap is far = ap (λ (c : Seen). (let page : SeenPage = record placed { pending = Some c; last_at = access.event } in page)) (is ∙ ap (λ (g : ℕ). column_of_access access g placed.state) far)
 
-pub begins_access : (access : ShownAccess) (old placed new : SeenPage) (full : Option (List ℕ)) → Places old full placed → new ≡ access_page access placed → GoesOn (Accesses access) old full new
-begins_access access old placed new full places is plan items holds =
+pub begins_access : (access : ShownAccess) (old placed new : SeenPage) (full : Option (List ℕ)) → old.verdict ≡ None → Places old full placed → new ≡ access_page access placed → GoesOn (Accesses access) old full new
+begins_access access old placed new full none places is plan items holds =
     let columns : List Seen = columns_of plan.processes items in
-    let put = places plan (state_after plan.processes items) (newest_at columns) columns (processes_after plan.processes items) holds in
+    let put = places plan (state_after plan.processes items) (newest_at columns) columns (processes_after plan.processes items) (unjudged old plan items none holds) in
     (is ∙ ap (access_page access) put.0, put.1)
 
+-- items with a verdict: their state and their columns are as before, and the verdict is the newest
+abbrev pub whole_with : Plan → Option ShownVerdict → List Item → List ℕ
+whole_with plan verdict items = whole_bytes plan verdict (bands_of plan.opening (columns_of plan.processes items))
+
+abbrev pub heights_with : Plan → Option ShownVerdict → List Item → ℕ
+heights_with plan verdict items = heights_of plan.processes verdict (bands_of plan.opening (columns_of plan.processes items))
+
+judged_bytes : (plan : Plan) (verdict : Option ShownVerdict) (items : List Item) → verdict_in items ≡ None → whole_with plan verdict items ≡ bands_told plan (judged_with verdict items)
+judged_bytes plan None items none = ap (λ (v : Option ShownVerdict). whole_with plan v items) (sym none)
+judged_bytes plan (Some verdict) items none = refl
+
+judged_heights : (plan : Plan) (verdict : Option ShownVerdict) (items : List Item) → verdict_in items ≡ None → heights_with plan verdict items ≡ heights_told plan (judged_with verdict items)
+judged_heights plan None items none = ap (λ (v : Option ShownVerdict). heights_with plan v items) (sym none)
+judged_heights plan (Some verdict) items none = refl
+
 -- the last bands
-pub gives_rest : (old placed new : SeenPage) (full : Option (List ℕ)) (last : List ℕ) → Places old full placed → DrawsBand true placed last new → GivesRest old full last new
-gives_rest old placed new full last places draws plan items holds =
+pub gives_rest : (verdict : Option ShownVerdict) (old placed new : SeenPage) (full : Option (List ℕ)) (last : List ℕ) → old.verdict ≡ None → Places old full placed → DrawsBand true verdict placed last new → GivesRest verdict old full last new
+gives_rest verdict old placed new full last none places draws plan items holds =
     let state : State = state_after plan.processes items in
     let columns : List Seen = columns_of plan.processes items in
     let same : state.processes ≡ plan.processes = processes_after plan.processes items in
-    let put = places plan state (newest_at columns) columns same holds in
+    let unread : verdict_in items ≡ None = no_verdict old plan items none holds in
+    let put = places plan state (newest_at columns) columns same (unjudged old plan items none holds) in
     let drawn = draws plan state None (newest_at columns) (bands_of plan.opening columns) same put.0 in (
-      (λ i. put.1 i ++ sym drawn.1 i),
-      ap (λ (p : SeenPage). p.height) drawn.0,
+      sym (judged_bytes plan verdict items unread) ∙ (λ i. put.1 i ++ sym drawn.1 i),
+      ap (λ (p : SeenPage). p.height) drawn.0 ∙ judged_heights plan verdict items unread,
     )

@@ -3,11 +3,11 @@ use Rattle.std.proofs.Common.{◌≡◌, ◌-◌, ℕ, Bool, true, false, cond, 
 use Rattle.std.proofs.lemmas.Grind.{fold-append}
 use Rattle.std.specs.List.{AllByRecursion}
 use Rattle.record.specs.{Mark, Stage}
-use Rattle.picture.specs.{Accesses, BarsAreStages, Item, Reads, ShowsStages, Tells, columns_of, line_by, newest_at, sayings, state_after, with_line}
+use Rattle.picture.specs.{Accesses, BarsAreStages, Item, Judges, Reads, ShowsStages, Tells, columns_of, line_by, newest_at, sayings, state_after, with_line}
 use Rattle.columns.specs.{RunLine, Saying, Seen, State, alone, column_of_access, column_of_read, freed_by, joined, joins, like, nothing_told, stage_among, stages_after, stages_marked, stages_told, state_lock_marked, state_marked, state_told}
 use Rattle.columns.specs.trace.{LockMark}
 use Rattle.columns.specs.trace.declared.marks.LockMark.TheVariants as lock
-use Rattle.columns.specs.declared.told.Saying.TheVariants.{Ended, Judged, LockEnded, LockMarked, Marked, Refused, Shown, Tired}
+use Rattle.columns.specs.declared.told.Saying.TheVariants.{Ended, LockEnded, LockMarked, Marked, Refused, Shown, Tired}
 use Rattle.picture.proofs.Pagings.{processes_after}
 use Rattle.columns.proofs.Stages.{stages_are}
 
@@ -26,7 +26,6 @@ told_stages state (Marked p mark change) = marked_stages (nat_lt p state.process
 told_stages state (Refused p refusal) = refl
 told_stages state (Tired p) = refl
 told_stages state (Shown words) = refl
-told_stages state (Judged p words) = refl
 told_stages state (Ended events taken refused) = refl
 told_stages state (LockMarked p mark) = lock_marked_stages (nat_lt p state.processes) state p mark
 told_stages state (LockEnded entries) = refl
@@ -40,6 +39,7 @@ stages_of n (Tells line ∷ before) =
     ∙ sym (fold-append (stages_told n) nothing_told (sayings before) (line.saying ∷ []))
 stages_of n (Reads read ∷ before) = stages_of n before
 stages_of n (Accesses access ∷ before) = stages_of n before
+stages_of n (Judges verdict ∷ before) = stages_of n before
 
 -- a column behind the last of these items
 shows_now : (n : ℕ) (items : List Item) (column : Seen) → column.after ≡ state_after n items → ShowsStages n items column
@@ -90,3 +90,4 @@ bars_are n (Reads read ∷ before) =
 bars_are n (Accesses access ∷ before) =
     let last : Seen = column_of_access access (access.event - newest_at (columns_of n before)) (state_after n before) in
     (shows_now n (Accesses access ∷ before) last refl, all_before n (Accesses access) before (columns_of n before) (bars_are n before))
+bars_are n (Judges verdict ∷ before) = all_before n (Judges verdict) before (columns_of n before) (bars_are n before)

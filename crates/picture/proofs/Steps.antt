@@ -3,7 +3,7 @@ use Rattle.std.proofs.Common.{◌≡◌, ℕ, ◌+◌, add-one, ◌<◌, Bool, t
 use Rattle.markup.specs.{Point, Shape, drawings}
 use Rattle.record.specs.{Stage}
 use Rattle.columns.specs.{Column, Lane, Layout, UnendedAccess, RunLine, Seen, ShownAccess, Wave, change_in, open_next, seen, seen_wave, stage_among}
-use Rattle.picture.specs.{SeenBand, Stretch, accesses_from, axis, axis_up_to, bar, bars, change_if, change_shapes, ends_at, for_each, free_left, from_next, inside_since, is_stage, line_shapes, lines_shapes, made_by, next_change, next_stretch, shade_up_to, shades, shapes_if, stretch_word, tie_to, ties_to, wave_from, wave_shapes, waves_from, words_from}
+use Rattle.picture.specs.{SeenBand, Stretch, Subject, accesses_from, axis, axis_up_to, bar, bars, change_if, change_shapes, ends_at, for_each, free_left, from_next, inside_since, is_stage, line_shapes, lines_shapes, made_by, next_change, next_stretch, shade_up_to, shades, shapes_if, stretch_word, tie_to, ties_to, wave_from, wave_shapes, waves_from, words_from}
 use Rattle.picture.proofs.Drawn.{drop_next, then_drawn}
 
 module _ (columns : List Column) (k : ℕ) (column : Column) (within : k < length columns) (here : column ≡ get_or columns k column) where
@@ -16,8 +16,8 @@ module _ (columns : List Column) (k : ℕ) (column : Column) (within : k < lengt
       ∙ ap (λ f. shade_up_to chain from inside column.x ++ shades chain end f (map seen (drop (k + 1) columns))) (sym so)
 
   -- the axis
-  pub axis_next : (end from : ℕ) → axis end from (map seen (drop k columns)) ≡ axis_up_to from (seen column) ++ axis end column.x (map seen (drop (k + 1) columns))
-  axis_next end from = ap (λ cs. axis end from (map seen cs)) (drop_next columns k column within here)
+  pub axis_next : (subject : Subject) (end from : ℕ) → axis subject end from (map seen (drop k columns)) ≡ axis_up_to from (seen column) ++ axis subject end column.x (map seen (drop (k + 1) columns))
+  axis_next subject end from = ap (λ cs. axis subject end from (map seen cs)) (drop_next columns k column within here)
 
   -- the bars of a lane: the stage of its process is the same behind the column, or another
   pub bars_stay : (lane : Lane) (p end : ℕ) (stage next : Stage) (from : ℕ) → next ≡ stage_among column.after.stages p → is_stage next stage ≡ true →

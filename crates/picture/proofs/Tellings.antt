@@ -29,7 +29,7 @@ then_same (Ok done) new now then is same = is ∙ same
 then_same (Err e) new now then is same = tt
 
 -- some lines, and then others
-lines_more : (old now new : Reading) (some more all : List (List ℕ)) → now ≡ with_lines some old → new ≡ with_lines more now → all ≡ some ++ more → new ≡ with_lines all old
+pub lines_more : (old now new : Reading) (some more all : List (List ℕ)) → now ≡ with_lines some old → new ≡ with_lines more now → all ≡ some ++ more → new ≡ with_lines all old
 lines_more old now new some more all before is are =
     is ∙ ap (with_lines more) before ∙ (λ i. record { lines = append_assoc old.lines some more i; opens = old.opens }) ∙ ap (λ l. with_lines l old) (sym are)
 

@@ -3,8 +3,9 @@ use Rattle.std.specs.Prelude.{◌≡◌, ◌++◌, ℕ, List, Option, Result, If
 use Rattle.columns.specs.{Column, seen_accesses, told_in}
 use Rattle.markup.specs.{Shape, drawings, reading, with_begun, with_lines}
 use Rattle.picture.specs.Bandings.{framed}
-use Rattle.picture.specs.Drawings.{band_shapes, seen_band}
+use Rattle.picture.specs.Drawings.{seen_band}
 use Rattle.picture.specs.Pages.{lines_of_band}
+use Rattle.picture.specs.Verdicts.{height_with, judged_shapes}
 use Rattle.picture.specs.declared.bands.Band.{Band}
 use Rattle.picture.specs.declared.page.Form.{Form}
 use Rattle.picture.specs.declared.page.Page.{Page}
@@ -30,7 +31,7 @@ all_told columns = flat_map told_in columns
 abbrev pub GivesLines : {E : Type 0} → Result (Option (List ℕ)) E → List (List ℕ) → List (List ℕ) → Type 0
 GivesLines result kept lines = IfOk result (λ full. lines_of_band full ++ kept ≡ lines)
 
--- a band is drawn in its frame
+-- a band is drawn in its frame, with its verdict
 abbrev pub FramesBand : {E : Type 0} → Result (List ℕ) E → Form → Page → Band → Type 0
 FramesBand result form page band =
-    IfOk result (λ markup. markup ≡ framed form page.bands page.height band.layout.height (drawings (band_shapes (seen_band band) (seen_accesses page.accesses))))
+    IfOk result (λ markup. markup ≡ framed form page.bands page.height (height_with band.verdict band.layout.height) (drawings (judged_shapes band.verdict (seen_band band) (seen_accesses page.accesses))))

@@ -1,21 +1,24 @@
 -- The bands of a picture, by what it is told. Of items, of columns and of full bands the newest stands first.
-use Rattle.std.specs.Prelude.{ℕ, ◌+◌, ◌-◌, min, Bool, true, false, List, [], ◌∷◌, ◌++◌, codes, fold, length, slice_get, Option, None, Some}
+use Rattle.std.specs.Prelude.{ℕ, ◌+◌, ◌-◌, min, Bool, true, false, List, [], ◌∷◌, ◌++◌, codes, fold, length, Option, None, Some}
 use Rattle.std.specs.Fmt.{decimal}
 use Rattle.markup.specs.{End, drawings, drawn, entering_by, lowering}
 use Rattle.markup.specs.declared.names.Key.TheVariants as key
 use Rattle.markup.specs.declared.names.Tag.TheVariants as tag
 use Rattle.columns.specs.{Layout, OverlappedRead, Placing, RunLine, Seen, SeenAccesses, ShownAccess, State, accesses_after, accesses_at, alone, at_first, column_of_access, column_of_read, freed_by, has_room_at, joined, joins, layout_of, moved_to, no_accesses, place_of, placing_at_first, put_at, shortened, state_told, stretched_all}
-use Rattle.picture.specs.Drawings.{band_shapes}
+use Rattle.picture.specs.Drawings.{last_in}
 use Rattle.picture.specs.Sheets.{held_in_64, says, view_of}
+use Rattle.picture.specs.Verdicts.{height_with, judged_shapes}
 use Rattle.picture.specs.declared.page.Form.{Form}
 use Rattle.picture.specs.declared.page.Form.TheVariants as form
 use Rattle.picture.specs.declared.subjects.Subject.{Subject}
+use Rattle.shown_verdict.specs.declared.verdicts.ShownVerdict.{ShownVerdict}
 
 -- what a picture is told
 pub data Item : Type 0 where
   Tells : RunLine → Item  -- a line of the run
   Reads : OverlappedRead → Item  -- a read that a write overlapped
   Accesses : ShownAccess → Item  -- what an entry does to an access
+  Judges : ShownVerdict → Item  -- a verdict; it is the last item
 
 -- what is known of a picture from the start: what its bands stand in, what it is of, how many processes there are, and the opening store, with no byte if it is empty
 pub record Plan : Type 0 where
@@ -30,6 +33,20 @@ state_after processes [] = at_first processes
 state_after processes (Tells line ∷ before) = state_told (state_after processes before) line.saying
 state_after processes (Reads read ∷ before) = state_after processes before
 state_after processes (Accesses access ∷ before) = state_after processes before
+state_after processes (Judges verdict ∷ before) = state_after processes before
+
+-- the verdict of items, if the newest is one
+abbrev pub verdict_in : List Item → Option ShownVerdict
+verdict_in [] = None
+verdict_in (Tells line ∷ before) = None
+verdict_in (Reads read ∷ before) = None
+verdict_in (Accesses access ∷ before) = None
+verdict_in (Judges verdict ∷ before) = Some verdict
+
+-- items, and then a verdict, if there is one
+abbrev pub judged_with : Option ShownVerdict → List Item → List Item
+judged_with None items = items
+judged_with (Some verdict) items = Judges verdict ∷ items
 
 -- the newest column, and those before it
 abbrev pub newest : List Seen → Option Seen
@@ -64,6 +81,7 @@ columns_of processes [] = []
 columns_of processes (Tells line ∷ before) = with_line line (freed_by (state_after processes before) line.saying) (state_told (state_after processes before) line.saying) (columns_of processes before)
 columns_of processes (Reads read ∷ before) = column_of_read read (read.end - newest_at (columns_of processes before)) (state_after processes before) ∷ columns_of processes before
 columns_of processes (Accesses access ∷ before) = column_of_access access (access.event - newest_at (columns_of processes before)) (state_after processes before) ∷ columns_of processes before
+columns_of processes (Judges verdict ∷ before) = columns_of processes before
 
 -- the band that is begun, its columns in order, and the bands that are full
 pub record Bands : Type 0 where
@@ -116,10 +134,6 @@ abbrev pub bands_of : List ℕ → List Seen → Bands
 bands_of opening [] = record { begun = []; full = [] }
 bands_of opening (column ∷ before) = with_put opening column (with_room opening column (bands_of opening before))
 
--- the last column of a band
-abbrev pub last_in : List Seen → Option Seen
-last_in columns = slice_get columns (length columns - 1)
-
 -- what stands behind columns, by what stood before them: what was told up to the last one, and how many events were accepted before it
 abbrev pub behind_columns : List Seen → State × ℕ → State × ℕ
 behind_columns columns before = elim (last_in columns) [ None ↦ before | Some column ↦ (column.after, column.at) ]
@@ -166,11 +180,11 @@ abbrev pub framed : Form → ℕ → ℕ → ℕ → List ℕ → List ℕ
 framed form.Page number above height shapes = band_tag number height ++ codes "\n" ++ shapes ++ codes "</svg>\n"
 framed (form.Picture top) number above height shapes = lowering (held_in_64 (top + above)) ++ shapes ++ drawn End
 
--- what is written of a band behind full ones
-abbrev pub band_bytes : Plan → Bool → List Seen → List (List Seen) → List ℕ
-band_bytes plan is_last band full =
-    framed plan.form (number_of (band ∷ full)) (heights plan.processes full) (layout_in plan.processes (accesses_behind full) band is_last).height
-    (drawings (band_shapes (record {
+-- what is written of a band behind full ones, with a verdict below it, if there is one
+abbrev pub band_bytes : Plan → Bool → Option ShownVerdict → List Seen → List (List Seen) → List ℕ
+band_bytes plan is_last verdict band full =
+    framed plan.form (number_of (band ∷ full)) (heights plan.processes full) (height_with verdict (layout_in plan.processes (accesses_behind full) band is_last).height)
+    (drawings (judged_shapes verdict (record {
       columns = stretched_all band;
       before = (before_band plan.processes full).0;
       before_at = (before_band plan.processes full).1;
@@ -183,11 +197,11 @@ band_bytes plan is_last band full =
 -- what is written of full bands
 abbrev pub full_bytes : Plan → List (List Seen) → List ℕ
 full_bytes plan [] = []
-full_bytes plan (band ∷ full) = full_bytes plan full ++ band_bytes plan false band full
+full_bytes plan (band ∷ full) = full_bytes plan full ++ band_bytes plan false None band full
 
--- what is written of bands whose last column is the last of all
-abbrev pub whole_bytes : Plan → Bands → List ℕ
-whole_bytes plan bands = full_bytes plan bands.full ++ band_bytes plan true bands.begun bands.full
+-- what is written of bands whose last column is the last of all, with a verdict below the last one, if there is one
+abbrev pub whole_bytes : Plan → Option ShownVerdict → Bands → List ℕ
+whole_bytes plan verdict bands = full_bytes plan bands.full ++ band_bytes plan true verdict bands.begun bands.full
 
 -- what is written of items, up to where the bands are full that stand before the newest column
 abbrev pub full_told : Plan → List Item → List ℕ
@@ -195,10 +209,12 @@ full_told plan items = full_bytes plan (bands_of plan.opening (older (columns_of
 
 -- what is written of all items, once there are no more, and the heights of their bands
 abbrev pub bands_told : Plan → List Item → List ℕ
-bands_told plan items = whole_bytes plan (bands_of plan.opening (columns_of plan.processes items))
+bands_told plan items = whole_bytes plan (verdict_in items) (bands_of plan.opening (columns_of plan.processes items))
 
-abbrev pub heights_of : Plan → Bands → ℕ
-heights_of plan bands = heights plan.processes (filled bands).full
+-- the heights of bands and of the verdict, with 16 more for each band
+abbrev pub heights_of : ℕ → Option ShownVerdict → Bands → ℕ
+heights_of processes verdict bands =
+    held_in_64 (heights processes bands.full + (height_with verdict (layout_in processes (accesses_behind bands.full) bands.begun false).height + 16))
 
 abbrev pub heights_told : Plan → List Item → ℕ
-heights_told plan items = heights_of plan (bands_of plan.opening (columns_of plan.processes items))
+heights_told plan items = heights_of plan.processes (verdict_in items) (bands_of plan.opening (columns_of plan.processes items))

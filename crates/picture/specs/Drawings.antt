@@ -1,5 +1,5 @@
 -- What a band draws, as a list of shapes.
-use Rattle.std.specs.Prelude.{ℕ, zero, suc, ◌+◌, ◌-◌, ◌*◌, ◌/◌, ◌^◌, min, Bool, true, false, ◌==◌, ◌&&◌, ◌||◌, cond, is_some, nat_le, nat_lt, List, [], ◌∷◌, ◌++◌, codes, flat_map, length, map, string_bytes, Option, None, Some}
+use Rattle.std.specs.Prelude.{ℕ, zero, suc, ◌+◌, ◌-◌, ◌*◌, ◌/◌, ◌^◌, min, Bool, true, false, ◌==◌, ◌&&◌, ◌||◌, cond, is_some, nat_le, nat_lt, slice_get, List, [], ◌∷◌, ◌++◌, codes, flat_map, length, map, string_bytes, Option, None, Some}
 use Rattle.std.specs.Fmt.{decimal}
 use Rattle.markup.specs.{Block, End, Label, Mark, Note, Point, Said, Shape, line_from, path_from}
 use Rattle.markup.specs.declared.names.Key.TheVariants as key
@@ -7,7 +7,7 @@ use Rattle.picture.specs.AccessShapes.{accesses_from, begun, guide, ties}
 use Rattle.picture.specs.Bars.{bars, lane_name, point, words_from}
 use Rattle.columns.specs.{SeenAccesses, Lane, Layout, OverlappedRead, RunLine, Seen, State, TakenChange, Wording, bar_of, bit_text, capped, chain_ends_of, change_told, event_stands, knot_of, lane_in, open_of, place_told, saw_text, seen, settles_and_takes_in, stage_among, taken_in, tells_refusal, text_of, title_text, word_of}
 use Rattle.picture.specs.Signs.{down_by, moved_by, sign}
-use Rattle.picture.specs.Subjects.{has_history}
+use Rattle.picture.specs.Subjects.{has_history, time_unit}
 use Rattle.picture.specs.WaveShapes.{waves_from}
 use Rattle.picture.specs.Words.{queue_text, row_class}
 use Rattle.picture.specs.declared.bands.Band.{Band}
@@ -34,6 +34,10 @@ seen_band band = record {
   opens = band.opens.items;
   subject = band.subject;
 }
+
+-- the last column of a band
+abbrev pub last_in : List Seen → Option Seen
+last_in columns = slice_get columns (length columns - 1)
 
 -- what is drawn for each process below a number, ascending
 abbrev pub for_each : (ℕ → List Shape) → ℕ → List Shape
@@ -80,10 +84,10 @@ gap_words from column = cond (tells_gap from column) (Label (codes "gap") (point
 abbrev pub axis_up_to : ℕ → Seen → List Shape
 axis_up_to from column = axis_line from column ∷ (tick column ++ gap_words from column)
 
--- the axis from a place on
-abbrev pub axis : ℕ → ℕ → List Seen → List Shape
-axis end from [] = line_from (codes "axis") (point from 14) (point end 14) ∷ Label (codes "name") (point 8 17) (codes "events") ∷ []
-axis end from (column ∷ columns) = axis_up_to from column ++ axis end column.x columns
+-- the axis from a place on, and what it counts
+abbrev pub axis : Subject → ℕ → ℕ → List Seen → List Shape
+axis subject end from [] = line_from (codes "axis") (point from 14) (point end 14) ∷ Label (codes "name") (point 8 17) (time_unit subject) ∷ []
+axis subject end from (column ∷ columns) = axis_up_to from column ++ axis subject end column.x columns
 
 -- a lane: its name, and its bars from the left edge on
 abbrev pub lane_shapes : SeenBand → ℕ → List Shape
@@ -114,24 +118,24 @@ chain_shapes band =
     ++ opening_words (knot_of band.layout) band.opens
     ++ chain_line (knot_of band.layout) (chain_ends_of band.before.places band.is_last band.layout.end band.columns))
 
--- an arrow from a place to the lane of a process that is freed: its line, up to five pixels before its tip, and its tip
-abbrev pub arrow_by : Point → ℕ → ℕ → List ℕ → List Shape
-arrow_by from end tip head = line_from (codes "frees") from (point from.x end) ∷ path_from (codes "tip") (point from.x tip) head ∷ []
+-- an arrow from a place to a lane, by the styles of its line and of its tip: its line, up to five pixels before its tip, and its tip
+abbrev pub arrow_by : List ℕ → List ℕ → Point → ℕ → ℕ → List ℕ → List Shape
+arrow_by line tip from end at head = line_from line from (point from.x end) ∷ path_from tip (point from.x at) head ∷ []
 
 -- how far from the middle line of a lane the tip of an arrow ends
 abbrev pub distance_of_tip : Lane → ℕ
 distance_of_tip lane = cond lane.is_full 9 5
 
 -- from above or from below
-abbrev pub arrow : Point → Lane → List Shape
-arrow from lane = cond (nat_lt from.y (bar_of lane))
-    (arrow_by from (bar_of lane - distance_of_tip lane - 5) (bar_of lane - distance_of_tip lane) (codes "l-4 -7h8z"))
-    (arrow_by from (bar_of lane + distance_of_tip lane + 5) (bar_of lane + distance_of_tip lane) (codes "l-4 7h8z"))
+abbrev pub arrow : List ℕ → List ℕ → Point → Lane → List Shape
+arrow line tip from lane = cond (nat_lt from.y (bar_of lane))
+    (arrow_by line tip from (bar_of lane - distance_of_tip lane - 5) (bar_of lane - distance_of_tip lane) (codes "l-4 -7h8z"))
+    (arrow_by line tip from (bar_of lane + distance_of_tip lane + 5) (bar_of lane + distance_of_tip lane) (codes "l-4 7h8z"))
 
 -- an arrow to the process that is freed, if one is
 abbrev pub freed_arrow : Layout → Point → Option ℕ → List Shape
 freed_arrow layout from None = []
-freed_arrow layout from (Some freed) = arrow from (lane_in layout freed)
+freed_arrow layout from (Some freed) = arrow (codes "frees") (codes "tip") from (lane_in layout freed)
 
 -- the line from a column to its knot, if it tells a place in the history
 abbrev pub drop_line : Layout → Point → Seen → List Shape
@@ -295,7 +299,7 @@ abbrev pub band_shapes : SeenBand → SeenAccesses → List Shape
 band_shapes band accesses =
     shades band.layout.chain band.layout.end (first_inside band.before) band.columns
     ++ flat_map (guide band.layout) band.columns
-    ++ axis band.layout.end 52 band.columns
+    ++ axis band.subject band.layout.end 52 band.columns
     ++ for_each (lane_shapes band) band.before.processes
     ++ chain_shapes band
     ++ flat_map (links band) band.columns

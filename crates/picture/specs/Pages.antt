@@ -3,11 +3,12 @@ use Rattle.std.specs.Prelude.{◌≡◌, ℕ, ◌-◌, Bool, List, [], ◌∷◌
 use Rattle.std.specs.Option.{option_to_list}
 use Rattle.record.specs.{Stage}
 use Rattle.markup.specs.{lines_in}
-use Rattle.picture.specs.Bandings.{Bands, Item, Plan, accesses_behind, band_bytes, bands_of, bands_told, before_band, columns_of, filled, full_bytes, full_told, heights, heights_told, newest, newest_at, number_of, older, opens_before, placing_in, state_after, with_put, with_room}
+use Rattle.picture.specs.Bandings.{Bands, Item, Plan, accesses_behind, band_bytes, bands_of, bands_told, before_band, columns_of, filled, full_bytes, full_told, heights, heights_of, heights_told, judged_with, newest, newest_at, number_of, older, opens_before, placing_in, state_after, verdict_in, with_put, with_room}
 use Rattle.columns.specs.{Column, Placing, RunLine, Seen, SeenAccesses, State, alone, seen, seen_accesses, told_in}
 use Rattle.picture.specs.declared.page.Form.{Form}
 use Rattle.picture.specs.declared.page.Page.{Page}
 use Rattle.picture.specs.declared.subjects.Subject.{Subject}
+use Rattle.shown_verdict.specs.declared.verdicts.ShownVerdict.{ShownVerdict}
 
 -- the lines of these columns, and of one that is not placed yet
 abbrev pub lines_of : List Column → Option Column → List (List ℕ)
@@ -33,7 +34,7 @@ page_names = codes "body" ∷ codes "html" ∷ []
 abbrev pub picture_names : List (List ℕ)
 picture_names = codes "svg" ∷ []
 
--- a page, with lists for what its fields hold
+-- a page, with lists for what its fields hold; one that takes in items has no verdict yet
 pub record SeenPage : Type 0 where
   pub form : Form
   pub subject : Subject
@@ -48,6 +49,7 @@ pub record SeenPage : Type 0 where
   pub last_at : ℕ
   pub bands : ℕ
   pub height : ℕ
+  pub verdict : Option ShownVerdict
 
 abbrev pub seen_page : Page → SeenPage
 seen_page page = record {
@@ -64,6 +66,7 @@ seen_page page = record {
   last_at = page.last_at;
   bands = page.bands;
   height = page.height;
+  verdict = None;
 }
 
 -- a page that holds these bands, and a column that is not placed yet, if there is one
@@ -82,6 +85,7 @@ page_holding plan state pending last_at bands = record {
   last_at = last_at;
   bands = number_of bands.full;
   height = heights plan.processes bands.full;
+  verdict = None;
 }
 
 -- a page with these columns, of which the newest is not placed yet
@@ -90,7 +94,7 @@ page_by plan state columns = page_holding plan state (newest columns) (newest_at
 
 -- a page that has taken in these items
 abbrev pub page_of : Plan → List Item → SeenPage
-page_of plan items = page_by plan (state_after plan.processes items) (columns_of plan.processes items)
+page_of plan items = record (page_by plan (state_after plan.processes items) (columns_of plan.processes items)) { verdict = verdict_in items }
 
 -- what is written of a band, if there is one
 abbrev pub band_text : Option (List ℕ) → List ℕ
@@ -101,9 +105,12 @@ band_text (Some band) = band
 abbrev pub GoesOn : Item → SeenPage → Option (List ℕ) → SeenPage → Type 0
 GoesOn item old full new = (plan : Plan) (items : List Item) → old ≡ page_of plan items → (new ≡ page_of plan (item ∷ items)) × (full_told plan (item ∷ items) ≡ full_told plan items ++ band_text full)
 
--- Once there are no more items, it gives the last bands.
-abbrev pub GivesRest : SeenPage → Option (List ℕ) → List ℕ → SeenPage → Type 0
-GivesRest old full last new = (plan : Plan) (items : List Item) → old ≡ page_of plan items → (bands_told plan items ≡ full_told plan items ++ band_text full ++ last) × (new.height ≡ heights_told plan items)
+-- Once there are no more items, it gives the last bands, with a verdict, if there is one.
+abbrev pub GivesRest : Option ShownVerdict → SeenPage → Option (List ℕ) → List ℕ → SeenPage → Type 0
+GivesRest verdict old full last new =
+    (plan : Plan) (items : List Item) → old ≡ page_of plan items →
+    (bands_told plan (judged_with verdict items) ≡ full_told plan items ++ band_text full ++ last)
+    × (new.height ≡ heights_told plan (judged_with verdict items))
 
 -- The column that is not placed yet is put in its band, or in the next one.
 abbrev pub Places : SeenPage → Option (List ℕ) → SeenPage → Type 0
@@ -128,8 +135,13 @@ abbrev pub Puts : Seen → SeenPage → SeenPage → Type 0
 Puts column old new =
     (plan : Plan) (state : State) (pending : Option Seen) (last_at : ℕ) (bands : Bands) → old ≡ page_holding plan state pending last_at bands → new ≡ page_holding plan state pending last_at (with_put plan.opening column bands)
 
--- The band that is begun is drawn, and another begins.
-abbrev pub DrawsBand : Bool → SeenPage → List ℕ → SeenPage → Type 0
-DrawsBand is_last old band new =
+-- A page whose band that was begun is drawn, with a verdict below it, if there is one.
+abbrev pub page_filled : Plan → State → Option Seen → ℕ → Option ShownVerdict → Bands → SeenPage
+page_filled plan state pending last_at verdict bands =
+    record (page_holding plan state pending last_at (filled bands)) { height = heights_of plan.processes verdict bands }
+
+-- The band that is begun is drawn, with a verdict below it, if there is one, and another begins.
+abbrev pub DrawsBand : Bool → Option ShownVerdict → SeenPage → List ℕ → SeenPage → Type 0
+DrawsBand is_last verdict old band new =
     (plan : Plan) (state : State) (pending : Option Seen) (last_at : ℕ) (bands : Bands) → state.processes ≡ plan.processes → old ≡ page_holding plan state pending last_at bands →
-    (new ≡ page_holding plan state pending last_at (filled bands)) × (band ≡ band_bytes plan is_last bands.begun bands.full)
+    (new ≡ page_filled plan state pending last_at verdict bands) × (band ≡ band_bytes plan is_last verdict bands.begun bands.full)

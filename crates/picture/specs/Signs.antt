@@ -5,7 +5,7 @@ use Rattle.record.specs.{Mark}
 use Rattle.record.specs.declared.marks.Mark.TheVariants as mark
 use Rattle.markup.specs.{Block, Label, Pill, Point, Ring, Shape, path_from}
 use Rattle.columns.specs.{Saying, capped, like}
-use Rattle.columns.specs.declared.told.Saying.TheVariants.{Marked, Refused, Tired, Shown, Judged, Ended, LockMarked, LockEnded}
+use Rattle.columns.specs.declared.told.Saying.TheVariants.{Marked, Refused, Tired, Shown, Ended, LockMarked, LockEnded}
 
 -- a place so far to the left of another and above it
 abbrev pub moved_by : Point → ℕ → ℕ → Point
@@ -54,7 +54,6 @@ sign (Marked p mark change) at = mark_sign mark (is_some change) at
 sign (Refused p refusal) at = path_from (codes "no-sign") (moved_by at 6 0) (codes "a6 6 0 1 0 12 0a6 6 0 1 0 -12 0m2 4l8 -8") ∷ []
 sign (Tired p) at = path_from (codes "glass") (moved_by at 6 7) (codes "h12l-12 14h12z") ∷ []
 sign (Shown words) at = Block (codes "sign") (moved_by at 2 5) 4 10 ∷ []
-sign (Judged p words) at = cond (is_some p) (path_from (codes "no-sign") (moved_by at 0 8) (codes "l8 14h-16z")) (Block (codes "sign") (moved_by at 2 5) 4 10) ∷ []
 sign (Ended events taken refused) at = Block (codes "sign") (moved_by at 2 5) 4 10 ∷ []
 sign (LockMarked p mark) at = mark_sign (like mark) false at
 sign (LockEnded entries) at = Block (codes "sign") (moved_by at 2 5) 4 10 ∷ []

@@ -13,6 +13,11 @@ abbrev pub has_history : Subject → Bool
 has_history Run = true
 has_history Trace = false
 
+-- what the axis counts
+abbrev pub time_unit : Subject → List ℕ
+time_unit Run = codes "events"
+time_unit Trace = codes "entries"
+
 -- what one picture states that it shows
 abbrev pub shown_by : Subject → List ℕ
 shown_by Run = DESCRIPTION.now

@@ -9,6 +9,7 @@ ghost use Rattle.picture.specs.Drawings.{band_shapes, column_shapes, for_each, l
 use crate::subjects::Subject;
 use columns::{AccessState, Column, Layout, State};
 use markup::Markup;
+use shown_verdict::ShownVerdict;
 use std::alloc::{AllocError, Global};
 
 /// A band that is full, or the last one.
@@ -24,6 +25,8 @@ pub(crate) struct Band {
     /// The words of the opening store, in the first band.
     pub opens: Vec<u8>,
     pub subject: Subject,
+    /// The verdict below it, in the last band.
+    pub verdict: Option<ShownVerdict>,
 }
 
 impl Band {

@@ -27,7 +27,12 @@ path{fill:none;stroke:#111;stroke-width:1}\n\
 .write.whole{fill:#1f5f99}.overlapped.whole{fill:#8a2b00}.update.whole{fill:#111;stroke:#111}\n\
 .overlapped{fill:#fff3ea;stroke:#8a2b00;stroke-width:3}.unended{stroke-dasharray:5 3}\n\
 .tie{stroke:#8a2b00;stroke-dasharray:2 2;stroke-width:1.5}.dot{fill:#8a2b00;stroke:none}\n\
-.wave{stroke-width:2}.unsure{fill:#cfe2f5;stroke:#1f5f99;stroke-dasharray:2 2}";
+.wave{stroke-width:2}.unsure{fill:#cfe2f5;stroke:#1f5f99;stroke-dasharray:2 2}\n\
+.bad{fill:#c00;fill-opacity:.15}.named{fill:none;stroke:#c00;stroke-width:2}\n\
+.because{font-size:10px;font-weight:bold;fill:#a51d00;paint-order:stroke;stroke:#fff;stroke-width:3px;stroke-linejoin:round}\n\
+.blame{stroke:#c00;stroke-width:2}.blame-tip{fill:#c00;stroke:none}\n\
+.ruling{fill:#fff;stroke:#a51d00;stroke-width:1.5}.sentence{font-size:13px;font-weight:bold;fill:#a51d00}\n\
+.ruling.kept{stroke:#555}.kept+.sentence{fill:#111}";
 
 /// The style of a page, in addition to that of pictures.
 pub(crate) const PAGE_STYLE: &str = "html{background:#fff;color:#111}\n\
@@ -45,6 +50,7 @@ g.m{cursor:pointer}g.m.on text{text-decoration:underline}g.m:focus-visible{outli
 .cur{stroke:#c00;stroke-width:2;opacity:.5;pointer-events:none}\n\
 h2{font-size:13px;margin:.2em 0;position:sticky;left:0;width:max-content}.frame{overflow-x:auto}\n\
 @media screen and (max-width:1199px){svg{width:1470px}.band .lane,.band .thin,.band .name{paint-order:stroke;stroke:#fff;stroke-width:6px;stroke-linejoin:round}}\n\
+@media (max-width:699px){#now small{float:none;display:block;margin:0}}\n\
 @media (max-height:520px){details{position:static}}\n\
 @media print{#now,.cur{display:none}.frame{overflow:visible}g.m.on text{text-decoration:none}details{position:static;border:0}li.on{background:none;color:inherit;font-weight:normal}ol{max-height:none;font-size:10px;columns:2;column-gap:3.5em}h1{font-size:15px}body{padding:0;max-width:none}.band{break-inside:avoid}*{print-color-adjust:exact;-webkit-print-color-adjust:exact}}";
 

@@ -66,9 +66,9 @@ impl Band {
         markup.block("shade", corner, width, height)
     }
 
-    /// Draws the axis, with the numbers of events between columns.
+    /// Draws the axis, with the numbers of events between columns, and what it counts.
     pub(crate) fn draw_axis(&self, alloc: Global, markup: &mut Markup) -> Result<(), AllocError>
-        ensures draws { Draws result markup.old markup.new (axis self.now.layout.end 52 (map seen self.now.columns.items)) }
+        ensures draws { Draws result markup.old markup.new (axis self.now.subject self.now.layout.end 52 (map seen self.now.columns.items)) }
         ensures read { OnOk result (reading markup.new ≡ reading markup.old) }
     {
         let mut from = LEFT;
@@ -78,7 +78,7 @@ impl Band {
         }
         let end = Point::at(u32::from(self.layout.end), MIDDLE);
         markup.line("axis", Point::at(u32::from(from), MIDDLE), end)?;
-        markup.label("name", Point::at(8, MIDDLE + 3), b"events")
+        markup.label("name", Point::at(8, MIDDLE + 3), self.subject.time_unit())
     }
 
     /// Draws the chain of the history.

@@ -76,8 +76,8 @@ pub(crate) const TRACE_LEGEND: &str = "<text class=\"name\" x=\"8\" y=\"19\">sta
 <text class=\"key\" x=\"68\" y=\"45\">call</text>\n\
 <rect class=\"sign\" x=\"111\" y=\"38\" width=\"7\" height=\"8\"/>\n\
 <text class=\"key\" x=\"124\" y=\"45\">answer</text>\n\
-<path class=\"no-sign\" d=\"M188 34l8 14h-16z\"/>\n\
-<text class=\"key\" x=\"202\" y=\"45\">a line of the verdict</text>\n\
+<rect class=\"bad\" x=\"181\" y=\"34\" width=\"14\" height=\"16\"/>\n\
+<text class=\"key\" x=\"202\" y=\"45\">the bad entry</text>\n\
 <rect class=\"shade\" x=\"354\" y=\"34\" width=\"24\" height=\"16\"/>\n\
 <text class=\"key\" x=\"383\" y=\"45\">a process is inside</text>\n\
 <path class=\"far\" d=\"M521 42L545 42\"/>\n\
@@ -269,8 +269,8 @@ pub(crate) const TRACE_ACCESS_LEGEND: &str = "<text class=\"name\" x=\"8\" y=\"1
 <text class=\"key\" x=\"68\" y=\"45\">call</text>\n\
 <rect class=\"sign\" x=\"111\" y=\"38\" width=\"7\" height=\"8\"/>\n\
 <text class=\"key\" x=\"124\" y=\"45\">answer</text>\n\
-<path class=\"no-sign\" d=\"M188 34l8 14h-16z\"/>\n\
-<text class=\"key\" x=\"202\" y=\"45\">a line of the verdict</text>\n\
+<rect class=\"bad\" x=\"181\" y=\"34\" width=\"14\" height=\"16\"/>\n\
+<text class=\"key\" x=\"202\" y=\"45\">the bad entry</text>\n\
 <rect class=\"shade\" x=\"354\" y=\"34\" width=\"24\" height=\"16\"/>\n\
 <text class=\"key\" x=\"383\" y=\"45\">a process is inside</text>\n\
 <path class=\"far\" d=\"M521 42L545 42\"/>\n\

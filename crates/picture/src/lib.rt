@@ -11,6 +11,7 @@ mod laws;
 mod legends;
 mod links;
 mod marks;
+mod outlines;
 mod page;
 mod reads;
 mod sheets;
@@ -18,6 +19,7 @@ mod signs;
 mod subjects;
 mod ties;
 mod trace_sheets;
+mod verdict_box;
 mod waves;
 mod words;
 
@@ -30,5 +32,8 @@ pub use markup::Markup;
 pub use page::{Form, Page};
 pub use reads::Reads;
 pub use sheets::{FIRST_BAND, page_end, page_head, picture_end, picture_head};
+pub use shown_verdict::{
+    FirstBadEntry, Pointer, PointerKind, ShownVerdict, VerdictLine, verdict_of,
+};
 pub use subjects::Subject;
 pub use trace_sheets::{trace_page_end, trace_page_head, trace_picture_end, trace_picture_head};

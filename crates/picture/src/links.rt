@@ -3,7 +3,7 @@ ghost use Rattle.std.specs.Prelude.{◌≡◌, ◌≤◌, OnOk};
 ghost use Rattle.picture.specs.Adding.{Draws};
 ghost use Rattle.markup.specs.{reading};
 ghost use Rattle.columns.specs.{seen};
-ghost use Rattle.picture.specs.Drawings.{arrow_by, distance_of_tip, drop_line, freed_arrow, links, seen_band};
+ghost use Rattle.picture.specs.Drawings.{arrow, arrow_by, distance_of_tip, drop_line, freed_arrow, links, seen_band};
 
 use crate::bands::Band;
 use columns::{Column, Lane};
@@ -58,15 +58,38 @@ impl Band {
         let Some(freed) = frees else {
             return Ok(());
         };
-        let lane = self.layout.lane(freed);
-        let bar = lane.bar();
-        if bar > from.y {
-            let tip = bar.saturating_sub(tip_distance(lane));
-            draw_arrow(from, tip.saturating_sub(5), tip, "l-4 -7h8z", markup)
-        } else {
-            let tip = bar + tip_distance(lane);
-            draw_arrow(from, tip + 5, tip, "l-4 7h8z", markup)
-        }
+        draw_arrow_to("frees", "tip", from, self.layout.lane(freed), markup)
+    }
+}
+
+/// Draws an arrow to a lane, from above or from below, by the styles of its line and of its tip.
+pub(crate) fn draw_arrow_to(
+    line_style: &str,
+    tip_style: &str,
+    from: Point,
+    lane: Lane,
+    markup: &mut Markup,
+) -> Result<(), AllocError>
+    ensures draws { Draws result markup.old markup.new
+        (arrow line_style.now tip_style.now from lane) }
+    ensures read { OnOk result (reading markup.new ≡ reading markup.old) }
+{
+    let bar = lane.bar();
+    if bar > from.y {
+        let tip = bar.saturating_sub(tip_distance(lane));
+        let end = tip.saturating_sub(5);
+        draw_arrow(line_style, tip_style, from, end, tip, "l-4 -7h8z", markup)
+    } else {
+        let tip = bar + tip_distance(lane);
+        draw_arrow(
+            line_style,
+            tip_style,
+            from,
+            tip + 5,
+            tip,
+            "l-4 7h8z",
+            markup,
+        )
     }
 }
 
@@ -80,15 +103,18 @@ fn tip_distance(lane: Lane) -> u32
 
 /// Draws an arrow: its line down or up to a place, and its head from its tip on.
 fn draw_arrow(
+    line_style: &str,
+    tip_style: &str,
     from: Point,
     end: u32,
     tip: u32,
     head: &str,
     markup: &mut Markup,
 ) -> Result<(), AllocError>
-    ensures draws { Draws result markup.old markup.new (arrow_by from end tip head.now) }
+    ensures draws { Draws result markup.old markup.new
+        (arrow_by line_style.now tip_style.now from end tip head.now) }
     ensures read { OnOk result (reading markup.new ≡ reading markup.old) }
 {
-    markup.line("frees", from, Point::at(from.x, end))?;
-    markup.path("tip", Point::at(from.x, tip), head)
+    markup.line(line_style, from, Point::at(from.x, end))?;
+    markup.path(tip_style, Point::at(from.x, tip), head)
 }

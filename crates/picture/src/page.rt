@@ -5,6 +5,7 @@ ghost use Rattle.markup.specs.{EndsAll, lines_in};
 ghost use Rattle.picture.specs.Bandings.{Accesses, Reads, Tells, band_tag, behind_columns, opening_length, opens_with};
 ghost use Rattle.columns.specs.{nothing_told, seen, stages_told, text_of, told_in};
 ghost use Rattle.picture.specs.Pages.{BeginsColumn, DrawsBand, GivesRest, GoesOn, MakesRoom, Places, Puts, held, lines_of_band, page_of, seen_page, stages_kept};
+ghost use Rattle.picture.specs.Verdicts.{titles_if};
 ghost use Rattle.picture.specs.declared.page.Form.TheVariants as form_variants;
 
 use crate::bands::Band;
@@ -14,6 +15,7 @@ use columns::{
     AccessState, Column, Layout, OverlappedRead, Placing, RunLine, ShownAccess, State, cut, stretch,
 };
 use markup::{Key, Markup, Tag, class, words};
+use shown_verdict::ShownVerdict;
 use std::alloc::{AllocError, Global};
 
 /// Where bands are drawn.
@@ -78,7 +80,8 @@ impl Page {
         })
     }
 
-    /// Returns the sum of the heights of all bands so far, with 16 more for each.
+    /// Returns the sum of the heights of all bands so far, with 16 more for each. That of the last band has the room of the
+    /// verdict.
     pub fn height(&self) -> u64
         ensures { result ≡ self.now.height }
     {
@@ -160,15 +163,25 @@ impl Page {
         Ok(full)
     }
 
-    /// Ends the page, and returns the last bands, which have the lines that were held back.
-    pub fn end(&mut self) -> Result<(Option<Markup>, Markup), AllocError>
-        ensures page { IfOk result (λ bands. GivesRest (seen_page self.old) bands.0 bands.1 (seen_page self.new)) }
-        ensures lines { IfOk result (λ bands. lines_of_band bands.0 ++ lines_in bands.1 ≡ held self.old) }
+    /// Ends the page, and returns the last bands, which have the lines that were held back, and then those of the verdict, if
+    /// there is one. The last band outlines the stages and accesses that its lines name, and its box is below that band.
+    ///
+    /// # Errors
+    ///
+    /// Returns [`AllocError`] if memory is lacking.
+    pub fn end(
+        &mut self,
+        verdict: Option<ShownVerdict>,
+    ) -> Result<(Option<Markup>, Markup), AllocError>
+        ensures page { IfOk result
+            (λ bands. GivesRest verdict (seen_page self.old) bands.0 bands.1 (seen_page self.new)) }
+        ensures lines { IfOk result
+            (λ bands. lines_of_band bands.0 ++ lines_in bands.1 ≡ held self.old ++ titles_if verdict) }
         ensures full { IfOk result (λ bands. IfSome bands.0 EndsAll) }
         ensures last { IfOk result (λ bands. EndsAll bands.1) }
     {
         let full = self.place_pending()?;
-        let last = self.draw_band(true)?;
+        let last = self.draw_band(true, verdict)?;
         Ok((full, last))
     }
 
@@ -200,7 +213,7 @@ impl Page {
         if self.placing.has_room(place) {
             return Ok(None);
         }
-        Ok(Some(self.draw_band(false)?))
+        Ok(Some(self.draw_band(false, None)?))
     }
 
     /// Puts a column after the others of the band.
@@ -216,13 +229,19 @@ impl Page {
         Ok(self.columns.push(column)?)
     }
 
-    /// Draws the columns of the band, and begins another band.
-    fn draw_band(&mut self, is_last: bool) -> Result<Markup, AllocError>
-        ensures page { IfOk result (λ band. DrawsBand is_last (seen_page self.old) band (seen_page self.new)) }
+    /// Draws the columns of the band, with a verdict, if there is one, and begins another band.
+    fn draw_band(
+        &mut self,
+        is_last: bool,
+        verdict: Option<ShownVerdict>,
+    ) -> Result<Markup, AllocError>
+        ensures page { IfOk result
+            (λ band. DrawsBand is_last verdict (seen_page self.old) band (seen_page self.new)) }
         ensures pending { OnOk result (self.new.pending ≡ self.old.pending) }
         ensures state { self.new.state ≡ self.old.state }
         ensures begun { OnOk result (self.new.columns.items ≡ []) }
-        ensures lines { IfOk result (λ band. lines_in band ≡ all_told self.old.columns.items) }
+        ensures lines { IfOk result
+            (λ band. lines_in band ≡ all_told self.old.columns.items ++ titles_if verdict) }
         ensures ended { IfOk result EndsAll }
     {
         let mut columns = std::mem::replace(&mut self.columns, Vec::new(self.alloc));
@@ -244,18 +263,20 @@ impl Page {
             is_last,
             opens: std::mem::replace(&mut self.opens, Vec::new(self.alloc)),
             subject: self.subject,
+            verdict,
         };
         self.bands = self.bands.saturating_add(1);
         let markup = self.markup_of(&band)?;
         self.accesses.pass(self.alloc, band.columns.as_slice())?;
-        self.height = self.height.saturating_add(u64::from(layout.height) + 16);
+        self.height = self.height.saturating_add(u64::from(band.height()) + 16);
         Ok(markup)
     }
 
     /// Returns a band as a picture or as a group.
     fn markup_of(&self, band: &Band) -> Result<Markup, AllocError>
         ensures draws { FramesBand result self.now.form self.now band.now }
-        ensures lines { IfOk result (λ markup. lines_in markup ≡ all_told band.now.columns.items) }
+        ensures lines { IfOk result
+            (λ markup. lines_in markup ≡ all_told band.now.columns.items ++ titles_if band.now.verdict) }
         ensures ended { IfOk result EndsAll }
     {
         match self.form {
@@ -267,13 +288,14 @@ impl Page {
     /// Returns a band as a picture of its own.
     fn picture_of(&self, band: &Band) -> Result<Markup, AllocError>
         ensures draws { FramesBand result form_variants.Page self.now band.now }
-        ensures lines { IfOk result (λ markup. lines_in markup ≡ all_told band.now.columns.items) }
+        ensures lines { IfOk result
+            (λ markup. lines_in markup ≡ all_told band.now.columns.items ++ titles_if band.now.verdict) }
         ensures ended { IfOk result EndsAll }
     {
         let mut markup = Markup::new(self.alloc);
-        enter_band(self.bands, band.layout.height, &mut markup)?;
+        enter_band(self.bands, band.height(), &mut markup)?;
         markup.constant("\n")?;
-        band.draw(self.alloc, &self.accesses, &mut markup)?;
+        band.draw_judged(self.alloc, &self.accesses, &mut markup)?;
         markup.frame("</svg>\n")?;
         Ok(markup)
     }
@@ -281,19 +303,20 @@ impl Page {
     /// Returns a band as a group of one picture, whose bands begin at this height.
     fn group_of(&self, band: &Band, top: u64) -> Result<Markup, AllocError>
         ensures draws { FramesBand result (form_variants.Picture top) self.now band.now }
-        ensures lines { IfOk result (λ markup. lines_in markup ≡ all_told band.now.columns.items) }
+        ensures lines { IfOk result
+            (λ markup. lines_in markup ≡ all_told band.now.columns.items ++ titles_if band.now.verdict) }
         ensures ended { IfOk result EndsAll }
     {
         let mut markup = Markup::new(self.alloc);
         markup.lower(top.saturating_add(self.height))?;
-        band.draw(self.alloc, &self.accesses, &mut markup)?;
+        band.draw_judged(self.alloc, &self.accesses, &mut markup)?;
         markup.end_group()?;
         Ok(markup)
     }
 }
 
 /// Adds the tag of the picture of the band with this number and height.
-fn enter_band(number: u64, height: u16, markup: &mut Markup) -> Result<(), AllocError>
+fn enter_band(number: u64, height: u32, markup: &mut Markup) -> Result<(), AllocError>
     ensures draws { OnOk result (markup.new ≡ markup.old ++ band_tag number height) }
     ensures read { Begins result markup.old markup.new (codes "svg") }
 {

@@ -31,14 +31,9 @@ pub(crate) fn draw_sign(
             markup.path("no-sign", moved(at, 6, 0), rest)
         }
         Saying::Tired(_) => markup.path("glass", moved(at, 6, 7), "h12l-12 14h12z"),
-        Saying::Judged {
-            process: Some(_),
-            ..
-        } => markup.path("no-sign", moved(at, 0, 8), "l8 14h-16z"),
-        Saying::Judged { process: None, .. }
-        | Saying::Shown(_)
-        | Saying::Ended { .. }
-        | Saying::LockEnded { .. } => markup.block("sign", moved(at, 2, 5), 4, 10),
+        Saying::Shown(_) | Saying::Ended { .. } | Saying::LockEnded { .. } => {
+            markup.block("sign", moved(at, 2, 5), 4, 10)
+        }
     }
 }
 

@@ -1,7 +1,7 @@
 //! The subject of a picture: a run, a record or a trace.
 ghost use Rattle.std.specs.Prelude.{◌≡◌, ◌++◌, OnOk};
 ghost use Rattle.markup.specs.{opens_in, reading, with_tags};
-ghost use Rattle.picture.specs.Subjects.{has_history, legend_of, list_begun, script_of, shown_by};
+ghost use Rattle.picture.specs.Subjects.{has_history, legend_of, list_begun, script_of, shown_by, time_unit};
 
 use crate::constants::{SCRIPT, TRACE_SCRIPT};
 use crate::legends::{ACCESS_LEGEND, LEGEND, READS_LEGEND, TRACE_ACCESS_LEGEND, TRACE_LEGEND};
@@ -32,6 +32,16 @@ impl Subject {
         ensures { result ≡ has_history self }
     {
         self == Subject::Run
+    }
+
+    /// Returns what the axis counts.
+    pub(crate) fn time_unit(self) -> &'static [u8]
+        ensures { result.now ≡ time_unit self }
+    {
+        match self {
+            Subject::Run => b"events",
+            Subject::Trace => b"entries",
+        }
     }
 
     /// Returns what one picture states that it shows.

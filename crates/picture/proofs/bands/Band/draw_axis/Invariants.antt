@@ -8,5 +8,5 @@ use Rattle.picture.proofs.bands.Band.draw_axis.Given as goal
 abbrev pub invariant-loop-column : goal.invariant-loop-column
 invariant-loop-column l = record {
   read : reading l.markup ≡ reading l.fn.markup;
-  draws : l.markup ++ drawings (axis l.self.layout.end l.from (map seen (drop l.column-index l.self.columns.items))) ≡ l.fn.markup ++ drawings (axis l.self.layout.end 52 (map seen l.self.columns.items));
+  draws : l.markup ++ drawings (axis l.self.subject l.self.layout.end l.from (map seen (drop l.column-index l.self.columns.items))) ≡ l.fn.markup ++ drawings (axis l.self.subject l.self.layout.end 52 (map seen l.self.columns.items));
 }

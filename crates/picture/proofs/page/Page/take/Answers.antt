@@ -10,7 +10,7 @@ use Rattle.picture.proofs.page.Page.take.Goals as goal
 
 pub returns-clause-page : goal.returns-clause-page
 returns-clause-page c =
-    if_ok c.begin_column.result (λ full begun. begins_alone c.args.line (seen_page c.args.self.now) (seen_page c.match-self.self) (seen_page c.begin_column.new.self) c.in_ok-frees.frees full
+    if_ok c.begin_column.result (λ full begun. begins_alone c.args.line (seen_page c.args.self.now) (seen_page c.match-self.self) (seen_page c.begin_column.new.self) c.in_ok-frees.frees full refl
     (elim c.match-self.branch [
       | in-Some+else-has_room_for w ↦ does_not_join c.args.line (seen w.in-Some.column) (option_map seen c.args.self.now.pending) (ap (option_map seen) w.in-Some.is) (sym w.has_room_for.ensures ∙ w.if-has_room_for.false)
       | in_default w ↦ none_to_join c.args.line (option_map seen c.args.self.now.pending) (ap (option_map seen) w.in_default.is)
@@ -49,7 +49,7 @@ returns-clause-processes c =
 
 pub returns-then-has_room_for-clause-page : goal.returns-then-has_room_for-clause-page
 returns-then-has_room_for-clause-page c =
-    pagings.joins_pending c.args.line (seen c.in-Some.column) (seen_page c.args.self.now) _ (ap (option_map seen) c.in-Some.is) (sym c.has_room_for.ensures ∙ c.if-has_room_for.true)
+    pagings.joins_pending c.args.line (seen c.in-Some.column) (seen_page c.args.self.now) _ refl (ap (option_map seen) c.in-Some.is) (sym c.has_room_for.ensures ∙ c.if-has_room_for.true)
     (λ i. record (seen_page c.args.self.now) {
       state = c.in_ok-frees.ensures.whole i;
       pending = Some ((c.in_ok-join.ensures.whole ∙ (λ j. joined (seen c.in-Some.column) c.args.line (c.in_ok-frees.ensures.frees j) (c.in_ok-frees.ensures.whole j))) i);
