@@ -1,13 +1,13 @@
 -- Markup that is written piece by piece, and what a page holds back.
-use Rattle.std.proofs.Common.{◌≡◌, ℕ, true, List, [], ◌∷◌, ◌++◌, Option, Some, refl, ap, sym, subst, ◌∙◌, append-nil, append_assoc}
+use Rattle.std.proofs.Common.{◌≡◌, ℕ, true, List, [], ◌∷◌, ◌++◌, Option, Some, None, refl, ap, sym, subst, ◌∙◌, append-nil, append_assoc}
 use Rattle.std.specs.Io.KnownBytes.{Appends}
 use Rattle.record.specs.{Mark}
 use Rattle.picture.specs.markup.{EndsAll, is_at_rest, lines_in, opens_in, tags_of}
 use Rattle.picture.proofs.markup.Lines.{lines_on, rests_on}
 use Rattle.picture.proofs.markup.Stacks.{opens_on}
-use Rattle.picture.specs.{Accesses, GivesRest, GoesOn, Item, Plan, Reads, SeenPage, Tells, band_text, bands_told, full_told, heights_told, lines_of_band, page_of}
+use Rattle.picture.specs.{Accesses, GivesRest, GoesOn, Item, Judges, Plan, Reads, SeenPage, Tells, ShownVerdict, band_text, bands_told, full_told, heights_told, judged_with, lines_of_band, page_of, seen_verdict, titles_if, verdict_titles}
 use Rattle.picture.specs.columns.{OverlappedRead, RunLine, ShownAccess, given_access, text_of}
-use Rattle.draw.specs.{Canvas, Draws, DrawsBands, DrawsLast, DrawsLines, DrawsMarks, DrawsOn, DrawsRest, Fills, Gives, GivesAccess, GivesLine, GivesRead, IsAfterMarks, IsAround, Kept, Overhears, Says, TakenStore, Writes, given, kept, kept_at_first, lines_given, marks_after, says_marks, says_of, texts_given, waiting}
+use Rattle.draw.specs.{Canvas, Draws, DrawsBands, DrawsLines, DrawsMarks, DrawsOn, DrawsRest, Fills, Gives, GivesAccess, GivesLine, GivesRead, IsAfterMarks, IsAround, Kept, Overhears, Says, TakenStore, Writes, given, kept, kept_at_first, lines_given, marks_after, says_marks, says_of, texts_given, waiting}
 use Rattle.draw.proofs.Giving.{both_given, lines_append, marks_after_append, says_append, text_of_saying, texts_append, waiting_append}
 use Rattle.draw.proofs.Written.{appends_both, appends_none}
 
@@ -103,13 +103,20 @@ draws_on_access access had has band a b is goes draws = record {
   fills = fills_one (Accesses access) had.page has.page band goes;
 }
 
--- the bands that are left
-pub draws_rest : (has : Kept) (new : SeenPage) (full : Option (List ℕ)) (last : List ℕ) (a b : Option (List ℕ)) → lines_of_band full ++ lines_in last ≡ has.lines → GivesRest has.page full last new →
-    Draws a b (band_text full ++ last) (lines_of_band full ++ lines_in last) → DrawsRest has a b [] new.height
-draws_rest has new full last a b are rests draws = record {
+-- the bands that are left, with the verdict, if there is one
+pub draws_rest : (verdict : Option ShownVerdict) (has : Kept) (new : SeenPage) (full : Option (List ℕ)) (last : List ℕ) (a b : Option (List ℕ)) → lines_of_band full ++ lines_in last ≡ has.lines ++ titles_if verdict → GivesRest verdict has.page full last new →
+    Draws a b (band_text full ++ last) (lines_of_band full ++ lines_in last) → DrawsRest has a b (given (judged_with verdict [])) new.height
+draws_rest None has new full last a b are rests draws = record {
   markup = band_text full ++ last;
-  draws = subst (λ l. Draws a b (band_text full ++ last) l) (are ∙ sym (append-nil has.lines)) draws;
+  draws = subst (λ l. Draws a b (band_text full ++ last) l) are draws;
   items = [];
+  are = refl;
+  ends = λ plan before is. let two = rests plan before is in (two.0 ∙ append_assoc (full_told plan before) (band_text full) last, two.1);
+}
+draws_rest (Some verdict) has new full last a b are rests draws = record {
+  markup = band_text full ++ last;
+  draws = subst (λ l. Draws a b (band_text full ++ last) l) (are ∙ ap (λ l. has.lines ++ l) (sym (append-nil (verdict_titles (seen_verdict verdict))))) draws;
+  items = Judges verdict ∷ [];
   are = refl;
   ends = λ plan before is. let two = rests plan before is in (two.0 ∙ append_assoc (full_told plan before) (band_text full) last, two.1);
 }
@@ -168,13 +175,6 @@ draws_marks_both had has now store stores last a b c source at p marks more firs
           (draws_lines_both had has now a b c source at (says_marks s p before marks) (says_marks s p (marks_after p marks before) more) one.0 two.0),
       subst (λ l. IsAfterMarks s l last) (sym (marks_after_append p marks more before)) two.1,
     )
-
--- lines, and then the last ones
-pub draws_last_behind : (had has : Canvas) (a b c : Option (List ℕ)) (source at : ℕ) (lines more : List Says) (height : ℕ) → DrawsLines had has a b source at lines → DrawsLast has b c source at more height → DrawsLast had a c source at (lines ++ more) height
-draws_last_behind had has a b c source at lines more height first last = λ mode s past reads waits.
-    let one = first mode s past reads waits in
-    subst (λ l. DrawsRest (kept had) a c l height) (sym (lines_append mode source at reads lines more))
-    (rest_behind (kept had) (kept has) a b c (lines_given mode source at reads lines) (lines_given mode source at (waiting lines reads) more) height one.0 (last mode s past (waiting lines reads) one.1))
 
 -- a whole picture was written: no element is open at its end, and the titles of its marks are these lines
 abbrev pub IsWhole : (old new : Option (List ℕ)) → List ℕ → List Gives → Type 0

@@ -2,14 +2,14 @@
 use Rattle.std.proofs.Common.{◌≡◌, ◌<◌, ℕ, ◌+◌, List, [], ◌∷◌, ◌++◌, flat_map, get_or, length, map, take, refl, ap, sym, ◌∙◌, append-nil, append_assoc}
 use Rattle.std.proofs.lemmas.Grind.{flat_map-append}
 use Rattle.std.proofs.lemmas.List.{map-append, take_more}
-use Rattle.picture.specs.{Accesses, Item, Reads, Tells, sayings}
+use Rattle.picture.specs.{Accesses, Item, Judges, Reads, Tells, sayings, seen_verdict}
 use Rattle.picture.specs.columns.{OverlappedRead, Saying, given_access, marks_said, saying_text}
-use Rattle.picture.specs.columns.declared.told.Saying.TheVariants.{Marked, Refused, Tired, Shown as ShowsStore, Judged, Ended, LockMarked, LockEnded}
+use Rattle.picture.specs.columns.declared.told.Saying.TheVariants.{Marked, Refused, Tired, Shown as ShowsStore, Ended, LockMarked, LockEnded}
 use Rattle.picture.specs.declared.reads.Reads.{Reads as Mode}
 use Rattle.picture.specs.declared.reads.Reads.TheVariants.{All, Hidden, Shown}
 use Rattle.plain_store.specs.{Setup}
 use Rattle.record.specs.{Mark}
-use Rattle.draw.specs.{Gives, GivesAccess, GivesLine, GivesRead, Says, given, lines_given, mark_given, marks_after, marks_given, marks_says, says_marks, says_of, says_text, shown_of, text_given, texts_given, waiting}
+use Rattle.draw.specs.{Gives, GivesAccess, GivesLine, GivesRead, GivesVerdict, Says, given, lines_given, mark_given, marks_after, marks_given, marks_says, says_marks, says_of, says_text, shown_of, text_given, texts_given, waiting}
 
 -- one more, by what is made of each
 pub map_next : {A : Type 0} {B : Type 0} (f : A → B) (xs : List A) (k : ℕ) (d : A) → k < length xs → map f (take (k + 1) xs) ≡ map f (take k xs) ++ f (get_or xs k d) ∷ []
@@ -48,6 +48,8 @@ given_append : (more items : List Item) → given (more ++ items) ≡ given item
 given_append [] items = sym (append-nil (given items))
 given_append (Tells line ∷ more) items = ap (λ l. l ++ GivesLine line.source line.at (says_of line.saying) ∷ []) (given_append more items) ∙ append_assoc (given items) (given more) (GivesLine line.source line.at (says_of line.saying) ∷ [])
 given_append (Reads read ∷ more) items = ap (λ l. l ++ GivesRead read ∷ []) (given_append more items) ∙ append_assoc (given items) (given more) (GivesRead read ∷ [])
+given_append (Judges verdict ∷ more) items =
+    ap (λ l. l ++ GivesVerdict (seen_verdict verdict) ∷ []) (given_append more items) ∙ append_assoc (given items) (given more) (GivesVerdict (seen_verdict verdict) ∷ [])
 given_append (Accesses access ∷ more) items =
     ap (λ l. l ++ GivesAccess (given_access access) ∷ []) (given_append more items) ∙ append_assoc (given items) (given more) (GivesAccess (given_access access) ∷ [])
 
@@ -64,12 +66,11 @@ text_of_saying at (Marked p mark change) = refl
 text_of_saying at (Refused p refusal) = refl
 text_of_saying at (Tired p) = refl
 text_of_saying at (ShowsStore words) = refl
-text_of_saying at (Judged p words) = refl
 text_of_saying at (Ended events taken refused) = refl
 text_of_saying at (LockMarked p mark) = refl
 text_of_saying at (LockEnded entries) = refl
 
-texts_of_reads : (reads : List OverlappedRead) → texts_given (map GivesRead reads) ≡ []
+pub texts_of_reads : (reads : List OverlappedRead) → texts_given (map GivesRead reads) ≡ []
 texts_of_reads [] = refl
 texts_of_reads (read ∷ reads) = texts_of_reads reads
 
@@ -92,7 +93,6 @@ marks_of_saying (Marked p mark change) = refl
 marks_of_saying (Refused p refusal) = refl
 marks_of_saying (Tired p) = refl
 marks_of_saying (ShowsStore words) = refl
-marks_of_saying (Judged p words) = refl
 marks_of_saying (Ended events taken refused) = refl
 marks_of_saying (LockMarked p mark) = refl
 marks_of_saying (LockEnded entries) = refl
@@ -104,9 +104,10 @@ marks_of_items (Tells line ∷ before) =
     ∙ (λ i. marks_of_items before i ++ (ap (λ l. l ++ []) (marks_of_saying line.saying)) i)
     ∙ sym (flat_map-append marks_said (sayings before) (line.saying ∷ []))
 marks_of_items (Reads read ∷ before) = marks_append (given before) (GivesRead read ∷ []) ∙ append-nil (marks_given (given before)) ∙ marks_of_items before
+marks_of_items (Judges verdict ∷ before) = marks_append (given before) (GivesVerdict (seen_verdict verdict) ∷ []) ∙ append-nil (marks_given (given before)) ∙ marks_of_items before
 marks_of_items (Accesses access ∷ before) = marks_append (given before) (GivesAccess (given_access access) ∷ []) ∙ append-nil (marks_given (given before)) ∙ marks_of_items before
 
-marks_of_reads : (reads : List OverlappedRead) → marks_given (map GivesRead reads) ≡ []
+pub marks_of_reads : (reads : List OverlappedRead) → marks_given (map GivesRead reads) ≡ []
 marks_of_reads [] = refl
 marks_of_reads (read ∷ reads) = marks_of_reads reads
 

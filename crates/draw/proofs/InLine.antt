@@ -20,7 +20,7 @@ use Rattle.course.proofs.laws.FrameEvents.{accepted}
 use Rattle.course.proofs.laws.FrameInside.{inside-is}
 use Rattle.course.proofs.laws.Invariant.{Inv}
 use Rattle.course.proofs.laws.Theorems.{Enters, enters, mutual_exclusion, of_entered}
-use Rattle.picture.specs.{Accesses, Item, Reads, Tells, sayings, state_after}
+use Rattle.picture.specs.{Accesses, Item, Judges, Reads, Tells, sayings, state_after}
 use Rattle.picture.specs.columns.{StagesAreTheRecords, State, at_first, before_in, line_of_first, marks_in, stage_among, state_told, ticket_in}
 use Rattle.course.proofs.laws.FirstInLine.{first_inside}
 use Rattle.course.proofs.laws.HeldTickets.{insiders}
@@ -202,6 +202,7 @@ items_tell processes [] = refl
 items_tell processes (Tells line ∷ before) = ap (λ state. state_told state line.saying) (items_tell processes before) ∙ sym (fold-append state_told (at_first processes) (sayings before) (line.saying ∷ []))
 items_tell processes (Reads read ∷ before) = items_tell processes before
 items_tell processes (Accesses access ∷ before) = items_tell processes before
+items_tell processes (Judges verdict ∷ before) = items_tell processes before
 
 pub drawn_first : StagesAreTheRecords → WhoIsInsideIsDrawnFirst
 drawn_first are s good events items say p pN = subst (λ (state : State). stage_among state.stages p ≡ Inside → IsFirstInLine state p) (sym (items_tell s.processes items)) (inside_first are s good events (sayings items) say p pN)

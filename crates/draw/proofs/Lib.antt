@@ -30,8 +30,7 @@ pub mod LineOrder
 pub mod InLine
 -- Records
 pub mod RecordGiving
-pub mod JudgedLines
-mod Lanes
+pub mod Ending
 mod Lines
 mod Sheeted
 mod JudgedFile

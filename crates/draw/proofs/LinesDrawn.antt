@@ -72,7 +72,7 @@ module _ (plan : Plan) (mode : Mode) (s : Setup) (lines : List Line) where
 
   -- the whole run, once the last line and what was held back are drawn
   pub drawn_end : (course : CourseState) (run : RunDrawing) (last : Summary) (a b c : Option (List ℕ)) (height : ℕ) → Drawn [] course run a b →
-      last ≡ summary_of s (runs s lines run_at_start).happened → DrawsLast run.drawing.canvas b c (run.drawing.source + 1) run.drawing.entries (says_end last ∷ []) height →
+      last ≡ summary_of s (runs s lines run_at_start).happened → DrawsLast run.drawing.canvas b c (run.drawing.source + 1) run.drawing.entries [] (says_end last) height →
       DrawsBands plan a c (given_by mode s (first_line s) lines run_at_start ++ given_at_end mode s (first_line s + length lines) (runs s lines run_at_start).happened) height
   drawn_end course run last a b c height d numbers ends =
       let source : ℕ = run.drawing.source in

@@ -1,13 +1,14 @@
 -- The lines and the marks of what a record gives.
-use Rattle.std.proofs.Common.{◌≡◌, ◌+◌, ℕ, List, [], ◌∷◌, ◌++◌, flat_map, length, map, reverse, Option, refl, ap, sym, ◌∙◌, append-nil}
+use Rattle.std.proofs.Common.{◌≡◌, ◌+◌, ℕ, List, [], ◌∷◌, ◌++◌, flat_map, length, map, reverse, refl, ap, sym, ◌∙◌, append-nil}
 use Rattle.plain_store.specs.{Setup}
 use Rattle.record.specs.{Mark, Past}
 use Rattle.judge.specs.record_file.{Said}
 use Rattle.picture.specs.{Item, sayings}
-use Rattle.picture.specs.columns.{judged_text, marks_in, marks_said}
+use Rattle.picture.specs.columns.{marks_in, marks_said}
 use Rattle.picture.specs.declared.reads.Reads.{Reads as Mode}
-use Rattle.draw.specs.{Says, SaysEnd, bad_process, entries_among, entry_parts, given, given_all, marks_back, marks_given, marks_says, parts_texts, reads_since, record_end, record_gives, record_lines, say_judged, says_judged, says_text, source_of, taken_by, texts_given, told_lines}
-use Rattle.draw.proofs.Giving.{marks_append, marks_of_items, marks_of_lines, texts_append, texts_of_lines}
+use Rattle.draw.specs.{Says, SaysEnd, entries_among, entry_parts, given, given_all, marks_back, marks_given, parts_texts, reads_since, record_end, record_gives, record_lines, source_of, taken_by, texts_given}
+use Rattle.draw.proofs.Ending.{marks_of_end, texts_of_end}
+use Rattle.draw.proofs.Giving.{marks_append, marks_of_items, texts_append}
 use Rattle.draw.proofs.PartsRead.{marks_at, of_all, parts_marks, texts_at}
 
 -- the entries among its parts are all
@@ -17,10 +18,6 @@ entries_of_record (e ∷ past) = ap (λ (l : Past). e ∷ l) (entries_of_record 
 
 -- The lines.
 
-pub texts_of_told : (at : ℕ) (bad : Option ℕ) (lines : List (List ℕ)) (last : Says) → map (says_text at) (say_judged bad lines ++ last ∷ []) ≡ map judged_text lines ++ says_text at last ∷ []
-texts_of_told at bad [] last = refl
-texts_of_told at bad (line ∷ lines) last = ap (λ l. judged_text line ∷ l) (texts_of_told at bad lines last)
-
 pub texts_of_record : (mode : Mode) (said : Said) (told : List ℕ) → texts_given (record_gives mode said told) ≡ record_lines said told
 texts_of_record mode said told =
     let s : Setup = said.setup in
@@ -28,17 +25,13 @@ texts_of_record mode said told =
     let last : Says = SaysEnd (length past) (taken_by (marks_back past)) 0 in
     texts_append (given_all mode s (source_of s) (entry_parts past)) (record_end mode s (source_of s) past told)
     ∙ (λ i. sym (of_all texts_given refl texts_append mode s parts_texts (texts_at mode s) (source_of s) (entry_parts past)) i
-    ++ (texts_of_lines mode (source_of s + 1) (length past) (reads_since s (entry_parts past)) (says_judged told ++ last ∷ []) ∙ texts_of_told (length past) (bad_process (told_lines told)) (told_lines told) last) i)
+    ++ texts_of_end mode (source_of s + 1) (length past) (reads_since s (entry_parts past)) told last i)
 
 -- The marks.
 
 marks_so_far : (past : Past) → parts_marks (entry_parts past) ≡ marks_in past
 marks_so_far [] = refl
 marks_so_far (e ∷ past) = ap (λ l. l ++ map {B = ℕ × Mark} (λ (mark : Mark). (e.process, mark)) e.marks) (marks_so_far past)
-
-marks_of_told : (bad : Option ℕ) (lines : List (List ℕ)) (entries taken : ℕ) → flat_map marks_says (say_judged bad lines ++ SaysEnd entries taken 0 ∷ []) ≡ []
-marks_of_told bad [] entries taken = refl
-marks_of_told bad (line ∷ lines) entries taken = marks_of_told bad lines entries taken
 
 pub marks_of_record : (mode : Mode) (said : Said) (told : List ℕ) (items : List Item) → given items ≡ record_gives mode said told → flat_map marks_said (sayings items) ≡ marks_in (reverse said.entries)
 marks_of_record mode said told items are =
@@ -48,5 +41,5 @@ marks_of_record mode said told items are =
     sym (marks_of_items items) ∙ ap marks_given are
     ∙ marks_append (given_all mode s (source_of s) (entry_parts past)) (record_end mode s (source_of s) past told)
     ∙ (λ i. (sym (of_all marks_given refl marks_append mode s parts_marks (marks_at mode s) (source_of s) (entry_parts past)) ∙ marks_so_far past) i
-    ++ (marks_of_lines mode (source_of s + 1) (length past) (reads_since s (entry_parts past)) (says_judged told ++ SaysEnd (length past) taken 0 ∷ []) ∙ marks_of_told (bad_process (told_lines told)) (told_lines told) (length past) taken) i)
+    ++ marks_of_end mode (source_of s + 1) (length past) (reads_since s (entry_parts past)) told (SaysEnd (length past) taken 0) refl i)
     ∙ append-nil (marks_in past)

@@ -9,10 +9,10 @@ use Rattle.scenario.specs.{Line, Script}
 use Rattle.course.specs.{Happening, Lacks, Looks, Run, Tires, Tries, end_line, entry_text, happenings, mark_line, newest_store, newest_words, past_after, refused_line, replayed, run_after, run_at_start, runs, summary_of, text_at, text_of}
 use Rattle.course.specs.run_lines.{marked_text, refused_text, shown_text, tired_text, with_end}
 use Rattle.course.proofs.Grows.{Grows, line_grows}
-use Rattle.picture.specs.{Accesses, Item, Reads, Tells, sayings}
+use Rattle.picture.specs.{Accesses, Item, Judges, Reads, Tells, sayings, seen_verdict, verdict_titles}
 use Rattle.picture.specs.columns.{given_access, marks_in, marks_said}
 use Rattle.picture.specs.declared.reads.Reads.{Reads as Mode}
-use Rattle.draw.specs.{Gives, GivesAccess, GivesLine, GivesRead, Part, ended_lines, entries_among, first_line, given, given_at_end, given_by, given_from, given_last, given_of, lines_told, marks_given, part_of_event, parts_at, parts_of, parts_texts, reads_since, run_given, says_end, says_of, texts_given}
+use Rattle.draw.specs.{Gives, GivesAccess, GivesLine, GivesRead, GivesVerdict, Part, ended_lines, entries_among, first_line, given, given_at_end, given_by, given_from, given_last, given_of, lines_told, marks_given, part_of_event, parts_at, parts_of, parts_texts, reads_since, run_given, says_end, says_of, texts_given}
 use Rattle.draw.proofs.Giving.{marks_append, marks_of_items, marks_of_lines, text_of_saying, texts_append, texts_of_lines}
 use Rattle.draw.proofs.PartsRead.{marks_at, of_last, of_more, of_none, parts_marks, texts_at}
 
@@ -108,6 +108,8 @@ texts_of_items [] = refl
 texts_of_items (Tells line ∷ before) =
     (λ i. texts_of_items before i ++ sym (text_of_saying line.at line.saying) i ∷ []) ∙ sym (texts_append (given before) (GivesLine line.source line.at (says_of line.saying) ∷ []))
 texts_of_items (Reads read ∷ before) = texts_of_items before ∙ sym (append-nil (texts_given (given before))) ∙ sym (texts_append (given before) (GivesRead read ∷ []))
+texts_of_items (Judges verdict ∷ before) =
+    (λ i. texts_of_items before i ++ sym (append-nil (verdict_titles (seen_verdict verdict))) i) ∙ sym (texts_append (given before) (GivesVerdict (seen_verdict verdict) ∷ []))
 texts_of_items (Accesses access ∷ before) = texts_of_items before ∙ sym (append-nil (texts_given (given before))) ∙ sym (texts_append (given before) (GivesAccess (given_access access) ∷ []))
 
 pub lines_of_run : (mode : Mode) (said : Script) (items : List Item) → given items ≡ run_given mode said → ended_lines (lines_told items) ≡ replayed said

@@ -1,5 +1,5 @@
 -- The picture of a record goes on, entry by entry.
-use Rattle.std.proofs.Common.{◌≡◌, ℕ, ◌+◌, List, [], ◌∷◌, ◌++◌, is_some, length, false, true≢false, Option, None, Some, ap, sym, subst, ◌∙◌, arith}
+use Rattle.std.proofs.Common.{◌≡◌, ℕ, ◌+◌, List, [], ◌∷◌, is_some, length, false, true≢false, Option, None, Some, ap, sym, subst, ◌∙◌, arith}
 use Rattle.plain_store.specs.{Setup}
 use Rattle.record.specs.{Access, Entry, Past}
 use Rattle.judge.specs.record_file.{Progress, step_entry}
@@ -7,7 +7,7 @@ use Rattle.picture.specs.{Form, page_front, page_names}
 use Rattle.picture.specs.declared.page.Form.TheVariants as form
 use Rattle.picture.specs.declared.reads.Reads.{Reads as Mode}
 use Rattle.picture.specs.markup.{lines_in, opens_in}
-use Rattle.draw.specs.{DrawsAt, DrawsLast, DrawsOn, DrawsPart, DrawsPast, DrawsRest, EndsAt, HasDrawn, Heads, IsDrawn, Kept, PartEntry, RecordDrawing, RecordRecalls, SaysEnd, Watches, Writes, entries_among, entry_parts, given_all, given_last, kept, kept_at_first, lines_given, listed, marks_back, plan_of, reads_since, record_end, says_judged, source_of, taken_by}
+use Rattle.draw.specs.{DrawsAt, DrawsLast, DrawsOn, DrawsPart, DrawsPast, DrawsRest, EndsAt, HasDrawn, Heads, IsDrawn, Kept, PartEntry, RecordDrawing, RecordRecalls, SaysEnd, Watches, Writes, end_given, entries_among, entry_parts, given_all, given_last, kept, kept_at_first, listed, marks_back, plan_of, reads_since, record_end, source_of, taken_by}
 use Rattle.draw.proofs.Drawings.{drawn_more, drawn_none, drawn_quiet}
 use Rattle.draw.proofs.Drawn.{draws_bands}
 use Rattle.draw.proofs.RecordGiving.{entries_of_record}
@@ -56,14 +56,14 @@ module _ (reads : Mode) (form : Form) (s : Setup) where
 
   -- all
   pub drawn_end : (past : Past) (d : RecordDrawing) (told : List ℕ) (old mid new : Option (List ℕ)) (height : ℕ) → IsDrawn reads form s past d old mid →
-      DrawsLast d.drawing.canvas mid new (source_of s + 1) d.drawing.entries (says_judged told ++ SaysEnd d.drawing.entries d.drawing.store.taken 0 ∷ []) height → EndsAt reads form s past told height old new
+      DrawsLast d.drawing.canvas mid new (source_of s + 1) d.drawing.entries told (SaysEnd d.drawing.entries d.drawing.store.taken 0) height → EndsAt reads form s past told height old new
   drawn_end past d told old mid new height drawn rest = record {
     mid = drawn.mid;
     heads = drawn.heads;
     bands = draws_bands (plan_of form s) (kept d.drawing.canvas) drawn.mid mid new (given_all reads s (source_of s) (entry_parts past)) (record_end reads s (source_of s) past told) height
         (subst (λ l. DrawsOn (kept_at_first (plan_of form s)) (kept d.drawing.canvas) drawn.mid mid l) {x = given_last reads s d.drawing.source drawn.drawn.more (entry_parts past)} (λ i. given_last reads s (drawn.source i) (sym long i) (entry_parts past)) drawn.drawn.draws)
-        (subst (λ gives. DrawsRest (kept d.drawing.canvas) mid new gives height) {x = lines_given reads (source_of s + 1) d.drawing.entries (reads_since s (entry_parts past)) (says_judged told ++ SaysEnd d.drawing.entries d.drawing.store.taken 0 ∷ [])}
-        (λ i. lines_given reads (source_of s + 1) (entries i) (reads_since s (entry_parts past)) (says_judged told ++ SaysEnd (entries i) (taken i) 0 ∷ []))
+        (subst (λ gives. DrawsRest (kept d.drawing.canvas) mid new gives height) {x = end_given reads (source_of s + 1) d.drawing.entries (reads_since s (entry_parts past)) told (SaysEnd d.drawing.entries d.drawing.store.taken 0)}
+        (λ i. end_given reads (source_of s + 1) (entries i) (reads_since s (entry_parts past)) told (SaysEnd (entries i) (taken i) 0))
         (rest reads s (entries_among (entry_parts past)) (reads_since s (entry_parts past)) drawn.drawn.recalls.waits));
   }
     where

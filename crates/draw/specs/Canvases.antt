@@ -3,12 +3,13 @@ use Rattle.std.specs.Prelude.{◌≡◌, ℕ, true, List, [], ◌++◌, Option}
 use Rattle.std.specs.Io.KnownBytes.{Appends}
 use Rattle.plain_store.specs.{Setup, opening_store}
 use Rattle.record.specs.{Mark, Past}
-use Rattle.picture.specs.{Form, Item, Plan, SeenPage, bands_told, full_told, heights_told, held, page_of, seen_page}
+use Rattle.picture.specs.{Form, Item, Plan, SeenPage, bands_told, full_told, heights_told, held, judged_with, page_of, seen_page}
 use Rattle.picture.specs.columns.{OverlappedRead}
+use Rattle.picture.specs.{ShownVerdict}
 use Rattle.picture.specs.declared.reads.Reads.{Reads as Mode}
 use Rattle.picture.specs.declared.subjects.Subject.TheVariants.{Run, Trace}
 use Rattle.picture.specs.markup.{EndsAll, is_at_rest, lines_in, tags_of}
-use Rattle.draw.specs.Items.{Gives, Says, given, lines_given, marks_after, says_marks, texts_given, waiting}
+use Rattle.draw.specs.Items.{Gives, Says, end_given, given, lines_given, marks_after, says_marks, texts_given, waiting}
 use Rattle.draw.specs.Overlaps.{Overhears}
 use Rattle.draw.specs.StoreChanges.{words_by}
 use Rattle.draw.specs.TakenStores.{IsAfterMarks}
@@ -86,7 +87,13 @@ abbrev pub DrawsMarks : Canvas → Canvas → TakenStore → TakenStore → Opti
 DrawsMarks had has store stores old new source at p marks =
     (s : Setup) (before : List (ℕ × Mark)) → IsAfterMarks s before store → DrawsLines had has old new source at (says_marks s p before marks) × IsAfterMarks s (marks_after p marks before) stores
 
--- so were the last ones, and all that was held back
-abbrev pub DrawsLast : Canvas → Option (List ℕ) → Option (List ℕ) → (source at : ℕ) → List Says → ℕ → Type 0
-DrawsLast had old new source at lines height =
-    (mode : Mode) (s : Setup) (past : Past) (reads : List OverlappedRead) → Overhears mode s past reads had.overlaps → DrawsRest (kept had) old new (lines_given mode source at reads lines) height
+-- All up to the end of the picture was drawn, except for the verdict, if there is one.
+abbrev pub DrawsUpToVerdict : Canvas → Canvas → Option (List ℕ) → Option (List ℕ) → (source at : ℕ) → List ℕ → Says → Option ShownVerdict → Type 0
+DrawsUpToVerdict had has old new source at told last verdict =
+    (mode : Mode) (s : Setup) (past : Past) (reads : List OverlappedRead) → Overhears mode s past reads had.overlaps →
+    (gives : List Gives) × DrawsOn (kept had) (kept has) old new gives × (gives ++ given (judged_with verdict []) ≡ end_given mode source at reads told last)
+
+-- The end of the picture was drawn, and all that was held back.
+abbrev pub DrawsLast : Canvas → Option (List ℕ) → Option (List ℕ) → (source at : ℕ) → List ℕ → Says → ℕ → Type 0
+DrawsLast had old new source at told last height =
+    (mode : Mode) (s : Setup) (past : Past) (reads : List OverlappedRead) → Overhears mode s past reads had.overlaps → DrawsRest (kept had) old new (end_given mode source at reads told last) height

@@ -2,11 +2,12 @@
 use Rattle.std.specs.Prelude.{ℕ, zero, suc, List, [], ◌∷◌, ◌++◌, flat_map, length, map, string_bytes, Option, option_map}
 use Rattle.plain_store.specs.{Setup}
 use Rattle.record.specs.{Entry, Mark, Past, Refusal}
-use Rattle.picture.specs.{Accesses, Item, Reads, Tells}
-use Rattle.picture.specs.columns.{GivenAccess, OverlappedRead, Saying, given_access, judged_text, like, lock_ended_text, lock_marked_text}
+use Rattle.picture.specs.{Accesses, Item, Judges, Reads, SeenVerdict, Tells, seen_verdict, verdict_titles}
+use Rattle.picture.specs.columns.{GivenAccess, OverlappedRead, Saying, given_access, like, lock_ended_text, lock_marked_text}
 use Rattle.picture.specs.columns.trace.{LockMark}
+use Rattle.picture.specs.shown_verdict.{report_lines, verdict_of}
 use Rattle.picture.specs.columns.run_lines.{ended_text, marked_text, refused_text, shown_text, tired_text}
-use Rattle.picture.specs.columns.declared.told.Saying.TheVariants.{Marked, Refused, Tired, Shown, Judged, Ended, LockMarked, LockEnded}
+use Rattle.picture.specs.columns.declared.told.Saying.TheVariants.{Marked, Refused, Tired, Shown, Ended, LockMarked, LockEnded}
 use Rattle.picture.specs.declared.reads.Reads.{Reads as Mode}
 use Rattle.draw.specs.Overlaps.{overlapped_by, shown_of}
 use Rattle.draw.specs.StoreChanges.{Changed, changed}
@@ -18,7 +19,6 @@ pub data Says : Type 0 where
   SaysRefusal : ℕ → Refusal → Says  -- an event of the process was refused
   SaysTired : ℕ → Says  -- the process has made all the Steps of a `go`
   SaysStore : List ℕ → Says  -- the newest store, by these words
-  SaysJudged : Option ℕ → List ℕ → Says  -- a judge tells this line, which stands in the lane of that process
   SaysEnd : ℕ → ℕ → ℕ → Says  -- the end: so many events were accepted, so many commands taken, so many events refused
   SaysLockMark : ℕ → LockMark → Says  -- an entry of a trace has this mark of the process
   SaysLockEnd : ℕ → Says  -- the end of a trace of so many entries
@@ -28,13 +28,13 @@ pub data Gives : Type 0 where
   GivesLine : ℕ → ℕ → Says → Gives  -- the line of the list that makes it, how many events were accepted before it, and what it says
   GivesRead : OverlappedRead → Gives  -- a read that a write overlapped
   GivesAccess : GivenAccess → Gives  -- the part of an access that an entry makes
+  GivesVerdict : SeenVerdict → Gives  -- the verdict of a judge, with the last line
 
 abbrev pub says_of : Saying → Says
 says_of (Marked p mark change) = SaysMark p mark (option_map changed change)
 says_of (Refused p refusal) = SaysRefusal p refusal
 says_of (Tired p) = SaysTired p
 says_of (Shown words) = SaysStore (string_bytes words)
-says_of (Judged p words) = SaysJudged p words.items
 says_of (Ended events taken refused) = SaysEnd events taken refused
 says_of (LockMarked p mark) = SaysLockMark p mark
 says_of (LockEnded entries) = SaysLockEnd entries
@@ -45,6 +45,7 @@ given [] = []
 given (Tells line ∷ before) = given before ++ GivesLine line.source line.at (says_of line.saying) ∷ []
 given (Reads read ∷ before) = given before ++ GivesRead read ∷ []
 given (Accesses access ∷ before) = given before ++ GivesAccess (given_access access) ∷ []
+given (Judges verdict ∷ before) = given before ++ GivesVerdict (seen_verdict verdict) ∷ []
 
 -- the text of a line, without its end
 abbrev pub says_text : ℕ → Says → List ℕ
@@ -52,7 +53,6 @@ says_text at (SaysMark p mark change) = marked_text at p mark
 says_text at (SaysRefusal p refusal) = refused_text p refusal
 says_text at (SaysTired p) = tired_text p
 says_text at (SaysStore words) = shown_text words
-says_text at (SaysJudged p line) = judged_text line
 says_text at (SaysEnd events taken refused) = ended_text events taken refused
 says_text at (SaysLockMark p mark) = lock_marked_text at p mark
 says_text at (SaysLockEnd entries) = lock_ended_text entries
@@ -62,6 +62,7 @@ abbrev pub text_given : Gives → List (List ℕ)
 text_given (GivesLine source at says) = says_text at says ∷ []
 text_given (GivesRead read) = []
 text_given (GivesAccess access) = []
+text_given (GivesVerdict verdict) = verdict_titles verdict
 
 abbrev pub texts_given : List Gives → List (List ℕ)
 texts_given = flat_map text_given
@@ -76,6 +77,7 @@ abbrev pub mark_given : Gives → List (ℕ × Mark)
 mark_given (GivesLine source at says) = marks_says says
 mark_given (GivesRead read) = []
 mark_given (GivesAccess access) = []
+mark_given (GivesVerdict verdict) = []
 
 abbrev pub marks_given : List Gives → List (ℕ × Mark)
 marks_given = flat_map mark_given
@@ -89,6 +91,12 @@ waiting (line ∷ lines) reads = []
 abbrev pub lines_given : Mode → ℕ → ℕ → List OverlappedRead → List Says → List Gives
 lines_given mode source at reads [] = []
 lines_given mode source at reads (line ∷ lines) = map GivesRead (shown_of mode reads) ++ map (GivesLine source at) (line ∷ lines)
+
+-- The end of a picture with this last line. If a judge has reported, it is the verdict, which has the lines of the report and the last line; otherwise it is the last line alone. The reads that wait come first, as far as they are shown.
+abbrev pub end_given : Mode → ℕ → ℕ → List OverlappedRead → List ℕ → Says → List Gives
+end_given mode source at reads [] last = lines_given mode source at reads (last ∷ [])
+end_given mode source at reads (byte ∷ told) last =
+    map GivesRead (shown_of mode reads) ++ GivesVerdict (verdict_of source (report_lines (byte ∷ told)) (says_text at last)) ∷ []
 
 -- Entries, be they of a run or of a record.
 

@@ -15,13 +15,12 @@ pub mod RunItems
 pub mod Pictures
 pub mod RecordDrawings
 pub mod RecordItems
-pub mod Judged
 pub mod Judges
 pub mod Judgings
 pub mod Sheets
 pub use Around.{IsAround}
-pub use Canvases.{Draws, DrawsBands, DrawsLast, DrawsLines, DrawsMarks, DrawsOn, DrawsRest, Fills, Kept, Writes, kept, kept_at_first, plan_of, trace_plan}
-pub use Items.{Gives, GivesAccess, GivesLine, GivesRead, Part, PartEntry, PartLine, Says, SaysEnd, SaysJudged, SaysLockEnd, SaysLockMark, SaysMark, SaysRefusal, SaysStore, SaysTired, entries_among, given, given_all, given_last, given_of, lines_given, mark_given, marks_after, marks_back, marks_given, marks_says, part_texts, parts_texts, reads_since, says_marks, says_of, says_text, text_given, texts_given, waiting}
+pub use Canvases.{Draws, DrawsBands, DrawsLast, DrawsLines, DrawsMarks, DrawsOn, DrawsRest, DrawsUpToVerdict, Fills, Kept, Writes, kept, kept_at_first, plan_of, trace_plan}
+pub use Items.{Gives, GivesAccess, GivesLine, GivesRead, GivesVerdict, Part, PartEntry, PartLine, Says, SaysEnd, SaysLockEnd, SaysLockMark, SaysMark, SaysRefusal, SaysStore, SaysTired, end_given, entries_among, given, given_all, given_last, given_of, lines_given, mark_given, marks_after, marks_back, marks_given, marks_says, part_texts, parts_texts, reads_since, says_marks, says_of, says_text, text_given, texts_given, waiting}
 pub use Overlaps.{Hears, Overhears, TellsEnd, TellsOver, Watches, begun_with, ended_of, first_three, is_begin, is_there, overlapped_by, overlapped_with, read_begun, read_ended, shown_of}
 pub use StoreChanges.{Changed, change_by, changed, store_words, words_by}
 pub use TakenStores.{IsAfterMarks, after_call, call_after, called_by, change_by_call, change_of, change_with, next_number, no_call, store_by, store_with, taken_by}
@@ -42,8 +41,7 @@ pub use RunItems.{first_line, given_at_end, given_by, given_from, part_of_event,
 pub use Pictures.{ended_lines, lines_told}
 pub use declared.runs.drawing.RunDrawing.{RunDrawing}
 pub use RecordDrawings.{RecordRecalls}
-pub use RecordItems.{entry_parts, judged_with, record_end, record_gives, record_lines, say_judged, says_judged, source_of}
-pub use Judged.{bad_process, number_from, told_lines}
+pub use RecordItems.{entry_parts, record_end, record_gives, record_lines, source_of}
 pub use Judges.{DrewJudgedBy}
 pub use Judgings.{HasRead, HasStopped, IsShown, SaysAll, TellsOfLines}
 pub use Sheets.{All, DrawsAllBands, DrawsAt, DrawsBandsOf, DrawsPast, DrawsRecord, DrawsSaid, DrewRecord, DrewAs, EndsAt, GoesOn, Heads, IsDrawFault, IsDrawn, IsJudged, IsRecordPicture, LeavesNone, LineStops, Stands, UpTo, entries_of, listed, picture_of, without_write}

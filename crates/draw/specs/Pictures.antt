@@ -2,7 +2,7 @@
 use Rattle.std.specs.Prelude.{ℕ, List, [], ◌∷◌, ◌++◌, flat_map}
 use Rattle.plain_store.specs.{opening_store}
 use Rattle.scenario.specs.{Script}
-use Rattle.picture.specs.{Accesses, Form, Item, Reads, Tells, bands_told, page_back, page_front, picture_back, picture_front}
+use Rattle.picture.specs.{Accesses, Form, Item, Judges, Reads, Tells, bands_told, page_back, page_front, picture_back, picture_front, seen_verdict, verdict_titles}
 use Rattle.picture.specs.columns.run_lines.{with_end}
 use Rattle.picture.specs.columns.{text_of}
 use Rattle.picture.specs.declared.page.Form.TheVariants as form
@@ -16,6 +16,7 @@ lines_told [] = []
 lines_told (Tells line ∷ before) = lines_told before ++ text_of line ∷ []
 lines_told (Reads read ∷ before) = lines_told before
 lines_told (Accesses access ∷ before) = lines_told before
+lines_told (Judges verdict ∷ before) = lines_told before ++ verdict_titles (seen_verdict verdict)
 
 -- a page, which lists the lines of its file, and one picture whose bands' heights come to so much
 abbrev pub picture_of : Mode → Form → List ℕ → Script → ℕ → List Item → List ℕ

@@ -1,32 +1,22 @@
 -- The items of a record's picture: a line for each mark of its entries, the reads that writes overlapped, a judge's lines, and a last line.
-use Rattle.std.specs.Prelude.{ℕ, ◌+◌, List, [], ◌∷◌, ◌++◌, length, map, reverse, Option}
+use Rattle.std.specs.Prelude.{ℕ, ◌+◌, List, [], ◌∷◌, ◌++◌, length, map, reverse}
 use Rattle.plain_store.specs.{Setup}
 use Rattle.record.specs.{Past}
 use Rattle.judge.specs.record_file.{Said, head_words}
 use Rattle.picture.specs.columns.run_lines.{ended_text}
-use Rattle.picture.specs.columns.{judged_text}
+use Rattle.picture.specs.shown_verdict.{judged_text, report_lines}
 use Rattle.picture.specs.declared.reads.Reads.{Reads as Mode}
-use Rattle.draw.specs.Items.{Gives, Part, PartEntry, Says, SaysEnd, SaysJudged, given_all, lines_given, marks_back, parts_texts, reads_since}
+use Rattle.draw.specs.Items.{Gives, Part, PartEntry, SaysEnd, end_given, given_all, marks_back, parts_texts, reads_since}
 use Rattle.draw.specs.TakenStores.{taken_by}
-use Rattle.draw.specs.Judged.{bad_process, lane_told, told_lines}
 
 -- the parts of a record
 abbrev pub entry_parts : Past → List Part
 entry_parts = map PartEntry
 
--- what is said of what a judge tells, line by line
-abbrev pub judged_with : Option ℕ → List ℕ → Says
-judged_with bad line = SaysJudged (lane_told bad line) line
-
-abbrev pub say_judged : Option ℕ → List (List ℕ) → List Says
-say_judged bad = map (judged_with bad)
-
-abbrev pub says_judged : List ℕ → List Says
-says_judged told = say_judged (bad_process (told_lines told)) (told_lines told)
-
--- what a judge tells, if there is one, and the last line
+-- the end: the last line, or the verdict with it
 abbrev pub record_end : Mode → Setup → ℕ → Past → List ℕ → List Gives
-record_end mode s source past told = lines_given mode (source + 1) (length past) (reads_since s (entry_parts past)) (says_judged told ++ SaysEnd (length past) (taken_by (marks_back past)) 0 ∷ [])
+record_end mode s source past told =
+    end_given mode (source + 1) (length past) (reads_since s (entry_parts past)) told (SaysEnd (length past) (taken_by (marks_back past)) 0)
 
 -- the line of the page's list that stands for all entries: it is behind the headings and the opening pairs
 abbrev pub source_of : Setup → ℕ
@@ -38,4 +28,4 @@ record_gives mode said told = given_all mode said.setup (source_of said.setup) (
 
 -- the lines of a record, without their ends: one for each mark of its entries, in their order, those of a judge, and a last one
 abbrev pub record_lines : Said → List ℕ → List (List ℕ)
-record_lines said told = parts_texts (entry_parts (reverse said.entries)) ++ (map judged_text (told_lines told) ++ ended_text (length (reverse said.entries)) (taken_by (marks_back (reverse said.entries))) 0 ∷ [])
+record_lines said told = parts_texts (entry_parts (reverse said.entries)) ++ (map judged_text (report_lines told) ++ ended_text (length (reverse said.entries)) (taken_by (marks_back (reverse said.entries))) 0 ∷ [])

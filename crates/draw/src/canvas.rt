@@ -7,20 +7,20 @@ ghost use Rattle.record.specs.{Entry, Past};
 ghost use Rattle.picture.specs.columns.{given_access};
 ghost use Rattle.picture.specs.columns.declared.reads.OverlappedRead.{OverlappedRead as Ended};
 ghost use Rattle.picture.specs.declared.reads.Reads.{Reads as Mode};
-ghost use Rattle.draw.specs.Canvases.{DrawsLast, DrawsLines, DrawsMarks, DrawsOn, kept, kept_at_first, plan_of, trace_plan};
-ghost use Rattle.draw.specs.Items.{GivesAccess, GivesRead, SaysJudged, says_of};
+ghost use Rattle.draw.specs.Canvases.{DrawsLast, DrawsLines, DrawsMarks, DrawsOn, DrawsUpToVerdict, kept, kept_at_first, plan_of, trace_plan};
+ghost use Rattle.draw.specs.Items.{GivesAccess, GivesRead, says_of};
 ghost use Rattle.draw.specs.Overlaps.{Overhears, TellsEnd, overlapped_by, shown_of};
-ghost use Rattle.draw.specs.RecordItems.{says_judged};
 ghost use Rattle.draw.specs.TakenStores.{IsAfterMarks};
 ghost use Rattle.draw.specs.Writing.{IsWriteFault, failed_write};
 
 use crate::overlaps::{OverlapsHeard, take_ended};
-use crate::records::judged::{bad_process, lane_of};
 use crate::store_changes::words_by_pairs;
 use crate::taken_store::TakenStore;
 use crate::writing::{write_band, write_last};
-use bstr::ByteSlice;
-use picture::{Form, OverlappedRead, Page, Reads, RunLine, Saying, ShownAccess, Subject};
+use picture::{
+    Form, OverlappedRead, Page, Reads, RunLine, Saying, ShownAccess, ShownVerdict, Subject,
+    verdict_of,
+};
 use plain_store::{NestedTypes, Setup};
 use record::{Access, Mark};
 use scenario::{Fault, Sink};
@@ -228,51 +228,45 @@ impl Canvas {
         write_band(&full, output)
     }
 
-    /// Draws the lines that a judge tells after `at` entries. The line `source` of the list makes them.
+    /// Draws the end of the picture, writes what is held back, and returns the heights of all bands, with 16 more for each. If
+    /// `told` has lines of a judge, the picture ends with the verdict that has them and `line`, and otherwise with `line` alone.
     ///
     /// # Errors
     ///
     /// Returns [`Fault::Write`] if a call of the sink fails, and [`Fault::Memory`] if memory is lacking.
-    pub fn draw_judged<W: Sink>(
-        &mut self,
-        source: u64,
-        at: u64,
-        told: &[u8],
-        output: &mut W,
-    ) -> Result<(), Fault>
+    pub fn end<W: Sink>(&mut self, line: RunLine, told: &[u8], output: &mut W) -> Result<u64, Fault>
         requires { W.failures output.old < 2 ^ 64 - 1 }
-        ensures drawn { OnOk result (DrawsLines self.old self.new
-            (W.taken output.old) (W.taken output.new) source at (says_judged told.now)) }
+        ensures ok { IfOk result (λ height. DrawsLast self.old (W.taken output.old) (W.taken output.new)
+            line.source line.at told.now (says_of line.saying) height) }
         ensures fault { IfErr result IsWriteFault }
         ensures failures { W.failures output.new ≡ W.failures output.old + failed_write result }
     {
-        let bad = bad_process(told);
-        for words in told.lines() {
-            let saying = judged_saying(self.alloc, lane_of(bad, words), words)?;
-            self.draw(RunLine { source, at, saying }, output)?;
-        }
-        Ok(())
-    }
-
-    /// Draws the last line, writes what is held back, and returns the heights of all bands, with 16 more for each.
-    pub fn end<W: Sink>(&mut self, line: RunLine, output: &mut W) -> Result<u64, Fault>
-        requires { W.failures output.old < 2 ^ 64 - 1 }
-        ensures ok { IfOk result (DrawsLast self.old (W.taken output.old) (W.taken output.new) line.source line.at (says_of line.saying ∷ [])) }
-        ensures fault { IfErr result IsWriteFault }
-        ensures failures { W.failures output.new ≡ W.failures output.old + failed_write result }
-    {
-        self.draw(line, output)?;
-        let (full, last) = self.page.end()?;
+        let verdict = self.draw_up_to_verdict(line, told, output)?;
+        let (full, last) = self.page.end(verdict)?;
         write_last(&full, &last, output)?;
         Ok(self.page.height())
     }
-}
 
-/// Returns the saying of a judge's line in the lane of `process`.
-fn judged_saying(alloc: Global, process: Option<u8>, line: &[u8]) -> Result<Saying, AllocError>
-    ensures { IfOk result (λ saying. says_of saying ≡ SaysJudged process line.now) }
-{
-    let mut words = Vec::new(alloc);
-    words.extend_from_slice(line)?;
-    Ok(Saying::Judged { process, words })
+    /// Draws all up to the end of the picture, and returns the verdict with which it ends, if `told` has lines of a judge.
+    fn draw_up_to_verdict<W: Sink>(
+        &mut self,
+        line: RunLine,
+        told: &[u8],
+        output: &mut W,
+    ) -> Result<Option<ShownVerdict>, Fault>
+        requires { W.failures output.old < 2 ^ 64 - 1 }
+        ensures drawn { IfOk result (λ verdict. DrawsUpToVerdict self.old self.new
+            (W.taken output.old) (W.taken output.new) line.source line.at told.now (says_of line.saying) verdict) }
+        ensures fault { IfErr result IsWriteFault }
+        ensures failures { W.failures output.new ≡ W.failures output.old + failed_write result }
+    {
+        if told.is_empty() {
+            self.draw(line, output)?;
+            return Ok(None);
+        }
+        self.draw_reads(output)?;
+        let last = line.text(self.alloc)?;
+        let verdict = verdict_of(self.alloc, line.source, told, last.as_slice())?;
+        Ok(Some(verdict))
+    }
 }

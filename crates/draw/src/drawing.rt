@@ -9,7 +9,6 @@ ghost use Rattle.draw.specs.Canvases.{DrawsLast, DrawsLines, kept, kept_at_first
 ghost use Rattle.draw.specs.Drawings.{DrawsPart, Recalls};
 ghost use Rattle.draw.specs.Items.{Part, PartEntry, PartLine, entries_among, says_of};
 ghost use Rattle.draw.specs.Overlaps.{TellsEnd};
-ghost use Rattle.draw.specs.RecordItems.{says_judged};
 ghost use Rattle.draw.specs.Writing.{IsWriteFault, failed_write};
 
 use crate::canvas::Canvas;
@@ -164,39 +163,26 @@ impl Drawing {
         self.canvas.draw(line, output)
     }
 
-    /// Draws the lines that a judge tells.
+    /// Draws the last line, or the verdict with it if `told` has lines of a judge, writes what is held back, and returns the
+    /// heights of the bands.
     ///
     /// # Errors
     ///
     /// Returns [`Fault::Write`] if a call of the sink fails, and [`Fault::Memory`] if memory is lacking.
-    pub fn draw_judged<W: Sink>(&mut self, told: &[u8], output: &mut W) -> Result<(), Fault>
-        requires { W.failures output.old < 2 ^ 64 - 1 }
-        ensures drawn { OnOk result (DrawsLines self.old.canvas self.new.canvas
-            (W.taken output.old) (W.taken output.new) self.old.source self.old.entries (says_judged told.now)) }
-        ensures store { self.new.store ≡ self.old.store }
-        ensures entries { self.new.entries ≡ self.old.entries }
-        ensures source { self.new.source ≡ self.old.source }
-        ensures fault { IfErr result IsWriteFault }
-        ensures failures { W.failures output.new ≡ W.failures output.old + failed_write result }
-    {
-        self.canvas
-            .draw_judged(self.source, self.entries, told, output)
-    }
-
-    /// Draws the last line, writes what is held back, and returns the heights of the bands.
-    ///
-    /// # Errors
-    ///
-    /// Returns [`Fault::Write`] if a call of the sink fails, and [`Fault::Memory`] if memory is lacking.
-    pub fn end<W: Sink>(&mut self, saying: Saying, output: &mut W) -> Result<u64, Fault>
+    pub fn end<W: Sink>(
+        &mut self,
+        saying: Saying,
+        told: &[u8],
+        output: &mut W,
+    ) -> Result<u64, Fault>
         requires { W.failures output.old < 2 ^ 64 - 1 }
         ensures drawn { IfOk result (DrawsLast self.old.canvas
-            (W.taken output.old) (W.taken output.new) self.old.source self.old.entries (says_of saying ∷ [])) }
+            (W.taken output.old) (W.taken output.new) self.old.source self.old.entries told.now (says_of saying)) }
         ensures fault { IfErr result IsWriteFault }
         ensures failures { W.failures output.new ≡ W.failures output.old + failed_write result }
     {
         let line = self.line(saying);
-        self.canvas.end(line, output)
+        self.canvas.end(line, told, output)
     }
 
     /// Returns the next line.

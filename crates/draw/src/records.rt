@@ -3,5 +3,4 @@
 mod drawing;
 pub(crate) mod engines;
 pub(crate) mod held;
-pub(crate) mod judged;
 mod sheet;

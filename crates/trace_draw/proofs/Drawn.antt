@@ -2,7 +2,7 @@
 use Rattle.std.proofs.Common.{◌≡◌, ℕ, ◌+◌, List, [], ◌∷◌, ◌++◌, length, map, reverse, Option, Some, None, ap, sym, subst, ◌∙◌, arith}
 use Rattle.std.proofs.lemmas.List.{length-reverse}
 use Rattle.std.specs.Io.KnownBytes.{Appends}
-use Rattle.draw.specs.{Canvas, DrawsBands, DrawsLast, DrawsLines, DrawsOn, Gives, GivesLine, IsAround, Kept, Writes, given, kept, kept_at_first, texts_given, trace_plan}
+use Rattle.draw.specs.{Canvas, DrawsBands, DrawsLast, DrawsLines, DrawsOn, Gives, GivesLine, IsAround, Kept, SaysLockEnd, Writes, given, kept, kept_at_first, texts_given, trace_plan}
 use Rattle.draw.proofs.Drawn.{IsWhole, draws_bands, draws_on_both, draws_on_none, framed}
 use Rattle.draw.proofs.Whole.{held_are}
 use Rattle.picture.specs.{Form, Item, bands_told, page_names, picture_names, trace_page_back, trace_picture_back, trace_picture_front}
@@ -11,7 +11,7 @@ use Rattle.picture.specs.declared.reads.Reads.{Reads}
 use Rattle.picture.specs.markup.{lines_in, opens_in}
 use Rattle.trace.specs.{TraceEntry, TracePast, TraceSetup}
 use Rattle.trace_accesses.specs.{WaveLimit}
-use Rattle.trace_draw.specs.{AccessChoice, ComesAfter, DrawnBands, DrawnTrace, DrawsEntry, DrawsTraceSaid, EndsBands, EndsTrace, Heads, IsDrawn, TraceDrawing, Watches, given_access_of, given_entry, given_last, given_past, limit_of, says_entry, says_last, source_of, trace_gives, trace_picture_of, view_of}
+use Rattle.trace_draw.specs.{AccessChoice, ComesAfter, DrawnBands, DrawnTrace, DrawsEntry, DrawsTraceSaid, EndsBands, EndsTrace, Heads, IsDrawn, TraceDrawing, Watches, given_access_of, given_entry, given_last, given_past, limit_of, says_entry, source_of, trace_gives, trace_picture_of, view_of}
 use Rattle.trace_draw.proofs.Giving.{texts_of_trace}
 use Rattle.trace_draw.proofs.Hiding.{last_on, lines_on}
 
@@ -33,7 +33,7 @@ entry_drawn had mid marked has a b c e access marks rest counts = λ mode limit 
     let count : mid.entries ≡ length past = ap (λ (d : TraceDrawing). d.entries) access.rest ∙ after.count in
     let hides : mid.canvas.overlaps ≡ None = access.overlaps ∙ after.hides in
     let numbered = subst (λ n. DrawsLines mid.canvas marked.canvas b c n (length past) (says_entry e)) source (subst (λ n. DrawsLines mid.canvas marked.canvas b c mid.source n (says_entry e)) count marks) in
-    let lines = lines_on mid.canvas b c (source_of s) (length past) (says_entry e) hides marked.canvas numbered in
+    let lines = lines_on mid.canvas b c (source_of s) (length past) hides (says_entry e) marked.canvas numbered in
     let canvas : marked.canvas ≡ has.canvas = sym (ap (λ (d : TraceDrawing). d.canvas) counts) in
     let entries : has.entries ≡ mid.entries + 1 = ap (λ (d : TraceDrawing). d.entries) counts in
     let watch : mid.watch ≡ has.watch = sym (ap (λ (d : TraceDrawing). d.watch) counts ∙ ap (λ (d : TraceDrawing). d.watch) rest) in (
@@ -71,12 +71,12 @@ module _ (form : Form) (mode : Reads) (limit : WaveLimit) (s : TraceSetup) where
 
 -- all
 pub drawn_end : (form : Form) (asked : AccessChoice) (mode : Reads) (s : TraceSetup) (past : TracePast) (told : List ℕ) (d : TraceDrawing) (bands : DrawnBands) (old mid new : Option (List ℕ)) → IsDrawn form mode (limit_of asked) s past d old mid → mode ≡ view_of asked (length past) → bands.shows ≡ d.shows →
-    DrawsLast d.canvas mid new (source_of s + 1) d.entries (says_last told d.entries) bands.height → EndsBands form asked bands s past told old new
+    DrawsLast d.canvas mid new (source_of s + 1) d.entries told (SaysLockEnd d.entries) bands.height → EndsBands form asked bands s past told old new
 drawn_end form asked mode s past told d bands old mid new is decided same last =
     let view : mode ≡ bands.shows = sym (same ∙ is.after.view) in
-    let counted = subst (λ n. DrawsLast d.canvas mid new (source_of s + 1) n (says_last told n) bands.height) is.after.count last in
+    let counted = subst (λ n. DrawsLast d.canvas mid new (source_of s + 1) n told (SaysLockEnd n) bands.height) is.after.count last in
     let all = draws_bands (trace_plan form s.processes) (kept d.canvas) is.mid mid new (given_past mode (limit_of asked) s past) (given_last s told (length past)) bands.height
-    is.drawn (last_on d.canvas mid new (source_of s + 1) (length past) (says_last told (length past)) is.after.hides bands.height counted) in
+    is.drawn (last_on d.canvas mid new (source_of s + 1) (length past) is.after.hides told (SaysLockEnd (length past)) bands.height counted) in
     record {
       view = sym view ∙ decided;
       mid = is.mid;

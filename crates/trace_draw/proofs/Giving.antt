@@ -1,16 +1,15 @@
 -- The items of a trace, one entry after the other, and their texts.
 use Rattle.std.proofs.Common.{◌≡◌, ℕ, ◌+◌, List, [], ◌∷◌, ◌++◌, length, map, reverse, Option, Some, None, refl, ap, sym, ◌∙◌, append-nil, append_assoc, arith}
 use Rattle.std.proofs.lemmas.List.{length-reverse, reverse-append, reverse-reverse}
-use Rattle.draw.specs.{GivesLine, Says, SaysLockEnd, SaysLockMark, bad_process, says_text, texts_given, told_lines}
-use Rattle.draw.proofs.Giving.{texts_append, texts_of_lines}
-use Rattle.draw.proofs.RecordGiving.{texts_of_told}
+use Rattle.draw.specs.{GivesLine, SaysLockEnd, SaysLockMark, texts_given}
+use Rattle.draw.proofs.Giving.{texts_append}
+use Rattle.draw.proofs.Ending.{texts_of_end}
 use Rattle.picture.specs.columns.{GivenAccess, lock_marked_text}
 use Rattle.picture.specs.declared.reads.Reads.{Reads}
 use Rattle.picture.specs.declared.reads.Reads.TheVariants as reads
 use Rattle.trace.specs.{LockMark, TraceEntry, TracePast, TraceSetup}
 use Rattle.trace_accesses.specs.{WaveLimit, shown_access}
-use Rattle.trace_draw.specs.{AccessChoice, given_access_of, given_entry, given_last, given_past, gives_access, limit_of, mark_lines, says_entry, says_last, source_of, trace_gives, trace_lines, view_of}
-use Rattle.trace_draw.proofs.Hiding.{alone}
+use Rattle.trace_draw.specs.{AccessChoice, given_access_of, given_entry, given_last, given_past, gives_access, limit_of, mark_lines, says_entry, source_of, trace_gives, trace_lines, view_of}
 
 -- the texts of the marks of an entry
 texts_marks : (source n p : ℕ) (marks : List LockMark) → texts_given (map (GivesLine source n) (map (SaysLockMark p) marks)) ≡ map (lock_marked_text n p) marks
@@ -55,12 +54,8 @@ module _ (mode : Reads) (limit : WaveLimit) (s : TraceSetup) where
       ∙ sym (lines_more 0 (reverse past) e (length past) (let same = length-reverse past in omega (arith, same)))
       ∙ ap (mark_lines 0) (sym (reverse-append (e ∷ []) past))
 
--- the texts of lines
-texts_lines : (source at : ℕ) (lines : List Says) → texts_given (map (GivesLine source at) lines) ≡ map (says_text at) lines
-texts_lines source at lines = ap texts_given (sym (alone source at lines)) ∙ texts_of_lines reads.Hidden source at [] lines
-
 pub texts_of_trace : (asked : AccessChoice) (s : TraceSetup) (entries : List TraceEntry) (told : List ℕ) → texts_given (trace_gives asked s entries told) ≡ trace_lines entries told
 texts_of_trace asked s entries told =
     texts_append (given_past (view_of asked (length entries)) (limit_of asked) s (reverse entries)) (given_last s told (length entries))
     ∙ (λ i. (texts_past (view_of asked (length entries)) (limit_of asked) s (reverse entries) ∙ ap (mark_lines 0) (reverse-reverse entries)) i
-    ++ (texts_lines (source_of s + 1) (length entries) (says_last told (length entries)) ∙ texts_of_told (length entries) (bad_process (told_lines told)) (told_lines told) (SaysLockEnd (length entries))) i)
+    ++ texts_of_end reads.Hidden (source_of s + 1) (length entries) [] told (SaysLockEnd (length entries)) i)

@@ -1,6 +1,6 @@
 -- A canvas that shows no reads: its lines do not depend on a setup, nor on entries of a record.
 use Rattle.std.proofs.Common.{◌≡◌, ℕ, List, [], ◌∷◌, Option, Some, None, map, refl, subst}
-use Rattle.draw.specs.{Canvas, DrawsLast, DrawsLines, DrawsOn, DrawsRest, GivesLine, OverlapsHeard, Overhears, Says, kept, lines_given, waiting}
+use Rattle.draw.specs.{Canvas, DrawsLast, DrawsLines, DrawsOn, DrawsRest, GivesLine, OverlapsHeard, Overhears, Says, end_given, kept, lines_given, waiting}
 use Rattle.picture.specs.columns.{OverlappedRead}
 use Rattle.picture.specs.declared.reads.Reads.TheVariants.{Hidden}
 use Rattle.trace.specs.plain_store.{Setup}
@@ -24,14 +24,13 @@ pub alone : (source at : ℕ) (lines : List Says) → lines_given Hidden source 
 alone source at [] = refl
 alone source at (line ∷ lines) = refl
 
-module _ (had : Canvas) (a b : Option (List ℕ)) (source at : ℕ) (lines : List Says) (hides : had.overlaps ≡ None) where
+module _ (had : Canvas) (a b : Option (List ℕ)) (source at : ℕ) (hides : had.overlaps ≡ None) where
   -- lines are drawn
-  pub lines_on : (has : Canvas) → DrawsLines had has a b source at lines → DrawsOn (kept had) (kept has) a b (map (GivesLine source at) lines) × (has.overlaps ≡ None)
-  lines_on has draws =
+  pub lines_on : (lines : List Says) (has : Canvas) → DrawsLines had has a b source at lines → DrawsOn (kept had) (kept has) a b (map (GivesLine source at) lines) × (has.overlaps ≡ None)
+  lines_on lines has draws =
       let drawn = draws Hidden some_setup [] [] (none_waits had.overlaps hides) in
       (subst (DrawsOn (kept had) (kept has) a b) (alone source at lines) drawn.0, hides_on has.overlaps (waiting lines []) drawn.1)
 
-  -- the last ones are
-  pub last_on : (height : ℕ) → DrawsLast had a b source at lines height → DrawsRest (kept had) a b (map (GivesLine source at) lines) height
-  last_on height draws =
-      subst (λ gives. DrawsRest (kept had) a b gives height) (alone source at lines) (draws Hidden some_setup [] [] (none_waits had.overlaps hides))
+  -- the end is
+  pub last_on : (told : List ℕ) (last : Says) (height : ℕ) → DrawsLast had a b source at told last height → DrawsRest (kept had) a b (end_given Hidden source at [] told last) height
+  last_on told last height draws = draws Hidden some_setup [] [] (none_waits had.overlaps hides)

@@ -1,13 +1,13 @@
 -- The entries that a picture mode are held, and then they are drawn.
 use Rattle.std.proofs.Common.{◌≡◌, ◌<◌, ◌≤◌, ℕ, ◌+◌, List, [], ◌∷◌, ◌++◌, length, reverse, slice_index_or, take, Option, Some, None, refl, ap, sym, subst, ◌∙◌, arith}
 use Rattle.std.proofs.lemmas.List.{length-reverse, reverse-append, reverse-reverse, take_more}
-use Rattle.draw.specs.{DrawsLast}
+use Rattle.draw.specs.{DrawsLast, SaysLockEnd}
 use Rattle.picture.specs.{Form}
 use Rattle.picture.specs.declared.reads.Reads.{Reads}
 use Rattle.picture.specs.declared.reads.Reads.TheVariants as reads
 use Rattle.trace.specs.{TraceEntry, TracePast, TraceSetup}
 use Rattle.trace_engine.specs.{count_by}
-use Rattle.trace_draw.specs.{AccessChoice, AreHeld, AreShownBy, DrawnBands, DrawsEntry, EndsBands, IsDecided, IsDrawn, TraceDrawing, drawn_count, limit_of, says_last, source_of}
+use Rattle.trace_draw.specs.{AccessChoice, AreHeld, AreShownBy, DrawnBands, DrawsEntry, EndsBands, IsDecided, IsDrawn, TraceDrawing, drawn_count, limit_of, source_of}
 use Rattle.trace_draw.specs.declared.views.AccessChoice.TheVariants as accesses
 use Rattle.trace_draw.proofs.Drawn.{drawn_end, drawn_entry}
 use Rattle.trace_draw.proofs.Watching.{decided_later, decided_view, drawn_as_many, short_view}
@@ -64,13 +64,13 @@ module _ (form : Form) (asked : AccessChoice) (s : TraceSetup) where
 
   -- the end of a picture that is short
   pub held_end : (past : TracePast) (held : List TraceEntry) (told : List ℕ) (d : TraceDrawing) (bands : DrawnBands) (first now mid new : Option (List ℕ)) → AreHeld asked past held first now → IsDrawn form reads.All (limit_of asked) s (reverse held) d now mid → bands.shows ≡ d.shows →
-      DrawsLast d.canvas mid new (source_of s + 1) d.entries (says_last told d.entries) bands.height → EndsBands form asked bands s past told first new
+      DrawsLast d.canvas mid new (source_of s + 1) d.entries told (SaysLockEnd d.entries) bands.height → EndsBands form asked bands s past told first new
   held_end past held told d bands first now mid new are drawn same last =
       drawn_end form asked reads.All s past told d bands first mid new (held_drawn reads.All past held d first now mid are drawn) (short_view asked (length past) are.asks are.few) same last
 
   -- or of another one
   pub shown_end : (past : TracePast) (held : List TraceEntry) (told : List ℕ) (d : TraceDrawing) (bands : DrawnBands) (first mid new : Option (List ℕ)) → AreShownBy (Some d) held form asked s past first mid → bands.shows ≡ d.shows →
-      DrawsLast d.canvas mid new (source_of s + 1) d.entries (says_last told d.entries) bands.height → EndsBands form asked bands s past told first new
+      DrawsLast d.canvas mid new (source_of s + 1) d.entries told (SaysLockEnd d.entries) bands.height → EndsBands form asked bands s past told first new
   shown_end past held told d bands first mid new shown same last =
       drawn_end form asked shown.0 s past told d bands first mid new shown.2 (decided_view asked shown.0 (length past) shown.1) same last
 

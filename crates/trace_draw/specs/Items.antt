@@ -1,7 +1,8 @@
 -- The items of a trace's picture: the accesses of its entries if they are shown, a line for each mark, a judge's lines, and a last line.
 use Rattle.std.specs.Prelude.{ℕ, ◌+◌, Bool, true, false, List, [], ◌∷◌, ◌++◌, length, map, reverse, take, Option, None, Some}
-use Rattle.draw.specs.{Gives, GivesAccess, GivesLine, Says, SaysLockEnd, SaysLockMark, says_judged, told_lines}
-use Rattle.picture.specs.columns.{GivenAccess, judged_text, lock_ended_text, lock_marked_text}
+use Rattle.draw.specs.{Gives, GivesAccess, GivesLine, Says, SaysLockEnd, SaysLockMark, end_given}
+use Rattle.picture.specs.columns.{GivenAccess, lock_ended_text, lock_marked_text}
+use Rattle.picture.specs.shown_verdict.{judged_text, report_lines}
 use Rattle.picture.specs.declared.reads.Reads.{Reads}
 use Rattle.picture.specs.declared.reads.Reads.TheVariants as reads
 use Rattle.trace.specs.{TraceEntry, TracePast, TraceSetup}
@@ -45,13 +46,9 @@ abbrev pub given_past : Reads → WaveLimit → TraceSetup → TracePast → Lis
 given_past mode limit s [] = []
 given_past mode limit s (e ∷ past) = given_past mode limit s past ++ given_entry mode limit s past e
 
--- what a judge tells, if it tells anything, and the last line behind so many entries
-abbrev pub says_last : List ℕ → ℕ → List Says
-says_last told n = says_judged told ++ SaysLockEnd n ∷ []
-
--- the items of what a judge tells, and of the last line
+-- the end after n entries: the last line, or the verdict with it; no read waits
 abbrev pub given_last : TraceSetup → List ℕ → ℕ → List Gives
-given_last s told n = map (GivesLine (source_of s + 1) n) (says_last told n)
+given_last s told n = end_given reads.Hidden (source_of s + 1) n [] told (SaysLockEnd n)
 
 -- all items of a trace of which these entries are shown, and of which a judge tells this
 abbrev pub trace_gives : AccessChoice → TraceSetup → List TraceEntry → List ℕ → List Gives
@@ -67,4 +64,4 @@ mark_lines n (e ∷ entries) = map (lock_marked_text n e.process) e.marks ++ mar
 
 -- all
 abbrev pub trace_lines : List TraceEntry → List ℕ → List (List ℕ)
-trace_lines entries told = mark_lines 0 entries ++ (map judged_text (told_lines told) ++ lock_ended_text (length entries) ∷ [])
+trace_lines entries told = mark_lines 0 entries ++ (map judged_text (report_lines told) ++ lock_ended_text (length entries) ∷ [])

@@ -4,7 +4,7 @@ pub mod Sheets
 pub mod Showing
 pub mod Views
 pub use Headings.{first_lines, kind_word, listed, memory_word, register_line, source_of, title_of}
-pub use Items.{given_access_of, given_entry, given_last, given_past, gives_access, mark_lines, says_entry, says_last, shown, shown_by, trace_gives, trace_lines}
+pub use Items.{given_access_of, given_entry, given_last, given_past, gives_access, mark_lines, says_entry, shown, shown_by, trace_gives, trace_lines}
 pub use Sheets.{DrawsAllBands, DrawsLine, DrawsTrace, DrewTrace, EndsSheet, IsDrawFault, NothingYet, Stands, StandsOn, with_output}
 pub use Showing.{AreHeld, AreShown, AreShownBy, ComesAfter, DrawsEntry, DrawsTraceSaid, EndsBands, EndsTrace, HasShown, Heads, HeadsPage, IsDrawn, IsTold, SoFar, TellsTrace, Watches, count_of, drawn_count, trace_picture_of, watched}
 pub use Views.{IsDecided, limit_of, view_of}

@@ -1,11 +1,11 @@
 //! The picture of a trace so far.
 ghost use Rattle.std.specs.Prelude.{◌≡◌, ◌+◌, ◌-◌, ◌^◌, ◌<◌, ◌∷◌, [], IfErr, IfOk, None, OnOk, map, true};
-ghost use Rattle.draw.specs.{DrawsLast, DrawsLines, DrawsOn, IsWriteFault, SaysLockMark, failed_write, kept, kept_at_first, trace_plan};
+ghost use Rattle.draw.specs.{DrawsLast, DrawsLines, DrawsOn, IsWriteFault, SaysLockEnd, SaysLockMark, failed_write, kept, kept_at_first, trace_plan};
 ghost use Rattle.picture.specs.declared.reads.Reads.{Reads as View};
 ghost use Rattle.trace.specs.{TracePast as Past, TraceSetup as Setup, is_trace_setup};
 ghost use Rattle.trace_accesses.specs.{HasWatched, WaveLimit as Limit, shown_access};
 ghost use Rattle.trace_draw.specs.Headings.{source_of};
-ghost use Rattle.trace_draw.specs.Items.{given_access_of, gives_access, says_last};
+ghost use Rattle.trace_draw.specs.Items.{given_access_of, gives_access};
 ghost use Rattle.trace_draw.specs.Showing.{ComesAfter, DrawsEntry, Watches, drawn_count, watched};
 ghost use Rattle.trace_draw.specs.Views.{limit_of};
 
@@ -154,7 +154,8 @@ impl TraceDrawing {
         self.canvas.draw(line, output)
     }
 
-    /// Draws the lines of the judge and the last line, writes what is held back, and returns what was drawn.
+    /// Draws the last line, or the verdict with it if `told` has lines of a judge, writes what is held back, and returns what
+    /// was drawn.
     ///
     /// # Errors
     ///
@@ -168,16 +169,17 @@ impl TraceDrawing {
         requires { W.failures output.old < 2 ^ 64 - 1 }
         ensures drawn { IfOk result (λ bands. DrawsLast self.old.canvas
             (W.taken output.old) (W.taken output.new) (source_of setup.now + 1) self.old.entries
-            (says_last told.now self.old.entries) bands.height) }
+            told.now (SaysLockEnd self.old.entries) bands.height) }
         ensures shows { IfOk result (λ bands. bands.shows ≡ self.old.shows) }
         ensures fault { IfErr result IsWriteFault }
         ensures failures { W.failures output.new ≡ W.failures output.old + failed_write result }
     {
         let source = line_of_entries(setup) + 1;
         let at = self.entries;
-        self.canvas.draw_judged(source, at, told, output)?;
         let saying = Saying::LockEnded { entries: at };
-        let height = self.canvas.end(RunLine { source, at, saying }, output)?;
+        let height = self
+            .canvas
+            .end(RunLine { source, at, saying }, told, output)?;
         Ok(DrawnBands {
             shows: self.shows,
             height,

@@ -10,7 +10,7 @@ ghost use Rattle.draw.specs.Drawings.{DrawsPart, Recalls};
 ghost use Rattle.draw.specs.Items.{Part, PartEntry, SaysEnd, entries_among};
 ghost use Rattle.draw.specs.Overlaps.{TellsEnd, Watches};
 ghost use Rattle.draw.specs.RecordDrawings.{RecordRecalls};
-ghost use Rattle.draw.specs.RecordItems.{says_judged, source_of};
+ghost use Rattle.draw.specs.RecordItems.{source_of};
 ghost use Rattle.draw.specs.Writing.{IsWriteFault, failed_write};
 
 use crate::drawing::{Drawing, lines_of_setup};
@@ -116,7 +116,7 @@ impl RecordDrawing {
         self.watch.hear(access)
     }
 
-    /// Draws what a judge tells and the last line, writes what is held back, and returns the heights of the bands.
+    /// Draws the last line, or the verdict with it if `told` has lines of a judge, writes what is held back, and returns the heights of the bands.
     ///
     /// # Errors
     ///
@@ -124,18 +124,17 @@ impl RecordDrawing {
     pub fn end<W: Sink>(&mut self, setup: &Setup, told: &[u8], output: &mut W) -> Result<u64, Fault>
         requires { W.failures output.old < 2 ^ 64 - 1 }
         ensures drawn { IfOk result (DrawsLast self.old.drawing.canvas (W.taken output.old) (W.taken output.new)
-            (source_of setup.now + 1) self.old.drawing.entries
-            (says_judged told.now ++ SaysEnd self.old.drawing.entries self.old.drawing.store.taken 0 ∷ [])) }
+            (source_of setup.now + 1) self.old.drawing.entries told.now
+            (SaysEnd self.old.drawing.entries self.old.drawing.store.taken 0)) }
         ensures fault { IfErr result IsWriteFault }
         ensures failures { W.failures output.new ≡ W.failures output.old + failed_write result }
     {
         self.drawing.source = line_of_entries(setup) + 1;
-        self.drawing.draw_judged(told, output)?;
         let saying = Saying::Ended {
             events: self.drawing.entries,
             taken: self.drawing.store.taken(),
             refused: 0,
         };
-        self.drawing.end(saying, output)
+        self.drawing.end(saying, told, output)
     }
 }

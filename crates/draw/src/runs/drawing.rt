@@ -152,7 +152,7 @@ impl RunDrawing {
     fn end<W: Sink>(&mut self, taken: u64, output: &mut W) -> Result<(Summary, u64), Fault>
         requires { W.failures output.old < 2 ^ 64 - 1 }
         ensures drawn { IfOk result (λ answer. DrawsLast self.old.drawing.canvas
-            (W.taken output.old) (W.taken output.new) self.old.drawing.source self.old.drawing.entries (says_end answer.0 ∷ []) answer.1) }
+            (W.taken output.old) (W.taken output.new) self.old.drawing.source self.old.drawing.entries [] (says_end answer.0) answer.1) }
         ensures summary { IfOk result (λ answer. answer.0 ≡ record (tally self.old) { taken = taken }) }
         ensures fault { IfErr result IsWriteFault }
         ensures failures { W.failures output.new ≡ W.failures output.old + failed_write result }
@@ -164,7 +164,7 @@ impl RunDrawing {
             taken,
             refused,
         };
-        let height = self.drawing.end(saying, output)?;
+        let height = self.drawing.end(saying, b"", output)?;
         let summary = Summary {
             events,
             taken,

@@ -1,16 +1,20 @@
-use Rattle.std.proofs.Common.{[], ◌∷◌, subst, sym, append-nil}
+use Rattle.std.proofs.Common.{subst, sym}
 use Rattle.picture.specs.{seen_page}
-use Rattle.draw.specs.{DrawsRest, kept, lines_given, says_of}
-use Rattle.draw.proofs.Drawn.{draws_rest, rest_behind}
+use Rattle.draw.specs.{DrawsLast, kept, says_of}
+use Rattle.draw.proofs.Drawn.{draws_rest}
+use Rattle.draw.proofs.Ending.{last_drawn}
 use Rattle.draw.proofs.canvas.Canvas.end.Goals as goal
 
 pub returns-clause-ok : goal.returns-clause-ok
-returns-clause-ok g c = λ mode s past reads waits.
+returns-clause-ok g c =
     let line = c.args.line in
-    let gives = lines_given mode line.source line.at reads (says_of line.saying ∷ []) in
+    let last = says_of line.saying in
+    let mid = c.draw_up_to_verdict.new.self in
+    let a = g.W.Sink.taken c.args.output.now in
+    let b = g.W.Sink.taken c.draw_up_to_verdict.new.output in
+    let z = g.W.Sink.taken c.write_last.new.output in
     let bands = c.in_ok-full.ensures in
-    let rest = draws_rest (kept c.draw.new.self) (seen_page c.end.new.self) c.in_ok-full.full c.in_ok-full.last (g.W.Sink.taken c.draw.new.output) (g.W.Sink.taken c.write_last.new.output)
-    bands.lines bands.page (c.in_ok-write_last.ensures.ok bands.full bands.last) in
-    subst (λ n. DrawsRest (kept c.args.self.now) (g.W.Sink.taken c.args.output.now) (g.W.Sink.taken c.write_last.new.output) gives n) (sym c.height.ensures)
-    (subst (λ l. DrawsRest (kept c.args.self.now) (g.W.Sink.taken c.args.output.now) (g.W.Sink.taken c.write_last.new.output) l c.end.new.self.height) (append-nil gives)
-    (rest_behind (kept c.args.self.now) (kept c.draw.new.self) (g.W.Sink.taken c.args.output.now) (g.W.Sink.taken c.draw.new.output) (g.W.Sink.taken c.write_last.new.output) gives [] c.end.new.self.height (c.in_ok-draw.ensures.ok mode s past reads waits).0 rest))
+    let verdict = c.in_ok-verdict.verdict in
+    let rest = draws_rest verdict (kept mid) (seen_page c.end.new.self) c.in_ok-full.full c.in_ok-full.last b z bands.lines bands.page (c.in_ok-write_last.ensures.ok bands.full bands.last) in
+    subst (DrawsLast c.args.self.now a z line.source line.at c.args.told.now last) (sym c.height.ensures)
+    (last_drawn c.args.self.now mid a b z line.source line.at c.args.told.now last verdict c.end.new.self.height c.in_ok-verdict.ensures.drawn rest)
