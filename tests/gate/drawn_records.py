@@ -7,9 +7,9 @@ of `turns` and of `show`, and how many events were refused. Where it has none of
 
 Each record of examples/other-locks is drawn, good or bad. A parser of XML reads the picture, and one of HTML the page; the
 titles of their marks are the marks of the record, which are read here once more from its words. With `--judge`, and with
-`--any-lock`, they are those up to the first bad entry, and then the lines that `judge` prints with `--why`, each in the lane of the
-process that it names, or else of the bad entry; and the status is that of `judge`. A record with a fault has the same fault, told
-alike with its place, in `draw`, `draw-svg` and `judge`, of which the page alone may have begun.
+`--any-lock`, they are those up to the first bad entry, and then the lines that `judge` prints with `--why`; the verdict is shown as
+drawn_verdicts.py reads it; and the status is that of `judge`. A record with a fault has the same fault, told alike with its place, in
+`draw`, `draw-svg` and `judge`, of which the page alone may have begun.
 """
 
 import pathlib
@@ -20,6 +20,7 @@ import xml.etree.ElementTree as tree
 
 sys.path.insert(0, str(pathlib.Path(__file__).resolve().parents[1]))
 
+from drawn_verdicts import verdict_faults
 from lib.counting import Counter
 from lib.places import OTHER_LOCKS, PROGRAM, TOP, WORKED
 from pictures import SVG, Groups, overlapped_in, read_faults, title, words_of
@@ -118,32 +119,6 @@ def record_faults(record):
         yield from read_faults(heard(written(record, "draw", "--reads")), reads)
 
 
-def lanes_of(root):
-    """The process of each lane that a picture has, by how far below its top it is."""
-    named = [(text, re.fullmatch(r"P(\d+)", text.text)) for text in root.iter(SVG + "text") if text.get("class") == "lane"]
-    return {int(text.get("y")) - 4: int(name[1]) for text, name in named if name}
-
-
-def lanes_told(root):
-    """The lanes of the lines of a judge, each as the number of its process; none for a line in the lane of the history."""
-    lanes = lanes_of(root)
-    for mark in root.iter(SVG + "g"):
-        if mark.get("class") == "m" and title(mark).startswith("judge "):
-            signs = [path.get("d") for path in mark.iter(SVG + "path") if path.get("class") == "no-sign"]
-            yield lanes.get(int(re.match(r"M\d+ (\d+)l", signs[0])[1]) + 8) if signs else None
-
-
-def lanes_wanted(record, told):
-    """The lanes in which such lines are to stand: those of processes that are there."""
-    heading = re.search(rb"^processes (\d+)", record, re.M)
-    processes = int(heading[1]) if heading else 2
-    spelled = [line.split() for line in told]
-    bad = next((int(words[1]) for words in spelled if words[0] == "is"), None)
-    for words in spelled:
-        process = int(words[1]) if words[0] in ("inside", "waits") else bad
-        yield process if process is not None and process < processes else None
-
-
 def judged_faults(record):
     """What is wrong with the pictures of a record that show the verdict on it."""
     for options, judging in JUDGES:
@@ -157,8 +132,8 @@ def judged_faults(record):
             elif [group.title[0] for group in heard(picture.decode()) if group.style == "m"] != wanted:
                 yield f"{command} {options} has other lines"
         root = tree.fromstring(picture)
-        if list(lanes_told(root)) != list(lanes_wanted(record, told)):
-            yield f"{options} has lines in other lanes"
+        bands = [group for group in root if group.get("transform")][:-1]
+        yield from (f"{options}: {fault}" for fault in verdict_faults(bands, told, wanted[-1], []))
         if stray_words(root):
             yield f"{options}: words stand outside: {stray_words(root)[:3]}"
 

@@ -4,7 +4,7 @@
 The traces are those of examples/traces/ and 100 that `lib/random_traces.py` makes up. The second reading of trace files says which
 marks each has. A parser of XML reads the picture, and one of HTML the page; the titles of their marks are the marks of the trace in
 their order, and a last line. With `--judge`, and with `--any-lock`, they are those up to the first bad entry, and then the lines that
-`judge` prints with `--why`, each in the lane of the process that it names, or else of the bad entry; the status is that of `judge`.
+`judge` prints with `--why`; the verdict is shown as drawn_verdicts.py reads it; the status is that of `judge`.
 
 Right of each mark the bar of each process is the stage that the marks so far give it, and no word lies on another. The page is titled
 as a trace, and lists its headings and registers; it has no history and no store. A trace with a fault has the same fault in `draw`,
@@ -25,7 +25,8 @@ import xml.etree.ElementTree as tree
 sys.path.insert(0, str(pathlib.Path(__file__).resolve().parents[1]))
 
 from drawn_accesses import access_faults, seen_in
-from drawn_records import lanes_told, run, stray_words
+from drawn_records import run, stray_words
+from drawn_verdicts import verdict_faults
 from lib.counting import Counter
 from lib.places import TOP
 from lib.random_traces import trace
@@ -63,15 +64,6 @@ def lines_of(read, told=()):
         yield from (f"{entry.number} {entry.process} {mark}" for mark in entry.marks)
     yield from (f"judge {line}" for line in told)
     yield f"end entries {len(entries)}"
-
-
-def lanes_wanted(read, told):
-    """The lanes in which the lines of a judge are to stand: those of processes that are there."""
-    spelled = [line.split() for line in told]
-    bad = next((int(words[1]) for words in spelled if words[0] == "is"), None)
-    for words in spelled:
-        process = int(words[1]) if words[0] in ("inside", "waits") else bad
-        yield process if process is not None and process < read.processes else None
 
 
 def listed_in(read):
@@ -112,8 +104,7 @@ def drawn_faults(file, read, options, status, told):
         yield "the picture has other lines"
     if stray_words(root):
         yield f"words stand outside: {stray_words(root)[:3]}"
-    if list(lanes_told(root)) != list(lanes_wanted(read, told)):
-        yield "lines of the judge stand in other lanes"
+    yield from verdict_faults(bands_of(root), told, wanted[-1], shown_lanes(read, count_in(wanted), "--accesses" in options))
     if all(entry.process < read.processes for entry in read.entries):
         yield from picture_faults(picture[1].decode(), Run([], wanted, None), is_good=False)
     yield from shown_faults(root, read, count_in(wanted), "--accesses" in options)
@@ -127,6 +118,13 @@ def count_in(wanted):
 def bands_of(root):
     """The bands of a picture. The last group is the legend."""
     return [group for group in root if group.get("transform")][:-1]
+
+
+def shown_lanes(read, count, shows_all):
+    """The processes of which a picture of so many entries shows accesses."""
+    if count > MOST_ENTRIES and not shows_all:
+        return []
+    return {access.process for access in shown_accesses(read, None if shows_all else MOST_WAVES) if access.event < count}
 
 
 def shown_faults(root, read, count, shows_all):

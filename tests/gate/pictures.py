@@ -38,7 +38,8 @@ SVG = "{http://www.w3.org/2000/svg}"
 # the size of a word by its class, in pixels
 SIZES = {
     **dict.fromkeys(["verb", "rest", "store", "saw", "of-what", "move", "cell"], 11),
-    **dict.fromkeys(["event", "gap", "name", "stage", "white", "in", "in-w", "thin", "key"], 10),
+    **dict.fromkeys(["event", "gap", "name", "stage", "white", "in", "in-w", "thin", "key", "because"], 10),
+    "sentence": 13,
     "lane": 14,
 }
 # the stage that a mark gives its process
@@ -291,6 +292,12 @@ def bracket_faults(bands):
             yield f"brackets {brackets} of reads at {columns}"
 
 
+def is_in_box(mark, band):
+    """Whether a mark is a line in the box of a verdict, and not in a column."""
+    boxes = [int(box.get("y")) for box in band.iter(SVG + "rect") if box.get("class") in ("ruling", "ruling kept")]
+    return any(int(word.get("y")) > top for top in boxes for word in mark.iter(SVG + "text"))
+
+
 def picture_faults(picture, run, is_good=True):
     """What is wrong with the picture of a run, in which two processes may be inside if it is not good."""
     root = tree.fromstring(picture.encode())
@@ -310,8 +317,9 @@ def picture_faults(picture, run, is_good=True):
     yield from place_faults(marks)
     state = State(["idle"] * len(bars_of(bands[0])), False)
     for band, marks in zip(bands, marks_of):
-        yield from band_faults(band, state, marks, is_good)
-        for mark in marks:
+        columns = [mark for mark in marks if not is_in_box(mark, band)]
+        yield from band_faults(band, state, columns, is_good)
+        for mark in columns:
             state = state.after(title(mark))
 
 
