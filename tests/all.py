@@ -1,8 +1,9 @@
 #!/usr/bin/env python3
-"""Proves every crate from nothing and runs every test: `rt ci`, then the scripts that run the program which it leaves.
+"""Proves every crate and runs every test: `rt ci`, then the scripts that run the program which it leaves.
 
-The words given are for `rt ci`: with `--anew` it takes nothing from earlier runs; a kit whose `rt ci` never does (13b) knows no such
-word, and gets none. The last line counts everything: `N passed, M failed`.
+`rt ci` takes over what an earlier run on this machine has proved of the same files. The words given are for it: with `--anew` it takes
+nothing. A kit whose `rt ci` always proves everything (13b) does not know this word, and gets none. The last line counts everything:
+`N passed, M failed`.
 """
 
 import os
