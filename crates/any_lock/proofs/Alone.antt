@@ -1,4 +1,4 @@
--- Entries that keep all laws: nobody is inside beside another, nobody overtakes, and what is taken has its place and reply.
+-- Entries that keep all laws: no two processes are inside, no process overtakes, and a command is taken at its position with its reply.
 use Rattle.std.proofs.Common.{◌≡◌, ◌≢◌, ℕ, zero, suc, ◌<◌, ◌≤◌, ◌==◌, Bool, true, false, not, ◌&&◌, cond, List, [], ◌∷◌, None, fold, length, get_or, refl, sym, ap, ◌∙◌, subst, arith, true≢false, ◌⊎◌, inl, inr, ne_eqb, eq-eqb, eqb-true}
 use Rattle.std.specs.List.{list_all, list_any}
 use Rattle.std.proofs.lemmas.Bool.{and_parts, cases_eq, cases_lt}
@@ -17,7 +17,7 @@ use Rattle.lock_stages.proofs.Entering.{none_ahead, none_inside}
 use Rattle.lock_stages.proofs.Lowest.{unsome}
 use Rattle.any_lock.proofs.Told.{found_good}
 
--- What an entry that breaks no law keeps.
+-- The properties of an entry that breaks no law.
 pub record Keeps (s : Setup) (past : Past) (e : Entry) : Type 0 where
   pub access : refusal_of_access s past e ≡ None
   pub marks : refusal_of_marks s past e ≡ None
@@ -56,7 +56,7 @@ all_keep s (e ∷ past) good = go (verdict_after s past) refl (all_keep s past)
     )
     go (Bad k l) is before = let both : Bad k l ≡ Good = ap (λ v. elim v as (λ _. Verdict AnyLockLaw) [ Good ↦ verdict_with (length past) (first_broken s past e) | Bad k l ↦ Bad k l ]) (sym is) ∙ good in absurd (cc)
 
--- A process that is not there does nothing.
+-- A process that does not exist has no entries.
 
 pub stray : (s : Setup) (past : Past) → AllKeep s past → (j : ℕ) → s.processes ≤ j → (stage_at j past ≡ stage.Idle) × (inside j past ≡ false)
 stray s [] all j out = (refl, refl)
@@ -68,7 +68,7 @@ stray s (e ∷ past) all j out =
       ap (λ b. cond b (fold inside_after (inside j past) e.marks) (inside j past)) (ne_eqb e.process j apart) ∙ before.1,
     )
 
--- Nobody is inside beside who enters, and nobody is ahead.
+-- When a process enters, no other is inside, and none is ahead.
 
 and-none : (b : Bool) → (b && false) ≡ false
 and-none true = refl
@@ -88,7 +88,7 @@ overtakes_nobody s past e all kept enters j = elim (cases_lt j s.processes) [
       ∙ and-none (not (j == e.process))
 ]
 
--- No two are inside.
+-- No two processes are inside.
 
 still_inside : (ms : List Mark) (b : Bool) → list_any is_entered ms ≡ false → fold inside_after b ms ≡ true → b ≡ true
 still_inside [] b none h = h
@@ -96,7 +96,7 @@ still_inside (mark.Entered ∷ ms) b none h = absurd (true≢false none)
 still_inside (mark.Left ∷ ms) b none h = absurd (true≢false (sym (still_inside ms false none h)))
 still_inside (_ ∷ ms) b none h = still_inside ms b none h
 
--- one that enters, or stays inside, beside another
+-- a process that enters or stays inside excludes each other process
 beside : (s : Setup) (past : Past) (e : Entry) → AllKeep s past → Keeps s past e → IsAlone past → (j : ℕ) → j ≢ e.process → inside e.process (e ∷ past) ≡ true → inside j past ≡ true → e.process ≡ j
 beside s past e all kept alone j apart mine other = go (has is_entered e) refl
   where
@@ -121,7 +121,7 @@ pub all_alone : (s : Setup) (past : Past) → AllKeep s past → IsAlone past
 all_alone s [] all i j hi hj = absurd (true≢false (sym hi))
 all_alone s (e ∷ past) all i j hi hj = alone_on s past e all.1 all.0 (all_alone s past all.1) i j hi hj
 
--- What is taken.
+-- The commands taken.
 
 at_index : {A : Type 0} (p : A → Bool) (xs : List A) (i : ℕ) (x : A) → list_all p xs ≡ true → i < length xs → get_or xs i x ≡ x → p x ≡ true
 at_index p [] i x all within is = absurd (omega arith)

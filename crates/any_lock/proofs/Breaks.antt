@@ -1,4 +1,4 @@
--- What the tests of the laws say.
+-- The meaning of the tests of the laws.
 use Rattle.std.proofs.Common.{◌≡◌, ℕ, ◌<◌, Bool, true, false, not, ◌&&◌, List, [], ◌∷◌, Option, None, Some, is_some, refl, sym, ap, ◌∙◌, subst, true≢false}
 use Rattle.std.specs.Prelude.{nat_lt, if◌then◌else◌}
 use Rattle.std.proofs.lemmas.Bool.{and_parts, ltb-true}
@@ -26,9 +26,9 @@ not_false : (b : Bool) → not b ≡ false → b ≡ true
 not_false true h = refl
 not_false false h = sym h
 
--- Who is there, and which bits.
+-- Processes and bits that exist.
 
--- of a test whose refusal is not given
+-- a test is false if its refusal is not given
 pub none_if : {R : Type 0} (b : Bool) (r : R) (rest : Option R) → (if b then Some r else rest) ≡ None → b ≡ false
 none_if true r rest h = cc
 none_if false r rest h = refl
@@ -43,11 +43,11 @@ process_of s past p None e is none = let h : refusal_of_access s past (record { 
 process_of s past p (Some a) e is none = let h : refusal_of_access s past (record { process = p; access = Some a; marks = e.marks }) ≡ None = subst (λ (x : Entry). refusal_of_access s past x ≡ None) is none in
     none_if (not (nat_lt p s.processes)) access.NoProcess _ h
 
--- an entry whose access is not refused is of a process that is there
+-- an entry whose access is not refused is of an existing process
 pub process_there : (s : Setup) (past : Past) (e : Entry) → refusal_of_access s past e ≡ None → e.process < s.processes
 process_there s past e none = ltb-true e.process s.processes (not_false (nat_lt e.process s.processes) (process_of s past e.process e.access e refl none))
 
--- and that access is of a bit that is there
+-- an access that is not refused is to an existing bit
 pub access_there : (s : Setup) (past : Past) (e : Entry) → refusal_of_access s past e ≡ None → IsOfThere s e
 access_there s past e none a is =
     let h : access_refusal s e.process (standing s e.process past) a ≡ None = subst (λ (o : Option Access). refusal_of_access s past (record { process = e.process; access = o; marks = e.marks }) ≡ None) is none in
@@ -104,7 +104,7 @@ broken_by s past e keeps = by e.access refl
     by None acc = refl
     by (Some a) acc = ends a acc a.how refl
 
--- by what a watch answers
+-- by the result of a monitor
 pub told_by : (s : Setup) (past : Past) (e : Entry) (kept : Bool) → MatchBool kept (KeepsSafe s past e) (KeepsSafe s past e → ⊥) → breaks_safe s past e ≡ not kept
 told_by s past e true keeps = broken_by s past e keeps
 told_by s past e false breaks = go (breaks_safe s past e) refl

@@ -16,7 +16,7 @@ use Rattle.any_lock.proofs.Whole.{one_alone, refusal_or, refused, stands_whole}
 
 -- Entries whose marks are not refused.
 
--- they have something, and those that stand alone do so
+-- an entry has an access or a mark, and a mark that must be alone is alone
 pub record Orderly (o : Option Access) (p : ℕ) (ms : List Mark) : Type 0 where
   pub something : has_nothing (with_marks p o ms) ≡ false
   pub apart : (list_any stands_alone ms && not (has_one_mark (with_marks p o ms))) ≡ false
@@ -31,7 +31,7 @@ pub unrefused_on : (s : Setup) (past : Past) (p : ℕ) (o : Option Access) (ms :
     refusal_on s (length past) (accessed_by (length past) (standing s p past) o) ms ≡ None
 unrefused_on s past p o ms none = let fine = orderly s past p o ms none in sym (refused s p past o ms fine.something fine.apart) ∙ none
 
--- the refusals of the first mark, and of those behind it
+-- the refusals of the first mark, and of the marks after it
 pub first_unrefused : (s : Setup) (n : ℕ) (k : Standing) (m : Mark) (ms : List Mark) → refusal_on s n k (m ∷ ms) ≡ None → mark_refusal k m ≡ None
 first_unrefused s n k m ms none = go (mark_refusal k m) refl
   where
@@ -42,7 +42,7 @@ first_unrefused s n k m ms none = go (mark_refusal k m) refl
 pub rest_unrefused : (s : Setup) (n : ℕ) (k : Standing) (m : Mark) (ms : List Mark) → refusal_on s n k (m ∷ ms) ≡ None → refusal_on s n (marked s n k m) ms ≡ None
 rest_unrefused s n k m ms none = ap (λ x. refusal_or x (refusal_on s n (marked s n k m) ms)) (sym (first_unrefused s n k m ms none)) ∙ none
 
--- What holds of where a process stands, and of whether its call was cut.
+-- The invariant of the state of a process, and of whether its call was cut.
 
 -- the stages of a process that is inside
 abbrev pub holds : Stage → Bool
@@ -50,7 +50,7 @@ holds stage.Inside = true
 holds stage.Settling = true
 holds _ = false
 
--- those of one whose call was cut
+-- the stages of a process whose call was cut
 abbrev pub rests : Stage → Bool
 rests stage.Idle = true
 rests stage.Settling = true
@@ -79,7 +79,7 @@ is_downs : (x : Stage) → is_down x ≡ true → x ≡ stage.Down
 is_downs stage.Down h = refl
 is_downs _ h = absurd (true≢false (sym h))
 
--- neither of two stages of which an answer may come, nor an idle one
+-- a stage at which a call may be answered is in neither list
 pub answers_not : (x : Stage) → not (is_in_doorway x || is_leaving x) ≡ false → (holds x ≡ false) × (rests x ≡ false)
 answers_not stage.Doorway h = (refl, refl)
 answers_not stage.Leaving h = (refl, refl)
@@ -93,7 +93,7 @@ calls_idle _ a b = refl
 clash : (b : Bool) → b ≡ true → b ≡ false → ⊥
 clash b t f = true≢false (sym t ∙ f)
 
--- each mark that is not refused leaves it so
+-- each mark that is not refused keeps the invariant
 pub sound_marked : (s : Setup) (n : ℕ) (k : Standing) (m : Mark) (cut : Bool) → mark_refusal k m ≡ None → IsSound k cut → IsSound (marked s n k m) (cut_after cut m)
 sound_marked s n k (mark.Called c) cut none sound =
     let rest = none_else (is_running k.stage) refusal.Busy _ none in
@@ -196,9 +196,9 @@ all_sound s (e ∷ past) all p = go (cases_eq e.process p) (all_sound s past all
         subst (λ k. IsSound k (is_cut p (e ∷ past))) (sym (standing-other s p e past (ne_eqb e.process p apart)))
         (subst (λ b. IsSound (standing s p past) b) (sym (ap (λ l. list_any (has is_failed) (since is_called l)) (own-other p e past apart))) before)
 
--- An answer.
+-- A call that is answered.
 
--- comes where nothing was cut
+-- a call that is answered was not cut
 answered_at : (s : Setup) (n : ℕ) (ms : List Mark) (k : Standing) (cut : Bool) (i : ℕ) (a : Answer) → refusal_on s n k ms ≡ None → IsSound k cut → list_any stands_alone ms ≡ false →
     i < length ms → get_or ms i (mark.Answered a) ≡ mark.Answered a → cut ≡ false
 answered_at s n [] k cut i a none sound plain within is = absurd (omega arith)
@@ -216,7 +216,7 @@ answered_at s n (m ∷ ms) k cut (suc i) a none sound plain within is =
     let same : cut_after cut m ≡ cut = same_cut cut (m ∷ []) (or_false (stands_alone m) ∙ here) in
     sym same ∙ answered_at s n ms (marked s n k m) (cut_after cut m) i a (rest_unrefused s n k m ms none) (sound_marked s n k m cut (first_unrefused s n k m ms none) sound) later (omega arith) is
 
--- answers do not stand alone
+-- an answer need not be alone
 pub answered_plain : (o : Option Access) (p : ℕ) (ms : List Mark) (i : ℕ) (a : Answer) → Orderly o p ms → i < length ms → get_or ms i (mark.Answered a) ≡ mark.Answered a → list_any stands_alone ms ≡ false
 answered_plain o p ms i a fine within is = go (list_any stands_alone ms) refl
   where

@@ -1,4 +1,4 @@
--- What is kept goes on with an entry.
+-- The kept state, after one more entry.
 use Rattle.std.proofs.Common.{◌≡◌, ◌≢◌, ℕ, ◌+◌, ◌<◌, ◌≤◌, Bool, true, false, ◌&&◌, List, [], ◌∷◌, ◌++◌, Option, None, Some, is_some, cond, length, replicate, slice_get, slice_set, refl, sym, ap, ◌∙◌, subst, add-one, true≢false, inl, inr, ne_eqb, length-append, length-set}
 use Rattle.std.specs.List.{list_all, list_any}
 use Rattle.std.proofs.lemmas.Bool.{cases_eq, cases_lt}
@@ -11,7 +11,7 @@ use Rattle.record.specs.declared.marks.Mark.TheVariants as mark
 use Rattle.any_lock.specs.{KeptState, Knows, Standing, is_taken, is_taken_as, is_that, standing}
 use Rattle.any_lock.proofs.Steps.{standing-other}
 
--- a look into a list that was set
+-- an item of a list that was set
 slice_get-set_same : (xs : List Standing) (i : ℕ) (x : Standing) → i < length xs → slice_get (slice_set xs i x) i ≡ Some x
 slice_get-set_same xs i x within =
     slice_get-get_or (slice_set xs i x) i x (subst (λ n. i < n) (sym (length-set xs i x)) within) ∙ ap Some (get_or-set_same xs i x x within)
@@ -26,7 +26,7 @@ slice_get-set_other xs i j x apart = elim (cases_lt j (length xs)) [
 pub slice_get-replicate : (n i : ℕ) (x : Standing) → i < n → slice_get (replicate n x) i ≡ Some x
 slice_get-replicate n i x within = slice_get-get_or (replicate n x) i x (subst (λ m. i < m) (sym (length-replicate n x)) within) ∙ ap Some (get_or-replicate n i x x within)
 
--- Marks that take.
+-- Marks that take a command.
 
 pub taken_reply : (ms : List Mark) → list_any is_taken ms ≡ is_some (reply_taken ms)
 taken_reply [] = refl
@@ -43,9 +43,9 @@ none_taken n r [] h = refl
 none_taken n r (mark.Taken k q ∷ ms) h = absurd (true≢false h)
 none_taken n r (_ ∷ ms) h = none_taken n r ms h
 
--- The history with an entry.
+-- The history after an entry.
 
--- what p takes with a reply
+-- the command that p takes, with a reply
 abbrev pub taken_now : Setup → ℕ → Past → Reply → Taken
 taken_now s p past r = let c = last_call s p (own p past) in record { process = p; command = c.command; reply = r; number = c.number }
 
@@ -53,7 +53,7 @@ pub history_with : (s : Setup) (past : Past) (e : Entry) → (o : Option Reply) 
     history s (e ∷ past) ≡ elim o as (λ _. List Taken) [ None ↦ history s past | Some r ↦ history s past ++ taken_now s e.process past r ∷ [] ]
 history_with s past e o h = ap (λ x. elim x as (λ _. List Taken) [ None ↦ history s past | Some r ↦ history s past ++ taken_now s e.process past r ∷ [] ]) h
 
--- what is kept with an entry that takes nothing, or that takes its process's command
+-- the kept state after an entry that takes nothing, or takes the command of its process
 abbrev pub kept_with : KeptState → ℕ → Standing → Standing → Bool → KeptState
 kept_with k p before then takes = record {
   setup = k.setup;

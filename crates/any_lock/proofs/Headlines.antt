@@ -1,4 +1,4 @@
--- A good verdict says the headline.
+-- A good verdict implies the main theorem.
 use Rattle.std.proofs.Common.{[], ◌∷◌, ◌++◌, reverse, subst}
 use Rattle.plain_store.specs.{Setup}
 use Rattle.record.specs.{Past}

@@ -1,15 +1,15 @@
--- What is left of a list in a loop, and what is refused of marks and accesses.
+-- The rest of a list in a loop, and the refusals of marks and accesses.
 use Rattle.std.proofs.Common.{◌≡◌, ℕ, suc, ◌+◌, ◌<◌, ◌≤◌, Bool, true, false, List, [], ◌∷◌, ◌++◌, Option, None, Some, length, get_or, drop, refl, sym, ap, ◌∙◌, add-one, drop-cons}
 use Rattle.std.proofs.lemmas.List.{drop_all}
 use Rattle.plain_store.specs.{Setup}
 use Rattle.record.specs.{Mark}
 use Rattle.any_lock.specs.{MarkRefusal, Standing, first_that, mark_refusal, marked, refusal_on}
 
--- one less is left
+-- the rest of a list is its first item, followed by a shorter rest
 pub dropped_more : {A : Type 0} (xs : List A) (i : ℕ) (x : A) → i < length xs → x ≡ get_or xs i x → drop i xs ≡ x ∷ drop (i + 1) xs
 dropped_more xs i x within is = drop-cons xs i x within ∙ ap (λ y. y ∷ drop (suc i) xs) (sym is) ∙ ap (λ k. x ∷ drop k xs) (sym (add-one i))
 
--- none is left
+-- the rest after the last item is empty
 pub dropped_all : {A : Type 0} (xs : List A) (i : ℕ) → length xs ≤ i → drop i xs ≡ []
 dropped_all xs i past = drop_all i xs past
 

@@ -1,4 +1,4 @@
--- How the look-backs go on with one mark more.
+-- The state of a process after one more mark.
 use Rattle.std.proofs.Common.{◌≡◌, ℕ, suc, ◌+◌, ◌==◌, Bool, true, false, not, ◌||◌, cond, List, [], ◌∷◌, ◌++◌, Option, None, Some, is_some, length, refl, sym, ap, ◌∙◌, add-one, true≢false}
 use Rattle.std.specs.List.{list_any}
 use Rattle.std.proofs.lemmas.List.Folds.{list_any-append}
@@ -12,7 +12,7 @@ use Rattle.any_lock.specs.{Passage, Standing, begun_by, first_that, has_access, 
 use Rattle.any_lock.specs.declared.refusals.MarkRefusal.TheVariants as refusal
 use Rattle.any_lock.proofs.Steps.{first_none, if_there, inside-mine, number-called, number-mine, opened-mine, own-mine, passage_by, stage-mine, standing_by, torn-mine}
 
--- Marks that need not stand alone.
+-- Marks that need not be alone.
 
 abbrev pub ArePlain : List Mark → Type 0
 ArePlain ms = list_any stands_alone ms ≡ false
@@ -48,7 +48,7 @@ not_called [] h = refl
 not_called (mark.Called c ∷ ms) h = absurd (true≢false h)
 not_called (_ ∷ ms) h = not_called ms h
 
--- the first of two replies that is there
+-- the first of two replies, if there is one
 abbrev pub reply_or : Option Reply → Option Reply → Option Reply
 reply_or o more = elim o as (λ _. Option Reply) [ Some r ↦ Some r | None ↦ more ]
 
@@ -68,7 +68,7 @@ since-mine p o ms past plain =
     ap (since is_called) (own-mine p (with_marks p o ms) past refl)
     ∙ ap (λ b. elim b as (λ _. Past) [ true ↦ [] | false ↦ with_marks p o ms ∷ since is_called (own p past) ]) (none_of is_called no_call ms plain)
 
--- what of it plain marks leave as it was
+-- parts of the state that plain marks leave unchanged
 pub withdrawn-plain : (p : ℕ) (o : Option Access) (ms : List Mark) (past : Past) → ArePlain ms →
     list_any (has is_withdrawal) (since is_called (own p (with_marks p o ms ∷ past))) ≡ list_any (has is_withdrawal) (since is_called (own p past))
 withdrawn-plain p o ms past plain =
@@ -118,7 +118,7 @@ numbered-more p t o ms m past plain is =
     ∙ there_twice (number_in_call p (has t) past) (list_any t ms) (t m) (length past)
     ∙ ap (λ x. first_of x (if_there (t m) (length past))) (sym (numbered-plain p (has t) o ms past plain))
 
--- what was taken, after a mark that is not refused: nothing was taken before a command is
+-- the reply taken, after a mark that is not refused: no reply precedes that of a taken command
 abbrev pub reply_by : Option Reply → Mark → Option Reply
 reply_by before (mark.Taken n r) = Some r
 reply_by before _ = before
@@ -142,7 +142,7 @@ reply-same p o ms m past plain is none =
     ∙ ap (λ x. reply_or x (reply_in (since is_called (own p past)))) (reply_nil (reply_taken ms))
     ∙ sym (reply-plain p o ms past plain)
 
--- the first reply, where nothing was taken before
+-- the first reply, if nothing was taken before
 first_reply : (before more : Option Reply) (r : Reply) → reply_or before more ≡ None → reply_or (reply_or before (Some r)) more ≡ Some r
 first_reply None more r none = refl
 first_reply (Some q) more r none = let h : Some q ≡ None = none in cc
@@ -153,7 +153,7 @@ reply-taken p o ms n r past plain none =
     reply-more p o ms (mark.Taken n r) past plain refl
     ∙ first_reply (reply_taken ms) (reply_in (since is_called (own p past))) r (sym (reply-plain p o ms past plain) ∙ none)
 
--- where p stands with one mark more, field by field
+-- the state of p after one more mark, field by field
 abbrev pub moved_on : ℕ → Stage → Passage → Mark → Passage
 moved_on n at t m = record t {
   inside = inside_after t.inside m;
@@ -215,7 +215,7 @@ waits-left : (at : Stage) → is_waiting_stage (stage_after at mark.Left) ≡ fa
 waits-left stages.Settling = refl
 waits-left _ = refl
 
--- where p stands with it
+-- the state of p after that mark
 pub standing-marked : (s : Setup) (p : ℕ) (o : Option Access) (ms : List Mark) (m : Mark) (past : Past) → ArePlain ms → stands_alone m ≡ false →
     mark_refusal (standing s p (with_marks p o ms ∷ past)) m ≡ None →
     standing s p (with_marks p o (ms ++ m ∷ []) ∷ past) ≡ marked s (length past) (standing s p (with_marks p o ms ∷ past)) m
@@ -227,7 +227,7 @@ standing-marked s p o ms m past plain is allowed = by m is allowed
     t : Passage
     t = passage_in (with_marks p o ms ∷ past) p
 
-    -- the two entries of a mark that begins neither
+    -- a mark that begins neither leaves both entries unchanged
     same : (then : Passage) → then.waits ≡ t.waits → then.enters ≡ t.enters → record then { waits = first_of t.waits None; enters = first_of t.enters None } ≡ then
     same then waits enters = passage_by (record then { waits = first_of t.waits None; enters = first_of t.enters None }) then refl refl refl (first_none t.waits ∙ sym waits) (first_none t.enters ∙ sym enters)
 
@@ -248,7 +248,7 @@ standing-marked s p o ms m past plain is allowed = by m is allowed
         ∙ ap (λ x. record k { stage = stages.Down; passage = x }) (same (without_wait t) refl refl)
     by _ is h = absurd (true≢false is)
 
--- One mark that stands alone.
+-- One mark that must be alone.
 
 next-call : (b : Bool) (c : ℕ) → cond b (suc c) 0 ≡ cond b (cond b c 0 + 1) 0
 next-call true c = sym (add-one c)

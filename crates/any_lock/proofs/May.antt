@@ -1,4 +1,4 @@
--- Each entry that is said to keep all laws does.
+-- Each entry changed as its reasons state keeps all laws.
 use Rattle.std.proofs.Common.{◌≡◌, ℕ, ◌==◌, nat_lt, not, ◌&&◌, ◌||◌, Bool, true, false, cond, if◌then◌else◌, List, [], ◌∷◌, Option, None, Some, length, map, refl, sym, ap, ◌∙◌, subst, arith, true≢false}
 use Rattle.std.proofs.lemmas.Bool.Decides.{Decides-int_eq, nat_tests}
 use Rattle.std.proofs.lemmas.List.{length-map}
@@ -25,7 +25,7 @@ use Rattle.any_lock.proofs.Markings.{ArePlain, or_left, or_right, untaken, with_
 use Rattle.any_lock.proofs.Took.{at_rest_none, outside, unreplied}
 use Rattle.any_lock.proofs.Whole.{one_alone, refused}
 
--- a change of a value leaves the marks
+-- a changed value leaves the marks unchanged
 same_marks : (v : Bool) (ms : List Mark) → map (mark_with (Value v)) ms ≡ ms
 same_marks v [] = refl
 same_marks v (m ∷ ms) = ap (λ (l : List Mark). m ∷ l) (same_marks v ms)
@@ -33,7 +33,7 @@ same_marks v (m ∷ ms) = ap (λ (l : List Mark). m ∷ l) (same_marks v ms)
 value_changed : (v : Bool) (e : Entry) → changed (Value v) e ≡ with_value v e
 value_changed v e = ap (λ (l : List Mark). let x : Entry = record { process = e.process; access = ends_with v e.access; marks = l } in x) (same_marks v e.marks)
 
--- where one value is wrong the other is right
+-- if one value is wrong, the other is right
 other_is_right : (opening : Bool) (moves : List Move) (v : Bool) → ends_wrongly opening moves (EndRead v) ≡ true → ends_wrongly opening moves (EndRead (not v)) ≡ false
 other_is_right opening moves v wrong = by (begins_read moves) (is_overlapped moves) v (last_written opening (before_read moves)) wrong
   where
@@ -75,9 +75,9 @@ with_other_value s past e c breaks may = by e.access refl breaks may
     by None is breaks may = absurd (true≢false (sym breaks))
     by (Some a) is breaks may = ending a a.how refl is breaks may
 
--- The right place and reply.
+-- The right position and reply.
 
--- a reply is the same as itself
+-- a reply equals itself
 pub same_as_itself : (r : Reply) → same_reply r r ≡ true
 same_as_itself (reply.Value x) = (same_value-Decides x x).1 refl
 same_as_itself (reply.Sum n) = (Decides-int_eq n n).1 refl
@@ -107,7 +107,7 @@ module _ (n : ℕ) (r : Reply) where
   entered_same (mark.Answered (answer.Reply q)) = refl
   entered_same _ = refl
 
-  -- all that is taken is taken so
+  -- each command is taken with that position and reply
   put_taken : (ms : List Mark) → list_all (is_that n r) (takings (map put ms)) ≡ true
   put_taken [] = refl
   put_taken (mark.Taken j q ∷ ms) =
@@ -117,11 +117,11 @@ module _ (n : ℕ) (r : Reply) where
   put_taken (mark.Answered (answer.Reply q) ∷ ms) = put_taken ms
   put_taken (_ ∷ ms) = put_taken ms
 
-  -- where its process stands, with this reply
+  -- the state of its process, with this reply
   abbrev replied : Standing → Standing
   replied k = record k { reply = Some r }
 
-  -- a mark behind the one that takes is refused no more than before
+  -- a mark after the one that takes a command is refused no more than before
   abbrev GoesOnSo : Setup → ℕ → Standing → Mark → Type 0
   GoesOnSo s j k m = (mark_refusal (replied k) (put m) ≡ None) × (marked s j (replied k) (put m) ≡ replied (marked s j k m)) × ((marked s j k m).reply ≡ k.reply)
 
@@ -164,7 +164,7 @@ module _ (n : ℕ) (r : Reply) where
       let rest = marks_after s j ms (marked s j k m) q0 (so.2 ∙ some) (or_right (stands_alone m) (list_any stands_alone ms) plain) (rest_unrefused s j k m ms none) in
       refused_later s j (replied k) (put m) (map put ms) so.0 ∙ ap (λ x. refusal_on s j x (map put ms)) so.1 ∙ rest
 
-  -- and so are those before it
+  -- a mark before that one is refused no more than before
   marks_before : (s : Setup) (j : ℕ) (ms : List Mark) (k : Standing) (cut : Bool) → IsSound k cut → ArePlain ms → refusal_on s j k ms ≡ None → (takings ms ≡ [] → ⊥) → refusal_on s j k (map put ms) ≡ None
   marks_before s j [] k cut sound plain none takes = refl
   marks_before s j (m ∷ ms) k cut sound plain none takes =
@@ -189,7 +189,7 @@ module _ (n : ℕ) (r : Reply) where
       by on mark.Down apart first more takes = refused_later s j k mark.Down (map put ms) first ∙ on mark.Down first more takes
       by on _ apart first more takes = absurd (true≢false apart)
 
--- a mark that stands alone takes nothing
+-- a mark that must be alone takes nothing
 alone_takes_none : (m : Mark) → stands_alone m ≡ true → takings (m ∷ []) ≡ []
 alone_takes_none (mark.Called c) is = refl
 alone_takes_none mark.Failed is = refl
@@ -254,7 +254,7 @@ with_right_taking s past e all breaks =
             let one = one_alone e.access e.marks e.process any fine.apart in
             absurd (takes (ap takings one.2 ∙ alone_takes_none one.0 one.3))
 
--- Each `may` keeps all laws.
+-- Each change keeps all laws.
 pub mays_keep : MaysKeepAllLaws
 mays_keep s past good e l c breaks may = by l breaks may
   where

@@ -15,7 +15,7 @@ takes_few : (o : Option Reply) (ts : List (ℕ × Reply)) → Takes o ts → len
 takes_few None ts is = subst (λ (l : List (ℕ × Reply)). length l < 2) (sym is) (omega arith)
 takes_few (Some r) ts is = subst (λ (l : List (ℕ × Reply)). length l < 2) (sym is.1) (omega arith)
 
--- the entries since a call, as long as no other has begun
+-- the entries since a call, if no other call has begun
 since_stop : (l : Past) (x : Entry) (rest : Past) → list_any (has is_called) l ≡ false → has is_called x ≡ true → since is_called (l ++ x ∷ rest) ≡ l
 since_stop [] x rest none called = ap (λ b. elim b as (λ _. Past) [ true ↦ [] | false ↦ x ∷ since is_called rest ]) called
 since_stop (e ∷ l) x rest none called =
@@ -30,7 +30,7 @@ own-append p (e ∷ a) b = by (e.process == p) (own-append p a b)
     by true more = ap (λ (l : Past). e ∷ l) more
     by false more = more
 
--- the entries of a call, as long as no other has begun
+-- the entries of a call, if no other call has begun
 its-call : (p : ℕ) (later earlier : Past) (x : Entry) → x.process ≡ p → list_any (has is_called) (own p later) ≡ false → has is_called x ≡ true → its_call p (later ++ x ∷ earlier) ≡ own p later
 its-call p later earlier x mine none called =
     ap (since is_called) (own-append p later (x ∷ earlier) ∙ ap (λ (l : Past). own p later ++ l) (own-mine p x earlier mine))

@@ -1,4 +1,4 @@
--- Entries that keep all laws: of two calls that do not overlap the earlier one has the lower place.
+-- Entries that keep all laws: if two calls do not overlap, the earlier one has the lower position.
 use Rattle.std.proofs.Common.{◌≡◌, ◌≢◌, ℕ, ◌<◌, ◌≤◌, not, ◌||◌, Bool, true, false, List, [], ◌∷◌, ◌++◌, Contains, Option, None, Some, length, refl, sym, ap, ◌∙◌, subst, append_assoc, append-nil, arith, true≢false, ◌⊎◌, inl, inr, ne_eqb}
 use Rattle.std.specs.List.{list_any}
 use Rattle.std.proofs.lemmas.Bool.{cases_eq}
@@ -20,9 +20,9 @@ use Rattle.any_lock.proofs.Steps.{own-mine, standing-other}
 use Rattle.any_lock.proofs.Took.{outside}
 use Rattle.any_lock.proofs.Whole.{stands_whole}
 
--- A call that has come to the end of its span takes no more.
+-- A call whose span has ended takes no more commands.
 
--- its process is not inside, and no call runs
+-- the process is not inside, and no call runs
 record IsOver (k : Standing) : Type 0 where
   pub rest : rests k.stage ≡ true
   pub out : k.passage.inside ≡ false
@@ -34,7 +34,7 @@ over_accessed : (n : ℕ) (k : Standing) (o : Option Access) → IsOver k → Is
 over_accessed n k None over = over
 over_accessed n k (Some a) over = record { rest = over.rest; out = over.out }
 
--- a stage at rest is none of those in which one waits, chooses or leaves
+-- at a stage of rest a process does not wait, choose or leave
 never_waits : (x : Stage) → rests x ≡ true → not (is_waiting_stage x) ≡ true
 never_waits stage.Idle is = refl
 never_waits stage.Settling is = refl
@@ -47,7 +47,7 @@ never_chooses stage.Settling is = refl
 never_chooses stage.Down is = refl
 never_chooses _ is = absurd (true≢false (sym is))
 
--- a mark that begins no call leaves it so, and takes nothing
+-- after a mark that begins no call the span is still over, and the mark takes nothing
 over_marked : (s : Setup) (n : ℕ) (k : Standing) (m : Mark) → is_called m ≡ false → mark_refusal k m ≡ None → IsOver k → IsOver (marked s n k m) × (takings (m ∷ []) ≡ [])
 over_marked s n k (mark.Called c) uncalled none over = absurd (true≢false uncalled)
 over_marked s n k (mark.Waiting t) uncalled none over = absurd (clash (not (is_in_doorway k.stage)) (never_chooses k.stage over.rest) (none_if (not (is_in_doorway k.stage)) refusal.NotInDoorway _ none))
@@ -59,7 +59,7 @@ over_marked s n k (mark.Settled v) uncalled none over = (over, refl)
 over_marked s n k mark.Withdrew uncalled none over = absurd (clash (not (is_waiting_stage k.stage)) (never_waits k.stage over.rest) (none_if (not (is_waiting_stage k.stage)) refusal.NotWaiting _ none))
 over_marked s n k _ uncalled none over = (record { rest = refl; out = over.out }, refl)
 
--- what marks take
+-- the commands that marks take
 takings_more : (m : Mark) (ms : List Mark) → takings (m ∷ ms) ≡ takings (m ∷ []) ++ takings ms
 takings_more (mark.Taken j r) ms = refl
 takings_more _ ms = refl
@@ -71,7 +71,7 @@ over_all s n (m ∷ ms) k uncalled none over =
     let rest = over_all s n ms (marked s n k m) (or_right (is_called m) (list_any is_called ms) uncalled) (rest_unrefused s n k m ms none) first.0 in
     (rest.0, takings_more m ms ∙ ap (λ (l : List (ℕ × Reply)). l ++ takings ms) first.1 ∙ rest.1)
 
--- marks with which a span ends
+-- after marks that end the span of a call, the call is over
 ends_all : (s : Setup) (n : ℕ) (ms : List Mark) (k : Standing) (cut : Bool) → list_any is_called ms ≡ false → list_any ends_span ms ≡ true → refusal_on s n k ms ≡ None → IsSound k cut → IsOver (marked_all s n k ms)
 ends_all s n [] k cut uncalled ends none sound = absurd (true≢false (sym ends))
 ends_all s n (m ∷ ms) k cut uncalled ends none sound =
@@ -98,7 +98,7 @@ ends_all s n (m ∷ ms) k cut uncalled ends none sound =
     by on mark.Withdrew ends uncalled first rest = on mark.Withdrew ends first rest
     by on mark.Restarted ends uncalled first rest = on mark.Restarted ends first rest
 
--- an entry of its own process: what its marks take, where its call is over
+-- an entry of the process, whose call is over, takes nothing and leaves it over
 over_entry : (s : Setup) (past : Past) (e : Entry) → Keeps s past e → has is_called e ≡ false → IsOver (standing s e.process past) → IsOver (standing s e.process (e ∷ past)) × (takings e.marks ≡ [])
 over_entry s past e kept uncalled over =
     let fine = orderly s past e.process e.access e.marks kept.marks in
@@ -114,7 +114,7 @@ ends_entry s past e before kept uncalled ends =
     subst IsOver (stands_whole s e.process past e.access e.marks fine.apart none)
     (ends_all s (length past) e.marks (accessed_by (length past) (standing s e.process past) e.access) (is_cut e.process past) uncalled ends none sound)
 
--- where p stands once the span of its call has ended, until its next call
+-- the state of p after the span of its call has ended, until its next call
 is_over : (s : Setup) (p : ℕ) (later rest : Past) → AllKeep s (later ++ rest) → list_any (has is_called) (own p later) ≡ false → list_any (has ends_span) (own p later) ≡ true → IsOver (standing s p (later ++ rest))
 is_over s p [] rest all uncalled ends = absurd (true≢false (sym ends))
 is_over s p (e ∷ later) rest all uncalled ends = go (is_over s p later rest all.1) (cases_eq e.process p)
@@ -142,7 +142,7 @@ is_over s p (e ∷ later) rest all uncalled ends = go (is_over s p later rest al
 
 -- The entries of a call.
 
--- all are, until the next call
+-- all entries are, until the next call
 until_none : (l : Past) → list_any (has is_called) l ≡ false → until is_called l ≡ l
 until_none [] none = refl
 until_none (e ∷ l) none = ap (λ b. elim b as (λ _. Past) [ true ↦ until is_called l | false ↦ e ∷ l ]) none
@@ -159,7 +159,7 @@ or_true : (a : Bool) → (a || true) ≡ true
 or_true true = refl
 or_true false = refl
 
--- what a call has taken stays, once its span has ended
+-- the commands that a call has taken are final once its span has ended
 takes_no_more : (s : Setup) (p : ℕ) (newer between rest : Past) → AllKeep s (newer ++ (between ++ rest)) → has_ended p between ≡ true → takings_of_call p (newer ++ between) ≡ takings_of_call p between
 takes_no_more s p [] between rest all ended = refl
 takes_no_more s p (e ∷ newer) between rest all ended = go (cases_eq e.process p) (takes_no_more s p newer between rest all.1 ended)
@@ -194,15 +194,15 @@ takes_no_more s p (e ∷ newer) between rest all ended = go (cases_eq e.process 
     go (inl same) before = ap (λ (x : Past). all_takings (until is_called x)) (own-mine p e (newer ++ between) same) ∙ mine same before (list_any (has is_called) (e ∷ l)) refl
     go (inr apart) before = ap (λ (x : Past). all_takings (until is_called x)) (own-other p e (newer ++ between) apart) ∙ before
 
--- Places.
+-- Positions.
 
--- nothing is taken by marks that tell no reply
+-- marks without a taken reply take nothing
 nothing_taken : (ms : List Mark) → reply_taken ms ≡ None → takings ms ≡ []
 nothing_taken [] none = refl
 nothing_taken (mark.Taken j r ∷ ms) none = absurd (cc)
 nothing_taken (_ ∷ ms) none = nothing_taken ms none
 
--- an entry adds to the history at most, and does where it takes
+-- an entry never shortens the history, and lengthens it if it takes a command
 history_grows : (s : Setup) (past : Past) (e : Entry) → (length (history s past) ≤ length (history s (e ∷ past))) × ((t : ℕ × Reply) → Contains (takings e.marks) t → length (history s past) < length (history s (e ∷ past)))
 history_grows s past e = by (reply_taken e.marks) refl
   where
@@ -224,7 +224,7 @@ history_on : (s : Setup) (l rest : Past) → length (history s rest) ≤ length 
 history_on s [] rest = omega arith
 history_on s (e ∷ l) rest = let before = history_on s l rest in let more = (history_grows s (l ++ rest) e).0 in omega (arith, before, more)
 
--- the places of what a call takes in these entries are those of the history that they add
+-- the positions of the commands that a call takes in these entries are those by which they lengthen the history
 record IsWithin (s : Setup) (l rest : Past) (k : ℕ) : Type 0 where
   pub from : length (history s rest) ≤ k
   pub below : k < length (history s (l ++ rest))

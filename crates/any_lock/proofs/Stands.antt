@@ -1,4 +1,4 @@
--- Entries that keep all laws: a store answer is the reply of a command that stands in the history.
+-- Entries that keep all laws: an answered reply is that of a command in the history.
 use Rattle.std.proofs.Common.{◌≡◌, ◌≢◌, ℕ, zero, suc, ◌<◌, ◌≤◌, Bool, true, false, not, ◌&&◌, ◌||◌, List, [], ◌∷◌, ◌++◌, Option, None, Some, is_none, length, get_or, slice_get, refl, sym, ap, ◌∙◌, subst, arith, true≢false, ◌⊎◌, inl, inr}
 use Rattle.std.specs.Prelude.{Contains}
 use Rattle.std.specs.List.{list_any}
@@ -20,7 +20,7 @@ use Rattle.any_lock.proofs.Markings.{ArePlain, command-plain, number-plain, or_l
 use Rattle.any_lock.proofs.Steps.{own-mine}
 use Rattle.any_lock.proofs.Whole.{one_alone, stands_whole}
 
--- A command that stands in the history stands in a longer one.
+-- A command in a history is at the same position in a longer one.
 
 slice_get-front : (xs ys : List Taken) (k : ℕ) (t : Taken) → slice_get xs k ≡ Some t → slice_get (xs ++ ys) k ≡ Some t
 slice_get-front [] ys k t is = absurd (omega (arith, slice_get_within {A = Taken} [] k t is))
@@ -40,7 +40,7 @@ stands_more s xs ys c r k at =
       reply = at.reply ∙ ap (λ (l : List Taken). reply_to (store_after s l) c.command (caller c)) (sym (take-append-le k xs ys below));
     }
 
--- What a call has taken stands in the history.
+-- The commands that a call has taken are in the history.
 
 abbrev pub TakenStands : Setup → Past → ℕ → Type 0
 TakenStands s past p = (r : Reply) → reply_in (its_call p past) ≡ Some r → (k : ℕ) × StandsAt s (history s past) (last_call s p (own p past)) r k
@@ -51,7 +51,7 @@ taking_of [] r h = absurd (let both : None ≡ Some r = h in cc)
 taking_of (mark.Taken n q ∷ ms) r h = let same : q ≡ r = cc in (n, (0, omega arith, ap (λ x. (n, x)) same))
 taking_of (_ ∷ ms) r h = taking_of ms r h
 
--- the history with one more entry goes on from the one before
+-- the history with one more entry extends the one before
 goes_on : (s : Setup) (past : Past) (e : Entry) (c : Call) (r : Reply) (k : ℕ) → StandsAt s (history s past) c r k → StandsAt s (history s (e ∷ past)) c r k
 goes_on s past e c r k at = by (reply_taken e.marks) refl
   where
@@ -59,7 +59,7 @@ goes_on s past e c r k at = by (reply_taken e.marks) refl
     by None h = subst (λ l. StandsAt s l c r k) (sym (history_with s past e None h)) at
     by (Some q) h = subst (λ l. StandsAt s l c r k) (sym (history_with s past e (Some q) h)) (stands_more s (history s past) (taken_now s e.process past q ∷ []) c r k at)
 
--- what an entry takes stands there
+-- the command that an entry takes is in the history
 stands_now : (s : Setup) (past : Past) (e : Entry) (r : Reply) → Keeps s past e → reply_taken e.marks ≡ Some r → StandsAt s (history s (e ∷ past)) (last_call s e.process (own e.process past)) r (length (history s past))
 stands_now s past e r kept h =
     let taking = taking_of e.marks r h in
@@ -73,7 +73,7 @@ stands_now s past e r kept h =
 call-plain : (s : Setup) (p : ℕ) (o : Option Access) (ms : List Mark) (past : Past) → ArePlain ms → last_call s p (own p (with_marks p o ms ∷ past)) ≡ last_call s p (own p past)
 call-plain s p o ms past plain = λ i. record { setup = s; process = p; command = command-plain p o ms past plain i; number = number-plain s p o ms past plain i }
 
--- a process's own entry with plain marks
+-- an entry of the process with plain marks
 mine_plain : (s : Setup) (past : Past) (p : ℕ) (o : Option Access) (ms : List Mark) → Keeps s past (with_marks p o ms) → ArePlain ms → TakenStands s past p → TakenStands s (with_marks p o ms ∷ past) p
 mine_plain s past p o ms kept plain before r is = by (reply_taken ms) refl (sym (reply-plain p o ms past plain) ∙ is)
   where
@@ -90,7 +90,7 @@ mine_plain s past p o ms kept plain before r is = by (reply_taken ms) refl (sym 
               (stands_now s past (with_marks p o ms) r kept (h ∙ ap Some same)),
         )
 
--- one with a mark that stands alone
+-- an entry with a mark that must be alone
 mine_alone : (s : Setup) (past : Past) (p : ℕ) (m : Mark) → stands_alone m ≡ true → TakenStands s past p → TakenStands s (with_marks p None (m ∷ []) ∷ past) p
 mine_alone s past p m alone before r is = by m alone is
   where
@@ -136,9 +136,9 @@ all_stand s (e ∷ past) all p r is = go (cases_eq e.process p) (all_stand s pas
         let at = before r (sym (ap (λ l. reply_in (since is_called l)) same) ∙ is) in
         (at.0, subst (λ c. StandsAt s (history s (e ∷ past)) c r at.0) (sym (ap (last_call s p) same)) (goes_on s past e (last_call s p (own p past)) r at.0 at.1))
 
--- A store answer is what its call has taken.
+-- An answered reply is the one that its call has taken.
 
--- where the answer comes
+-- the reply at the answer
 replied : (o : Option Reply) (r : Reply) → has_other_reply o (answer.Reply r) ≡ false → (is_none o && true) ≡ false → o ≡ Some r
 replied None r other none = absurd (true≢false none)
 replied (Some q) r other none = ap Some (sym (same_is r q (not_not (same_reply r q) other)))
@@ -150,7 +150,7 @@ answered_reply k r none =
     let d = none_else (has_other_reply k.reply (answer.Reply r)) refusal.OtherReply _ b in
     replied k.reply r (none_if (has_other_reply k.reply (answer.Reply r)) refusal.OtherReply _ b) (none_if (is_none k.reply && is_reply (answer.Reply r)) refusal.NotTaken _ d)
 
--- and it stays so
+-- the reply is unchanged by later marks
 reply_stays : (s : Setup) (n : ℕ) (ms : List Mark) (k : Standing) (r : Reply) → refusal_on s n k ms ≡ None → list_any stands_alone ms ≡ false → k.reply ≡ Some r → (marked_all s n k ms).reply ≡ Some r
 reply_stays s n [] k r none plain is = is
 reply_stays s n (m ∷ ms) k r none plain is =

@@ -1,4 +1,4 @@
--- What is read at a process's place is where it stands.
+-- The kept state of a process, looked up by its number.
 use Rattle.std.proofs.Common.{◌≡◌, ℕ, ◌<◌, get_or, length, option_map, slice_get, ap, subst, ◌∙◌}
 use Rattle.record.specs.{Past}
 use Rattle.lock_stages.specs.{HavePassages}
@@ -10,6 +10,6 @@ pub stands_there : (k now : KeptState) (past : Past) (i p : ℕ) (x : Standing) 
 stands_there k now past i p x is same below read knows =
     read ∙ given_at k.standings i x (standing now.setup p past) ((λ j. slice_get (is j).standings (same j)) ∙ knows.standings p below)
 
--- the passages of the standings are those of a past that is known
+-- the passages of the kept states are those of the past
 pub passages_known : (k : KeptState) (past : Past) → length k.standings ≡ k.setup.processes → Knows k past → HavePassages (λ (x : Standing). x.passage) k.standings (passage_in past)
 passages_known k past size knows q below = ap (option_map (λ (x : Standing). x.passage)) (knows.standings q (subst (λ n. q < n) size below))

@@ -1,4 +1,4 @@
--- How the look-backs go on with an entry: with its access, and then mark by mark.
+-- The values computed from a past, after one more entry: after its access, and then mark by mark.
 use Rattle.std.proofs.Common.{◌≡◌, ℕ, ◌==◌, Bool, true, false, cond, [], ◌∷◌, Option, None, Some, fold, length, refl, ap, ◌∙◌, eq-eqb}
 use Rattle.std.specs.List.{list_any}
 use Rattle.plain_store.specs.{Setup}
@@ -6,9 +6,9 @@ use Rattle.record.specs.{Access, Entry, Past, call_number, first_of, has, inside
 use Rattle.lock_stages.specs.{with_access}
 use Rattle.any_lock.specs.{Begun, Passage, Standing, accessed_by, at_rest, begun_by, has_access, is_withdrawal, left_open, opened, passage_in, reply_in, standing, torn, torn_after, write_of}
 
--- Standings by their fields.
+-- States by their fields.
 
--- two standings with the same fields
+-- two states with the same fields are equal
 pub standing_by : (k : Standing) (m : Standing) → k.stage ≡ m.stage → k.withdrawn ≡ m.withdrawn → k.number ≡ m.number → k.command ≡ m.command →
     k.reply ≡ m.reply → k.opened ≡ m.opened → k.torn ≡ m.torn → k.passage ≡ m.passage → k ≡ m
 standing_by k m a c d e f g h i = λ x. record {
@@ -22,7 +22,7 @@ standing_by k m a c d e f g h i = λ x. record {
   passage = i x;
 }
 
--- two passages with the same fields
+-- two passages with the same fields are equal
 pub passage_by : (t u : Passage) → t.inside ≡ u.inside → t.waiting ≡ u.waiting → t.doorway ≡ u.doorway → t.waits ≡ u.waits → t.enters ≡ u.enters → t ≡ u
 passage_by t u a b c d e = λ x. record { inside = a x; waiting = b x; doorway = c x; waits = d x; enters = e x }
 
@@ -56,7 +56,7 @@ standing-other s q e past h =
     (rw (h, number_in_call) refl)
     (rw (h, number_in_call) refl))
 
--- Its own entry.
+-- An entry of the process itself.
 
 pub own-mine : (p : ℕ) (e : Entry) (past : Past) → e.process ≡ p → own p (e ∷ past) ≡ e ∷ own p past
 own-mine p e past h = ap (λ b. cond b (e ∷ own p past) (own p past)) (eq-eqb e.process p h)
@@ -78,7 +78,7 @@ torn-mine p e past h false failed =
     ap (λ b. cond b (elim (has is_failed e) as (λ _. Option Begun) [ true ↦ write_of (opened p past) | false ↦ torn_after e.access (torn p past) ]) (torn p past)) (eq-eqb e.process p h)
     ∙ ap (λ b. elim b as (λ _. Option Begun) [ true ↦ write_of (opened p past) | false ↦ torn_after e.access (torn p past) ]) failed
 
--- the number of an entry, where a test holds
+-- the number of an entry, if a test holds
 abbrev pub if_there : Bool → ℕ → Option ℕ
 if_there b n = elim b as (λ _. Option ℕ) [ true ↦ Some n | false ↦ None ]
 

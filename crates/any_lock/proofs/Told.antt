@@ -13,25 +13,25 @@ use Rattle.any_lock.proofs.Breaks.{access_there, unbroken, unrefused}
 pub newest_first : (entries : List Entry) (e : Entry) → reverse (entries ++ e ∷ []) ≡ e ∷ reverse entries
 newest_first entries e = reverse-append entries (e ∷ [])
 
--- the verdict with one more entry, behind those that have a good one
+-- the verdict with one more entry, after entries with a good one
 pub verdict_good : (s : Setup) (entries : List Entry) (e : Entry) → verdict_of s entries ≡ Good → verdict_of s (entries ++ e ∷ []) ≡ verdict_with (length entries) (first_broken s (reverse entries) e)
 verdict_good s entries e good =
     ap (verdict_after s) (newest_first entries e)
     ∙ ap (λ v. elim v as (λ _. Verdict AnyLockLaw) [ Good ↦ verdict_with (length (reverse entries)) (first_broken s (reverse entries) e) | Bad k l ↦ Bad k l ]) good
     ∙ ap (λ n. verdict_with n (first_broken s (reverse entries) e)) (length-reverse entries)
 
--- a bad one stays
+-- a bad verdict is unchanged
 pub verdict_bad : (s : Setup) (entries : List Entry) (e : Entry) (k : ℕ) (l : AnyLockLaw) → verdict_of s entries ≡ Bad k l → verdict_of s (entries ++ e ∷ []) ≡ Bad k l
 verdict_bad s entries e k l bad =
     ap (verdict_after s) (newest_first entries e)
     ∙ ap (λ v. elim v as (λ _. Verdict AnyLockLaw) [ Good ↦ verdict_with (length (reverse entries)) (first_broken s (reverse entries) e) | Bad k l ↦ Bad k l ]) bad
 
--- a verdict is good where no law is broken
+-- if a verdict is good, no law is broken
 pub found_good : (k : ℕ) (law : Option AnyLockLaw) → verdict_with k law ≡ Good → law ≡ None
 found_good k (Some l) is = absurd (cc)
 found_good k None is = refl
 
--- what a watch, and what is kept beside it, make of one more entry
+-- the effect of one more entry on the monitor and on the kept state
 pub record AreTold (j : JudgeState) (e : Entry) (is_safe : Bool) (w : WatchState) (found : Option AnyLockLaw) (k : KeptState) : Type 0 where
   pub watched : w.setup ≡ j.watch.setup
   pub watch : (past : Past) → HasWatched j.watch past → HasWatched w (e ∷ past)
@@ -59,11 +59,11 @@ told_on j e is_safe w law k r told s past both none =
       there = (access_there s past e (unrefused s past e (unbroken s past e first).1), both.there);
     }
 
--- how many entries there are is nothing to a watch, and to what is kept
+-- the monitor and the kept state do not depend on the number of entries
 pub with_entries : (j : JudgeState) (n : ℕ) (s : Setup) (past : Past) → BothHeard j s past → BothHeard (record j { entries = n }) s past
 with_entries j n s past both = record { watched = both.watched; watch = both.watch; kept = both.kept; knows = both.knows; there = both.there }
 
--- the reasons of an entry that is the first that breaks a law
+-- the reasons of the first entry that breaks a law
 reasons_at : (s : Setup) (entries : List Entry) (e : Entry) (law : Option AnyLockLaw) (r : Option Reasons) → AreReasonsIf law r s (reverse entries) e → AreReasonsOf s (entries ++ e ∷ []) (verdict_with (length entries) law) r
 reasons_at s entries e None r are = are
 reasons_at s entries e (Some l) r are = record { entry = e; past = reverse entries; later = []; splits = newest_first entries e; number = length-reverse entries; told = are.0; is = are.1; are = are.2 }
@@ -86,7 +86,7 @@ hears_on old new e found s entries judged good more heard reasons on =
           (let next = on (reverse entries) both is in record { watched = next.watched; watch = next.watch; kept = next.kept; knows = next.knows; there = next.there });
     }
 
--- a judge with a bad one
+-- a judge with a bad verdict and one more entry
 pub hears_bad : (old : JudgeState) (e : Entry) (s : Setup) (entries : List Entry) → HasJudged old s entries → (old.verdict ≡ Good → ⊥) → HasJudged (record old { entries = old.entries + 1 }) s (entries ++ e ∷ [])
 hears_bad old e s entries judged bad = by old.verdict refl judged.reasons
   where
@@ -103,7 +103,7 @@ hears_bad old e s entries judged bad = by old.verdict refl judged.reasons
           goes_on = λ good. absurd (bad good);
         }
 
--- the reasons that are given by what is kept after an entry: where it breaks a law nothing was changed
+-- the reasons, computed from the kept state after an entry: if the entry breaks a law, that state is unchanged
 pub reasons_given : (k then : KeptState) (s : Setup) (past : Past) (e : Entry) (law : Option AnyLockLaw) (r : Option Reasons) → k.setup ≡ s → Knows k past →
     ((l : AnyLockLaw) → law ≡ Some l → then ≡ k) → (law ≡ None → r ≡ None) → (Knows then past → AreReasonsIf law r then.setup past e) → AreReasonsIf law r s past e
 reasons_given k then s past e None r setup knows same none some = none refl

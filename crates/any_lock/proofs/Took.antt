@@ -1,4 +1,4 @@
--- Entries that keep all laws: an answer is what its call has taken.
+-- Entries that keep all laws: an answered reply is the one that its call has taken.
 use Rattle.std.proofs.Common.{◌≡◌, ◌≢◌, ℕ, zero, suc, ◌<◌, Bool, true, false, not, ◌&&◌, ◌||◌, List, [], ◌∷◌, ◌++◌, Option, None, Some, length, get_or, refl, sym, ap, ◌∙◌, subst, arith, true≢false, ◌⊎◌, inl, inr}
 use Rattle.std.specs.Prelude.{Contains}
 use Rattle.std.specs.List.{list_any}
@@ -19,14 +19,14 @@ use Rattle.any_lock.proofs.Stands.{answered_in}
 use Rattle.any_lock.proofs.Steps.{own-mine}
 use Rattle.any_lock.proofs.Whole.{one_alone, stands_whole}
 
--- What marks take.
+-- The commands that marks take.
 
 -- a call that has this reply has taken one command with it, and one without has taken none
 abbrev pub Takes : Option Reply → List (ℕ × Reply) → Type 0
 Takes None ts = ts ≡ []
 Takes (Some r) ts = (k : ℕ) × (ts ≡ (k, r) ∷ [])
 
--- behind a command that was taken none is
+-- after a taken command no other is taken
 takes_no_more : (s : Setup) (n : ℕ) (ms : List Mark) (k : Standing) (r : Reply) → refusal_on s n k ms ≡ None → ArePlain ms → k.reply ≡ Some r → (takings ms ≡ []) × (reply_taken ms ≡ None)
 takes_no_more s n [] k r none plain is = (refl, refl)
 takes_no_more s n (mark.Waiting t ∷ ms) k r none plain is = takes_no_more s n ms (marked s n k (mark.Waiting t)) r (rest_unrefused s n k (mark.Waiting t) ms none) plain is
@@ -38,7 +38,7 @@ takes_no_more s n (mark.Settled v ∷ ms) k r none plain is = takes_no_more s n 
 takes_no_more s n (mark.Down ∷ ms) k r none plain is = takes_no_more s n ms (marked s n k mark.Down) r (rest_unrefused s n k mark.Down ms none) plain is
 takes_no_more s n (_ ∷ ms) k r none plain is = absurd (true≢false plain)
 
--- and else one at most
+-- otherwise at most one is taken
 takes_one : (s : Setup) (n : ℕ) (ms : List Mark) (k : Standing) → refusal_on s n k ms ≡ None → ArePlain ms → Takes (reply_taken ms) (takings ms)
 takes_one s n [] k none plain = refl
 takes_one s n (mark.Waiting t ∷ ms) k none plain = takes_one s n ms (marked s n k (mark.Waiting t)) (rest_unrefused s n k (mark.Waiting t) ms none) plain
@@ -51,7 +51,7 @@ takes_one s n (mark.Settled v ∷ ms) k none plain = takes_one s n ms (marked s 
 takes_one s n (mark.Down ∷ ms) k none plain = takes_one s n ms (marked s n k mark.Down) (rest_unrefused s n k mark.Down ms none) plain
 takes_one s n (_ ∷ ms) k none plain = absurd (true≢false plain)
 
--- What a call takes.
+-- The commands that a call takes.
 
 abbrev pub CallTakes : ℕ → Past → Type 0
 CallTakes p past = Takes (reply_in (its_call p past)) (all_takings (its_call p past))
@@ -80,7 +80,7 @@ call_plain s past p o ms none plain before =
         subst (λ x. Takes x (all_takings (its_call p past) ++ takings ms)) (sym (ap (λ x. reply_or x (reply_in (its_call p past))) rest.1 ∙ h))
         (one.0, ap (λ l. all_takings (its_call p past) ++ l) rest.0 ∙ append-nil (all_takings (its_call p past)) ∙ one.1)
 
--- with a mark that stands alone
+-- with a mark that must be alone
 call_alone : (past : Past) (p : ℕ) (m : Mark) → stands_alone m ≡ true → CallTakes p past → CallTakes p (with_marks p None (m ∷ []) ∷ past)
 call_alone past p (mark.Called c) h before = subst (λ l. Takes (reply_in (since is_called l)) (all_takings (since is_called l))) (sym (own-mine p (with_marks p None (mark.Called c ∷ [])) past refl)) refl
 call_alone past p mark.Failed h before = subst (λ l. Takes (reply_in (since is_called l)) (all_takings (since is_called l))) (sym (own-mine p (with_marks p None (mark.Failed ∷ [])) past refl))
@@ -110,7 +110,7 @@ all_take s (e ∷ past) all p = go (cases_eq e.process p) (all_take s past all.1
     go (inl same) before = subst (λ q. CallTakes q (e ∷ past)) same (call_mine s past e.process e.access e.marks all.0 (subst (λ q. CallTakes q past) (sym same) before))
     go (inr apart) before = subst (λ l. Takes (reply_in (since is_called l)) (all_takings (since is_called l))) (sym (own-other p e past apart)) before
 
--- An answer that is no reply.
+-- An answer that is not a reply.
 
 -- no mark follows at rest
 pub at_rest_none : (s : Setup) (n : ℕ) (k : Standing) (ms : List Mark) → k.stage ≡ stage.Idle → k.passage.inside ≡ false → refusal_on s n k ms ≡ None → ArePlain ms → ms ≡ []
@@ -130,7 +130,7 @@ at_rest_none s n k (m ∷ ms) idle out none plain = absurd (by m (first_unrefuse
     by mark.Down h apart = clashes (not (is_settling k.stage)) (none_if (not (is_settling k.stage)) refusal.NotSettling _ h) (ap (λ x. not (is_settling x)) idle)
     by _ h apart = true≢false apart
 
--- it comes where nothing was taken
+-- if a call returns such an answer, it has taken nothing
 pub unreplied : (o : Option Reply) (a : Answer) → is_reply a ≡ false → has_other_reply o a ≡ false → o ≡ None
 unreplied None a not_reply other = refl
 unreplied (Some q) (answer.Reply r) not_reply other = absurd (true≢false not_reply)

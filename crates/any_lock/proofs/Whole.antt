@@ -1,4 +1,4 @@
--- An entry whole: its marks one after the other, and where its process stands then.
+-- A whole entry: its marks one after the other, and the state of its process after them.
 use Rattle.std.proofs.Common.{◌≡◌, ℕ, suc, ◌==◌, Bool, true, false, not, ◌&&◌, List, [], ◌∷◌, ◌++◌, Option, None, Some, length, refl, sym, ap, ◌∙◌, subst, arith, true≢false, append_assoc, eqb-true}
 use Rattle.std.proofs.lemmas.List.{append-nil}
 use Rattle.std.specs.List.{list_any}
@@ -9,13 +9,13 @@ use Rattle.any_lock.specs.declared.refusals.MarkRefusal.TheVariants as refusal
 use Rattle.any_lock.proofs.Markings.{ArePlain, or_false, or_left, or_right, plain-more, standing-alone, standing-marked, with_marks}
 use Rattle.any_lock.proofs.Steps.{standing-access}
 
--- What is refused.
+-- The refusals.
 
--- the refusal of a mark, or else of those behind it
+-- the refusal of a mark, or otherwise of the marks after it
 abbrev pub refusal_or : Option MarkRefusal → Option MarkRefusal → Option MarkRefusal
 refusal_or o more = elim o as (λ _. Option MarkRefusal) [ Some r ↦ Some r | None ↦ more ]
 
--- plain marks, behind others
+-- plain marks, after others
 pub refused_on : (s : Setup) (p : ℕ) (o : Option Access) (all earlier later : List Mark) (past : Past) → ArePlain earlier → ArePlain later →
     refusal_behind s past (with_marks p o all) earlier later ≡ refusal_on s (length past) (standing s p (with_marks p o earlier ∷ past)) later
 refused_on s p o all earlier [] past plain rest = refl
@@ -35,7 +35,7 @@ refused_on s p o all earlier (m ∷ later) past plain rest = go (mark_refusal (s
     go None h more = ap (refusal_or (mark_refusal k m))
         (more ∙ ap (λ x. refusal_on s (length past) x later) (standing-marked s p o earlier m past plain is h))
 
--- Where its process stands.
+-- The state of the process.
 
 pub marked_on : (s : Setup) (p : ℕ) (o : Option Access) (earlier later : List Mark) (past : Past) → ArePlain earlier → ArePlain later →
     refusal_on s (length past) (standing s p (with_marks p o earlier ∷ past)) later ≡ None →
@@ -62,7 +62,7 @@ marked_on s p o earlier (m ∷ later) past plain rest none = go (mark_refusal k 
         ∙ more (ap (λ x. refusal_on s (length past) x later) on ∙ later_none)
         ∙ ap (λ ms. standing s p (with_marks p o ms ∷ past)) (append_assoc earlier (m ∷ []) later)
 
--- Any marks of which those that stand alone do so.
+-- Any marks, if each mark that must be alone is alone.
 
 two_marks : (n : ℕ) (b : Bool) → (suc (suc n) == 1) ≡ b → (true && not (suc (suc n) == 1)) ≡ false → ⊥
 two_marks n true h unlike = let one : suc (suc n) ≡ 1 = eqb-true (suc (suc n)) 1 h in omega arith
@@ -104,7 +104,7 @@ stands_whole s p past o ms alone = go (list_any stands_alone ms) refl
         subst (λ x. StandsSo s p past x ms) (sym one.1) (subst (λ x. StandsSo s p past None x) (sym one.2)
         (λ none. sym (standing-alone s p one.0 past one.3)))
 
--- What is refused of an entry's marks, and where its process stands after them.
+-- The refusal of an entry's marks, and the state of its process after them.
 
 pub nothing_refused : (s : Setup) (p : ℕ) (past : Past) (o : Option Access) (ms : List Mark) → has_nothing (with_marks p o ms) ≡ true → refusal_of_marks s past (with_marks p o ms) ≡ Some refusal.Nothing
 nothing_refused s p past o ms h = rw h refl

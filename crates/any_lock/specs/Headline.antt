@@ -1,4 +1,4 @@
--- What a good verdict says, whoever made the record.
+-- The meaning of a good verdict, for any record.
 use Rattle.std.specs.Prelude.{◌≡◌, ℕ, List, ◌∷◌, ◌++◌, reverse, IsTrue, IsFalse, Contains}
 use Rattle.plain_store.specs.{Answer, Setup}
 use Rattle.record.specs.{AnswersNoCutCall, CallsTakeOnce, Entry, IsAlone, IsAnswerTo, Past, PlacesKeepOrder, StandsInHistory, TakesItsPlace, all_takings, has, is_entered}
@@ -10,30 +10,30 @@ use Rattle.read_law.specs.declared.verdicts.Verdict.TheVariants.{Good}
 use Rattle.any_lock.specs.Standings.{its_call, passage_in}
 use Rattle.any_lock.specs.Verdicts.{verdict_of}
 
--- Who gets inside does so while no other is ahead: nobody overtakes.
+-- A process enters only while no other process is ahead of it, so no process is overtaken.
 abbrev pub OvertakesNobody : Past → Entry → Type 0
 OvertakesNobody past e = IsTrue (has is_entered e) → (j : ℕ) → IsFalse (is_ahead (passage_in past) e.process j)
 
--- An answer is the reply with which its call has taken its one command; with any other answer it has taken none.
+-- An answer that is a reply is the reply with which its call has taken its one command; with any other answer the call has taken none.
 abbrev pub AnswersWhatItTook : Past → Entry → Type 0
 AnswersWhatItTook past e = (a : Answer) → Contains e.marks (Answered a) → IsAnswerTo a (all_takings (its_call e.process (e ∷ past)))
 
--- The headline, of one entry and the entries before it.
+-- The main theorem, for one entry and the entries before it.
 pub record KeepsHeadline (s : Setup) (past : Past) (e : Entry) : Type 0 where
-  pub alone : IsAlone (e ∷ past)  -- no two are inside together
-  pub overtakes : OvertakesNobody past e  -- nobody enters while another is ahead
-  pub place : TakesItsPlace s past e  -- what is taken has its place, and the one-thread store's reply there
-  pub stands : StandsInHistory s past e  -- a store answer stands in the history
-  pub answers : AnswersWhatItTook past e  -- it is the reply of the one command of its call, and another answer says that none was taken
-  pub once : CallsTakeOnce (e ∷ past)  -- each call, cut or not, is taken at most once
+  pub alone : IsAlone (e ∷ past)  -- no two processes are inside together
+  pub overtakes : OvertakesNobody past e  -- no process enters while another is ahead
+  pub place : TakesItsPlace s past e  -- a command is taken at its position, with the sequential store's reply there
+  pub stands : StandsInHistory s past e  -- a reply that is answered belongs to a command in the history
+  pub answers : AnswersWhatItTook past e  -- an answered reply is that of the one command of its call, and after another answer none was taken
+  pub once : CallsTakeOnce (e ∷ past)  -- each call, cut or not, takes effect at most once
   pub cut : AnswersNoCutCall past e  -- a call that was cut is never answered
-  pub order : PlacesKeepOrder (e ∷ past)  -- places keep the order of calls that do not overlap
+  pub order : PlacesKeepOrder (e ∷ past)  -- positions keep the order of calls that do not overlap
 
--- Each entry of these keeps it.
+-- Each of these entries keeps the main theorem.
 abbrev pub KeepsHeadlineThroughout : Setup → Past → Type 0
 KeepsHeadlineThroughout s past = (later earlier : Past) (e : Entry) → past ≡ later ++ e ∷ earlier → KeepsHeadline s earlier e
 
--- If this is a good verdict, each entry of these keeps it.
+-- If this verdict is good, each of these entries keeps the main theorem.
 abbrev pub SaysHeadline : Verdict AnyLockLaw → Setup → List Entry → Type 0
 SaysHeadline verdict s entries = verdict ≡ Good → KeepsHeadlineThroughout s (reverse entries)
 

@@ -1,4 +1,4 @@
--- What a judge keeps of the entries that it has heard.
+-- The state of a judge after the entries that it has observed.
 use Rattle.std.specs.Prelude.{◌≡◌, ◌<◌, ℕ, [], List, ◌∷◌, ◌++◌, length, reverse, Option, None, Some, Ok}
 use Rattle.plain_store.specs.{Setup, checked}
 use Rattle.record.specs.{Access, Entry, Past}
@@ -15,7 +15,7 @@ use Rattle.any_lock.specs.Laws.{first_broken}
 use Rattle.read_law.specs.Verdicts.{verdict_with}
 use Rattle.any_lock.specs.Verdicts.{verdict_of}
 
--- a watch, what is kept beside it, the verdict so far, and how many entries were heard
+-- a monitor of the law `safe`, the state kept for the other laws, the verdict so far, the number of observed entries, and the reasons of the verdict
 pub record JudgeState : Type 0 where
   pub watch : WatchState
   pub kept : KeptState
@@ -23,7 +23,7 @@ pub record JudgeState : Type 0 where
   pub entries : ℕ
   pub reasons : Option Reasons
 
--- both have heard these entries of a record with this setup, each of which accesses what is there
+-- the monitor and the kept state have both observed these entries of a record with this setup, and each access is to an existing bit
 pub record BothHeard (j : JudgeState) (s : Setup) (past : Past) : Type 0 where
   pub watched : j.watch.setup ≡ s
   pub watch : HasWatched j.watch past
@@ -31,7 +31,7 @@ pub record BothHeard (j : JudgeState) (s : Setup) (past : Past) : Type 0 where
   pub knows : Knows j.kept past
   pub there : AllAreOfThere s past
 
--- these are the reasons of the bad entry of a record
+-- these are the reasons of entry k of a record, which breaks law l first
 pub record AreReasonsAt (s : Setup) (entries : List Entry) (k : ℕ) (l : AnyLockLaw) (reasons : Option Reasons) : Type 0 where
   pub entry : Entry
   pub past : Past
@@ -42,41 +42,41 @@ pub record AreReasonsAt (s : Setup) (entries : List Entry) (k : ℕ) (l : AnyLoc
   pub is : reasons ≡ Some told
   pub are : AreReasons s past entry l told
 
--- these are the reasons of a verdict on a record: a good one has none
+-- these are the reasons of a verdict on a record; a good verdict has none
 abbrev pub AreReasonsOf : Setup → List Entry → Verdict AnyLockLaw → Option Reasons → Type 0
 AreReasonsOf s entries Good reasons = reasons ≡ None
 AreReasonsOf s entries (Bad k l) reasons = AreReasonsAt s entries k l reasons
 
--- where a process stands so, its doorway began there, in a past that is known or with this access
+-- this is the entry with which the doorway of a process in this state began, after any known past and with this access
 abbrev pub TellsDoorway : KeptState → Option Access → Standing → Option ℕ → Type 0
 TellsDoorway k access at told = (past : Past) (e : Entry) → e.access ≡ access → Knows k past → told ≡ doorway_with past e at
 
--- process p got inside there, if it is one
+-- this is the entry with which process p entered, if p exists
 abbrev pub TellsEntered : KeptState → ℕ → Option (ℕ × ℕ) → Type 0
 TellsEntered k p told = (past : Past) → p < k.setup.processes → Knows k past → told ≡ entered p (standing k.setup p past)
 
--- these are the reasons of an entry that breaks this law first
+-- these are the reasons of an entry that breaks law l first
 abbrev pub AreReasonsBy : AnyLockLaw → Reasons → Setup → Past → Entry → Type 0
 AreReasonsBy l told s past e = AreReasons s past e l told
 
--- and if it breaks one
+-- these are the reasons of an entry, if it breaks a law, and otherwise none
 abbrev pub AreReasonsIf : Option AnyLockLaw → Option Reasons → Setup → Past → Entry → Type 0
 AreReasonsIf None reasons s past e = reasons ≡ None
 AreReasonsIf (Some l) reasons s past e = (told : Reasons) × (reasons ≡ Some told) × AreReasonsBy l told s past e
 
--- where both have heard the entries before, this is the verdict with an entry of this number
+-- if both have observed the entries before, this is the verdict after an entry with this number
 abbrev pub Finds : JudgeState → ℕ → Entry → Verdict AnyLockLaw → Type 0
 Finds j number e verdict = (s : Setup) (past : Past) → BothHeard j s past → verdict ≡ verdict_with number (first_broken s past e)
 
--- it has the reasons of that entry
+-- the reasons are then those of that entry
 abbrev pub TellsReasons : JudgeState → Entry → JudgeState → Type 0
 TellsReasons j e then = (s : Setup) (past : Past) → BothHeard j s past → AreReasonsIf (first_broken s past e) then.reasons s past e
 
--- and both go on, if the verdict is good
+-- both have then observed the entry, if the verdict is good
 abbrev pub HearOn : JudgeState → Entry → Verdict AnyLockLaw → JudgeState → Type 0
 HearOn j e verdict then = (s : Setup) (past : Past) → BothHeard j s past → verdict ≡ Good → BothHeard then s (e ∷ past)
 
--- It has heard these entries: it has the verdict on them and its reasons, and as long as that is good the watch and what is kept go on.
+-- The judge has observed these entries: it has the verdict on them and its reasons. While the verdict is good, the monitor and the kept state have observed them too.
 pub record HasJudged (j : JudgeState) (s : Setup) (entries : List Entry) : Type 0 where
   pub good : checked s ≡ Ok tt
   pub count : j.entries ≡ length entries
@@ -84,14 +84,14 @@ pub record HasJudged (j : JudgeState) (s : Setup) (entries : List Entry) : Type 
   pub reasons : AreReasonsOf s entries j.verdict j.reasons
   pub goes_on : j.verdict ≡ Good → BothHeard j s (reverse entries)
 
--- this holds of each list of entries that it has judged
+-- this holds of each list of entries that the judge has observed
 abbrev pub OfJudged : JudgeState → (Setup → List Entry → Type 0) → Type 0
 OfJudged j P = (s : Setup) (entries : List Entry) → HasJudged j s entries → P s entries
 
--- it goes on by an entry
+-- the judge has observed one more entry
 abbrev pub JudgesOn : JudgeState → Entry → JudgeState → Type 0
 JudgesOn j e then = OfJudged j (λ s entries. HasJudged then s (entries ++ e ∷ []))
 
--- these are the reasons of its verdict
+-- these are the reasons of the verdict on these entries
 abbrev pub IsExplained : Option Reasons → Setup → List Entry → Type 0
 IsExplained reasons s entries = AreReasonsOf s entries (verdict_of s entries) reasons

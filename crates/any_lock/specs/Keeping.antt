@@ -1,4 +1,4 @@
--- What a judge keeps of the entries that it has heard, and how that goes on.
+-- The state kept of the observed entries, and its update by one more entry.
 use Rattle.std.specs.Prelude.{slice_set, Result, MatchResult, ◌≡◌, ℕ, ◌+◌, ◌==◌, ◌<◌, ◌≤◌, Bool, true, false, ◌&&◌, List, [], ◌∷◌, fold, length, slice_get, cond, Option, None, Some, Ok}
 use Rattle.plain_store.specs.declared.Command.TheVariants.{Ask}
 use Rattle.plain_store.specs.{Contents, Reply, Setup, after, checked}
@@ -12,11 +12,11 @@ use Rattle.any_lock.specs.declared.any_lock_law.AnyLockLaw.{AnyLockLaw}
 use Rattle.any_lock.specs.Refusals.{mark_refusal, same_reply}
 use Rattle.any_lock.specs.Standings.{begun_by, standing, torn_after, write_of}
 
--- where a process stands that has no entries
+-- the state of a process without entries
 abbrev pub at_rest : Standing
 at_rest = record { stage = stage.Idle; withdrawn = false; number = 0; command = Ask; reply = None; opened = None; torn = None; passage = no_passage }
 
--- where its process stands after the access of an entry with this number
+-- the state after an access, in the entry with this number
 abbrev pub accessed : ℕ → Standing → Access → Standing
 accessed entry k a = record k {
   opened = begun_by entry (Some a) k.opened;
@@ -24,16 +24,16 @@ accessed entry k a = record k {
   passage = with_access entry k.passage;
 }
 
--- the same, if there is one
+-- the state after an access, if there is one
 abbrev pub accessed_by : ℕ → Standing → Option Access → Standing
 accessed_by entry k None = k
 accessed_by entry k (Some a) = accessed entry k a
 
--- the number of the next call
+-- the number of the next call of a process
 abbrev pub next_number : Setup → ℕ → ℕ
 next_number s number = cond (s.version == 2) (number + 1) 0
 
--- where its process stands after a mark of an entry with this number
+-- the state after a mark of an entry with this number
 abbrev pub marked : Setup → ℕ → Standing → Mark → Standing
 marked s entry k (mark.Called c) = record k {
   stage = stage.Doorway;
@@ -54,30 +54,30 @@ marked s entry k mark.Down = record k { stage = stage.Down; passage = without_wa
 marked s entry k mark.Withdrew = record k { stage = stage.Leaving; withdrawn = true; opened = write_of k.opened; passage = without_wait k.passage }
 marked s entry k mark.Restarted = record k { stage = stage.Idle; passage = without_wait k.passage }
 
--- the first of these marks that is refused, where its process stands so
+-- the refusal of the first refused mark, if the process is in this state before them
 abbrev pub refusal_on : Setup → ℕ → Standing → List Mark → Option MarkRefusal
 refusal_on s entry k [] = None
 refusal_on s entry k (m ∷ marks) = elim (mark_refusal k m) [ Some r ↦ Some r | None ↦ refusal_on s entry (marked s entry k m) marks ]
 
--- this is the refusal
+-- this is the refusal of these marks
 abbrev pub IsRefusedFor : Setup → ℕ → Standing → List Mark → MarkRefusal → Type 0
 IsRefusedFor s entry k marks why = refusal_on s entry k marks ≡ Some why
 
--- where it stands after these marks
+-- the state after these marks
 abbrev pub marked_all : Setup → ℕ → Standing → List Mark → Standing
 marked_all s entry = fold (marked s entry)
 
--- a command is taken
+-- the mark takes a command
 abbrev pub is_taken : Mark → Bool
 is_taken (mark.Taken n r) = true
 is_taken _ = false
 
--- a mark takes none, or one with this place and this reply
+-- the mark takes no command, or one with this position and this reply
 abbrev pub is_taken_as : ℕ → Reply → Mark → Bool
 is_taken_as place reply (mark.Taken n r) = (n == place) && same_reply r reply
 is_taken_as place reply _ = true
 
--- the standings of the processes, the one-thread store, and how many commands and entries there were
+-- the states of the processes, the sequential store, and the numbers of commands and entries
 pub record KeptState : Type 0 where
   pub setup : Setup
   pub standings : List Standing
@@ -85,68 +85,68 @@ pub record KeptState : Type 0 where
   pub taken : ℕ
   pub entries : ℕ
 
--- the same, where process p stands so
+-- the kept state, if process p is in this state
 abbrev pub with_standing : ℕ → Standing → KeptState → KeptState
 with_standing p standing k = record k { standings = slice_set k.standings p standing }
 
--- its store then, if a command of process p is taken
+-- the store after a command of process p, if one is taken
 abbrev pub TakesInto : KeptState → ℕ → Bool → Contents → Type 0
 TakesInto k p takes store = (at : Standing) → slice_get k.standings p ≡ Some at → store ≡ cond takes (after k.store at.command (record { process = p; number = at.number })) k.store
 
--- there is a standing for each process of a good setup, and there are no more commands than entries
+-- the setup is good, each process has a state, and there are no more commands than entries
 pub record IsKept (k : KeptState) : Type 0 where
   pub good : checked k.setup ≡ Ok tt
   pub processes : length k.standings ≡ k.setup.processes
   pub few : k.taken ≤ k.entries
 
--- this is what is to be known of a past
+-- the kept state is that of this past
 pub record Knows (k : KeptState) (past : Past) : Type 0 where
   pub standings : (p : ℕ) → p < k.setup.processes → slice_get k.standings p ≡ Some (standing k.setup p past)
   pub store : k.store ≡ store_after k.setup (history k.setup past)
   pub taken : k.taken ≡ length (history k.setup past)
   pub entries : k.entries ≡ length past
 
--- this holds of each past that is known
+-- this holds of each past with this kept state
 abbrev pub OfPast : KeptState → (Setup → Past → Type 0) → Type 0
 OfPast k P = (past : Past) → Knows k past → P k.setup past
 
--- and of each entry of process p with this access and these marks
+-- this holds of each such past, and of each entry of process p with this access and these marks
 abbrev pub OfEntry : KeptState → ℕ → Option Access → List Mark → (Setup → Past → Entry → Type 0) → Type 0
 OfEntry k p access marks P = (past : Past) (e : Entry) → e.process ≡ p → e.access ≡ access → e.marks ≡ marks → Knows k past → P k.setup past e
 
--- this is what a definition says of each entry of process p with this access and these marks
+-- this is the value of f at each entry of process p with this access and these marks
 abbrev pub IsOfEntry : {A : Type 0} → A → (Setup → Past → Entry → A) → KeptState → ℕ → Option Access → List Mark → Type 0
 IsOfEntry told f k p access marks = OfEntry k p access marks (λ s past e. told ≡ f s past e)
 
--- with this access
+-- this is the value of f at each entry of process p with this access
 abbrev pub IsOfAccess : {A : Type 0} → A → (Setup → Past → Entry → A) → KeptState → ℕ → Option Access → Type 0
 IsOfAccess told f k p access = (past : Past) (e : Entry) → e.process ≡ p → e.access ≡ access → Knows k past → told ≡ f k.setup past e
 
--- with these marks
+-- this is the value of f at each entry of process p with these marks
 abbrev pub IsOfMarks : {A : Type 0} → A → (Setup → Past → Entry → A) → KeptState → ℕ → List Mark → Type 0
 IsOfMarks told f k p marks = (past : Past) (e : Entry) → e.process ≡ p → e.marks ≡ marks → Knows k past → told ≡ f k.setup past e
 
--- of each entry of process p
+-- this is the value of f at each entry of process p
 abbrev pub IsOfProcess : {A : Type 0} → A → (Setup → Past → Entry → A) → KeptState → ℕ → Type 0
 IsOfProcess told f k p = (past : Past) (e : Entry) → e.process ≡ p → Knows k past → told ≡ f k.setup past e
 
--- where process p stands after its access
+-- the state of process p after its access
 abbrev pub made_at : KeptState → ℕ → Option Access → Past → Standing
 made_at k p access past = accessed_by k.entries (standing k.setup p past) access
 
--- where process p stands after its entry, or what a definition says against that
+-- the state of process p after its entry, if f gives no objection, and otherwise that objection
 abbrev pub StandsAfter : {R : Type 0} → (Setup → Past → Entry → Option R) → Result Standing R → KeptState → ℕ → Option Access → List Mark → Type 0
 StandsAfter f told k p access marks =
     OfEntry k p access marks (λ s past e. MatchResult told (λ at. (f s past e ≡ None) × (at ≡ standing s p (e ∷ past))) (λ against. f s past e ≡ Some against))
 
--- what is kept then is to be known of the past with the entry
+-- this is the kept state of the past with the entry
 abbrev pub KnowsOn : KeptState → Setup → Past → Entry → Type 0
 KnowsOn then s past e = Knows then (e ∷ past)
 
--- if the entry breaks no law
+-- it is so if the entry breaks no law
 abbrev pub GoesOn : Option AnyLockLaw → KeptState → Setup → Past → Entry → Type 0
 GoesOn law then s past e = law ≡ None → KnowsOn then s past e
 
--- so it is with each entry of process p with these marks, after which the process stands so
+-- it is so for each entry of process p with these marks, after which the process is in this state
 abbrev pub KnowsOnAt : KeptState → ℕ → List Mark → Standing → KeptState → Type 0
 KnowsOnAt k p marks at then = (past : Past) (e : Entry) → e.process ≡ p → e.marks ≡ marks → at ≡ standing k.setup p (e ∷ past) → Knows k past → Knows then (e ∷ past)

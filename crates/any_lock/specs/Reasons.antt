@@ -1,4 +1,4 @@
--- The reasons of an entry that breaks a law, by looking back.
+-- The reasons of an entry that breaks a law, computed from the entries before it.
 use Rattle.std.specs.Prelude.{◌≡◌, ℕ, nat_lt, Bool, true, false, not, length, cond, Option, None, Some, is_none}
 use Rattle.record.specs.safe_bit.declared.Move.TheVariants.{BeginWrite, EndWrite, BeginRead, EndRead, Settle}
 use Rattle.plain_store.specs.{Setup}
@@ -17,18 +17,18 @@ use Rattle.any_lock.specs.Laws.{broken_later, right_reply}
 use Rattle.any_lock.specs.Refusals.{refusal_of_access, refusal_of_marks}
 use Rattle.any_lock.specs.Standings.{has_access, passage_in, standing}
 
--- its refusal by the table of accesses, or else by that of marks, whatever the law
+-- the refusal of an entry by the table of accesses, or otherwise by that of marks, for any law
 abbrev pub refused : Setup → Past → Entry → Option Refused
 refused s past e = elim (refusal_of_access s past e) [
   | Some r ↦ Some (by.Access r)
   | None ↦ elim (refusal_of_marks s past e) [ Some r ↦ Some (by.Marks r) | None ↦ None ]
 ]
 
--- where its process stands, if it is there
+-- the state of a process, if the process exists
 abbrev pub stands : Setup → Past → ℕ → Option Standing
 stands s past p = cond (nat_lt p s.processes) (Some (standing s p past)) None
 
--- of a standing, if there is one
+-- a part of the state of a process, if the process exists
 abbrev pub of_standing : {A : Type 0} → (Standing → Option A) → Option Standing → Option A
 of_standing f None = None
 of_standing f (Some k) = f k
@@ -38,15 +38,15 @@ abbrev pub entry_of : Option Begun → Option ℕ
 entry_of None = None
 entry_of (Some b) = Some b.entry
 
--- its stage
+-- the stage of a process
 abbrev pub stage_of : Setup → Past → ℕ → Option Stage
 stage_of s past p = of_standing (λ (k : Standing). Some k.stage) (stands s past p)
 
--- where the access began that it has open
+-- the entry that began the access which a process has open
 abbrev pub opened_by : Setup → Past → ℕ → Option ℕ
 opened_by s past p = of_standing (λ (k : Standing). entry_of k.opened) (stands s past p)
 
--- where the write of its torn bit began
+-- the entry that began the write of the torn bit of a process
 abbrev pub torn_by : Setup → Past → ℕ → Option ℕ
 torn_by s past p = of_standing (λ (k : Standing). entry_of k.torn) (stands s past p)
 
@@ -55,11 +55,11 @@ abbrev pub since : ℕ → Option ℕ → Option (ℕ × ℕ)
 since q None = None
 since q (Some entry) = Some (q, entry)
 
--- q, and the entry of its call with which it got inside
+-- q, and the entry of its call with which it entered
 abbrev pub entered : ℕ → Standing → Option (ℕ × ℕ)
 entered q k = since q k.passage.enters
 
--- who but p is inside, and since which entry
+-- the lowest process other than p that is inside, and the entry with which it entered
 abbrev pub inside_since : Setup → Past → ℕ → Option (ℕ × ℕ)
 inside_since s past p = elim (other_inside (passage_in past) s.processes p) [ None ↦ None | Some q ↦ entered q (standing s q past) ]
 
@@ -67,36 +67,36 @@ inside_since s past p = elim (other_inside (passage_in past) s.processes p) [ No
 abbrev pub wait_ahead : Setup → Past → ℕ → ℕ → Option ℕ
 wait_ahead s past p q = cond (nat_lt p s.processes) (ahead_since (passage_in past) s.processes p q) None
 
--- where its process's doorway began, in the past or with its access
+-- the entry with which the doorway of a process in this state began, in the past or with the access of entry e
 abbrev pub doorway_with : Past → Entry → Standing → Option ℕ
 doorway_with past e k = first_of k.passage.doorway (cond (has_access e) (Some (length past)) None)
 
--- the same, if its process is there
+-- that entry for the process of e, if the process exists
 abbrev pub doorway_of : Setup → Past → Entry → Option ℕ
 doorway_of s past e = of_standing (doorway_with past e) (stands s past e.process)
 
--- the value with which its read ends
+-- the value with which an access ends a read
 abbrev pub value_in : Option Access → Option Bool
 value_in None = None
 value_in (Some a) = elim a.how [ EndRead v ↦ Some v | BeginWrite v ↦ None | EndWrite ↦ None | BeginRead ↦ None | Settle v ↦ None ]
 
--- its access, where it ends a read with this value
+-- the access, changed to end a read with this value
 abbrev pub ends_with : Bool → Option Access → Option Access
 ends_with v None = None
 ends_with v (Some a) = Some (record a { how = EndRead v })
 
--- the entry with that access
+-- the entry, changed to end a read with this value
 abbrev pub with_value : Bool → Entry → Entry
 with_value v e = record { process = e.process; access = ends_with v e.access; marks = e.marks }
 
--- the other value, if the entry keeps all later laws with it; the law `Safe` allows the one where it forbids the other
+-- the other value, if the entry keeps all later laws with it; `Safe` allows one of two values if it forbids the other
 abbrev pub other_value : Setup → Past → Entry → Option Remedy
 other_value s past e = elim (value_in e.access) [
   | None ↦ None
   | Some v ↦ cond (is_none (broken_later s past (with_value (not v) e))) (Some (Value (not v))) None
 ]
 
--- how the entry would keep all laws
+-- the change with which the entry would keep all laws
 abbrev pub change_of : AnyLockLaw → Setup → Past → Entry → Option Remedy
 change_of law.Safe s past e = other_value s past e
 change_of law.History s past e = cond (nat_lt e.process s.processes) (Some (Taking (length (history s past)) (right_reply s past e.process))) None
@@ -111,7 +111,7 @@ abbrev pub is_overtaken : AnyLockLaw → Bool
 is_overtaken law.Overtaken = true
 is_overtaken _ = false
 
--- what is told of these with each law
+-- the parts of the reasons that depend on the law
 abbrev pub inside_by : AnyLockLaw → Setup → Past → ℕ → Option (ℕ × ℕ)
 inside_by l s past p = cond (is_together l) (inside_since s past p) None
 

@@ -1,4 +1,4 @@
--- What an access, or marks, are refused for: one table each, in which the first that applies is the refusal.
+-- The refusals of an access and of marks: one table each, in which the first reason that applies is the refusal.
 use Rattle.std.specs.Prelude.{ℕ, ◌==◌, nat_lt, nat_le, Bool, true, false, not, ◌&&◌, ◌||◌, List, [], ◌∷◌, ◌++◌, length, Option, None, Some, is_none, is_some, if◌then◌else◌}
 use Rattle.std.specs.List.{list_any}
 use Rattle.std.specs.Ordering.{int_eq}
@@ -18,7 +18,7 @@ use Rattle.any_lock.specs.declared.standings.Begun.{Begun}
 use Rattle.any_lock.specs.declared.standings.Standing.{Standing}
 use Rattle.any_lock.specs.Standings.{settles, standing}
 
--- the first whose test holds
+-- the first value whose test holds
 abbrev pub first_that : {R : Type 0} → List (Bool × R) → Option R
 first_that [] = None
 first_that (test ∷ tests) = if test.0 then Some test.1 else first_that tests
@@ -33,69 +33,69 @@ is_running stage.Inside = true
 is_running stage.Leaving = true
 is_running _ = false
 
--- its memory unit settles and clears
+-- the memory unit of a process settles and clears
 abbrev pub is_settling : Stage → Bool
 is_settling stage.Settling = true
 is_settling _ = false
 
--- its memory unit is done
+-- the memory unit of a process has finished
 abbrev pub is_down : Stage → Bool
 is_down stage.Down = true
 is_down _ = false
 
--- it is in its doorway
+-- a process is in its doorway
 abbrev pub is_in_doorway : Stage → Bool
 is_in_doorway stage.Doorway = true
 is_in_doorway _ = false
 
--- it leaves
+-- a process is leaving
 abbrev pub is_leaving : Stage → Bool
 is_leaving stage.Leaving = true
 is_leaving _ = false
 
 -- Moves.
 
--- both hold, or neither
+-- both are true, or both are false
 abbrev pub same_truth : Bool → Bool → Bool
 same_truth true b = b
 same_truth false b = not b
 
--- a move of a read
+-- the move belongs to a read
 abbrev pub reads : Move → Bool
 reads BeginRead = true
 reads (EndRead v) = true
 reads _ = false
 
--- an end, of a write or of a read
+-- the move ends a write or a read
 abbrev pub ends : Move → Bool
 ends EndWrite = true
 ends (EndRead v) = true
 ends _ = false
 
--- a write begins
+-- the move begins a write
 abbrev pub begins_write : Move → Bool
 begins_write (BeginWrite v) = true
 begins_write _ = false
 
--- the bit of an access is there
+-- the bit of an access exists
 abbrev pub is_there : Setup → Access → Bool
 is_there s a = nat_lt a.owner s.processes && nat_lt a.reader s.processes && nat_lt a.bit (width s a.field)
 
--- a process at a stage may make a move, but for settlings: one that runs any, one that settles those of a write
+-- a process at this stage may make this move: any move while it runs, a move of a write while it is settling; a settling has its own rules
 abbrev pub may_move : Stage → Move → Bool
 may_move at how = settles how || is_running at || (is_settling at && not (reads how))
 
--- this is of the bit of an access
+-- this began an access to the same bit
 abbrev pub is_of_bit : Option Begun → Access → Bool
 is_of_bit None a = false
 is_of_bit (Some b) a = same_bit b.access a
 
--- and is the begin of which the access is the end
+-- this began the access that ends here
 abbrev pub is_end_of : Option Begun → Access → Bool
 is_end_of None a = false
 is_end_of (Some b) a = same_bit b.access a && same_truth (reads a.how) (reads b.access.how)
 
--- The tables of refusals of an access: by who makes it, and by where its process stands.
+-- The tables of refusals of an access: by the process that makes it, and by the state of that process.
 abbrev pub maker_refusals : Setup → ℕ → Access → List (Bool × AccessRefusal)
 maker_refusals s p a =
     (not (nat_lt p s.processes), access.NoProcess)
@@ -114,13 +114,13 @@ move_refusals k a =
     ∷ (begins_write a.how && is_of_bit k.torn a, access.Torn)
     ∷ []
 
--- of an access that p makes where it stands so
+-- the refusal of an access that p makes in this state
 abbrev pub access_refusal : Setup → ℕ → Standing → Access → Option AccessRefusal
 access_refusal s p k a = first_that (maker_refusals s p a ++ move_refusals k a)
 
 -- Answers.
 
--- the same reply
+-- both are one reply
 abbrev pub same_reply : Reply → Reply → Bool
 same_reply (reply.Value x) (reply.Value y) = same_value x y
 same_reply reply.Done reply.Done = true
@@ -154,7 +154,7 @@ abbrev pub has_other_reply : Option Reply → Answer → Bool
 has_other_reply None a = false
 has_other_reply (Some r) a = not (is_the_reply a r)
 
--- Of each mark the table of its refusals, where its process stands so.
+-- The table of refusals of each mark, if its process is in this state.
 abbrev pub mark_refusal : Standing → Mark → Option MarkRefusal
 mark_refusal k (Called c) = first_that (
     (is_running k.stage, mark.Busy)
@@ -190,7 +190,7 @@ mark_refusal k Down = first_that (
     ∷ (is_some k.torn, mark.Torn)
     ∷ [])
 
--- these marks stand alone, without an access and without another mark
+-- the mark must be alone: without an access and without another mark
 abbrev pub stands_alone : Mark → Bool
 stands_alone (Called c) = true
 stands_alone Failed = true
@@ -202,28 +202,28 @@ stands_alone _ = false
 abbrev pub has_nothing : Entry → Bool
 has_nothing e = is_none e.access && (length e.marks == 0)
 
--- it has one mark and no access
+-- an entry has one mark and no access
 abbrev pub has_one_mark : Entry → Bool
 has_one_mark e = is_none e.access && (length e.marks == 1)
 
--- one of its marks stands alone, and is not alone
+-- one of its marks must be alone, and is not
 abbrev pub is_crowded : Entry → Bool
 is_crowded e = list_any stands_alone e.marks && not (has_one_mark e)
 
--- What an entry is refused for, after a past.
+-- The refusals of an entry, after a past.
 
--- its access
+-- the refusal of the access of an entry
 abbrev pub refusal_of_access : Setup → Past → Entry → Option AccessRefusal
 refusal_of_access s past e = elim e.access [
   | None ↦ first_that ((not (nat_lt e.process s.processes), access.NoProcess) ∷ [])
   | Some a ↦ access_refusal s e.process (standing s e.process past) a
 ]
 
--- an entry, as far as these marks of it
+-- an entry with these marks in place of its own
 abbrev pub up_to : Entry → List Mark → Entry
 up_to e marks = record { process = e.process; access = e.access; marks = marks }
 
--- the first of its marks that is refused, behind the earlier ones
+-- the first refused mark after the earlier marks
 abbrev pub refusal_behind : Setup → Past → Entry → List Mark → List Mark → Option MarkRefusal
 refusal_behind s past e earlier [] = None
 refusal_behind s past e earlier (m ∷ later) = elim (mark_refusal (standing s e.process (up_to e earlier ∷ past)) m) [
@@ -231,7 +231,7 @@ refusal_behind s past e earlier (m ∷ later) = elim (mark_refusal (standing s e
   | None ↦ refusal_behind s past e (earlier ++ m ∷ []) later
 ]
 
--- its marks, one after the other behind its access
+-- the refusal of the marks of an entry, one after the other, after its access
 abbrev pub refusal_of_marks : Setup → Past → Entry → Option MarkRefusal
 refusal_of_marks s past e =
     if has_nothing e then Some mark.Nothing else

@@ -7,7 +7,7 @@ use Rattle.any_lock.specs.declared.refusals.AccessRefusal.TheVariants as access
 use Rattle.any_lock.specs.declared.refusals.MarkRefusal.{MarkRefusal}
 use Rattle.any_lock.specs.declared.refusals.MarkRefusal.TheVariants as mark
 
--- a law
+-- the text of a law
 abbrev pub law_text : AnyLockLaw → List ℕ
 law_text law.Safe = codes "safe"
 law_text law.Access = codes "access"
@@ -16,7 +16,7 @@ law_text law.Together = codes "together"
 law_text law.Overtaken = codes "overtaken"
 law_text law.History = codes "history"
 
--- why an access is refused
+-- the text of a refusal of an access
 abbrev pub access_refusal_text : AccessRefusal → List ℕ
 access_refusal_text access.NoProcess = codes "no-process"
 access_refusal_text access.NoBit = codes "no-bit"
@@ -29,7 +29,7 @@ access_refusal_text access.AccessOpen = codes "access-open"
 access_refusal_text access.NotTorn = codes "not-torn"
 access_refusal_text access.Torn = codes "torn"
 
--- why a mark is refused
+-- the text of a refusal of a mark
 abbrev pub mark_refusal_text : MarkRefusal → List ℕ
 mark_refusal_text mark.Nothing = codes "nothing"
 mark_refusal_text mark.NotAlone = codes "not-alone"

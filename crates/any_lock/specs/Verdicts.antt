@@ -8,7 +8,7 @@ use Rattle.read_law.specs.declared.verdicts.Verdict.TheVariants.{Good, Bad}
 use Rattle.read_law.specs.Verdicts.{verdict_with}
 use Rattle.any_lock.specs.Laws.{first_broken}
 
--- the verdict on a past: a bad one stays; else it is that of the newest entry
+-- the verdict on a past: a bad one is unchanged; otherwise it is that of the newest entry
 abbrev pub verdict_after : Setup → Past → Verdict AnyLockLaw
 verdict_after s [] = Good
 verdict_after s (e ∷ past) = elim (verdict_after s past) [

@@ -8,7 +8,11 @@ use record::{Access, Act, Entry, Mark, Move};
 use smallvec::SmallVec;
 use std::alloc::{AllocError, Global};
 
-/// Returns an entry with a change. Fails only if an allocation fails.
+/// Returns an entry with a change.
+///
+/// # Errors
+///
+/// Returns [`AllocError`] if an allocation fails.
 pub fn changed(alloc: Global, entry: &Entry, change: &Remedy) -> Result<Entry, AllocError>
     ensures { IfOk result (λ with. with ≡ entry_with change.now entry.now) }
 {

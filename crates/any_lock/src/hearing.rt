@@ -14,8 +14,11 @@ use plain_store::{NestedTypes, Reply};
 use record::{Access, Mark};
 
 impl Kept {
-    /// Returns the state of the process of an entry after it, if the entry keeps all laws after `Safe`, and otherwise the first of
-    /// these laws that it breaks.
+    /// Returns the state of the process of an entry after it, if the entry keeps all laws after `Safe`.
+    ///
+    /// # Errors
+    ///
+    /// Returns the first law after `Safe` that the entry breaks.
     pub fn after(
         &self,
         process: u8,

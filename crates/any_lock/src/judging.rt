@@ -31,9 +31,9 @@ pub fn judge_all(
     Ok(judge.judged())
 }
 
-/// What a good verdict means for any record. No two processes are inside together, and none enters while another is ahead of
-/// it. Each command is taken at its position with the sequential store's reply there, and no interrupted call is answered.
-/// Positions keep the order of calls that do not overlap.
+/// The meaning of a good verdict, for any record. No two processes are inside together, and none enters while another is
+/// ahead of it. Each command is taken at its position with the sequential store's reply there, and no interrupted call
+/// is answered. Positions keep the order of calls that do not overlap.
 pub fn good_says_the_headline()
     ensures { GoodSaysTheHeadline }
 {}

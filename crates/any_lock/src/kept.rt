@@ -40,7 +40,11 @@ impl Model for Kept {
 }
 
 impl Kept {
-    /// Creates the state without entries. Fails only if an allocation fails.
+    /// Creates the state without entries.
+    ///
+    /// # Errors
+    ///
+    /// Returns [`AllocError`] if an allocation fails.
     pub fn new(alloc: Global, setup: &Setup) -> Result<Kept, AllocError>
         requires { checked setup.now ≡ Ok tt }
         ensures setup { IfOk result (λ k. k.setup ≡ setup.now) }
@@ -102,7 +106,11 @@ impl Kept {
         standing.refuses_access(&self.setup, process, access)
     }
 
-    /// Returns the state of the process of an entry after it, or why the entry's marks are refused.
+    /// Returns the state of the process of an entry after it.
+    ///
+    /// # Errors
+    ///
+    /// Returns the [`MarkRefusal`] of the entry's marks, if they are refused.
     pub fn marked(
         &self,
         process: u8,

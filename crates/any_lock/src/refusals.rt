@@ -58,7 +58,7 @@ pub enum MarkRefusal {
     OtherReply,
     /// A reply, and no command was taken.
     NotTaken,
-    /// The answer `Withdrawn` to a call that was not withdrawn.
+    /// An answer `Withdrawn` to a call that was not withdrawn.
     NotWithdrawn,
     /// An answer, or the end of a unit's work: an access is open.
     AccessOpen,

@@ -1,4 +1,4 @@
--- What the next access of a seat's process makes of what the seat knows, and of the words.
+-- The effect of the next access of a seat's process on the seat's view and on the words.
 use Rattle.std.proofs.Common.{◌≡◌, ℕ, ◌<◌, ◌==◌, Bool, true, false, cond, List, [], ◌∷◌, length, map, set, refl, sym, ap, ◌∙◌, subst, Option, Some, None, option_map, append-nil, eq-eqb, get_or-set_same, get_or-set_other, arith}
 use Rattle.std.proofs.lemmas.Bool.{true≢false}
 use Rattle.std.specs.Prelude.{slice_index, fold}
@@ -28,12 +28,12 @@ use Rattle.board.proofs.WordNumbers.{one_bit, one_word, word_below}
 use Rattle.board.proofs.Along.{Along, along_entry, kept}
 use Rattle.board.proofs.Happenings.{calls_own, entries_own, given_more, past_after, refused_is}
 
--- What is known then.
+-- The view after the access.
 
 mark-placed : (k j : ℕ) (t : Calls) (m : Mark) → calls_after k t (placed j m) ≡ calls_after k t m
 mark-placed k j t m = grind arith
 
--- the calls do not look at the places in the history
+-- the calls do not depend on the positions in the history
 fold-placed : (k j : ℕ) (t : Calls) (ms : List Mark) → fold (calls_after k) t (map (placed j) ms) ≡ fold (calls_after k) t ms
 fold-placed k j t [] = refl
 fold-placed k j t (m ∷ ms) = fold-placed k j (calls_after k t (placed j m)) ms ∙ ap (λ t. fold (calls_after k) t ms) (mark-placed k j t m)
@@ -41,16 +41,16 @@ fold-placed k j t (m ∷ ms) = fold-placed k j (calls_after k t (placed j m)) ms
 mark-again : (k j : ℕ) (m : Mark) → placed k (placed j m) ≡ placed k m
 mark-again k j m = grind arith
 
--- of two places the last one stays
+-- a mark that gets two positions keeps the second
 placed-again : (k j : ℕ) (ms : List Mark) → map (placed k) (map (placed j) ms) ≡ map (placed k) ms
 placed-again k j [] = refl
 placed-again k j (m ∷ ms) = λ i. mark-again k j m i ∷ placed-again k j ms i
 
--- the value of a move is that with which it ends
+-- a move that is given a value ends with that value
 ended-value : (v : Bool) (m : Move) → ended (value_of (ended v m)) m ≡ ended v m
 ended-value v m = grind arith
 
--- the entry of a step, with its place
+-- the entry of a step, with its position
 counted-step : (s : Setup) (past : Past) (p : ℕ) (flick : Bool) (e : Entry) (place : ℕ) → (is : StepIs s past p flick e) → counted_at place e ≡ entry_stepped s (own_view s past p) flick (value_of (valued s past flick is.next).how) place
 counted-step s past p flick e place is =
     let n = is.next in
@@ -78,12 +78,12 @@ own_step s past p flick e is =
       calls = (calls_own s p e past is.process ∙ ap (fold (calls_after place) (calls_of s p past)) is.marks ∙ fold-placed place (length (history s past)) (calls_of s p past) (marks_with s p (doing s p past) flick value)) i;
     }
 
--- It is accepted.
+-- The step is accepted.
 
 not_refused : (s : Setup) (o : OwnView) (flick : Bool) → goes s o ≡ true → refusal_in s o (event.Step o.process flick) ≡ None
 not_refused s o flick h = ap (λ r. elim r as (λ _. Option Refusal) [ Some x ↦ Some x | None ↦ None ]) (step_allowed (stage_in s o) o.process flick h)
 
--- what a view knows to be done has not come to its end
+-- the call or closing that a view knows has not come to its end
 pub unended : (s : Setup) (past : Past) (v : ViewState) → Knows s past v → IsUnended v.own.doing
 unended s past v k = subst IsUnended (sym (ap (λ (o : OwnView). o.doing) k.own)) (known_unended s v.own.process past)
 
@@ -134,11 +134,11 @@ made s g events v flick n k next =
       stage = stage-step s past p flick e is ∙ (λ i. fold stage_after (stage p past) (marks_with s p (doing_is i) flick (value_of (valued s past flick (n_is i)).how)));
     }
 
--- the view that knows a past
+-- the view after the changes of a past
 abbrev pub seeing : Setup → Past → ViewState → ViewState
 seeing s past v = record v { own = own_view s past v.own.process; seen = changes_of s past }
 
--- the rule then, if the words are those of the cells
+-- words and views show the past after the step, if the words are those of the cells
 pub step_shows : (s : Setup) (events : List Event) (words words' : List ℕ) (views : List ViewState) (id : ℕ) (v : ViewState) (flick : Bool) (n : Access) → Shows s events words views → get_elem? views id ≡ some v → v.spent ≡ false →
     (m : Made s events v flick n) → length words' ≡ words_in s → ((a : Access) → IsThere s a → slice_index words' (word_of s a) ≡ shown (cell_held s (m.e ∷ past_of s events) a)) →
     Shows s (event.Step v.own.process flick ∷ events) words' (set views id (seeing s (m.e ∷ past_of s events) v))
@@ -153,7 +153,7 @@ step_shows s events words words' views id v flick n f at live m size bits =
 
 -- The cells.
 
--- a read leaves what the words show
+-- a read leaves the words unchanged
 shown-read : (c : Cell) (m : Move) → is_write m ≡ false → shown (cell_after c m) ≡ shown c
 shown-read c m h = grind arith
 
@@ -164,13 +164,13 @@ cells_read s past e x a h r = ap shown (held-entry s past e x a h) ∙ by (same_
     by true = shown-read (cell_held s past a) x.how r
     by false = refl
 
--- a write changes the one word
+-- a write changes one word
 pub cells_written : (s : Setup) (past : Past) (words : List ℕ) (e : Entry) (x : Access) (new : ℕ) → e.access ≡ Some x → IsThere s x → length words ≡ words_in s → shown (cell_after (cell_held s past x) x.how) ≡ new →
     ((a : Access) → IsThere s a → slice_index words (word_of s a) ≡ shown (cell_held s past a)) →
     (a : Access) → IsThere s a → slice_index (set words (word_of s x) new) (word_of s a) ≡ shown (cell_held s (e ∷ past) a)
 cells_written s past words e x new h there size now bits a a_there = sym (ap shown (held-entry s past e x a h) ∙ by (same_bit a x) refl)
   where
-    -- the cell of one bit is one cell, however the access goes on
+    -- two accesses to one bit have one cell, for each move
     moved : same_bit a x ≡ true → shown (cell_after (cell_held s past a) x.how) ≡ new
     moved h = ap (λ (c : Cell). shown (cell_after c x.how)) (same_cell h) ∙ now
       where

@@ -1,4 +1,4 @@
--- An entry of one process leaves what the other seats know.
+-- An entry of one process leaves the views of the other seats.
 use Rattle.std.proofs.Common.{◌≡◌, ◌≢◌, ℕ, zero, suc, ◌<◌, ◌≤◌, Bool, true, false, cond, List, [], ◌∷◌, ◌++◌, length, set, refl, sym, ap, ◌∙◌, subst, ⊎_elim, arith, append_assoc, ne_eqb, Option, Some, None}
 use Rattle.std.specs.Prelude.{slice_index, fold}
 use Rattle.std.proofs.lemmas.List.{append-nil}
@@ -31,7 +31,7 @@ changing-more store (t ∷ xs) ys =
     by true all first rest h = ap (λ (z : List Taken). t ∷ z) h
     by false all first rest h = h
 
--- an entry takes no change away
+-- an entry removes no change
 pub changes_entry : (s : Setup) (past : Past) (e : Entry) → IsPrefix (changes_of s past) (changes_of s (e ∷ past))
 changes_entry s past e = by (reply_taken e.marks) refl
   where
@@ -41,11 +41,11 @@ changes_entry s past e = by (reply_taken e.marks) refl
         let more = changing-more (opening_store s) (history s past) (taken_at s past e r ∷ []) in
         (more.0, ap (changing (opening_store s)) (history-takes s past e r h) ∙ more.1)
 
--- one that takes no command leaves them
+-- an entry that takes no command adds no change
 pub changes_none : (s : Setup) (past : Past) (e : Entry) → reply_taken e.marks ≡ None → changes_of s (e ∷ past) ≡ changes_of s past
 changes_none s past e h = ap (changing (opening_store s)) (history-none s past e h)
 
--- so many they are
+-- the number of changes
 changes_counted : (store : Contents) (xs : List Taken) → length (changing store xs) ≡ count_changes store xs
 changes_counted store [] = refl
 changes_counted store (t ∷ xs) = by (changes store t.command) (changing (then store t) xs) (changes_counted (then store t) xs)
@@ -60,7 +60,7 @@ so_many_changes s past = changes_counted (opening_store s) (history s past)
 pub prefix-trans : (a b c : List Taken) → IsPrefix a b → IsPrefix b c → IsPrefix a c
 prefix-trans a b c f g = (f.0 ++ g.0, g.1 ∙ (ap (λ (xs : List Taken). xs ++ g.0) f.1 ∙ append_assoc a f.0 g.0))
 
--- What is known of another process.
+-- The view of another process.
 
 calls-other : (s : Setup) (q : ℕ) (e : Entry) (past : Past) → e.process ≢ q → calls_of s q (e ∷ past) ≡ calls_of s q past
 calls-other s q e past h = ap (λ b. cond b (fold (calls_after (changes_taken s past)) (calls_of s q past) e.marks) (calls_of s q past)) (ne_eqb e.process q h)
@@ -68,7 +68,7 @@ calls-other s q e past h = ap (λ b. cond b (fold (calls_after (changes_taken s 
 entries-other : (s : Setup) (q : ℕ) (e : Entry) (past : Past) → e.process ≢ q → entries_of s q (e ∷ past) ≡ entries_of s q past
 entries-other s q e past h = ap (λ b. cond b (counted_at (changes_taken s past) e ∷ cond (has is_called e) [] (entries_of s q past)) (entries_of s q past)) (ne_eqb e.process q h)
 
--- the past past' is past and an entry of process p
+-- the past past' is the past past, followed by an entry of process p
 pub record Along (s : Setup) (p : ℕ) (past past' : Past) : Type 0 where
   pub others : (q : ℕ) → p ≢ q → own_view s past' q ≡ own_view s past q
   pub owns : (q : ℕ) → p ≢ q → own q past' ≡ own q past
@@ -115,14 +115,14 @@ set_set [] i a b = refl
 set_set (x ∷ xs) zero a b = refl
 set_set (x ∷ xs) (suc i) a b = ap (λ (ys : List _). x ∷ ys) (set_set xs i a b)
 
--- what a step leaves of a view
+-- a step leaves these parts of a view unchanged
 pub record Same (v w : ViewState) : Type 0 where
   pub spent : w.spent ≡ v.spent
   pub process : w.own.process ≡ v.own.process
   pub made : w.made ≡ v.made
   pub joined : w.joined ≡ v.joined
 
--- a view after a step is one from before of the same process
+-- a view after a step belongs to a view before it, of the same process
 pub was_view : (views : List ViewState) (id : ℕ) (v w : ViewState) → get_elem? views id ≡ some v → w.spent ≡ v.spent → w.own.process ≡ v.own.process → (i : ℕ) (x : ViewState) → get_elem? (set views id w) i ≡ some x → x.spent ≡ false
     → (y : ViewState) × (get_elem? views i ≡ some y) × (y.spent ≡ false) × (y.own.process ≡ x.own.process)
 was_view views id v w at spent process i x e live = ⊎_elim
@@ -130,7 +130,7 @@ was_view views id v w at spent process i x e live = ⊎_elim
     (λ (t : (i ≢ id) × (get_elem? views i ≡ some x)). (x, t.1, live, refl))
     (at_set views id i w x e)
 
--- the rule, where one seat has stepped
+-- words and views agree after a step of one seat
 pub kept : (s : Setup) (events events' : List Event) (words words' : List ℕ) (views : List ViewState) (id : ℕ) (v w : ViewState) → Shows s events words views → get_elem? views id ≡ some v → v.spent ≡ false
     → Along s v.own.process (past_of s events) (past_of s events') → Same v w → AreGiven s events' → Knows s (past_of s events') w
     → length words' ≡ words_in s → ((a : Access) → IsThere s a → slice_index words' (word_of s a) ≡ shown (cell_held s (past_of s events') a)) → Shows s events' words' (set views id w)
@@ -168,7 +168,7 @@ kept s events events' words words' views id v w f at live along same given knows
         let ne : v.own.process ≢ p = λ is. omega arith in
         along.owns p ne ∙ k.unmade p h
 
-    -- the others' views, by those from before
+    -- the views of the other seats, from those before the step
     others : (c d : ViewState) → KnowsSeats s past views c → d.made ≡ c.made → d.joined ≡ c.joined → (i : ℕ) (x : ViewState) → get_elem? (set views id w) i ≡ some x → x.spent ≡ false → (x.own.process < d.made) × (IsIn x.own.process d.joined → ⊥)
     others c d k m j i x e x_live =
         let y = was_view views id v w at same.spent same.process i x e x_live in

@@ -1,4 +1,4 @@
--- What ends with an access has begun with the access before, and with none after an event without an access.
+-- An access that ends a read or a write follows the access that begins it; no such access follows an event other than an access.
 use Rattle.std.proofs.Common.{◌≡◌, ◌≢◌, ℕ, ◌+◌, ◌*◌, ◌%◌, ◌==◌, ◌||◌, Bool, true, false, cond, if◌then◌else◌, List, [], ◌∷◌, refl, sym, ap, ◌∙◌, subst, arith, Some, None, eq-eqb}
 use Rattle.std.specs.Prelude.{unwrap_or}
 use Rattle.record.specs.safe_bit.{Move}
@@ -14,11 +14,11 @@ use Rattle.laws.specs.{Closes, Doing, Lies, Rests, Runs, being_written, call, cl
 use Rattle.process.specs.{next_number}
 use Rattle.board.specs.{IsUnended, MayHappen, OwnView, with_event}
 
--- nothing ends with the next access
+-- the next access does not end a read or a write
 abbrev pub Fresh : Setup → ℕ → Doing → Type 0
 Fresh s p d = (fl : Bool) (x : Access) → next_of s p d fl ≡ Some x → (x.how ≡ EndWrite → ⊥) × ((v : Bool) → x.how ≡ EndRead v → ⊥)
 
--- what ends with it has begun with an access that makes this move
+-- if the next access ends a read or a write, this move began it
 abbrev pub Follows : Setup → ℕ → Doing → Move → Type 0
 Follows s p d how = (fl : Bool) (x : Access) → next_of s p d fl ≡ Some x → (x.how ≡ EndWrite → how ≡ BeginWrite (being_written s p d)) × ((v : Bool) → x.how ≡ EndRead v → how ≡ BeginRead)
 
@@ -46,7 +46,7 @@ fresh_write p f bits wide x is = (
 fresh_part : (s : Setup) (p : ℕ) (command : Command) (number : ℕ) (x : Part) → Fresh s p (runs command number (enter (call s p command number) x))
 fresh_part s p command number x = grind arith
 
--- a write
+-- the accesses of a write
 written : (p : ℕ) (f : Field) (bits : List Bool) (n : ℕ) (w : NumberWrite) (x : Access) → access_of p f (next_written bits (write_moved n bits w)) ≡ x →
     (x.how ≡ EndWrite → (access_of p f (next_written bits w)).how ≡ BeginWrite (bit_written bits (write_moved n bits w)).value) × ((v : Bool) → x.how ≡ EndRead v → (access_of p f (next_written bits w)).how ≡ BeginRead)
 written p f bits n w x is = (ends, λ v e. absurd ((begins_only _ _).1 v (how-is _ x (EndRead v) is e)))
@@ -102,7 +102,7 @@ place_follows s p command number at v over = last (is_last c at.part at.run)
     last true = fresh-follows s p (runs command number (enter c (part_after c at.part (bits_with at.run v)))) (access_at c at.part at.run).how (fresh_part s p command number (part_after c at.part (bits_with at.run v)))
     last false = stays at.part at.run over
 
--- A closing.
+-- A closing after a failure or a withdrawal.
 
 freeing_fresh : (s : Setup) (p : ℕ) (command : Command) (number : ℕ) (c : Call) (is : Bool) → c.setup.ticket_bits ≡ s.ticket_bits → Fresh s p (Closes command number (freeing c is))
 freeing_fresh s p command number c is same fl x i = fresh_write p Ticket (no_ticket (call s p command number)) c.setup.ticket_bits x (some_access _ x i)
@@ -159,7 +159,7 @@ closing_follows s p command number at flick n next = go at next
     go Quit i = cc
     go Ended i = cc
 
--- what a step leads to
+-- if the access after a step ends a read or a write, the step began it
 pub step_follows : (s : Setup) (p : ℕ) (d : Doing) (flick value : Bool) (n : Access) → IsUnended d → next_of s p d flick ≡ Some n → Follows s p (does_then s p d flick value) n.how
 step_follows s p Rests flick value n live next = cc
 step_follows s p Lies flick value n live next = cc
@@ -167,12 +167,12 @@ step_follows s p (Runs command number at) flick value n live next =
     subst (Follows s p (runs command number (place_after (call s p command number) at value))) (ap (λ (y : Access). y.how) (some_access _ n next)) (place_follows s p command number at value live)
 step_follows s p (Closes command number at) flick value n live next = closing_follows s p command number at flick n next
 
--- An event without an access.
+-- An event other than an access.
 
 fails_fresh : (s : Setup) (p : ℕ) (command : Command) (number : ℕ) (d : Doing) → Fresh s p (Closes command number (cut_of s p d))
 fails_fresh s p command number d = grind arith
 
--- after an event without an access nothing ends next
+-- after an event other than an access, the next access ends nothing
 pub event_fresh : (s : Setup) (o : OwnView) (event : Event) → MayHappen s o event → Fresh s o.process (with_event s o event).doing
 event_fresh s o (event.Call p c) may = fresh_part s o.process c (next_number s o.number) Raises
 event_fresh s o (event.Step p flick) may = let f = may.marked in cc

@@ -1,4 +1,4 @@
--- The calls of each process stand in the list of changes, of every past.
+-- In every past, the calls of each process are consistent with the list of changes.
 use Rattle.std.proofs.Common.{◌≡◌, ℕ, ◌+◌, ◌<◌, ◌==◌, Bool, true, false, cond, List, [], ◌∷◌, ◌++◌, Option, Some, None, Ok, length, refl, sym, ap, subst, ◌∙◌, arith, eqb-true, Contains}
 use Rattle.std.specs.Prelude.{fold}
 use Rattle.std.specs.List.{list_any}
@@ -26,7 +26,7 @@ use Rattle.board.proofs.KnownCalls.{Known, Stands, known, known-own, known-uncal
 use Rattle.board.proofs.Standing.{is_quiet, last_caller, one_change, standing_answered, standing_called, standing_down, standing_none, standing_on, standing_taken, taken_here}
 use Rattle.board.proofs.Stands.{finished_stand}
 
--- An own entry: what its marks are.
+-- The marks of an entry of the process itself.
 
 data OwnMarks (s : Setup) (past : Past) (e : Entry) : Type 0 where
   calls_now : (command : Command) → is_quiet (stage e.process past) ≡ true → e.marks ≡ mark.Called command ∷ [] → OwnMarks s past e
@@ -59,7 +59,7 @@ own_marks s g events event e is = go (accepted s g events event e is).happens
     go (a_step command number at a flick i o access made m k) = steps (subst StepMarks (sym m) (call_marks (call s p command number) at (value_of a.how) (length (history s past))))
     go (a_closing command number at flick n i next access same m k) = steps (subst StepMarks (sym m) (closing_marks (call s p command number) at flick (length (history s past)) n next))
 
--- One that takes a command is one change more, or none.
+-- An entry that takes a command adds one change, or none.
 changes-takes : (s : Setup) (past : Past) (e : Entry) (r : Reply) → reply_taken e.marks ≡ Some r →
     changes_of s (e ∷ past) ≡ changes_of s past ++ one_change s (changes_of s past) (last_caller s e.process (calls_in (own e.process past))) (last_command (own e.process past)) r
 changes-takes s past e r h =
@@ -67,7 +67,7 @@ changes-takes s past e r h =
     ∙ changing-push (opening_store s) (history s past) (taken_at s past e r)
     ∙ ap (λ (x : Contents). changes_of s past ++ cond (changes x (last_command (own e.process past))) (taken_at s past e r ∷ []) []) (sym (store_of_changes s past))
 
--- The moves of an own entry.
+-- The cases of an entry of the process itself.
 
 own_called : (s : Setup) (past : Past) (e : Entry) (command : Command) → is_quiet (stage e.process past) ≡ true → e.marks ≡ mark.Called command ∷ [] → Stands s e.process (known s past e.process) → Stands s e.process (known_then s past e)
 own_called s past e command quiet is h = subst (λ (ms : List Mark). Stands s e.process (known_then s past (record e { marks = ms }))) (sym is)
@@ -84,7 +84,7 @@ own_restarted s past e quiet is h = subst (λ (ms : List Mark). Stands s e.proce
     k : Known
     k = known s past e.process
 
--- What is known after an entry whose last marks begin no call and take nothing, and whose other marks tell nothing.
+-- The state after an entry whose last marks begin no call and take nothing, and whose other marks do not concern calls.
 known_after : (s : Setup) (past : Past) (e : Entry) (before last : List Mark) → list_any tells before ≡ false → e.marks ≡ before ++ last → list_any is_called last ≡ false → reply_taken last ≡ None → takings last ≡ [] →
     known_then s past e ≡ record (known s past e.process) { stage = fold stage_after (stage e.process past) e.marks; calls = fold (calls_after (changes_taken s past)) (calls_of s e.process past) last }
 known_after s past e before last none is uncalled untaken nothing = known-uncalled s past e (ap (list_any is_called) is ∙ plain-uncalled before last none ∙ uncalled) ∙ (λ i. record k {
@@ -103,7 +103,7 @@ own_plain s past e none h =
     subst (Stands s e.process) (sym (known_after s past e e.marks [] none (sym (append-nil e.marks)) refl refl refl))
     (standing_on s e.process k.stage _ k.number k.command k.taken k.list k.calls.done k.calls.now (plain-quiet k.stage e.marks none) h)
 
--- What the marks of an entry tell of its call's takings, where they begin no call.
+-- The commands taken in the call of an entry, if its marks begin no call.
 
 append-one : {X : Type 0} (xs : List X) (x : X) → length (xs ++ x ∷ []) < 2 → xs ≡ []
 append-one [] x few = refl
@@ -126,7 +126,7 @@ last-answer P (m ∷ before) a none h =
     let both = both-false (tells m) (list_any tells before) none in
     last-answer P before a both.1 (one-answer P m (before ++ mark.Answered a ∷ []) both.0 h)
 
--- a call that is answered is answered what it has taken
+-- the answer to a call is the reply of the command that it took
 answers_taken : (s : Setup) (past : Past) (e : Entry) (before : List Mark) (a : Answer) → list_any tells before ≡ false → e.marks ≡ before ++ mark.Answered a ∷ [] → SaysAfter s past e →
     IsAnswerTo a (all_takings (since is_called (own e.process past)))
 answers_taken s past e before a none is (begins command m t) =
@@ -136,7 +136,7 @@ answers_taken s past e before a none is (goes t) =
     let here = last-answer _ before a none (subst (EachAnswer _) is t.answers) in
     subst (IsAnswerTo a) (ap (λ (l : List (ℕ × Reply)). taken ++ l) (ap takings is ∙ plain-takings before (mark.Answered a ∷ []) none) ∙ append-nil taken) here.0
 
--- The stage after such marks.
+-- A stage that is quiet after such marks was quiet before them.
 quiet_after : (st : Stage) (before : List Mark) (k : ℕ) (r : Reply) → list_any tells before ≡ false → is_quiet (fold stage_after st (before ++ mark.Taken k r ∷ [])) ≡ true → is_quiet st ≡ true
 quiet_after st [] k r none q = q
 quiet_after st (m ∷ before) k r none q =
@@ -201,7 +201,7 @@ own_downs s past e before none is h =
 taking_among : (e : Entry) (before : List Mark) (j : ℕ) (r : Reply) → list_any tells before ≡ false → e.marks ≡ before ++ mark.Taken j r ∷ [] → Contains (takings e.marks) (j, r)
 taking_among e before j r none is = subst (λ (l : List (ℕ × Reply)). Contains l (j, r)) (sym (ap takings is ∙ plain-takings before (mark.Taken j r ∷ []) none)) (0, omega arith, refl)
 
--- Each own entry keeps what is known.
+-- Each entry of the process keeps the invariant.
 own_entry : (s : Setup) → checked s ≡ Ok tt → (events : List Event) (event : Event) (e : Entry) → AreGiven s (event ∷ events) → entry_of s (past_of s events) event ≡ Some e →
     Stands s e.process (known s (past_of s events) e.process) → Stands s e.process (known_then s (past_of s events) e)
 own_entry s ok events event e given is h = go (own_marks s g events event e is)
@@ -242,7 +242,7 @@ calls_stand s ok (event ∷ events) given p = go (entry_of s past event) refl (c
     go None is before = before p
     go (Some e) is before = at e is before (e.process == p) refl
 
--- so they stand in the changes: those that are finished, and all
+-- so the finished calls, and all calls, are consistent with the changes
 pub calls_in_the_changes : (s : Setup) → checked s ≡ Ok tt → (events : List Event) → AreGiven s events → (p : ℕ) →
     let calls : Calls = calls_of s p (past_of s events) in
     StandsIn s p calls.done (changes_of s (past_of s events)) × StandsIn s p (and_then calls.done calls.now) (changes_of s (past_of s events))

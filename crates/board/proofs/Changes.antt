@@ -1,4 +1,4 @@
--- The changes alone make the store that the history makes.
+-- The changes alone make the same store as the history.
 use Rattle.std.proofs.Common.{◌≡◌, ℕ, zero, suc, Bool, true, false, cond, List, [], ◌∷◌, ◌++◌, take, fold, refl, sym, ap, ◌∙◌}
 use Rattle.plain_store.specs.{Contents, Setup, changes, opening_store}
 use Rattle.record.specs.{Past, Taken, count_changes, history, store_after}
@@ -6,11 +6,11 @@ use Rattle.history_laws.proofs.CountedChanges.{then}
 use Rattle.history_laws.proofs.Sounding.{after_is_same}
 use Rattle.board.specs.{changes_of, changing, store_at}
 
--- a command that changes nothing leaves the store, call numbers too
+-- a command that changes nothing leaves the store, including its call numbers
 same-then : (store : Contents) (t : Taken) → changes store t.command ≡ false → then store t ≡ store
 same-then store t h = after_is_same store t.command (record { process = t.process; number = t.number }) h
 
--- the changes before a place of the history are the first ones
+-- the changes before a position of the history are the first ones
 pub changes_before : (store : Contents) (taken : List Taken) (k : ℕ) → take (count_changes store (take k taken)) (changing store taken) ≡ changing store (take k taken)
 changes_before store [] zero = refl
 changes_before store [] (suc k) = refl
@@ -39,7 +39,7 @@ changes_store store (t ∷ taken) = by (changes store t.command) refl (changes_s
     by true h more = more
     by false h more = ap (λ (x : Contents). fold then x rest) (sym (same-then store t h)) ∙ more
 
--- one command more is one change more, or none
+-- one more command adds one change, or none
 pub changing-push : (store : Contents) (taken : List Taken) (t : Taken) → changing store (taken ++ t ∷ []) ≡ changing store taken ++ cond (changes (fold then store taken) t.command) (t ∷ []) []
 changing-push store [] t = refl
 changing-push store (x ∷ taken) t = by (changes store x.command) (changing-push (then store x) taken t)
@@ -57,7 +57,7 @@ changing-push store (x ∷ taken) t = by (changes store x.command) (changing-pus
     by true h = ap (λ (l : List Taken). x ∷ l) h
     by false h = h
 
--- The store at a place.
+-- The store at a position.
 
 pub store_of_changes : (s : Setup) (past : Past) → store_after s (changes_of s past) ≡ store_after s (history s past)
 store_of_changes s past = changes_store (opening_store s) (history s past)

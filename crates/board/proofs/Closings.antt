@@ -1,4 +1,4 @@
--- Seats that are joined where their processes are still, and the image that the words of a closed board show.
+-- Seats of still processes are joined, and the words of a closed board show the image of the store.
 use Rattle.std.proofs.Common.{◌≡◌, ◌==◌, ℕ, ◌<◌, Bool, true, false, cond, List, [], ◌∷◌, map, get_or, fold, refl, sym, ap, ◌∙◌, subst, inl, inr, arith}
 use Rattle.std.specs.Prelude.{slice_index}
 use Rattle.std.specs.List.{list_any}
@@ -40,7 +40,7 @@ use Rattle.board.proofs.Seats.{is_first, joins, some_processes}
 
 -- Processes that are still.
 
--- one of a record is quiet
+-- a still process of a record is quiet
 still_quiet : (s : Setup) → IsGood s → (events : List Event) (p : ℕ) → IsStill s (own_view s (past_of s events) p) → IsQuiet (doing s p (past_of s events))
 still_quiet s g events p still = go (does_all s g events p) still
   where
@@ -76,7 +76,7 @@ joins_still s id v other w live zero_ w_live still state agree at ne at_w =
 bit-value : (c : Cell) → c.writing ≡ false → (shown c == 1) ≡ c.value
 bit-value c h = grind arith
 
--- nobody is inside: the words show what the registers of the versions hold
+-- while no process is inside, the words show the values of the version registers
 bits-are : (s : Setup) (events : List Event) (words : List ℕ) (views : List ViewState) → Shows s events words views → is_somebody_inside s (past_of s events) ≡ false → (p : ℕ) (field : Field) → p < s.processes → is_version field ≡ true →
     bits_shown s words p field ≡ bits_held s (past_of s events) p field 0
 bits-are s events words views f none p field below version =
@@ -121,7 +121,7 @@ bytes-are s events words views f none =
 
 -- The store.
 
--- what changes nothing leaves the store
+-- commands that change nothing leave the store
 changed_store : (store : Contents) (xs : List Taken) → fold then store (changing store xs) ≡ fold then store xs
 changed_store store [] = refl
 changed_store store (t ∷ xs) = by (changed_store (then store t) xs) (changes store t.command) refl
@@ -141,7 +141,7 @@ any_false : (xs : List ℕ) → list_any (λ (b : Bool). b) (map (λ _. false) x
 any_false [] = refl
 any_false (x ∷ xs) = any_false xs
 
--- where each process is quiet nobody is inside
+-- if each process is quiet, no process is inside
 nobody_inside : (s : Setup) → IsGood s → (events : List Event) → ((p : ℕ) → p < s.processes → IsQuiet (doing s p (past_of s events))) → is_somebody_inside s (past_of s events) ≡ false
 nobody_inside s g events quiet =
     let past = past_of s events in

@@ -1,4 +1,4 @@
--- What a process does has not come to its end; and it has a next access where its stage allows a step.
+-- The call or closing of a process has not come to its end, and the process has a next access if its stage allows a step.
 use Rattle.std.proofs.Common.{◌≡◌, ℕ, Bool, true, false, cond, List, ◌∷◌, [], ◌==◌, refl, sym, ◌∙◌, arith}
 use Rattle.std.specs.Prelude.{Option, None, Some}
 use Rattle.record.specs.{Access, Call, Entry, Event, Mark, Past, Stage, call_number, last_call, last_command, last_write, own, past_of, refused_at, settling_from, stage, start_in, unfinished}
@@ -12,13 +12,13 @@ use Rattle.laws.specs.{Closes, Doing, does_after, does_then, doing, goes_on, nex
 use Rattle.process.specs.{may_step, next_at, stage_doing}
 use Rattle.board.specs.{IsUnended, OwnView, goes_at, process_at, with_event}
 
--- It has not come to its end.
+-- The call or closing has not come to its end.
 
 -- after its next access
 pub does_unended : (s : Setup) (p : ℕ) (d : Doing) (flick value : Bool) → IsUnended (does_then s p d flick value)
 does_unended s p d flick value = grind arith
 
--- after an event without an access
+-- after an event other than an access
 pub event_unended : (s : Setup) (o : OwnView) (event : Event) → IsUnended o.doing → IsUnended (with_event s o event).doing
 event_unended s o event h = grind arith
 
@@ -47,38 +47,38 @@ either : (b : Bool) (d then : Doing) → IsUnended d → IsUnended then → IsUn
 either true d then h k = h
 either false d then h k = k
 
--- in a past
+-- in each past
 pub known_unended : (s : Setup) (p : ℕ) (past : Past) → IsUnended (doing s p past)
 known_unended s p [] = tt
 known_unended s p (e ∷ past) = either (e.process == p) _ _ (after-unended s p (own p past) e (start_in e.marks) (doing s p past)) (known_unended s p past)
 
--- Its next access.
+-- The next access.
 
--- who may step has one
+-- a process that may step has a next access
 pub next_there : (s : Setup) (o : OwnView) (flick : Bool) → IsUnended o.doing → may_step o.doing ≡ true → next_of s o.process o.doing flick ≡ Some (next_at (process_at s o) flick)
 next_there s o flick h k = grind arith
 
--- and who has one may
+-- a process that has a next access may step
 pub may_go : (s : Setup) (p : ℕ) (d : Doing) (flick : Bool) (n : Access) → next_of s p d flick ≡ Some n → may_step d ≡ true
 may_go s p d flick n h = grind arith
 
--- Its stage.
+-- The stage.
 
 same-stage : (d : Doing) → stage_doing d ≡ laws.stage_of d
 same-stage d = grind arith
 
--- it is that of the record
+-- the stage of a process is that of the record
 pub stage_known : (s : Setup) → IsGood s → (events : List Event) (p : ℕ) → stage_doing (doing s p (past_of s events)) ≡ stage p (past_of s events)
 stage_known s g events p = same-stage (doing s p (past_of s events)) ∙ sym (stage-is s g events p)
 
--- it tells that there is a next access
+-- if there is a next access, the stage allows one
 pub next_goes : (s : Setup) (p : ℕ) (d : Doing) (flick : Bool) (n : Access) → IsUnended d → next_of s p d flick ≡ Some n → goes_at (stage_doing d) ≡ true
 next_goes s p d flick n h k = grind arith
 
--- and then it allows a step
+-- a stage that allows an access allows a step
 pub step_allowed : (st : Stage) (p : ℕ) (flick : Bool) → goes_at st ≡ true → refused_at (event.Step p flick) st ≡ None
 step_allowed st p flick h = grind arith
 
--- who goes may step
+-- a process whose stage allows an access may step
 pub goes_steps : (d : Doing) → goes_at (stage_doing d) ≡ true → may_step d ≡ true
 goes_steps d h = grind arith

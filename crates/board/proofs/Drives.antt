@@ -13,22 +13,22 @@ use Rattle.board.specs.{Drives, LeadsTo, OwnView, PortState, SamePort, Walks, Wo
 pub goes_unless : (st : Stage) → (st ≡ stage.Idle → ⊥) → (st ≡ stage.Down → ⊥) → goes_at st ≡ true
 goes_unless st h k = grind arith
 
--- so has one whose word step neither answers its call nor brings it down
+-- a process whose word step neither finishes its call nor brings it down still has a next access
 pub leads_on : (s : Setup) (told : StepTold) (o after : OwnView) → LeadsTo s told o after → ((answer : Answer) → told ≡ tells.Answers answer → ⊥) → (told ≡ tells.Lies → ⊥) → goes s after ≡ true
 leads_on s told o after h k g = grind arith
 
--- A port that is driven, after so many word steps, and has a next access.
+-- A port that was driven for some word steps, and has a next access.
 pub record IsDriven (old : PortState) (flicks : FlickState) (made : ℕ) (now : PortState) (flicks_now : FlickState) : Type 0 where
   pub same : SamePort old now
   pub walks : Walks old.setup flicks old.view made now.view
   pub taken : flicks_now ≡ flicks_after made flicks
   pub goes : goes old.setup now.view.own ≡ true
 
--- it is one port then
+-- it is still the same port
 pub same_on : (old now new : PortState) → SamePort old now → SamePort now new → SamePort old new
 same_on old now new h k = (k.0 ∙ h.0, k.1 ∙ h.1, k.2 ∙ h.2, k.3 ∙ h.3)
 
--- one word step more, with the next flick
+-- one more word step, with the next flick
 pub step_on : (old now new : PortState) (flicks flicks_now : FlickState) (made : ℕ) (flick : Bool) → IsDriven old flicks made now flicks_now → flick ≡ flick_of flicks_now → WordStep now.setup flick now.view new.view →
     WordStep old.setup (flick_of (flicks_after made flicks)) now.view new.view
 step_on old now new flicks flicks_now made flick d flick_is step =
@@ -43,7 +43,7 @@ driven_on old now new flicks flicks_now flicks_then made flick told d flick_is t
   goes = leads_on old.setup told now.view.own new.view.own (subst (λ s. LeadsTo s told now.view.own new.view.own) d.same.2 leads) answers lies;
 }
 
--- the last word step answers the call
+-- the last word step finishes the call
 pub drives_to_answer : (old now new : PortState) (flicks flicks_now flicks_then : FlickState) (made turns : ℕ) (flick : Bool) (answer : Answer) → IsDriven old flicks made now flicks_now → made < turns → flick ≡ flick_of flicks_now → flicks_then ≡ after_flick flicks_now →
     WordStep now.setup flick now.view new.view → LeadsTo now.setup (tells.Answers answer) now.view.own new.view.own → Drives old.setup old.view turns flicks (driven.Answered answer) new.view flicks_then
 drives_to_answer old now new flicks flicks_now flicks_then made turns flick answer d few flick_is then_is step leads = record {
@@ -55,7 +55,7 @@ drives_to_answer old now new flicks flicks_now flicks_then made turns flick answ
   taken = then_is ∙ ap after_flick d.taken;
 }
 
--- or brings the process down
+-- the last word step brings the process down
 pub drives_down : (old now new : PortState) (flicks flicks_now flicks_then : FlickState) (made turns : ℕ) (flick : Bool) → IsDriven old flicks made now flicks_now → made < turns → flick ≡ flick_of flicks_now → flicks_then ≡ after_flick flicks_now →
     WordStep now.setup flick now.view new.view → LeadsTo now.setup tells.Lies now.view.own new.view.own → Drives old.setup old.view turns flicks driven.Down new.view flicks_then
 drives_down old now new flicks flicks_now flicks_then made turns flick d few flick_is then_is step leads = record {

@@ -1,4 +1,4 @@
--- The marks of an entry, as far as they tell of a call: it is taken, it is answered, or its process is down; at most one of these, and with the last mark.
+-- The marks of an entry that concern a call: it is taken, it is answered, or its process is down. At most one of these occurs, and with the last mark.
 use Rattle.std.proofs.Common.{◌≡◌, ℕ, ◌&&◌, ◌||◌, Bool, true, false, cond, not, List, [], ◌∷◌, ◌++◌, Option, Some, None, map, refl, ap, subst, ◌∙◌, arith}
 use Rattle.std.specs.Prelude.{fold, if◌then◌else◌}
 use Rattle.std.specs.List.{list_any}
@@ -12,7 +12,7 @@ use Rattle.record.specs.Parts as part
 use Rattle.board.specs.Calls.{Calls, calls_after}
 use Rattle.board.proofs.Standing.{is_quiet}
 
--- a mark that a call begins with, is taken with, or ends with, or with which its process is restarted
+-- a mark that begins, takes or ends a call, or restarts its process
 abbrev pub tells : Mark → Bool
 tells (Called command) = true
 tells (Taken k r) = true
@@ -28,7 +28,7 @@ pub data StepMarks (ms : List Mark) : Type 0 where
   answers : (before : List Mark) (a : Answer) → list_any tells before ≡ false → ms ≡ before ++ Answered a ∷ [] → StepMarks ms
   downs : (before : List Mark) → list_any tells before ≡ false → ms ≡ before ++ Down ∷ [] → StepMarks ms
 
--- Of a call, by its part.
+-- The marks of a call, by its part.
 
 entered : (n : ℕ) (ws : List Wait) → list_any tells (map (placed n) (entered_if_none ws)) ≡ false
 entered n [] = refl
@@ -41,7 +41,7 @@ entered-by n ws false = refl
 first-plain : (n : ℕ) (x : Part) (fresh : Bool) → list_any tells (map (placed n) (cond fresh (first_marks x) [] ++ [])) ≡ false
 first-plain n x fresh = grind arith
 
--- nothing marks the first access
+-- the first access has no mark of its own
 unmarked-first : (X : List Mark → Type 0) (fresh : Bool) (ms : List Mark) → X ms → X (cond {A = List Mark} fresh [] [] ++ ms)
 unmarked-first X true ms h = h
 unmarked-first X false ms h = h
@@ -86,7 +86,7 @@ call_marks c at v n = go (is_last c at.part at.run)
     go true = last-marks c at.part (bits_with at.run v) n (is_fresh at.run)
     go false = plain (first-plain n at.part (is_fresh at.run))
 
--- Of a withdrawal or a memory unit.
+-- The marks of a withdrawal or of a memory unit.
 
 settled : (n : ℕ) (begun : Bool) (by : Option Reply) (v : Bool) → StepMarks (map (placed n) (settled_marks begun by v))
 settled n begun None v = plain refl
@@ -126,7 +126,7 @@ closing_marks c at flick n next h = go at h
     go Quit h = cc
     go Ended h = cc
 
--- Plain marks tell nothing of a call.
+-- The other marks do not concern calls.
 
 pub both-false : (a b : Bool) → (a || b) ≡ false → (a ≡ false) × (b ≡ false)
 both-false true b h = cc

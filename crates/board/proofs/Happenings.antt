@@ -1,4 +1,4 @@
--- What an accepted event without an access makes of what a seat knows, and of the words.
+-- The effect of an accepted event other than an access on a seat's view and on the words.
 use Rattle.std.proofs.Common.{◌≡◌, ℕ, suc, ◌<◌, ◌==◌, ◌&&◌, Bool, true, false, cond, List, [], ◌∷◌, ◌++◌, ◌||◌, set, refl, sym, ap, ◌∙◌, subst, arith, Option, Some, None, eq-eqb}
 use Rattle.std.proofs.lemmas.Bool.{lt-ltb}
 use Rattle.std.specs.Prelude.{fold, nat_le}
@@ -31,7 +31,7 @@ use Rattle.board.proofs.Along.{Along, along_entry, changes_none, kept, seen_alon
 pub past_after : (s : Setup) (events : List Event) (event : Event) (e : Entry) → entry_of s (past_of s events) event ≡ Some e → past_of s (event ∷ events) ≡ e ∷ past_of s events
 past_after s events event e h = ap (λ o. elim o as (λ _. Past) [ None ↦ past_of s events | Some x ↦ x ∷ past_of s events ]) h
 
--- What is known then.
+-- The view after the event.
 
 pub calls_own : (s : Setup) (q : ℕ) (e : Entry) (past : Past) → e.process ≡ q → calls_of s q (e ∷ past) ≡ fold (calls_after (changes_taken s past)) (calls_of s q past) e.marks
 calls_own s q e past h = ap (λ b. cond b (fold (calls_after (changes_taken s past)) (calls_of s q past) e.marks) (calls_of s q past)) (eq-eqb e.process q h)
@@ -56,7 +56,7 @@ own_call s past p command =
       calls = calls_own s p e past refl i;
     }
 
--- a mark that leaves the calls, and what it makes of what is done
+-- a mark that leaves the calls unchanged, and its effect on what the process is doing
 own-mark : (s : Setup) (past : Past) (p : ℕ) (m : Mark) (d : Doing)
     → let e : Entry = entry_marked p m in
     ((k : ℕ) (t : Calls) → calls_after k t m ≡ t) → is_called m ≡ false → ((k : ℕ) → placed k m ≡ m) → doing s p (e ∷ past) ≡ d → last_command (e ∷ own p past) ≡ last_command (own p past) → calls_in (e ∷ own p past) ≡ calls_in (own p past)
@@ -87,7 +87,7 @@ own_withdrawal s past p =
 own_restart : (s : Setup) (past : Past) (p : ℕ) → own_view s (entry_marked p mark.Restarted ∷ past) p ≡ with_event s (own_view s past p) (event.Restart p)
 own_restart s past p = own-mark s past p mark.Restarted Rests (λ k t. refl) refl (λ k. refl) (doing-goes s p (entry_marked p mark.Restarted) past refl) refl refl
 
--- what an event without an access makes of what is known; it takes no command, and nobody gets inside by it
+-- the view of the process after an event other than an access, which takes no command and lets no process in
 pub record KnowsThen (s : Setup) (past : Past) (o : OwnView) (event : Event) (e : Entry) : Type 0 where
   pub process : e.process ≡ o.process
   pub access : e.access ≡ None
@@ -95,7 +95,7 @@ pub record KnowsThen (s : Setup) (past : Past) (o : OwnView) (event : Event) (e 
   pub untaken : reply_taken e.marks ≡ None
   pub inside : inside o.process (e ∷ past) ≡ inside o.process past
 
--- an entry with a mark that lets nobody in or out
+-- an entry with a mark by which no process enters or leaves
 inside-mark : (q : ℕ) (past : Past) (m : Mark) → inside_after (inside q past) m ≡ inside q past → inside q (entry_marked q m ∷ past) ≡ inside q past
 inside-mark q past m h = ap (λ b. cond b (inside_after (inside q past) m) (inside q past)) (eq-eqb q q refl) ∙ h
 
@@ -137,7 +137,7 @@ marked s g events (event.Restart p) e o known h may =
 full-is : (is b : Bool) (n : ℕ) → (is && b && nat_le 65535 n) ≡ (is && b && nat_le 65535 (cond b n 0))
 full-is is b n = grind arith
 
--- an event is refused as the view of its process tells
+-- an event is refused as in the view of its process
 refused-own : (s : Setup) → IsGood s → (events : List Event) (event : Event) → process_of event < s.processes → refused s (past_of s events) event ≡ refusal_in s (own_view s (past_of s events) (process_of event)) event
 refused-own s g events event below =
     let past = past_of s events in
@@ -168,7 +168,7 @@ pub same_process_all : (s : Setup) (o : OwnView) (events : List Event) → (with
 same_process_all s o [] = refl
 same_process_all s o (event ∷ events) = same_process s (with_events s o events) event ∙ same_process_all s o events
 
--- an event of a seat's process without an access, as it joins the record
+-- an event of a seat's process other than an access, as an entry of the record
 record Happened (s : Setup) (events : List Event) (v : ViewState) (event : Event) : Type 0 where
   pub e : Entry
   pub added : entry_of s (past_of s events) event ≡ Some e
@@ -182,7 +182,7 @@ happened s events words views id v event f at live may =
     let add = accepted_adds s g events event (refused_is s g events event v k may.process ∙ may.accepted) in
     record { e = add.0; added = add.1; is = marked s g events event add.0 v.own k.own add.1 may; on = past_after s events event add.0 add.1 }
 
--- the rule then
+-- words and views show the past after the event
 event_shows : (s : Setup) (events : List Event) (words : List ℕ) (views : List ViewState) (id : ℕ) (v : ViewState) (event : Event) → Shows s events words views → get_elem? views id ≡ some v → v.spent ≡ false → MayHappen s v.own event →
     Shows s (event ∷ events) words (set views id (record v { own = with_event s v.own event }))
 event_shows s events words views id v event f at live may =
@@ -209,7 +209,7 @@ event_shows s events words views id v event f at live may =
     })) f.size
     (λ a there. f.bits a there ∙ sym (ap (λ z. shown (cell_held s z a)) h.on ∙ ap shown (held-marks s past e a h.is.access) ∙ shown-without (cell_held s past a) (drops e && (e.process == a.reader))))
 
--- several
+-- they show the past after several events
 pub events_show : (s : Setup) (events : List Event) (words : List ℕ) (views : List ViewState) (id : ℕ) (v : ViewState) (xs : List Event) → Shows s events words views → get_elem? views id ≡ some v → v.spent ≡ false → MayAllHappen s v.own xs →
     Shows s (xs ++ events) words (set views id (at_events s v xs))
 events_show s events words views id v [] f at live may = subst (Shows s events words) (sym (set_again views id v at)) f
@@ -218,7 +218,7 @@ events_show s events words views id v (x ∷ xs) f at live may =
     subst (Shows s (x ∷ (xs ++ events)) words) (set_set views id w (record w { own = with_event s w.own x }))
     (event_shows s (xs ++ events) words (set views id w) id w x (events_show s events words views id v xs f at live may.0) (set_at views id v w at) live may.1)
 
--- they are of no read
+-- none of these events belongs to a read
 pub events_apart : (s : Setup) (events : List Event) (words : List ℕ) (views : List ViewState) (id : ℕ) (v : ViewState) (xs : List Event) → Shows s events words views → get_elem? views id ≡ some v → v.spent ≡ false → MayAllHappen s v.own xs →
     are_neighbours (past_of s events) ≡ true → are_neighbours (past_of s (xs ++ events)) ≡ true
 events_apart s events words views id v [] f at live may paired = paired
@@ -227,7 +227,7 @@ events_apart s events words views id v (x ∷ xs) f at live may paired =
     let h = happened s (xs ++ events) words (set views id w) id w x (events_show s events words views id v xs f at live may.0) (set_at views id v w at) live may.1 in
     ap are_neighbours h.on ∙ one_more h.e (past_of s (xs ++ events)) (marked_reads h.e h.is.access) (events_apart s events words views id v xs f at live may.0 paired)
 
--- What a view tells with what has happened since.
+-- A view together with the events since its last word step.
 
 knows_since : (s : Setup) (events : List Event) (words : List ℕ) (views : List ViewState) (i : ℕ) (v : ViewState) (since : List Event) → Shows s events words views → get_elem? views i ≡ some v → v.spent ≡ false → MayAllHappen s v.own since →
     Knows s (past_of s (since ++ events)) (at_events s v since)

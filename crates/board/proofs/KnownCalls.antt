@@ -1,4 +1,4 @@
--- What is known of the calls of a process, together, and with one entry more.
+-- The state of the calls of a process, in one record, and its change by one more entry.
 use Rattle.std.proofs.Common.{◌≡◌, ◌≢◌, ℕ, ◌==◌, true, false, cond, List, [], ◌∷◌, ◌++◌, Some, None, refl, sym, subst, eq-eqb, ne_eqb}
 use Rattle.std.specs.Prelude.{fold}
 use Rattle.std.specs.List.{list_any}
@@ -13,7 +13,7 @@ use Rattle.board.specs.Calls.{Calls, calls_after, calls_of, changes_of}
 use Rattle.board.proofs.Along.{changes_entry}
 use Rattle.board.proofs.Standing.{Standing, standing_longer}
 
--- What is known of the calls of a process, together.
+-- The state of the calls of a process, in one record.
 pub record Known : Type 0 where
   pub stage : Stage
   pub number : ℕ
@@ -25,7 +25,7 @@ pub record Known : Type 0 where
 abbrev pub Stands : Setup → ℕ → Known → Type 0
 Stands s p k = Standing s p k.stage k.number k.command k.taken k.list k.calls.done k.calls.now
 
--- in a past
+-- that state in a past
 abbrev pub known : Setup → Past → ℕ → Known
 known s past p = record {
   stage = stage p past;
@@ -36,7 +36,7 @@ known s past p = record {
   calls = calls_of s p past;
 }
 
--- with one entry more of the process
+-- after one more entry of the process
 abbrev pub known_then : Setup → Past → Entry → Known
 known_then s past e =
     let p = e.process in
@@ -69,7 +69,7 @@ known-own s past e = λ i. record {
     mine : own p (e ∷ past) ≡ e ∷ own p past
     mine = own-own p e past refl
 
--- where it begins no call
+-- if the entry begins no call
 no_command : (ms : List Mark) → list_any is_called ms ≡ false → called_in ms ≡ None
 no_command [] h = refl
 no_command (mark.Called command ∷ ms) h = cc

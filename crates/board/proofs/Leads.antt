@@ -1,4 +1,4 @@
--- What a word step leads to, by the stage and by the calls.
+-- The outcome of a word step, by the stage and by the calls.
 use Rattle.std.proofs.Common.{◌≡◌, ℕ, Bool, true, Some, arith}
 use Rattle.std.specs.Prelude.{fold}
 use Rattle.record.specs.safe_bit.declared.Move.TheVariants.{BeginRead}
@@ -9,12 +9,12 @@ use Rattle.process.specs.{StepTold, marks_told}
 use Rattle.board.specs.Calls.{Calls, calls_after}
 use Rattle.board.specs.{LeadsTo, OwnView, goes, stage_in}
 
--- what a step leads to; the calls are those of its marks
+-- the outcome of a word step, in which the calls are those after its marks
 pub leads : (s : Setup) (told : StepTold) (o middle after : OwnView) (place : ℕ) → goes s middle ≡ true → stage_in s after ≡ fold stage_after (stage_in s middle) (marks_told told) → middle.calls ≡ o.calls → after.calls ≡ fold (calls_after place) middle.calls (marks_told told) →
     LeadsTo s told o after
 leads s told o middle after place h k g e = grind arith
 
--- The begin of a read leaves the calls.
+-- The begin of a read leaves the calls unchanged.
 
 pub begin_calls : (s : Setup) (p : ℕ) (d : Doing) (flick value : Bool) (n : Access) (place : ℕ) (t : Calls) → next_of s p d flick ≡ Some n → n.how ≡ BeginRead → fold (calls_after place) t (marks_with s p d flick value) ≡ t
 begin_calls s p d flick value n place t h k = grind arith

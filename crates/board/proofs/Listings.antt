@@ -1,4 +1,4 @@
--- A port's list and what its seat knows, over a word step and over an event without an access.
+-- A port's list and the view of its seat, over a word step and over an event other than an access.
 use Rattle.std.proofs.Common.{◌≡◌, ℕ, Bool, true, false, List, [], ◌∷◌, length, sym, ap, subst, ◌∙◌, Option, Some}
 use Rattle.std.specs.Prelude.{IfSome, fold}
 use Rattle.record.specs.safe_bit.declared.Move.TheVariants.{BeginRead}
@@ -16,7 +16,7 @@ use Rattle.board.proofs.Ties.{begins, next_own}
 
 -- A word step.
 
--- what the number of changes is that it tells
+-- the number of changes in the outcome is the one that was read
 abbrev pub TellsStamp : StepTold → ProcessState → Type 0
 TellsStamp told now = IfSome (changes_told told) (λ changes. changes ≡ changes_read now.doing)
 
@@ -59,13 +59,13 @@ lists_loaded s pending process middle value flick word found n v w told stamp t 
       known = record { read = l.goes.stamped; inside = λ h. absurd (not_then h); kept = λ h. absurd (not_then h) };
     }
 
--- An event without an access.
+-- An event other than an access.
 
--- after a call, a withdrawal and a restart nothing is read, and no unit takes a command
+-- after a call, a withdrawal or a restart nothing has been read, and no memory unit takes a command
 pub place_called : (s : Setup) (b : ViewState) (p : ℕ) (command : Command) (stamp : Option ℕ) → KnowsPlace stamp (at_events s b (event.Call p command ∷ []))
 place_called s b p command stamp = record { read = λ newest h. cc; inside = λ h. cc; kept = λ h. cc }
 
--- after a failure the stamp is kept of the change that was being written
+-- after a failure the kept stamp is that of the change that was being written
 pub place_failed : (s : Setup) (b : ViewState) (p : ℕ) (before stamp : Option ℕ) → KnowsPlace before b → stamp ≡ changes_pending s b.own.process b.own.doing → KnowsPlace stamp (at_events s b (event.Fail p ∷ []))
 place_failed s b p before stamp known is =
     let takes = cut_takes s b.own.process b.own.command b.own.number b.own.doing in
@@ -75,6 +75,6 @@ place_failed s b p before stamp known is =
       kept = λ h. is ∙ (takes h).1 ∙ ap Some (sym (known.read (takes h).0 (takes h).2));
     }
 
--- of a process that has done nothing
+-- the list of a process that has done nothing
 pub place_new : (p made : ℕ) (stamp : Option ℕ) → KnowsPlace stamp (new_view p made)
 place_new p made stamp = record { read = λ newest h. cc; inside = λ h. cc; kept = λ h. cc }

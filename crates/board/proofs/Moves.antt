@@ -32,12 +32,12 @@ use Rattle.history_laws.proofs.Outside.{placed-none}
 use Rattle.history_laws.proofs.ReadStamps.{stamps_count}
 use Rattle.board.proofs.Accesses.{Made, cells_read, cells_written, made, seeing, step_shows, unended}
 
--- What a read gives.
+-- The value of a read.
 
 given : (flick w v : Bool) → (if w then flick else v) ≡ loaded flick (cond w 2 (closed_word v))
 given flick w v = grind arith
 
--- the value of a read whose begin is the entry before its end
+-- the value of a read that ends directly after its begin
 neighbours : (s : Setup) → IsGood s → (events events' : List Event) (v : ViewState) (flick : Bool) (n : Access) → (m : Made s events v flick n) → past_of s events' ≡ m.e ∷ past_of s events → m.e.access ≡ Some n → n.how ≡ BeginRead →
     value_of (valued s (past_of s events') flick (ending n)).how ≡ loaded flick (shown (cell_held s (past_of s events) n))
 neighbours s g events events' v flick n m on access how =
@@ -52,16 +52,16 @@ neighbours s g events events' v flick n m on access how =
 valued-begin : (s : Setup) (past : Past) (flick : Bool) (n : Access) → n.how ≡ BeginRead → valued s past flick n ≡ n
 valued-begin s past flick n how = λ i. record n { how = (ap (ended (read_value (opening_bit s n) (moves_of n past) flick)) how ∙ sym how) i }
 
--- What is told.
+-- The changes seen, and the marks.
 
 abbrev Holds : Setup → State (Unit {0}) ViewState → Type 0
 Holds s t = Agree s t.words t.views
 
--- the changes that a seat sees with its process's next entry
+-- the changes seen are among those after the next entry of the process
 seen_then : (s : Setup) (events : List Event) (v : ViewState) (flick : Bool) (n : Access) (k : Knows s (past_of s events) v) (m : Made s events v flick n) → IsPrefix v.seen (changes_of s (m.e ∷ past_of s events))
 seen_then s events v flick n k m = prefix-trans v.seen (changes_of s (past_of s events)) (changes_of s (m.e ∷ past_of s events)) k.seen (changes_entry s (past_of s events) m.e)
 
--- a view goes on to that of a record
+-- the view of a record's process continues the earlier view
 goes_on : (s : Setup) → checked s ≡ Ok tt → (events : List Event) → AreGiven s events → (v : ViewState) → v.own.process < s.processes → IsPrefix v.seen (changes_of s (past_of s events)) → GoesOn s v (seeing s (past_of s events) v)
 goes_on s good events given v below seen = record {
   same = refl;
@@ -71,11 +71,11 @@ goes_on s good events given v below seen = record {
   stands = record { stands = (calls_in_the_changes s good events given v.own.process).1; seen = record { events = events; given = given; first = ([], sym (append-nil (changes_of s (past_of s events)))) } };
 }
 
--- the next access of a seat to whose process this has happened
+-- the next access of a seat whose process had these events
 next_then : (s : Setup) (v : ViewState) (flick : Bool) (n : Access) (xs : List Event) → next_of s v.own.process (with_events s v.own xs).doing flick ≡ Some n → next_of s (with_events s v.own xs).process (with_events s v.own xs).doing flick ≡ Some n
 next_then s v flick n xs h = ap (λ q. next_of s q (with_events s v.own xs).doing flick) (same_process_all s v.own xs) ∙ h
 
--- an access of a record as it is known: its value, and the stage that its marks lead to
+-- an access of a record, as a view knows it: its value, and the stage that its marks lead to
 makes : (s : Setup) → checked s ≡ Ok tt → (events : List Event) → AreGiven s events → (v : ViewState) (seen : List Taken) (flick value : Bool) (n : Access) (k : Knows s (past_of s events) v) (m : Made s events v flick n) → value_of (valued s (past_of s events) flick n).how ≡ value →
     (is_inside v.own.doing ≡ true → seen ≡ changes_of s (past_of s events)) → Makes s seen flick value v.own (own_view s (past_of s (event.Step v.own.process flick ∷ events)) v.own.process)
 makes s good events given v seen flick value n k m is all =
@@ -94,12 +94,12 @@ makes s good events given v seen flick value n k m is all =
           ∙ ap (λ (o : OwnView). fold stage_after (stage_in s o) (marks_with s p v.own.doing flick value)) (sym k.own);
     }
 
--- one access of a seat's process, whatever it makes of the words
+-- one access of a seat's process, for any effect on the words
 record Moved (s : Setup) (events : List Event) (words : List ℕ) (views : List ViewState) (id : ℕ) (v : ViewState) (flick : Bool) (n : Access) : Type 0 where
   pub made : Made s events v flick n
   pub shows : Shows s (event.Step v.own.process flick ∷ events) words (set views id (seeing s (past_of s (event.Step v.own.process flick ∷ events)) v))
 
--- a read's begin or end
+-- the begin or the end of a read
 reading : (s : Setup) (events : List Event) (words : List ℕ) (views : List ViewState) (id : ℕ) (v : ViewState) (flick : Bool) (n x : Access) → Shows s events words views → get_elem? views id ≡ some v → v.spent ≡ false →
     next_of s v.own.process v.own.doing flick ≡ Some n → valued s (past_of s events) flick n ≡ x → is_write x.how ≡ false → Moved s events words views id v flick n
 reading s events words views id v flick n x f at live next is reads =
@@ -109,7 +109,7 @@ reading s events words views id v flick n x f at live next is reads =
     let shows = step_shows s events words words views id v flick n f at live m f.size (λ a there. f.bits a there ∙ sym (cells_read s (past_of s events) m.e x a access reads)) in
     record { made = m; shows = subst (λ z. Shows s (event.Step v.own.process flick ∷ events) words (set views id (seeing s z v))) (sym m.on) shows }
 
--- a load
+-- a load keeps the rule
 pub loads : (s : Setup) (slots id : ℕ) (flick : Bool) (v : ViewState) (held : List (ℕ × Unit {0})) (xs : List Event) (n : Access) → v.spent ≡ false → MayAllHappen s v.own xs
     → next_of s v.own.process (with_events s v.own xs).doing flick ≡ Some n → n.how ≡ BeginRead
     → Allows (Holds s) slots id (v, held) (word_of s n) (λ k. k) (λ word after. Loads s flick (at_events s v xs) word after.0 × (after.1 ≡ held))
@@ -175,7 +175,7 @@ loads s slots id flick v held xs n live may next how t agree _ at _ =
       ),
     )
 
--- What a store writes.
+-- The word that a store writes.
 
 no-value : (m : Move) (v : Bool) → is_write m ≡ true → value_of (ended v m) ≡ false
 no-value m v h = grind arith
@@ -184,7 +184,7 @@ no-value m v h = grind arith
 shows-stored : (c : Cell) (m : Move) (value : Bool) → is_write m ≡ true → (m ≡ EndWrite → c.value ≡ value) → shown (cell_after c m) ≡ stored value m
 shows-stored c m value h k = grind arith
 
--- a store
+-- a store keeps the rule
 pub stores : (s : Setup) (slots id : ℕ) (flick : Bool) (v : ViewState) (held : List (ℕ × Unit {0})) (xs : List Event) (n : Access) → v.spent ≡ false → MayAllHappen s v.own xs
     → next_of s v.own.process (with_events s v.own xs).doing flick ≡ Some n → IsWrite n.how
     → Allows (Holds s) slots id (v, held) (word_of s n) (λ _. stored (being_written s v.own.process (with_events s v.own xs).doing) n.how) (λ _ after. Stores s flick (at_events s v xs) after.0 × (after.1 ≡ held))

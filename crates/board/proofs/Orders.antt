@@ -13,23 +13,23 @@ use Rattle.plain_store.specs.{Contents, Setup}
 use Rattle.board.specs.{AreFirstPortsOf, AreInOrder, AreListsOf, AreMadeWith, AreOfAll, ArePortsOf, AreQuiet, BoardState, FirstLeaves, IsPlaceOf, Leaves, PortState, done_calls}
 use Rattle.board.proofs.PortLists.{item_at}
 
--- what stands in a list stands in each permutation of it
+-- an item of a list is in each permutation of it
 moved_to : {A : Type 0} (xs ys : List A) → IsPermutation xs ys → (k : ℕ) (x : A) → slice_get xs k ≡ Some x → (j : ℕ) × (slice_get ys j ≡ Some x)
 moved_to xs ys moved k x at =
     let there = Contains-permutation xs ys x moved (k, slice_get_within xs k x at, get_or_from_slice_get xs k x x at) in
     (there.0, slice_get-get_or ys there.0 x there.1 ∙ ap (λ y. Some y) there.2)
 
--- so the port of each process is among them then
+-- so each permutation has the port of each process
 pub place_then : (ports later : List PortState) (p : ℕ) → IsPermutation ports later → (place : ℕ) × IsPlaceOf ports p place → (place : ℕ) × IsPlaceOf later p place
 place_then ports later p moved here =
     let there = moved_to ports later moved here.0 here.1.0 here.1.1 in
     (there.0, (here.1.0, there.1, here.1.2))
 
--- the first ports, each of which stands at its place
+-- each of the first n ports is at its index
 abbrev pub ArePlaced : ℕ → List PortState → Type 0
 ArePlaced n ports = (k : ℕ) (port : PortState) → k < n → slice_get ports k ≡ Some port → port.view.own.process ≡ k
 
--- one more, once it has changed places with the port that stood there
+-- one more port is at its index, after it was swapped with the port there
 pub placed_more : (xs ys : List PortState) (n place : ℕ) → SwappedAt xs ys n place → length ys ≡ length xs → IsPlaceOf xs n place → ArePlaced n xs → ArePlaced (n + 1) ys
 placed_more xs ys n place swapped long found placed k port low at =
     dite (ℕ_discrete k n)
@@ -47,7 +47,7 @@ placed_more xs ys n place swapped long found placed k port low at =
 pub all_placed : (n : ℕ) (ports : List PortState) → ArePlaced n ports → length ports ≡ n → AreInOrder ports
 all_placed n ports placed all k port at = placed k port (subst (λ l. k < l) all (slice_get_within ports k port at)) at
 
--- The ports that are put in order are those that were.
+-- The ports after sorting are the ports before.
 
 was : (ports later : List PortState) → IsPermutation ports later → (k : ℕ) (port : PortState) → slice_get later k ≡ Some port → (j : ℕ) × (slice_get ports j ≡ Some port)
 was ports later moved = moved_to later ports (IsPermutation-sym ports later moved)
@@ -64,7 +64,7 @@ all_later processes ports later all moved = length_permutation ports later moved
 pub quiet_later : (ports later : List PortState) → AreQuiet ports → IsPermutation ports later → AreQuiet later
 quiet_later ports later quiet moved k port at = let there = was ports later moved k port at in quiet there.0 port there.1
 
--- What closing them leaves is told of the ports as they were given.
+-- The store that a closed board leaves, for the ports in the order in which they were given.
 
 pub first_leaves : (s : Setup) (ports later : List PortState) (image : Contents) → IsPermutation ports later → AreInOrder later → ((port : PortState) → slice_get later 0 ≡ Some port → Leaves s port.view.own.calls port.view.seen image) → FirstLeaves s ports image
 first_leaves s ports later image moved order leaves k port at first =
@@ -84,7 +84,7 @@ are_lists ports later lists moved order are = record {
       ap (λ (xs : List (List Placed)). slice_get xs port.view.own.process) are ∙ ap (slice_get (done_calls later)) (order there.0 port there.1) ∙ done_at later there.0 port there.1;
 }
 
--- A place that was looked for.
+-- The result of a search for a port.
 
 pub found_at : (ports : List PortState) (p : ℕ) (o : Option ℕ) → IfSome o (IsPlaceOf ports p) → is_some o ≡ true → (place : ℕ) × IsPlaceOf ports p place
 found_at ports p None found some = cc
@@ -107,7 +107,7 @@ found_more ports n before here p low =
     (λ same. subst (λ (p : ℕ). (place : ℕ) × IsPlaceOf ports p place) (sym same) here)
     (λ apart. before p (omega (arith, low, apart)))
 
--- Ports that were made with a board.
+-- The ports were made with the board.
 
 pub first_are_made : (board : BoardState) (ports : List PortState) → AreFirstPortsOf board ports → AreMadeWith board ports
 first_are_made board ports are k port at = (are.each k port at).0
@@ -118,7 +118,7 @@ all_are_made board ports are k port at = (are.each k port at).0
 pub made_moved : (board : BoardState) (ports later : List PortState) → AreMadeWith board ports → IsPermutation ports later → AreMadeWith board later
 made_moved board ports later made moved k port at = let there = was ports later moved k port at in made there.0 port there.1
 
--- it stands not at this place either, where another port stands
+-- the port is not at this index either, where another port is
 pub not_here : (ports : List PortState) (p place : ℕ) (port : PortState) (n : ℕ) → place < length ports → port ≡ get_or ports place port → n ≡ port.view.own.process → (n ≡ p → ⊥) →
     ((k : ℕ) → k < place → IsPlaceOf ports p k → ⊥) → (k : ℕ) → k < place + 1 → IsPlaceOf ports p k → ⊥
 not_here ports p place port n inside is own apart before k low found =

@@ -1,4 +1,4 @@
--- What a process writes it reads at the next place.
+-- A process reads what it wrote at the next position.
 use Rattle.std.proofs.Common.{◌≡◌, ℕ, zero, suc, ◌+◌, Bool, true, false, List, [], ◌∷◌, ◌++◌, length, take, slice_get, Option, None, Some, refl, sym, ap, subst, ◌∙◌, arith}
 use Rattle.std.specs.Prelude.{nat_lt}
 use Rattle.std.proofs.lemmas.List.Sums.{fold-append}
@@ -11,7 +11,7 @@ use Rattle.record.specs.{Placed, Taken, store_after}
 use Rattle.history_laws.proofs.CountedChanges.{then}
 use Rattle.board.specs.{PlacedAsAnswered, StandsIn, caller_of, change_at, store_at}
 
--- the store at the next place is that after the change
+-- the store at the next position is the store after the change
 take-next : {X : Type 0} (xs : List X) (k : ℕ) (x : X) → slice_get xs k ≡ Some x → take (suc k) xs ≡ take k xs ++ x ∷ []
 take-next [] k x h = cc
 take-next (y ∷ xs) zero x h = let same : y ≡ x = cc in ap (λ z. z ∷ []) same
@@ -37,7 +37,7 @@ value_then store t name x is new =
     ∙ ap (λ (w : Option Value). value_at (with_written store.pairs (Some name) w) name) (written_is name x before room last (sym (ap (changes store) is) ∙ new))
     ∙ value_at-put store.pairs name x
 
--- it is what a read replies then
+-- a later read of the name replies with that value
 read_then : (store : Contents) (name : List ℕ) (x : Value) (caller : Caller) → value_at store.pairs name ≡ Some x → reply_to store (Read name) caller ≡ reply.Value x
 read_then store name x caller h = ap (λ (v : Option Value). (outcome v (nat_lt (length store.pairs) store.slots) (number_of store.numbers caller.process) (Read name)).reply) h
 

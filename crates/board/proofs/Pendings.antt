@@ -1,4 +1,4 @@
--- A port's process and what its seat knows, over an event without an access.
+-- A port's process and the view of its seat, over an event other than an access.
 use Rattle.std.proofs.Common.{◌≡◌, ℕ, ◌==◌, arith, Bool, true, false, cond, [], ◌∷◌, refl, sym, ap, ◌∙◌, subst, Option, Some, None}
 use Rattle.std.specs.Prelude.{Ok, Err, Result}
 use Rattle.plain_store.specs.{Command, Setup, is_command}
@@ -15,7 +15,7 @@ use Rattle.board.proofs.Begins.{event_fresh}
 use Rattle.board.proofs.Doings.{event_unended}
 use Rattle.board.proofs.Happenings.{same_process, same_process_all}
 
--- What a port answers.
+-- The result of an event at a port.
 
 pub answers_no : (port : PortState) (event : Event) (refusal : Refusal) → refusal_in port.setup port.view.own event ≡ Some refusal → (answer_to port event ≡ Err refusal) × (port_after port event ≡ port)
 answers_no port event refusal h = (
@@ -30,7 +30,7 @@ left : (port then : PortState) (o : Option Refusal) (refusal : Refusal) → Err 
 left port then (Some x) refusal h = refl
 left port then None refusal h = absurd (cc)
 
--- an event of its process that it refuses leaves it
+-- a refused event leaves the port unchanged
 pub refused : (port : PortState) (event : ℕ → Event) (p : ℕ) (answer : Result (Unit {0}) Refusal) (refusal : Refusal) → answer ≡ Err refusal → answer ≡ answer_to port (event p) → p ≡ port.view.own.process →
     (Err refusal ≡ answer_to port (event port.view.own.process)) × (port ≡ port_after port (event port.view.own.process))
 refused port event p answer refusal is told own =
@@ -38,13 +38,13 @@ refused port event p answer refusal is told own =
     let no : Err refusal ≡ answer_to port e = sym is ∙ told ∙ ap (λ q. answer_to port (event q)) own in
     (no, left port (record port { view = at_events port.setup port.view (e ∷ []) }) (refusal_in port.setup port.view.own e) refusal no)
 
--- one that it accepts is not refused by what it was
+-- an accepted event is not refused in the state before it
 pub accepted : (port before : PortState) (event : ℕ → Event) (p : ℕ) (answer : Result (Unit {0}) Refusal) → before ≡ port → answer ≡ Ok tt → answer ≡ answer_to port (event p) → p ≡ port.view.own.process →
     refusal_in before.setup before.view.own (event before.view.own.process) ≡ None
 accepted port before event p answer was is told own =
     ap (λ (q : PortState). refusal_in q.setup q.view.own (event q.view.own.process)) was ∙ ap (λ q. refusal_in port.setup port.view.own (event q)) (sym own) ∙ is_accepted port (event p) (sym told ∙ is)
 
--- one that it does not refuse happens to it
+-- an event that is not refused may happen to the process
 pub happens : (port before new : PortState) (event : ℕ → Event) (p : ℕ) (answer : Result (Unit {0}) Refusal) → answer ≡ Ok tt → answer ≡ answer_to port (event p) → p ≡ port.view.own.process → before ≡ port →
     new ≡ record before { view = at_events before.setup before.view (event before.view.own.process ∷ []) } →
     SamePort port new × (Ok tt ≡ answer_to port (event port.view.own.process)) × (new ≡ port_after port (event port.view.own.process))
@@ -62,7 +62,7 @@ happens port before new event p answer is told own was then =
       now ∙ sym (ap (λ r. elim r as (λ _. PortState) [ Some refusal ↦ port | None ↦ record port { view = at_events port.setup port.view (e ∷ []) } ]) (is_accepted port e yes)),
     )
 
--- What is not refused is allowed by the stage.
+-- An event that is not refused is allowed by the stage.
 
 stage_allows : (s : Setup) (o : OwnView) (event : Event) → refusal_in s o event ≡ None → refused_at event (stage_in s o) ≡ None
 stage_allows s o event h = grind arith
@@ -99,9 +99,9 @@ joined s pending pending' process new value v event t is may same =
           (λ fl x i. let f = event_fresh s b event may fl x (ap (λ p. next_of s p b'.doing fl) (sym (same_process s b event)) ∙ i) in ((λ e. absurd (f.0 e)), f.1));
     } in (subst (λ s. IsTied s pending' new value v) (sym (ap (λ (q : ProcessState). q.setup) same)) tied, ap (at_events s v) is)
 
--- The stages of what is pending.
+-- The stage after the pending events.
 
--- a process that failed is settling
+-- after a failure the memory unit is at work
 pub settling : (s : Setup) (v : ViewState) (restarted withdrew : Bool) (called : Option Command) → stage_in s (with_pending s (record { restarted = restarted; called = called; withdrew = withdrew; failed = true }) v).own ≡ stage.Settling
 settling s v restarted withdrew called = grind arith
 

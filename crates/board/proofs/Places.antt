@@ -1,4 +1,4 @@
--- What a word step makes of the list of a port: the place of what is taken.
+-- The effect of a word step on the list of a port: the position of the taken command.
 use Rattle.std.proofs.Common.{◌≡◌, ℕ, Bool, true, false, cond, List, [], ◌∷◌, ◌++◌, ◌&&◌, length, refl, sym, ap, ◌∙◌, Option, Some, None, arith}
 use Rattle.std.specs.Prelude.{IfSome, option_map}
 use Rattle.record.specs.safe_bit.declared.Move.TheVariants.{BeginRead}
@@ -14,14 +14,14 @@ use Rattle.process.specs.{StepTold, changes_pending, changes_read, changes_told,
 use Rattle.process.specs.declared.told.StepTold.TheVariants as told
 use Rattle.board.specs.{IsPlace, Makes, OwnView, may_take}
 
--- The marks of what is taken.
+-- The marks of a taken command.
 
--- they begin with the mark of a command that is taken
+-- the marks begin with that of a taken command
 abbrev pub takes : List Mark → Bool
 takes (mark.Taken k r ∷ marks) = true
 takes _ = false
 
--- or with it after that of a bit that is settled
+-- the marks begin with that of a settled bit, followed by that of a taken command
 abbrev pub settles_taking : List Mark → Bool
 settles_taking (mark.Settled v ∷ mark.Taken k r ∷ marks) = true
 settles_taking _ = false
@@ -39,7 +39,7 @@ settling b begun v taken x n f bit begun' is t h = grind arith
 one-settles : (b : Bool) (m : Mark) → settles_taking (cond b (m ∷ []) []) ≡ true → ⊥
 one-settles b m h = grind arith
 
--- where a bit is settled and a command taken, a memory unit might take it
+-- if a bit is settled and a command taken, a memory unit may take it
 pub settles_may : (s : Setup) (p : ℕ) (d : Doing) (flick v : Bool) → settles_taking (marks_with s p d flick v) ≡ true → may_take d ≡ true
 settles_may s p Rests flick v h = cc
 settles_may s p Lies flick v h = cc
@@ -53,20 +53,20 @@ settles_may s p (Closes x n Ended) flick v h = cc
 
 -- A memory unit that may take the command.
 
--- it did so before, and nothing was taken
+-- the memory unit still may take the command, which is not taken yet, and is inside as before
 abbrev pub MayTakeOn : Setup → ℕ → Doing → Bool → Bool → Type 0
 MayTakeOn s p d flick v = (may_take d ≡ true) × (reply_taken (marks_with s p d flick v) ≡ None) × (is_inside (does_then s p d flick v) ≡ is_inside d)
 
 pub may_take_on : (s : Setup) (p : ℕ) (d : Doing) (flick v : Bool) → may_take (does_then s p d flick v) ≡ true → MayTakeOn s p d flick v
 may_take_on s p d flick v h = grind arith
 
--- it reads nothing
+-- such a memory unit reads nothing
 pub may_take_writes : (s : Setup) (p : ℕ) (d : Doing) (flick : Bool) (n : Access) → next_of s p d flick ≡ Some n → n.how ≡ BeginRead → may_take d ≡ true → ⊥
 may_take_writes s p d flick n h k g = grind arith
 
 -- A failure that leaves a command to be taken: its process was writing a change.
 
--- the stamp that it had read, with which it is inside
+-- the process had read this stamp, and its memory unit is inside
 abbrev pub LeavesToTake : Setup → ℕ → Doing → Type 0
 LeavesToTake s p d = (newest : ℕ) × (changes_pending s p d ≡ Some newest) × (stamp_read d ≡ Some newest) × (is_inside_closing (cut_of s p d) ≡ true)
 
@@ -103,7 +103,7 @@ cut_takes s p x n Lies h = cc
 cut_takes s p x n (Runs y m at) h = cut-part (call s p y m) x n (torn_at (call s p y m) at) (begun_at (call s p y m) at) (is_fresh at.run) at.part h
 cut_takes s p x n (Closes y m at) h = absurd (cut-closing (call s p y m) x n (torn_closing at) (begun_closing (call s p y m) at) (is_inside (Closes y m at)) h)
 
--- The place of what a step takes.
+-- The position of the command that a step takes.
 
 pub is_place : (s : Setup) (seen : List Taken) (flick value : Bool) (o then : OwnView) (m : Makes s seen flick value o then) (stamp : Option ℕ) (told : StepTold) → marks_told told ≡ marks_with s o.process o.doing flick value → IfSome (changes_told told) (λ changes. changes ≡ changes_read o.doing) →
     (may_take o.doing ≡ true → is_inside o.doing ≡ true) → (may_take o.doing ≡ true → stamp ≡ Some (length seen)) → IsPlace told stamp m.place

@@ -1,4 +1,4 @@
--- A process of a record is where its accesses lead, in the call that is kept of it.
+-- The process of a record is at a state that its accesses reach, in the call that is kept of it.
 use Rattle.std.proofs.Common.{◌≡◌, ℕ, List, refl, sym, ap, subst, ◌∙◌}
 use Rattle.plain_store.specs.{Setup}
 use Rattle.record.specs.{Event, Past, accesses_of, call_number, is_over, last_command, own, past_of, since, stage, starts}

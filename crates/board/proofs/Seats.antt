@@ -19,7 +19,7 @@ use Rattle.board.proofs.Along.{set_at, was_view}
 abbrev Holds : Setup → State (Unit {0}) ViewState → Type 0
 Holds s t = Agree s t.words t.views
 
--- Who has no entries has done nothing.
+-- A process without entries has done nothing.
 
 off : (p : ℕ) (e : Entry) (past : Past) → own p (e ∷ past) ≡ [] → ((e.process == p) ≡ false) × (own p past ≡ [])
 off p e past h = grind arith
@@ -39,7 +39,7 @@ none_made s p (e ∷ past) h = let o = off p e past h in rw o.0 (none_made s p p
 no_number : (s : Setup) → call_number s [] ≡ 0
 no_number s = grind arith
 
--- what is known of a process that has no entries
+-- the view of a process without entries
 nothing_known : (s : Setup) (p : ℕ) (past : Past) → own p past ≡ [] → own_view s past p ≡ new_own p
 nothing_known s p past h = λ i. record {
   process = p;
@@ -60,7 +60,7 @@ only (suc i) v e = absurd (some-ne-none v (sym e))
 opens : (s : Setup) (a : Access) → IsThere s a → opening_word s (word_of s a) ≡ closed_word (opening_bit s a)
 opens s a there = ap (λ (c : BitCopy). closed_word (opening_bit s (access_to c))) (copy_of_word s a there)
 
--- and agree with one seat
+-- the opening words agree with the view of the first seat alone
 pub starts : (s : Setup) (words : List ℕ) → checked s ≡ Ok tt → are_pairs s.opening ≡ true → 0 < s.processes → length words ≡ words_in s → ((word : ℕ) → word < words_in s → slice_index words word ≡ opening_word s word) → Agree s words (first_view ∷ [])
 starts s words good pairs some_ size is = (
   [],
@@ -225,16 +225,16 @@ joins s id v other w live zero_ w_live quiet state agree at ne at_w = (
     before : (i : ℕ) (x : ViewState) → get_elem? (set state.views id (with_joined v w)) i ≡ some x → x.spent ≡ false → (y : ViewState) × (get_elem? state.views i ≡ some y) × (y.spent ≡ false) × (y.own.process ≡ x.own.process)
     before = was_view state.views id v (with_joined v w) at refl refl
 
--- a seat of the board is made, where k were made before
+-- a seat of the board is made after k others
 pub splits_at : (key s : Setup) (id k : ℕ) (v : ViewState) → key ≡ s → v ≡ new_view 0 k → k < s.processes → Splits (Holds key) id v (with_made v) (new_view v.made 0)
 splits_at key s id k v same is room = subst (λ (m : Setup). Splits (Holds m) id v (with_made v) (new_view v.made 0)) (sym same)
     (splits s id v (ap (λ (u : ViewState). u.spent) is) (ap (λ (u : ViewState). u.own.process) is) (let made : v.made ≡ k = ap (λ (u : ViewState). u.made) is in omega arith) (ap (λ (u : ViewState). u.joined) is))
 
--- there is a process
+-- there is at least one process
 pub some_processes : (s : Setup) → checked s ≡ Ok tt → 0 < s.processes
 some_processes s good = let is = (is_good s good).processes_is in omega arith
 
--- there are words
+-- there is at least one word
 pub some_words : (s : Setup) → 0 < s.processes → 0 < words_in s
 some_words s h =
     let a : Access = record { owner = 0; field = Choosing; bit = 0; reader = 0; how = BeginRead } in

@@ -1,4 +1,4 @@
--- The calls of a view stand in the changes that it has seen, over a word step and over an event without an access; and what was seen stays seen.
+-- The calls of a view are consistent with the changes that it has seen, after a word step and after an event other than an access; no change seen is forgotten.
 use Rattle.std.proofs.Common.{◌≡◌, ℕ, zero, suc, Bool, true, [], ◌∷◌, inl, inr, refl, sym, ap, ◌∙◌}
 use Rattle.std.proofs.lemmas.List.{append-nil}
 use Rattle.process.specs.flicks.{FlickState, flick_of}
@@ -10,21 +10,21 @@ use Rattle.board.specs.declared.driving.Driven.TheVariants as driven
 use Rattle.board.proofs.Along.{prefix-trans}
 use Rattle.board.proofs.Stands.{finished_stand, stands_in_longer, stands_push}
 
--- after a call: nothing is taken yet
+-- after a call, which has taken nothing yet
 pub stands_called : (s : Setup) (b : ViewState) (p : ℕ) (command : Command) → StandsInSeen s b → StandsInSeen s (at_events s b (event.Call p command ∷ []))
 stands_called s b p command h = record {
   stands = stands_push s b.own.process b.own.calls.done b.seen (called command) (finished_stand s b.own.process b.own.calls.done b.own.calls.now b.seen h.stands) tt (λ place is. cc);
   seen = h.seen;
 }
 
--- of a process that has done nothing
+-- for a process that has done nothing
 pub stands_new : (s : Setup) → are_pairs s.opening ≡ true → (p made : ℕ) → StandsInSeen s (new_view p made)
 stands_new s pairs p made = record {
   stands = record { taken = λ k place call at is. cc; answered = λ k call at. cc; order = λ j k place next call later less at_j at_k is is_next. cc };
   seen = record { events = []; given = record { opening = pairs; commands = refl }; first = ([], refl) };
 }
 
--- so its finished calls stand in the changes of a record
+-- so its finished calls are consistent with the changes of a record
 pub in_record : (s : Setup) (v : ViewState) → StandsInSeen s v → StandsInRecord s v.own.process v.own.calls.done
 in_record s v h = record {
   events = h.seen.events;
@@ -32,7 +32,7 @@ in_record s v h = record {
   stands = stands_in_longer s v.own.process v.own.calls.done v.seen (changes_of s (past_of s h.seen.events)) h.seen.first (finished_stand s v.own.process v.own.calls.done v.own.calls.now v.seen h.stands);
 }
 
--- What was seen stays seen.
+-- No change that was seen is forgotten.
 
 step_seen : (s : Setup) (flick : Bool) (v w : ViewState) → WordStep s flick v w → IsPrefix v.seen w.seen
 step_seen s flick v w (inl load) = load.1.goes.seen

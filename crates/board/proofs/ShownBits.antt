@@ -1,4 +1,4 @@
--- What words show of registers, as bits, numbers and bytes.
+-- The bits, numbers and bytes of registers that words show.
 use Rattle.std.proofs.Common.{◌≡◌, ℕ, zero, suc, ◌+◌, ◌*◌, ◌^◌, ◌<◌, ◌≤◌, ◌==◌, Bool, true, false, List, [], ◌∷◌, ◌++◌, length, take, drop, get_or, if◌then◌else◌, refl, sym, ap, ◌∙◌, add-one, pow_mono, arith}
 use Rattle.std.proofs.lemmas.List.{length-take, drop-drop}
 use Rattle.std.specs.Prelude.{slice_index}
@@ -14,7 +14,7 @@ use Rattle.plain_store.specs.{Setup}
 use Rattle.record.proofs.safe_number.Bits.{number-fits}
 use Rattle.board.specs.{bits_shown, version_shown, word_of}
 
--- the word that is found at a place
+-- the word that is found at an index
 pub word_at : (words : List ℕ) (k found : ℕ) → get_elem? words k ≡ some found → slice_index words k ≡ found
 word_at [] k found e = absurd (some-ne-none found (sym e))
 word_at (x ∷ words) zero found e = some-injective x found e
@@ -48,7 +48,7 @@ number-more values k n inside =
 pub all-bits : (s : Setup) (words : List ℕ) (p : ℕ) (field : Field) → take (width s field) (drop 0 (bits_shown s words p field)) ≡ bits_shown s words p field
 all-bits s words p field = ap (λ m. take m (bits_shown s words p field)) (sym (length-bits s words p field)) ∙ take-length (bits_shown s words p field)
 
--- so many bits make a number below that power of 2
+-- n bits make a number below 2 ^ n
 pub number-below : (bits : List Bool) (n : ℕ) → number_of_bits (take n bits) < 2 ^ n
 number-below bits n = let fits = number-fits (take n bits) in omega (arith, fits, pow_mono {i = length (take n bits)} {j = n} (omega (arith, length-take n bits)))
 

@@ -1,4 +1,4 @@
--- The calls of one process stand in the list of changes: kept by each mark, the process's stage, calls and takings known.
+-- Each mark keeps the calls of one process consistent with the list of changes, given the stage, the calls and the taken commands of the process.
 use Rattle.std.proofs.Common.{◌≡◌, ℕ, suc, ◌+◌, ◌≤◌, ◌==◌, Bool, true, false, cond, List, [], ◌∷◌, ◌++◌, length, take, slice_get, Option, None, Some, refl, sym, ap, subst, ◌∙◌, arith}
 use Rattle.std.specs.Prelude.{IfSome, option_map}
 use Rattle.std.proofs.lemmas.List.{length-append}
@@ -15,22 +15,22 @@ is_quiet stage.Idle = true
 is_quiet stage.Down = true
 is_quiet _ = false
 
--- the caller of the last of so many calls
+-- the caller of the last of n calls
 abbrev pub last_caller : Setup → ℕ → ℕ → Caller
 last_caller s p n = record { process = p; number = cond (s.version == 2) n 0 }
 
--- what a call has taken, by its place: nothing without one, and else one command with the reply of the store there
+-- the commands that a call has taken, by its position: none without a position, and otherwise one command, with the reply of the store at that position
 abbrev pub TookFrom : Setup → List Taken → Caller → Command → Option ℕ → List (ℕ × Reply) → Type 0
 TookFrom s list caller command None taken = taken ≡ []
 TookFrom s list caller command (Some place) taken = (k : ℕ) × (taken ≡ (k, reply_to (store_at s list place) command caller) ∷ [])
 
--- what is known of a call that is not finished, the last of n: its command, and what it has taken
+-- the state of an unfinished call, the last of n: its command, and the commands that it has taken
 pub record IsNow (s : Setup) (p n : ℕ) (command : Command) (taken : List (ℕ × Reply)) (list : List Taken) (call : Placed) : Type 0 where
   pub same : call.command ≡ command
   pub unanswered : call.answer ≡ None
   pub took : TookFrom s list (last_caller s p n) call.command call.place taken
 
--- what is known of the calls of a process in this stage, which has called n times, last this command, of which call this was taken
+-- the state of the calls of a process that is in this stage and has called n times, last with this command; that call has taken these commands
 pub record Standing (s : Setup) (p : ℕ) (st : Stage) (n : ℕ) (command : Command) (taken : List (ℕ × Reply)) (list : List Taken) (done : List Placed) (now : Option Placed) : Type 0 where
   pub rests : is_quiet st ≡ true → now ≡ None
   pub count : length (and_then done now) ≡ n
@@ -60,12 +60,12 @@ standing_called s p st then n command next taken list done now quiet busy h = by
     }
     by (Some call) is count stands = cc
 
--- Its stage goes on.
+-- The stage changes.
 pub standing_on : (s : Setup) (p : ℕ) (st then : Stage) (n : ℕ) (command : Command) (taken : List (ℕ × Reply)) (list : List Taken) (done : List Placed) (now : Option Placed) → (is_quiet then ≡ true → is_quiet st ≡ true) →
     Standing s p st n command taken list done now → Standing s p then n command taken list done now
 standing_on s p st then n command taken list done now quiet h = record { rests = λ q. h.rests (quiet q); count = h.count; last = h.last; stands = h.stands }
 
--- There are more changes.
+-- The list of changes grows.
 took_longer : (s : Setup) (list more : List Taken) (caller : Caller) (command : Command) (place : Option ℕ) (taken : List (ℕ × Reply)) → ((k : ℕ) → place ≡ Some k → k ≤ length list) → TookFrom s list caller command place taken → TookFrom s (list ++ more) caller command place taken
 took_longer s list more caller command None taken within h = h
 took_longer s list more caller command (Some place) taken within h = (h.0, h.1 ∙ ap (λ (x : Contents). (h.0, reply_to x command caller) ∷ []) (sym (store-longer s list more place (within place refl))))
@@ -87,7 +87,7 @@ standing_longer s p st n command taken list more done now h = record {
       took = took_longer s list more (last_caller s p n) call.command call.place taken (λ k is. (comes_last s p done list call stands k is).stands.within) h.took;
     }
 
--- A call is taken: its command, with the reply of the store, and a change more if it is one.
+-- A command is taken, with the reply of the store, and adds a change if it is one.
 abbrev pub one_change : Setup → List Taken → Caller → Command → Reply → List Taken
 one_change s list caller command reply = cond (changes (store_after s list) command) (record { process = caller.process; command = command; reply = reply; number = caller.number } ∷ []) []
 
@@ -149,7 +149,7 @@ standing_taken s p st then n command k r list done (Some call) quiet reply h = r
         let m : length done + 1 ≡ n = sym l ∙ h.count in
         ap (λ (q : ℕ). last_caller s p q) m
 
-    -- the change that it is
+    -- the change at the position is that of the command
     changed : changes (store_at s all (length list)) call.command ≡ true → slice_get all (length list) ≡ Some (change_at s all caller call.command (length list))
     changed c =
         let d : changes (store_after s list) command ≡ true = ap (λ (x : Command). changes (store_after s list) x) (sym h.last.same) ∙ (ap (λ (x : Contents). changes x call.command) (sym here) ∙ c) in
@@ -180,7 +180,7 @@ one_reply t u h = let same : t ≡ u = cc in ap (λ (x : ℕ × Reply). x.1) sam
 answered_so : (s : Setup) (list : List Taken) (caller : Caller) (command : Command) (a : Answer) (place : Option ℕ) (taken : List (ℕ × Reply)) → IsAnswerTo a taken → TookFrom s list caller command place taken → PlacedAsAnswered (Some a) place
 answered_so s list caller command a place taken h k = grind arith
 
--- with the reply of the store at its place
+-- the answer is the reply of the store at the position of the call
 replied_so : (s : Setup) (list : List Taken) (caller : Caller) (command : Command) (place : ℕ) (r : Reply) (taken : List (ℕ × Reply)) → IsAnswerTo (answer.Reply r) taken → TookFrom s list caller command (Some place) taken →
     r ≡ reply_to (store_at s list place) command caller
 replied_so s list caller command place r taken told took = one_reply (told.0, r) (took.0, reply_to (store_at s list place) command caller) (sym told.1 ∙ took.1)

@@ -1,4 +1,4 @@
--- Calls that stand in a list of changes: in a longer list, and with one call more or less.
+-- Calls that are consistent with a list of changes, for a longer list, and for one call more or less.
 use Rattle.std.proofs.Common.{◌≡◌, ◌⊎◌, ℕ, zero, suc, ◌+◌, ◌<◌, ◌≤◌, Bool, true, false, cond, List, [], ◌∷◌, ◌++◌, length, slice_get, Option, None, Some, inl, inr, refl, sym, ap, subst, ◌∙◌, arith}
 use Rattle.std.proofs.lemmas.List.{length-append, take-append-le}
 use Rattle.std.proofs.lemmas.Option.{slice_get_within}
@@ -49,14 +49,14 @@ stands_front s p calls more list h = record {
   order = λ j k place next call later less at_j at_k is is_next. h.order j k place next call later less (front calls more j call at_j) (front calls more k later at_k) is is_next;
 }
 
--- the finished calls stand where they do with the one that is not finished
+-- the finished calls are consistent with a list if all calls are
 pub finished_stand : (s : Setup) (p : ℕ) (done : List Placed) (now : Option Placed) (list : List Taken) → StandsIn s p (and_then done now) list → StandsIn s p done list
 finished_stand s p done None list h = h
 finished_stand s p done (Some call) list h = stands_front s p done (call ∷ []) list h
 
 -- One call more.
 
--- what stands in a list with one more at its end: it is in the list, or the last
+-- an item of a list with one more at its end is in the list, or is the last one
 last_or : {X : Type 0} (xs : List X) (x : X) (k : ℕ) (y : X) → slice_get (xs ++ x ∷ []) k ≡ Some y → (slice_get xs k ≡ Some y) ⊎ ((x ≡ y) × (k ≡ length xs))
 last_or [] x zero y h = inr (cc, refl)
 last_or [] x (suc k) y h = cc
@@ -70,7 +70,7 @@ pub last_is : {X : Type 0} (xs : List X) (x : X) → slice_get (xs ++ x ∷ []) 
 last_is [] x = refl
 last_is (y ∷ xs) x = last_is xs x
 
--- what is to be known of one call more, where it was taken: it stands at its place, which is behind those of the others
+-- the conditions on one more taken call: it agrees with the list at its position, which does not precede those of the other calls
 pub record ComesLast (s : Setup) (p : ℕ) (calls : List Placed) (list : List Taken) (call : Placed) (place : ℕ) : Type 0 where
   pub stands : StandsAt s list (caller_of s p (length calls)) call place
   pub order : (j earlier : ℕ) (before : Placed) → slice_get calls j ≡ Some before → before.place ≡ Some earlier → place_after s list before.command earlier ≤ place
@@ -98,14 +98,14 @@ stands_push s p calls list call h answered last = record {
     not-after : (j k : ℕ) (later : Placed) → j < k → j ≡ length calls → slice_get (calls ++ call ∷ []) k ≡ Some later → ⊥
     not-after j k later less is at = let w = slice_get_within (calls ++ call ∷ []) k later at in let n : length (calls ++ call ∷ []) ≡ length calls + 1 = length-append calls (call ∷ []) in omega (arith, less, is, w, n)
 
--- what is known of the last call
+-- the last call fulfils the conditions
 pub comes_last : (s : Setup) (p : ℕ) (calls : List Placed) (list : List Taken) (call : Placed) → StandsIn s p (calls ++ call ∷ []) list → (place : ℕ) → call.place ≡ Some place → ComesLast s p calls list call place
 comes_last s p calls list call h place is = record {
   stands = h.taken (length calls) place call (last_is calls call) is;
   order = λ j earlier before at is_earlier. h.order j (length calls) earlier place before call (slice_get_within calls j before at) (front calls (call ∷ []) j before at) (last_is calls call) is_earlier is;
 }
 
--- no call of those before has a place above the number of changes; one that is a change is among them
+-- no earlier call has a position above the number of changes, and an earlier call that is a change is among them
 pub behind_all : (s : Setup) (p : ℕ) (calls : List Placed) (list : List Taken) → StandsIn s p calls list → (j earlier : ℕ) (before : Placed) → slice_get calls j ≡ Some before → before.place ≡ Some earlier →
     place_after s list before.command earlier ≤ length list
 behind_all s p calls list h j earlier before at is = by (changes (store_at s list earlier) before.command) refl

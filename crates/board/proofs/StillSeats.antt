@@ -7,7 +7,7 @@ use Rattle.board.specs.declared.pending.Pending.{Pending}
 use Rattle.board.specs.{IsStill, IsTied, ViewState, with_pending}
 use Rattle.board.proofs.Pendings.{down, settling}
 
--- its process is still too, and what is pending, a restart at most, has left its calls
+-- the process of the seat is still too, and the pending event, a restart at most, has left its calls unchanged
 pub still_seat : (s : Setup) (restarted failed withdrew : Bool) (called : Option Command) (process : ProcessState) (value : Bool) (v : ViewState)
     → let pending : Pending = record { restarted = restarted; called = called; withdrew = withdrew; failed = failed } in
     IsTied s pending process value v → IsStill s (with_pending s pending v).own → IsStill s v.own × (v.own.calls ≡ (with_pending s pending v).own.calls)

@@ -1,4 +1,4 @@
--- A port's process and what its seat knows, over a word step.
+-- The tie between a port's process and its seat's view, over a word step.
 use Rattle.std.proofs.Common.{◌≡◌, ℕ, Bool, true, false, refl, sym, ap, ◌∙◌, subst, Some, arith}
 use Rattle.std.specs.Prelude.{fold}
 use Rattle.atomic_table.specs.Table.{State, Me, Allows}
@@ -28,7 +28,7 @@ is_next s pending process value v flick word n t goes is at = record {
   at = at;
 }
 
--- as its seat's view knows it
+-- the next access, as the seat's view knows it
 pub next_own : (s : Setup) (pending : Pending) (process : ProcessState) (value : Bool) (v : ViewState) → IsTied s pending process value v → (flick : Bool) (word : ℕ) (n : Access) → IsNext s process flick word n →
     next_of s (with_pending s pending v).own.process (with_pending s pending v).own.doing flick ≡ Some n
 next_own s pending process value v t flick word n h = ap (λ (q : ProcessState). next_of q.setup q.process q.doing flick) (sym t.same) ∙ h.next
@@ -64,11 +64,11 @@ may_store s slots id word new flick value me pending process n t h writes new_is
     truly BeginRead h = refl
     truly (EndRead v) h = refl
 
--- no end of a read comes next
+-- the next access does not end a read
 pub no_end : (s : Setup) (pending : Pending) (process : ProcessState) (value flick u : Bool) (word : ℕ) (n : Access) (v : ViewState) → IsTied s pending process value v → IsNext s process flick word n → n.how ≡ EndRead u → ⊥
 no_end s pending process value flick u word n v t h e = (t.between flick n (next_own s pending process value v t flick word n h)).1 u e
 
--- After it.
+-- After a word step.
 
 process_step : (s : Setup) (o then : OwnView) (process new : ProcessState) (flick value : Bool) (place : ℕ) → process ≡ process_at s o → new ≡ stepped process flick value → then ≡ with_step s o flick value place → new ≡ process_at s then
 process_step s o then process new flick value place t goes is = goes ∙ ap (λ q. stepped q flick value) t ∙ ap (process_at s) (sym is)
@@ -76,7 +76,7 @@ process_step s o then process new flick value place t goes is = goes ∙ ap (λ 
 unended_then : (s : Setup) (o then : OwnView) (flick value : Bool) (place : ℕ) → then ≡ with_step s o flick value place → IsUnended then.doing
 unended_then s o then flick value place is = subst (λ (o : OwnView). IsUnended o.doing) (sym is) (does_unended s o.process o.doing flick value)
 
--- of a store
+-- the tie after a store
 pub tied_stored : (s : Setup) (pending : Pending) (process new : ProcessState) (value value' flick : Bool) (word : ℕ) (n : Access) (v w : ViewState) → IsTied s pending process value v → IsNext s process flick word n →
     IsWrite n.how → ((u : Bool) → n.how ≡ BeginWrite u → value' ≡ u) → Stores s flick (with_pending s pending v) w → new ≡ stepped process flick false → IsTied s nothing new value' w
 tied_stored s pending process new value value' flick word n v w t h writes begins told goes =
@@ -99,7 +99,7 @@ tied_stored s pending process new value value' flick word n v w t h writes begin
     no_read BeginRead h e = h
     no_read (EndRead v) h e = h
 
--- between begin and end of a read
+-- the process between the begin and the end of a read
 pub record Begun (s : Setup) (middle : ProcessState) (flick : Bool) (n : Access) (begun : OwnView) : Type 0 where
   pub same : middle ≡ process_at s begun
   pub unended : IsUnended begun.doing
@@ -121,7 +121,7 @@ begins s pending process middle value flick word found n v w t h how told goes =
       goes = ap (λ (q : ProcessState). may_step q.doing) is ∙ may_go s begun.process begun.doing flick (ending n) next;
     }
 
--- of a load
+-- the tie after a load
 pub tied_loaded : (s : Setup) (pending : Pending) (process middle new : ProcessState) (value flick : Bool) (word found : ℕ) (n : Access) (v w : ViewState) → IsTied s pending process value v → IsNext s process flick word n → n.how ≡ BeginRead →
     Loads s flick (with_pending s pending v) found w → middle ≡ stepped process flick false → new ≡ stepped middle flick (loaded flick found) → IsTied s nothing new value w
 tied_loaded s pending process middle new value flick word found n v w t h how told goes on =
@@ -137,7 +137,7 @@ tied_loaded s pending process middle new value flick word found n v w t h how to
           ((λ e. let f0 : EndRead false ≡ BeginWrite _ = f.0 e in cc), λ u e. let f1 : EndRead false ≡ BeginRead = f.1 u e in cc));
     }
 
--- What it leads to.
+-- The outcome of a word step.
 
 pub leads_stored : (s : Setup) (pending : Pending) (process : ProcessState) (value flick : Bool) (word : ℕ) (n : Access) (v w : ViewState) (told : StepTold) → IsTied s pending process value v → IsNext s process flick word n → Stores s flick (with_pending s pending v) w →
     marks_told told ≡ marks_on process flick false → LeadsTo s told (with_pending s pending v).own w.own
@@ -163,10 +163,10 @@ leads_loaded s pending process middle value flick word found n v w told t h how 
 
 -- The word of the next access.
 
--- it is there
+-- the bit of the next access exists
 pub there_at : (s : Setup) (pending : Pending) (process : ProcessState) (value : Bool) (v : ViewState) (n : Access) → IsTied s pending process value v → IsThere process.setup n → IsThere s n
 there_at s pending process value v n t h = subst (λ s. IsThere s n) (ap (λ (q : ProcessState). q.setup) t.same) h
 
--- an access that is no read belongs to a write
+-- an access that does not read belongs to a write
 pub is_written : (m : Move) → (m ≡ BeginRead → ⊥) → ((v : Bool) → m ≡ EndRead v → ⊥) → IsWrite m
 is_written m h k = grind arith

@@ -1,4 +1,4 @@
--- The word of a bit is its own, and tells the bit.
+-- Each bit has a word of its own, from which the bit can be found.
 use Rattle.std.proofs.Common.{◌≡◌, ℕ, zero, suc, ◌+◌, ◌-◌, ◌*◌, ◌/◌, ◌%◌, ◌<◌, ◌≤◌, ◌==◌, ◌&&◌, Bool, true, false, List, [], ◌∷◌, ◌++◌, length, refl, sym, ap, ◌∙◌, below_more, arith, eq-eqb, mul-le-mul_right, suc-mul}
 use Rattle.std.proofs.Math.Nat.{div-lt_iff_lt-mul, le-div_iff_mul-le, mod-lt}
 use Rattle.std.proofs.Math.ListN.{get_or-append}
@@ -28,7 +28,7 @@ below m n high low a b = let h : suc high * n ≤ m * n = mul-le-mul_right n a i
 
 -- A row.
 
--- a place is found, behind the registers before its own
+-- a position after the bits of the earlier registers belongs to the next register
 found : (s : Setup) (before : List Field) (field : Field) (after : List Field) (k : ℕ) → k < width s field → bit_in_row s (before ++ field ∷ after) (bits_of s before + k) ≡ (field, k)
 found s [] field after k h =
     ap (λ b. elim b as (λ _. Field × ℕ) [ true ↦ (field, 0 + k) | false ↦ bit_in_row s after (0 + k - width s field) ]) (lt-ltb (0 + k) (width s field) (omega arith))
@@ -39,17 +39,17 @@ found s (other ∷ before) field after k h =
     ∙ ap (bit_in_row s (before ++ field ∷ after)) (let same : bits_of s (other ∷ before) + k - width s other ≡ bits_of s before + k = omega arith in same)
     ∙ found s before field after k h
 
--- the place of a bit tells it
+-- the bit can be found from its position in the row
 pub placed : (s : Setup) (field : Field) (k : ℕ) → k < width s field → bit_in_row s fields (first_bit s field + k) ≡ (field, k)
 placed s field k h = grind arith
 
--- and lies in the row
+-- the position of a bit lies in the row
 pub in_row : (s : Setup) (field : Field) (k : ℕ) → k < width s field → first_bit s field + k < row_bits s
 in_row s field k h = grind arith
 
--- SharedWords.
+-- The words.
 
--- the word of an access tells its copy
+-- the copy of an access can be found from its word
 pub copy_of_word : (s : Setup) (a : Access) → IsThere s a → copy_of s (word_of s a) ≡ copy_named a
 copy_of_word s a there =
     let row = in_row s a.field a.bit there.bit in
@@ -70,24 +70,24 @@ one_word s a b a_there b_there same =
     (eq-eqb a.bit b.bit (ap (λ (x : BitCopy). x.bit) one)) (eq-eqb a.reader b.reader (ap (λ (x : BitCopy). x.reader) one)) (eq-eqb a.owner b.owner (ap (λ (x : BitCopy). x.register.owner) one))
     (eq-eqb (field_number a.field) (field_number b.field) (ap (λ (x : BitCopy). field_number x.register.field) one))
 
--- and one bit has one word
+-- one bit has one word
 pub one_bit : (s : Setup) (a b : Access) → same_bit a b ≡ true → word_of s a ≡ word_of s b
 one_bit s a b h =
     let on : OnCopy b a.owner a.field a.bit a.reader = on-copy b a.owner a.field a.bit a.reader h in
     λ i. (on.owner i * s.processes + on.reader i) * row_bits s + (first_bit s (on.field i) + on.bit i)
 
--- it is one of the words
+-- the word of an access is within the number of words
 pub word_below : (s : Setup) (a : Access) → IsThere s a → word_of s a < words_in s
 word_below s a there =
     below (s.processes * s.processes) (row_bits s) (a.owner * s.processes + a.reader) (first_bit s a.field + a.bit)
     (below s.processes s.processes a.owner a.reader there.owner there.reader) (in_row s a.field a.bit there.bit)
 
--- a place within the bits of a register tells its bit
+-- the bit can be found from a position among the bits of its register
 pub at_place : (s : Setup) (field : Field) (place : ℕ) → first_bit s field ≤ place → place < first_bit s field + width s field → bit_in_row s fields place ≡ (field, place - first_bit s field)
 at_place s field place from within =
     ap (bit_in_row s fields) (let same : place ≡ first_bit s field + (place - first_bit s field) = omega arith in same) ∙ placed s field (place - first_bit s field) (omega arith)
 
--- Each word tells a bit that there is.
+-- Each word is the word of a bit that exists.
 
 in_register : (s : Setup) (registers : List Field) (place : ℕ) → place < bits_of s registers → (bit_in_row s registers place).1 < width s (bit_in_row s registers place).0
 in_register s [] place h = absurd (omega arith)
@@ -113,7 +113,7 @@ none : (k : ℕ) → slice_index_or [] k false ≡ false
 none zero = refl
 none (suc k) = refl
 
--- opening words, with the next one behind them
+-- opening words, followed by the next one
 pub opening_more : (s : Setup) (words later : List ℕ) (n word : ℕ) → length words ≡ n → later ≡ words ++ word ∷ [] → word ≡ opening_word s n → ((k : ℕ) → k < n → slice_index words k ≡ opening_word s k) → (k : ℕ) → k < n + 1 → slice_index later k ≡ opening_word s k
 opening_more s words later n word long pushed is each =
     below_more (λ k. slice_index later k ≡ opening_word s k) n
@@ -125,16 +125,16 @@ pub byte_word : (b : Bool) → mir.Val.bool_byte b ≡ closed_word b
 byte_word true = refl
 byte_word false = refl
 
--- no register but the first image of process 0 opens at anything but 0
+-- each register except the first images is initially 0
 pub opens_low : (s : Setup) (owner : ℕ) (field : Field) (k : ℕ) → (field ≡ Image0 → ⊥) → slice_index_or (opening_bits s owner field) k false ≡ false
 opens_low s owner field k h = grind arith
 
--- nor any register of another process
+-- each register of another process than 0 is initially 0
 pub opens_elsewhere : (s : Setup) (owner : ℕ) (field : Field) (k : ℕ) → (owner ≡ 0 → ⊥) → slice_index_or (opening_bits s owner field) k false ≡ false
 opens_elsewhere s zero field k h = absurd (h refl)
 opens_elsewhere s (suc owner) field k h = none k
 
--- so the words behind those of process 0 open at 0
+-- so the words after those of process 0 are initially 0
 pub opens_late : (s : Setup) (word : ℕ) → 0 < s.processes → word < words_in s → s.processes * row_bits s ≤ word → opening_word s word ≡ 0
 opens_late s word some_ below_ from =
     let row : 0 < row_bits s = omega arith in

@@ -1,4 +1,4 @@
--- The rule of a board: words and views agree, as some list of events has a past that both show.
+-- The rule of a board: words and views agree, which means that some list of events has a past that both show.
 use Rattle.std.specs.Prelude.{◌≡◌, ◌⊎◌, ℕ, ◌<◌, ◌≤◌, ◌==◌, ◌&&◌, not, Bool, true, false, List, [], ◌∷◌, length, slice_index, None, Some, Ok}
 use mathlib.Core.Option.{some}
 use lib.ListN.{get_elem?}
@@ -11,7 +11,7 @@ use Rattle.board.specs.Calls.{IsPrefix, changes_of}
 use Rattle.board.specs.Views.{ViewState, own_view}
 use Rattle.board.specs.Words.{shown, word_of, words_in}
 
--- p is one of these
+-- p is in this list
 abbrev pub IsIn : ℕ → List ℕ → Type 0
 IsIn p [] = ⊥
 IsIn p (x ∷ xs) = (x ≡ p) ⊎ IsIn p xs
@@ -20,14 +20,14 @@ IsIn p (x ∷ xs) = (x ≡ p) ⊎ IsIn p xs
 abbrev pub IsQuiet : Doing → Type 0
 IsQuiet d = (d ≡ Rests) ⊎ (d ≡ Lies)
 
--- what a view knows is so in this past; while its process is inside, itself or by its memory unit, it has seen all changes
+-- the view of its process is that of this past; while the process, or its memory unit, is inside, the view has seen all changes
 pub record Knows (s : Setup) (past : Past) (v : ViewState) : Type 0 where
   pub below : v.own.process < s.processes
   pub own : v.own ≡ own_view s past v.own.process
   pub seen : IsPrefix v.seen (changes_of s past)
   pub inside : is_inside v.own.doing ≡ true → v.seen ≡ changes_of s past
 
--- this is the view of port 0, which knows the seats: those made are of the processes below a number, and those joined are of quiet processes; the processes of no seat yet have done nothing
+-- this is the view of port 0, which knows the seats: each seat made is of a process below `made`, each process joined is quiet, and a process without a seat has done nothing
 pub record KnowsSeats (s : Setup) (past : Past) (views : List ViewState) (v : ViewState) : Type 0 where
   pub at : get_elem? views 0 ≡ some v
   pub live : v.spent ≡ false
@@ -53,7 +53,7 @@ is_of_read BeginRead = true
 is_of_read (EndRead v) = true
 is_of_read _ = false
 
--- an entry that begins or ends a read
+-- the entry begins or ends a read
 abbrev pub reads : Entry → Bool
 reads e = elim e.access [ None ↦ false | Some a ↦ is_of_read a.how ]
 
@@ -69,7 +69,7 @@ is_whole_read begin end = elim begin.access [
   | Some a ↦ elim end.access [ None ↦ false | Some b ↦ (end.process == begin.process) && same_bit b a && is_pair a.how b.how ]
 ]
 
--- begin and end of each read are neighbours
+-- the begin and the end of each read are neighbours
 abbrev pub are_neighbours : Past → Bool
 are_neighbours [] = true
 are_neighbours (e ∷ []) = not (reads e)

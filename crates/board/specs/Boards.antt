@@ -1,4 +1,4 @@
--- What a board is to its callers, and which ports are of it.
+-- The model of a board, as its callers see it, and the ports that belong to it.
 use Rattle.std.specs.Prelude.{◌≡◌, ◌≤◌, ℕ, suc, List, [], Ok, Some, true, length, slice_get, vec_capacity}
 use Rattle.std.specs.Global.{Vec}
 use Rattle.atomic_table.specs.Seated.{TableId}
@@ -14,7 +14,7 @@ pub record BoardState : Type 0 where
   pub table_id : TableId
   pub setup : Setup
 
--- what the fields of a board keep: the setup is good, with opening pairs that are given, and the layout is that of it; the table was made with it, has its words, and has no slots; and there is room for the lists of all ports
+-- the invariant of a board: the setup is good, its opening pairs are valid, and the layout is that of the setup. The table was made with the setup, has its words, and has no slots. The list of the ports' lists is empty, with room for all of them
 pub record KeepsBoard (s : Setup) (layout : WordLayout) (key : Setup) (id : TableId) (answers : Vec (Vec Placed)) : Type 0 where
   pub good : checked s ≡ Ok tt
   pub pairs : are_pairs s.opening ≡ true
@@ -29,15 +29,15 @@ pub record KeepsBoard (s : Setup) (layout : WordLayout) (key : Setup) (id : Tabl
 abbrev pub IsOf : BoardState → PortState → Type 0
 IsOf board port = (port.table_id ≡ board.table_id) × (port.setup ≡ board.setup)
 
--- these are of processes that have done nothing, in order
+-- these ports are of processes that have done nothing, in order
 abbrev pub AreIdle : List PortState → Type 0
 AreIdle ports = (k : ℕ) (port : PortState) → slice_get ports k ≡ Some port → port.view.own ≡ new_own k
 
--- the same of all processes but the first
+-- these ports are of processes 1, 2 and so on, in order, which have done nothing
 abbrev pub AreOthersIdle : List PortState → Type 0
 AreOthersIdle ports = (k : ℕ) (port : PortState) → slice_get ports k ≡ Some port → port.view.own ≡ new_own (suc k)
 
--- these are the ports of the board, of each process one, in order
+-- these are the ports of the board, one of each process, in order
 pub record ArePortsOf (board : BoardState) (ports : List PortState) : Type 0 where
   pub all : length ports ≡ board.setup.processes
   pub each : (k : ℕ) (port : PortState) → slice_get ports k ≡ Some port → IsOf board port × (port.view.own.process ≡ k)

@@ -6,22 +6,22 @@ use Rattle.record.specs.declared.marks.Mark.TheVariants.{Called, Answered, Down}
 use Rattle.record.specs.declared.marks.Mark.TheVariants as mark
 use Rattle.history_laws.specs.{changes_taken}
 
--- those of these commands, taken one after the other, that change the store
+-- the commands that change the store, when all are taken in this order
 abbrev pub changing : Contents → List Taken → List Taken
 changing store [] = []
 changing store (t ∷ taken) =
     let next = after store t.command (record { process = t.process; number = t.number }) in
     cond (changes store t.command) (t ∷ changing next taken) (changing next taken)
 
--- the list of changes
+-- the list of changes of a past
 abbrev pub changes_of : Setup → Past → List Taken
 changes_of s past = changing (opening_store s) (history s past)
 
--- the first changes of a list of them
+-- the list begins with these changes
 abbrev pub IsPrefix : List Taken → List Taken → Type 0
 IsPrefix first all = (rest : List Taken) × (all ≡ first ++ rest)
 
--- the finished calls of a process, in order, and the one that is not finished, if there is one
+-- the finished calls of a process, in order, and the unfinished one, if there is one
 pub record Calls : Type 0 where
   pub done : List Placed
   pub now : Option Placed
@@ -34,24 +34,24 @@ no_calls = record { done = []; now = None }
 abbrev pub called : Command → Placed
 called command = record { command = command; answer = None; place = None }
 
--- these finished calls, and then this one, if there is one
+-- these finished calls, followed by this one, if there is one
 abbrev pub and_then : List Placed → Option Placed → List Placed
 and_then done None = done
 and_then done (Some call) = done ++ call ∷ []
 
--- the call that is not finished was taken at this place
+-- the unfinished call was taken at this position
 abbrev pub with_place : Option ℕ → Calls → Calls
 with_place place calls = record calls { now = option_map (λ (call : Placed). record call { place = place }) calls.now }
 
--- it has this answer
+-- the unfinished call has this answer
 abbrev pub with_answer : Answer → Calls → Calls
 with_answer answer calls = record calls { now = option_map (λ (call : Placed). record call { answer = Some answer }) calls.now }
 
--- it is finished
+-- the unfinished call is finished
 abbrev pub finished : Calls → Calls
 finished calls = record { done = and_then calls.done calls.now; now = None }
 
--- the calls after a mark, where so many changes were taken before: a call is finished where it is answered, or where the process is down
+-- the calls after a mark, if `place` changes were taken before: a call is finished when it is answered, or when the process is down
 abbrev pub calls_after : ℕ → Calls → Mark → Calls
 calls_after place calls (Called command) = record calls { now = Some (called command) }
 calls_after place calls (mark.Taken _ reply) = with_place (Some place) calls

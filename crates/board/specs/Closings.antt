@@ -1,4 +1,4 @@
--- Closing a board: what its words show, and what is handed back.
+-- Closing a board: the store that its words show, and the lists that it returns.
 use Rattle.std.specs.Prelude.{◌≡◌, ◌⊎◌, ℕ, ◌+◌, ◌<◌, ◌≤◌, ◌==◌, ◌++◌, Bool, false, List, length, map, take, drop, slice_get, slice_index, slice_index_or, Some}
 use Rattle.std.specs.Global.{Vec}
 use Rattle.std.specs.List.{range_with_len}
@@ -26,25 +26,25 @@ use Rattle.board.specs.Words.{word_of}
 abbrev pub bits_shown : Setup → List ℕ → ℕ → Field → List Bool
 bits_shown s words owner field = map (λ k. slice_index words (word_of s (copy owner field 0 k)) == 1) (range_with_len 0 (width s field))
 
--- one of these bits
+-- a bit that words show of a register
 abbrev pub bit_shown : Setup → List ℕ → ℕ → Field → ℕ → Bool
 bit_shown s words owner field bit = slice_index_or (bits_shown s words owner field) bit false
 
--- the number of so many of them, from a bit on
+-- the number of `count` of these bits, from bit `from` on
 abbrev pub number_shown : Setup → List ℕ → ℕ → Field → (from count : ℕ) → ℕ
 number_shown s words owner field from count = number_of_bits (take count (drop from (bits_shown s words owner field)))
 
--- so many of the bytes that they make
+-- the first `count` bytes that these bits make
 abbrev pub bytes_of : Setup → List ℕ → ℕ → Field → ℕ → List ℕ
 bytes_of s words owner field count = bytes_of_bits count (bits_shown s words owner field)
 
--- the version that they show as committed by a process
+-- the version that the words show as committed by a process
 abbrev pub version_shown : Setup → List ℕ → ℕ → Version
 version_shown s words p =
     let commit = bit_shown s words p Commit 0 in
     (commit, number_of_bits (bits_shown s words p (stamp_field commit)))
 
--- the versions of all processes
+-- the versions that the words show of all processes
 abbrev pub versions_shown : Setup → List ℕ → List Version
 versions_shown s words = map (version_shown s words) (processes s)
 
@@ -55,7 +55,7 @@ bytes_shown s words =
     let newest = newest_process versions in
     bytes_of s words newest (image_field (version_of versions newest)) (image_bytes s)
 
--- the store that these bytes say
+-- the store that these bytes represent
 abbrev pub store_shown : Setup → List ℕ → Contents
 store_shown s words = store_in s.slots (callers_of s) (bytes_shown s words)
 
@@ -67,11 +67,11 @@ words_of closed = slots_items closed.words
 abbrev pub AreMadeWith : BoardState → List PortState → Type 0
 AreMadeWith board ports = (k : ℕ) (port : PortState) → slice_get ports k ≡ Some port → IsOf board port
 
--- the port of process p stands at this place
+-- the port of process p is at this index
 abbrev pub IsPlaceOf : List PortState → ℕ → ℕ → Type 0
 IsPlaceOf ports p place = (port : PortState) × (slice_get ports place ≡ Some port) × (port.view.own.process ≡ p)
 
--- the port of each process is among these, and no other
+-- the list has one port of each process, and no other
 pub record AreOfAll (processes : ℕ) (ports : List PortState) : Type 0 where
   pub all : length ports ≡ processes
   pub each : (p : ℕ) → p < processes → (place : ℕ) × IsPlaceOf ports p place
@@ -80,7 +80,7 @@ pub record AreOfAll (processes : ℕ) (ports : List PortState) : Type 0 where
 abbrev pub AreInOrder : List PortState → Type 0
 AreInOrder ports = (k : ℕ) (port : PortState) → slice_get ports k ≡ Some port → port.view.own.process ≡ k
 
--- these are ports of the board, of the processes from 0 on, in order, and perhaps not of all
+-- these are ports of the board, of the first processes in order; some of the last may be missing
 pub record AreFirstPortsOf (board : BoardState) (ports : List PortState) : Type 0 where
   pub few : length ports ≤ board.setup.processes
   pub each : (k : ℕ) (port : PortState) → slice_get ports k ≡ Some port → IsOf board port × (port.view.own.process ≡ k)
@@ -89,11 +89,11 @@ pub record AreFirstPortsOf (board : BoardState) (ports : List PortState) : Type 
 abbrev pub IsStill : Setup → OwnView → Type 0
 IsStill s o = (stage_in s o ≡ Idle) ⊎ (stage_in s o ≡ Down)
 
--- each port's is
+-- the process of each port is idle or down
 abbrev pub AreQuiet : List PortState → Type 0
 AreQuiet ports = (k : ℕ) (port : PortState) → slice_get ports k ≡ Some port → IsStill port.setup port.view.own
 
--- the view of a quiet port's seat: what is pending, a restart at most, has changed neither its calls nor what it has seen
+-- the view of a quiet port's seat: the pending event, a restart at most, has changed neither its calls nor the changes that it has seen
 pub record IsSeatOf (port : PortState) (v : ViewState) : Type 0 where
   pub live : v.spent ≡ false
   pub process : v.own.process ≡ port.view.own.process
@@ -101,18 +101,18 @@ pub record IsSeatOf (port : PortState) (v : ViewState) : Type 0 where
   pub calls : v.own.calls ≡ port.view.own.calls
   pub seen : v.seen ≡ port.view.seen
 
--- these are ports of the processes from this one on, in order: of this table, and of its setup
+-- these are ports of this table and this setup; their processes are `first` and those after it, in order
 abbrev pub AreOthers : TableId → Setup → ℕ → List PortState → Type 0
 AreOthers table s first ports = (k : ℕ) (port : PortState) → slice_get ports k ≡ Some port → (port.table_id ≡ table) × (port.setup ≡ s) × (port.view.own.process ≡ first + k)
 
--- port 0's view, once the seats of so many processes are joined to it
+-- w is the view v of port 0 after the seats of `count` processes were joined to it
 pub record HasJoined (count : ℕ) (v w : ViewState) : Type 0 where
   pub live : w.spent ≡ v.spent
   pub own : w.own ≡ v.own
   pub seen : w.seen ≡ v.seen
   pub joined : (p : ℕ) → 0 < p → p ≤ count → IsIn p w.joined
 
--- a closed board leaves this store: that after the changes of the record of some events, which keeps the headline, in which each process is quiet, and which begins with what port 0 has seen; its calls stand in these changes
+-- a closed board leaves this store: the store after the changes of the record of some events. That record keeps the main theorem, each process is quiet in it, and its changes begin with those that port 0 has seen. The calls of port 0 are consistent with these changes
 pub record Leaves (s : Setup) (its_calls : Calls) (has_seen : List Taken) (image : Contents) : Type 0 where
   pub events : List Event
   pub given : AreGiven s events
@@ -127,37 +127,37 @@ pub record Leaves (s : Setup) (its_calls : Calls) (has_seen : List Taken) (image
 abbrev pub done_calls : List PortState → List (List Placed)
 done_calls ports = map (λ (port : PortState). port.view.own.calls.done) ports
 
--- list p is that of the finished calls of the port of process p
+-- list p has the finished calls of the port of process p
 pub record AreListsOf (ports : List PortState) (lists : List (List Placed)) : Type 0 where
   pub all : length lists ≡ length ports
   pub each : (k : ℕ) (port : PortState) → slice_get ports k ≡ Some port → slice_get lists port.view.own.process ≡ Some port.view.own.calls.done
 
--- a board can be closed with these ports: that of each process is among them, and each process is idle or down
+-- a board can be closed with these ports: there is one port of each process, and each process is idle or down
 abbrev pub CanClose : Setup → List PortState → Type 0
 CanClose s ports = AreOfAll s.processes ports × AreQuiet ports
 
--- the lists that a closed board leaves
+-- the lists that a closed board returns
 abbrev pub lists_in : Closing → List (List Placed)
 lists_in closing = lists_of closing.answers.items
 
--- the lists then have the finished calls of each of these ports too
+-- the lists are then followed by the finished calls of each of these ports
 abbrev pub AddsCallsOf : List PortState → List (Vec Placed) → List (Vec Placed) → Type 0
 AddsCallsOf ports lists then = lists_of then ≡ lists_of lists ++ done_calls ports
 
--- the board of these ports, of which the first is process 0's, leaves this store
+-- the board of these ports, of which the first is that of process 0, leaves this store
 abbrev pub HeadLeaves : Setup → List PortState → Contents → Type 0
 HeadLeaves s ports image = (port : PortState) → slice_get ports 0 ≡ Some port → Leaves s port.view.own.calls port.view.seen image
 
--- the board of these ports leaves this store: process 0's is the port by which it is told
+-- the board of these ports, in any order, leaves this store, by the calls and the changes seen of process 0's port
 abbrev pub FirstLeaves : Setup → List PortState → Contents → Type 0
 FirstLeaves s ports image = (k : ℕ) (port : PortState) → slice_get ports k ≡ Some port → port.view.own.process ≡ 0 → Leaves s port.view.own.calls port.view.seen image
 
--- the calls of process p stand in the changes of the record of some events
+-- the calls of process p are consistent with the changes of the record of some events
 pub record StandsInRecord (s : Setup) (p : ℕ) (calls : List Placed) : Type 0 where
   pub events : List Event
   pub given : AreGiven s events
   pub stands : StandsIn s p calls (changes_of s (past_of s events))
 
--- of these lists each one does, list p as that of process p
+-- each of these lists is consistent with the changes of such a record, list p as that of process p
 abbrev pub EachStandsInRecord : Setup → List (List Placed) → Type 0
 EachStandsInRecord s lists = (p : ℕ) (calls : List Placed) → slice_get lists p ≡ Some calls → StandsInRecord s p calls

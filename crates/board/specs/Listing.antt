@@ -1,4 +1,4 @@
--- What a port knows of the place of its call, and what a word step tells its list.
+-- The position of a call, as its port knows it, and the effect of a word step on the list of calls.
 use Rattle.std.specs.Prelude.{◌≡◌, ℕ, Bool, true, false, length, fold, Option, Some}
 use Rattle.record.specs.{Settles}
 use Rattle.laws.specs.{Doing, Closes, is_inside}
@@ -8,13 +8,13 @@ use Rattle.process.specs.declared.told.StepTold.TheVariants as told
 use Rattle.board.specs.Calls.{Calls, calls_after}
 use Rattle.board.specs.Views.{ViewState}
 
--- this is the place of the command that is taken, if one is; the stamp is what was kept for a memory unit
+-- this is the position of the command that is taken, if one is; `stamp` is the stamp kept for a memory unit
 abbrev pub IsPlace : StepTold → (stamp : Option ℕ) → ℕ → Type 0
 IsPlace (told.Took reply changes) stamp place = changes ≡ place
 IsPlace (told.SettlesAndTakes value reply) stamp place = stamp ≡ Some place
 IsPlace _ stamp place = Unit {0}
 
--- the calls go on by what a word step leads to, wherever that places what is taken
+-- the calls after a word step with this outcome, for every position that the taken command may have
 abbrev pub GoOnBy : StepTold → (stamp : Option ℕ) → Calls → Calls → Type 0
 GoOnBy told stamp calls then = (place : ℕ) → IsPlace told stamp place → then ≡ fold (calls_after place) calls (marks_told told)
 
@@ -23,13 +23,13 @@ abbrev pub may_take : Doing → Bool
 may_take (Closes command number (Settles field bit begun (Some reply) inside torn)) = true
 may_take _ = false
 
--- a view has seen as many changes as the greatest stamp that its process has read; and the stamp kept is as many where a memory unit may take the command, which is inside then
+-- a view has seen as many changes as the greatest stamp that its process has read; if a memory unit may take the command, it is inside, and the kept stamp is the number of changes seen
 pub record KnowsPlace (stamp : Option ℕ) (v : ViewState) : Type 0 where
   pub read : (newest : ℕ) → stamp_read v.own.doing ≡ Some newest → length v.seen ≡ newest
   pub inside : may_take v.own.doing ≡ true → is_inside v.own.doing ≡ true
   pub kept : may_take v.own.doing ≡ true → stamp ≡ Some (length v.seen)
 
--- what a word step that leads to this makes of the calls that a view knows
+-- the calls that a view knows, after a word step with this outcome
 pub record Lists (stamp : Option ℕ) (told : StepTold) (v w : ViewState) : Type 0 where
   pub place : ℕ
   pub is : IsPlace told stamp place

@@ -1,4 +1,4 @@
--- The words of a board: one for each single-reader bit of each register, and what it shows of that bit.
+-- The words of a board: one for each single-reader bit of each register, and the value that shows the bit.
 use Rattle.std.specs.Prelude.{◌≡◌, ◌<◌, slice_index, ℕ, ◌+◌, ◌-◌, ◌*◌, ◌/◌, ◌%◌, ◌==◌, nat_lt, Bool, true, false, cond, List, [], ◌∷◌, map, take}
 use Rattle.record.specs.safe_bit.Cell.{Cell}
 use Rattle.record.specs.safe_bit.{Move}
@@ -9,16 +9,16 @@ use Rattle.plain_store.specs.{Setup}
 use Rattle.process.specs.registers.{BitCopy, copy_named}
 use Rattle.board.specs.declared.layout.WordLayout.{WordLayout}
 
--- how many bits these registers have
+-- the number of bits of these registers
 abbrev pub bits_of : Setup → List Field → ℕ
 bits_of s [] = 0
 bits_of s (field ∷ others) = width s field + bits_of s others
 
--- how many bits one owner has for one reader: those of all its registers, in a row
+-- the number of bits of one owner for one reader: the bits of all its registers, in a row
 abbrev pub row_bits : Setup → ℕ
 row_bits s = bits_of s fields
 
--- where in the row the bits of a register begin
+-- the position in the row at which the bits of a register begin
 abbrev pub first_bit : Setup → Field → ℕ
 first_bit s field = bits_of s (take (field_number field) fields)
 
@@ -30,20 +30,20 @@ word_of_copy s c = (c.register.owner * s.processes + c.reader) * row_bits s + (f
 abbrev pub word_of : Setup → Access → ℕ
 word_of s a = word_of_copy s (copy_named a)
 
--- what the word goes by, worked out once
+-- the numbers from which a word is computed, kept for all word steps
 abbrev pub layout_of : Setup → WordLayout
 layout_of s = record { processes = s.processes; row = row_bits s; firsts = map (first_bit s) fields }
 
--- how many words there are
+-- the number of words
 abbrev pub words_in : Setup → ℕ
 words_in s = s.processes * s.processes * row_bits s
 
--- the register at a place in a row of the bits of these, and which of its bits is there
+-- the register at a position in a row of the bits of these registers, and the bit of that register at the position
 abbrev pub bit_in_row : Setup → List Field → ℕ → Field × ℕ
 bit_in_row s [] place = (Image1, place)
 bit_in_row s (field ∷ others) place = elim (nat_lt place (width s field)) [ true ↦ (field, place) | false ↦ bit_in_row s others (place - width s field) ]
 
--- The inverse: the copy of a bit whose word it is.
+-- The inverse: the copy of the bit to which a word belongs.
 abbrev pub copy_of : Setup → ℕ → BitCopy
 copy_of s word =
     let at = bit_in_row s fields (word % row_bits s) in
@@ -53,28 +53,28 @@ copy_of s word =
 abbrev pub access_to : BitCopy → Access
 access_to c = copy c.register.owner c.register.field c.reader c.bit
 
--- the word of a bit with this value, of which no write is open
+-- the word of a bit with this value, while no write of it is open
 abbrev pub closed_word : Bool → ℕ
 closed_word true = 1
 closed_word false = 0
 
--- what a word opens at: the opening value of its bit
+-- the opening value of a word: that of its bit
 abbrev pub opening_word : Setup → ℕ → ℕ
 opening_word s word = closed_word (opening_bit s (access_to (copy_of s word)))
 
--- these are the words at which a board opens
+-- these are the opening words of a board
 abbrev pub AreOpening : Setup → List ℕ → Type 0
 AreOpening s words = (word : ℕ) → word < words_in s → slice_index words word ≡ opening_word s word
 
--- the word of a bit that has this cell: 2 while a write is open, else its value
+-- the word of a bit that has this cell: 2 while a write is open, and otherwise its value
 abbrev pub shown : Cell → ℕ
 shown cell = cond cell.writing 2 (closed_word cell.value)
 
--- what a load that found this word gives a read: the flick while a write is open, else the value
+-- the value of a read whose load found this word: the flick while a write is open, and otherwise the value of the bit
 abbrev pub loaded : Bool → ℕ → Bool
 loaded flick word = cond (word == 2) flick (word == 1)
 
--- what the store of a write's access writes, where the bit is written to this value
+-- the word that an access of a write stores, if the write is of this value
 abbrev pub stored : Bool → Move → ℕ
 stored value (BeginWrite v) = 2
 stored value EndWrite = closed_word value

@@ -1,4 +1,4 @@
-//! Boards, and the making of one with its ports.
+//! Boards, and the creation of a board with its ports.
 ghost use Rattle.std.specs.Prelude.{◌≡◌, ◌+◌, ◌<◌, Ok, IfOk, OnOk, [], vec_len};
 ghost use Rattle.board.specs.Seats.{IsSeated};
 ghost use Rattle.board.specs.Views.{first_view};
@@ -21,9 +21,9 @@ use std::marker::Model;
 pub struct Board {
     pub(crate) table: Table<(), View, Setup, Agreement, Global>,
     pub(crate) setup: Setup,
-    /// Where the words of its bits lie.
+    /// The positions of the words of its bits.
     pub(crate) layout: WordLayout,
-    /// Room for the lists of all ports, which are handed over when it is closed.
+    /// Room for the lists of all ports, which [`Board::close`] returns.
     pub(crate) answers: Vec<Vec<Placed>>,
 }
 
@@ -42,7 +42,11 @@ impl Board {
     ghost use Rattle.board.specs.Closings.{AreMadeWith};
     ghost use Rattle.board.specs.Views.{new_view, with_made};
 
-    /// A board on which nothing has happened, and a port for each process, ascending. The one fault is want of memory.
+    /// Creates a board on which nothing has happened, and a port for each process, in ascending order.
+    ///
+    /// # Errors
+    ///
+    /// Returns [`AllocError`] if an allocation fails.
     pub fn new(alloc: Global, setup: &Setup) -> Result<(Board, Vec<Port>), AllocError>
         requires good { checked setup.now ≡ Ok tt }
         ensures setup { IfOk result (λ made. made.0.setup ≡ setup.now) }
@@ -56,7 +60,7 @@ impl Board {
         Ok((board, ports))
     }
 
-    /// The ports of all processes but the first, made beside that one's seat.
+    /// Creates the ports of all processes except the first, from the seat of the first.
     fn others(&self, alloc: Global, first: &mut WordSeat) -> Result<Vec<Port>, AllocError>
         requires board { first.old.table_id ≡ self.now.table_id }
         requires first { first.old.me ≡ (first_view, []) }
@@ -75,7 +79,7 @@ impl Board {
         Ok(ports)
     }
 
-    /// The next port's seat, made beside port 0's, which knows how many were made.
+    /// Splits the next port's seat from port 0's seat, which counts the seats made.
     fn newcomer(&self, first: &mut WordSeat) -> WordSeat
         requires board { first.old.table_id ≡ self.now.table_id }
         requires first { first.old.me ≡ (new_view 0 first.old.me.0.made, []) }
@@ -87,7 +91,7 @@ impl Board {
     }
 }
 
-/// The words of a board at their opening values, and port 0's seat.
+/// Creates the words of a board at their opening values, and port 0's seat.
 fn opened(alloc: Global, setup: &Setup) -> Result<(Board, WordSeat), AllocError>
     requires { checked setup.now ≡ Ok tt }
     ensures setup { IfOk result (λ made. made.0.setup ≡ setup.now) }

@@ -1,4 +1,4 @@
-//! The calls of a port: those that are finished, and the one that is not.
+//! The calls of a port: the finished ones, and the unfinished one.
 ghost use Rattle.std.specs.Prelude.{◌≡◌, OnErr, OnOk};
 ghost use Rattle.record.specs.declared.Mark.TheVariants.{Called};
 ghost use Rattle.board.specs.Calls.{calls_after, finished, no_calls, with_answer, with_place};
@@ -10,7 +10,7 @@ use record::Placed;
 use std::alloc::{AllocError, Global};
 use std::marker::Model;
 
-/// The list of a port, with room for the call that is not finished.
+/// The list of a port, with room for the unfinished call.
 #[derive(Drop)]
 pub(crate) struct CallList {
     done: Vec<Placed>,
@@ -29,7 +29,7 @@ impl Model for CallList {
 }
 
 impl CallList {
-    /// Of a process that has not called. It takes no memory.
+    /// Creates the list of a process that has not called. Allocates nothing.
     pub fn new(alloc: Global) -> CallList
         ensures { result ≡ no_calls }
     {
@@ -39,14 +39,14 @@ impl CallList {
         }
     }
 
-    /// The finished calls, in order.
+    /// Returns the finished calls, in order.
     pub fn done(&self) -> &[Placed]
         ensures { result.now ≡ self.now.done }
     {
         &self.done
     }
 
-    /// The same, once nothing more is added.
+    /// Returns the finished calls, in order, and consumes the list.
     pub fn into_done(self) -> Vec<Placed>
         ensures { result.items ≡ self.done }
     {
@@ -54,7 +54,7 @@ impl CallList {
         done
     }
 
-    /// A call begins, for whose entry there is room then. Want of memory leaves the list.
+    /// Begins a call and reserves room for its entry. After a failed allocation the list is unchanged.
     pub fn begin(&mut self, command: Command) -> Result<(), AllocError>
         ensures begun { OnOk result (self.new ≡ calls_after 0 self.old (Called command)) }
         ensures unchanged { OnErr result (self.new ≡ self.old) }
@@ -68,7 +68,7 @@ impl CallList {
         Ok(())
     }
 
-    /// Goes on by what a word step leads to. `stamp` is the place of a command that a memory unit takes.
+    /// Records the outcome of a word step. `stamp` is the position of a command that a memory unit takes.
     #[inline]
     pub fn tell(&mut self, told: &StepTold, stamp: Option<u32>)
         ensures { GoOnBy told.now stamp self.old self.new }
@@ -85,7 +85,7 @@ impl CallList {
         }
     }
 
-    /// The command of the call is taken at this place.
+    /// Records that the command of the call is taken at this position.
     fn take(&mut self, place: Option<u32>)
         ensures { self.new ≡ with_place place self.old }
     {
@@ -95,7 +95,7 @@ impl CallList {
         }
     }
 
-    /// The call is answered.
+    /// Records the answer to the call.
     fn answer(&mut self, answer: Answer)
         ensures { self.new ≡ with_answer answer self.old }
     {
@@ -105,7 +105,7 @@ impl CallList {
         }
     }
 
-    /// The call is finished.
+    /// Finishes the call.
     fn finish(&mut self)
         ensures { self.new ≡ finished self.old }
     {

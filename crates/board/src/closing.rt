@@ -12,14 +12,14 @@ use crate::steps::{SharedWords, WordSeat};
 use record::Placed;
 use store_image::Image;
 
-/// What a board leaves: the image of its store, and the lists of its ports' finished calls, by the number of the process.
+/// The result of closing a board: the image of its store, and the finished calls of each port, by process number.
 #[derive(Drop)]
 pub struct Closing {
     pub image: Image,
     pub answers: Vec<Vec<Placed>>,
 }
 
-/// A board and ports that could not be closed: a process was at work, or a port was not there.
+/// A board and ports that could not be closed: a process was at work, or the ports were not one of each process.
 #[derive(Drop)]
 pub struct NotQuiet {
     pub board: Board,
@@ -27,8 +27,12 @@ pub struct NotQuiet {
 }
 
 impl Board {
-    /// Ends the work where the port of each process is given, in whatever order, and each process is idle or down; else
-    /// gives all back. It takes no memory.
+    /// Closes the board and returns its store and the finished calls. The ports may be in any order. Allocates nothing.
+    ///
+    /// # Errors
+    ///
+    /// Returns [`NotQuiet`], with the board and the ports unchanged, if the ports are not one of each process, or if a
+    /// process is neither idle nor down.
     pub fn close(self, mut ports: Vec<Port>) -> Result<Closing, NotQuiet>
         requires ports { AreMadeWith self ports.items }
         ensures quiet { IsOk result ↔ CanClose self.setup ports.items }
@@ -45,7 +49,7 @@ impl Board {
         Ok(self.close_in_order(ports))
     }
 
-    /// The same of quiet ports in the order of their processes.
+    /// Closes the board, given quiet ports in the order of their processes.
     fn close_in_order(self, mut ports: Vec<Port>) -> Closing
         requires ports { AreFirstPortsOf self ports.items }
         requires some { 0 < length ports.items }
@@ -59,7 +63,7 @@ impl Board {
         self.shut(first, calls, ports)
     }
 
-    /// The image that its words show, once all seats are joined, and the lists: first that of port 0.
+    /// Joins all seats, and returns the image that the words show and the lists, that of port 0 first.
     fn shut(self, mut first: WordSeat, calls: Vec<Placed>, others: Vec<Port>) -> Closing
         requires board { first.table_id ≡ self.table_id }
         requires live { first.me.0.spent ≡ false }
@@ -88,7 +92,7 @@ impl Board {
     }
 }
 
-/// Whether the process of each port is idle or down.
+/// Returns whether the process of each port is idle or down.
 fn are_quiet(ports: &Vec<Port>) -> bool
     ensures { IsTrue result ↔ AreQuiet ports.now.items }
 {
@@ -100,8 +104,8 @@ fn are_quiet(ports: &Vec<Port>) -> bool
     true
 }
 
-/// Joins the seats of all other ports to port 0's, and adds their lists to those that there are, of which the next is that
-/// of the first of these ports.
+/// Joins the seats of all other ports to port 0's seat, and appends their lists to `answers`. The next list to append is
+/// that of the first of these ports.
 fn join_all(
     words: &SharedWords,
     first: &mut WordSeat,

@@ -8,12 +8,12 @@ use plain_store::Answer;
 use process::{Flicks, StepTold};
 use record::Stage;
 
-/// What driving a port has led to.
+/// The result of driving a port.
 #[derive(Clone, Copy)]
 pub enum Driven {
-    /// The last word step answered the call.
+    /// The last word step finished the call, with this answer.
     Answered(Answer),
-    /// All turns were made, and there is more to do.
+    /// All turns were made, and the process has a next access.
     Turns,
     /// The process is down.
     Down,
@@ -24,8 +24,8 @@ pub enum Driven {
 impl Port {
     ghost use Rattle.board.specs.Driving.{DrivesPort};
 
-    /// Makes word steps, at most `turns` of them, until one answers the call or the process is down. Where it is idle or
-    /// down none is made. Each takes one flick.
+    /// Makes word steps, at most `turns` of them, until one finishes the call or brings the process down. Makes none if
+    /// the process is idle or down. Each step takes one flick.
     pub fn drive(&mut self, board: &Board, turns: u64, flicks: &mut Flicks) -> Driven
         requires { IsOf board.now self.old }
         ensures same { SamePort self.old self.new }

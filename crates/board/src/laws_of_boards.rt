@@ -1,31 +1,31 @@
-//! The laws of boards. Each is of every setup that the check passes.
+//! The laws of boards, for every setup that passes the check.
 ghost use Rattle.board.specs.BoardLaws.{AllChangesMakeTheStore, BoardsKeepTheHeadline, CallsStandInTheChanges, ChangesMakeTheStore, OwnWritesAreRead, RefusalsAreTheRecords, StagesAreTheRecords, SeenStaysSeen, StandsInLonger, WordsAreOfBits, WordsTellTheirBits};
 
-/// Each single-reader bit has a word of its own, which tells it, and each word is of a bit that there is.
+/// Each single-reader bit has a word of its own, from which it can be found, and each word is of an existing bit.
 pub fn words_are_of_single_bits()
     ensures bits { WordsTellTheirBits }
     ensures words { WordsAreOfBits }
 {}
 
-/// What a port tells of its process is so in each record that words and views agree on, with what has happened to the
-/// process since: the stage, and why an event of it is refused. So a port refuses exactly as a world does.
+/// The stage of a view and its refusals are those of its process in each record on which words and views agree, followed
+/// by the later events of the process. So a port refuses exactly as a world does.
 pub fn views_tell_the_record()
     ensures stages { StagesAreTheRecords }
     ensures refusals { RefusalsAreTheRecords }
 {}
 
-/// Where words and views agree, as they do between any two word steps, the record that they show keeps the headline:
-/// whatever the threads do, no two processes are inside together, nobody overtakes, the answers are those of one
-/// history, no read of the data is overlapped, and `TicketsFull`, `StampsFull` and `Ask` are answered as in a world.
+/// Words and views agree between any two word steps, and then the record that they show keeps the main theorem: under
+/// every schedule of the threads, no two processes are inside together, no process overtakes, the answers are those of
+/// one history, no read of the data is overlapped, and `TicketsFull`, `StampsFull` and `Ask` are answered as in a world.
 pub fn boards_keep_the_headline()
     ensures headline { BoardsKeepTheHeadline }
 {}
 
-/// One list of changes: the store after the changes alone is the store after the history, at each place. The calls of
-/// each process stand in that list: each one that was taken has the one-thread store's reply at its place, to its process
-/// and number, and is the change there if it is one; places never fall, and after a change they are above its place. What
-/// stands in a list of changes stands in each longer one. So what a process writes it reads at the next place. What a
-/// port has seen of the list stays seen, however it is driven.
+/// One list of changes: the store after the changes alone is the store after the history, at each position. The calls of
+/// each process are consistent with it: each taken call has the sequential store's reply at its position, for its
+/// process and number, and is the change there if it is one; positions never fall, and after a change they are above its
+/// own. Such calls are consistent with each longer list. So a process reads what it wrote at the next position. A port
+/// that is driven forgets no change that it has seen.
 pub fn calls_stand_in_one_list()
     ensures store { ChangesMakeTheStore }
     ensures whole_store { AllChangesMakeTheStore }

@@ -1,4 +1,4 @@
-//! Where the words of a board's bits lie, worked out once, since each word step asks it.
+//! The positions of the words of a board's bits, computed once, because each word step needs them.
 ghost use Rattle.std.specs.Prelude.{◌≡◌, ◌<◌, Ok};
 ghost use Rattle.plain_store.specs.{checked};
 ghost use Rattle.board.specs.Words.{first_bit, layout_of, word_of_copy};
@@ -8,17 +8,17 @@ use plain_store::Setup;
 use process::BitCopy;
 use record::{Field, number_of_field};
 
-/// What the word of a bit goes by.
+/// The numbers from which the word of a bit is computed.
 #[derive(Clone, Copy)]
 pub(crate) struct WordLayout {
     pub(crate) processes: u8,
-    /// How many bits one owner has for one reader.
+    /// The number of bits of one owner for one reader.
     pub(crate) row: u16,
-    /// Where in a row the bits of each register begin, in the order of the registers.
+    /// The positions in a row at which the bits of each register begin, in the order of the registers.
     pub(crate) firsts: [u16; 7],
 }
 
-/// Where in a row the bits of a register begin, as a `u16`, which holds it.
+/// Returns the position in a row at which the bits of a register begin. It fits a `u16`.
 fn first(setup: &Setup, field: Field) -> u16
     requires { checked setup.now ≡ Ok tt }
     ensures { result ≡ first_bit setup.now field }
@@ -27,7 +27,7 @@ fn first(setup: &Setup, field: Field) -> u16
 }
 
 impl WordLayout {
-    /// That of a setup.
+    /// Returns the layout of a setup.
     pub(crate) fn of(setup: &Setup) -> WordLayout
         requires { checked setup.now ≡ Ok tt }
         ensures { result ≡ layout_of setup.now }
@@ -47,7 +47,7 @@ impl WordLayout {
         }
     }
 
-    /// Where in a row the bits of a register begin. `_setup` is for the proof alone.
+    /// Returns the position in a row at which the bits of a register begin. `_setup` is for the proof alone.
     #[inline(always)]
     fn first(&self, _setup: &Setup, field: Field) -> u16
         requires { self.now ≡ layout_of _setup.now }

@@ -1,7 +1,7 @@
-//! Ports: the processes of a world on threads of the callers' choice, over shared words with no lock and no wait. Each
-//! single-reader bit is one word of a table, and each word step is a step of the record that words and views agree on. A
-//! board that is closed gives its store, which is that of a record that keeps the headline, and the lists of finished calls,
-//! each of which stands in the changes of such a record.
+//! Runs the processes of a world on threads of the caller's choice, over shared words, without a lock or a wait. Each
+//! single-reader bit is one word of a table, and each word step is a step of the record on which words and views agree.
+//! A closed board returns its store, which is that of a record that keeps the main theorem, and the lists of finished
+//! calls, each of which is consistent with the changes of such a record.
 //!
 //! ```rust
 //! let (board, mut ports) = Board::new(rt.alloc(), setup)?;

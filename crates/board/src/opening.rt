@@ -1,4 +1,4 @@
-//! What the words of a board open at: each at its bit's opening value.
+//! The opening words of a board: each shows the opening value of its bit.
 ghost use Rattle.std.specs.Prelude.{◌≡◌, ◌*◌, ◌<◌, Ok, IfOk, vec_len};
 ghost use Rattle.plain_store.specs.{checked, opening_store};
 ghost use Rattle.store_image.specs.{image_of};
@@ -10,7 +10,7 @@ use record::{Field, bit_of};
 use std::alloc::{AllocError, Global};
 use store_image::Image;
 
-/// What a word opens at, where the first image of process 0 opens at these bytes, and so many are the words of process 0.
+/// Returns the opening word. `image` is the first image of process 0, which owns the first `own` words.
 fn opening_word(setup: &Setup, image: &[u8], own: usize, word: usize) -> u64
     requires good { checked setup.now ≡ Ok tt }
     requires image { image.now ≡ image_of (opening_store setup.now) }
@@ -18,7 +18,7 @@ fn opening_word(setup: &Setup, image: &[u8], own: usize, word: usize) -> u64
     requires word { word < words_in setup.now }
     ensures { result ≡ opening_word setup.now word }
 {
-    // The words of process 0 come first, and no other opens at 1.
+    // The words of process 0 come first, and no other word is initially 1.
     if own <= word {
         return 0;
     }
@@ -32,7 +32,7 @@ fn opening_word(setup: &Setup, image: &[u8], own: usize, word: usize) -> u64
     }
 }
 
-/// The words of a setup, each at its bit's opening value.
+/// Creates the words of a setup, each at its bit's opening value.
 pub(crate) fn opening_words(alloc: Global, setup: &Setup) -> Result<Vec<u64>, AllocError>
     requires { checked setup.now ≡ Ok tt }
     ensures length { IfOk result (λ words. vec_len words ≡ words_in setup.now) }

@@ -4,7 +4,7 @@ ghost use Rattle.board.specs.Closings.{AreInOrder, AreOfAll, IsPlaceOf};
 
 use crate::port::Port;
 
-/// Whether the port of each process is among these, and no other.
+/// Returns whether the list has one port of each process, and no other.
 pub(crate) fn are_of_all(ports: &Vec<Port>, processes: u8) -> bool
     ensures { IsTrue result ↔ AreOfAll processes ports.now.items }
 {
@@ -16,7 +16,7 @@ pub(crate) fn are_of_all(ports: &Vec<Port>, processes: u8) -> bool
     ports.len() == usize::from(processes)
 }
 
-/// Puts the ports of all processes in the order of these. It takes no memory.
+/// Puts the ports of all processes in the order of their processes. Allocates nothing.
 pub(crate) fn put_in_order(ports: &mut Vec<Port>, processes: u8)
     requires { AreOfAll processes ports.old.items }
     ensures moved { IsPermutation ports.old.items ports.new.items }
@@ -28,7 +28,7 @@ pub(crate) fn put_in_order(ports: &mut Vec<Port>, processes: u8)
     }
 }
 
-/// Where the port of a process stands, if it is among these.
+/// Returns the index of the port of a process, if the list has one.
 fn place_of(ports: &Vec<Port>, process: u8) -> Option<usize>
     ensures found { IfSome result (λ place. IsPlaceOf ports.now.items process place) }
     ensures none { result ≡ None → (place : ℕ) → IsPlaceOf ports.now.items process place → ⊥ }

@@ -1,10 +1,10 @@
-//! What has happened to a process since the last word step of its port.
+//! The events of a process since the last word step of its port.
 ghost use Rattle.std.specs.Prelude.{◌≡◌};
 ghost use Rattle.board.specs.Pending.{nothing};
 
 use plain_store::Command;
 
-/// What joins the next word step of a port: a restart, then a call or a withdrawal, and then a failure.
+/// The events that join the next word step of a port: a restart, then a call or a withdrawal, and then a failure.
 #[derive(Clone, Copy)]
 pub(crate) struct Pending {
     pub(crate) restarted: bool,
@@ -14,7 +14,7 @@ pub(crate) struct Pending {
 }
 
 impl Pending {
-    /// Nothing has happened.
+    /// Creates the value for no events.
     pub(crate) fn new() -> Pending
         ensures { result ≡ nothing }
     {
@@ -25,7 +25,7 @@ impl Pending {
             failed: false,
         }
     }
-    /// Forgets what has happened. Before nearly all word steps nothing has, and then nothing is written.
+    /// Forgets the events. Before most word steps there are none, and then nothing is written.
     #[inline]
     pub(crate) fn clear(&mut self)
         ensures { self.new ≡ nothing }

@@ -28,10 +28,10 @@ pub struct Port {
     seat: WordSeat,
     process: Process,
     pending: Pending,
-    /// What it is writing to a bit.
+    /// The value that it writes to a bit.
     value: bool,
     calls: CallList,
-    /// The stamp that was read before the change that a failure cut: the place of its command, if the memory unit takes
+    /// The stamp that was read before a failure cut the change: the position of the command, if the memory unit takes
     /// it.
     stamp: Option<u32>,
 }
@@ -47,7 +47,7 @@ impl Model for Port {
 }
 
 impl Port {
-    /// A port of a process that has done nothing, at a seat that knows nothing yet. It takes no memory.
+    /// Creates a port of a process that has done nothing, at a seat that knows nothing yet. Allocates nothing.
     pub(crate) fn new(alloc: Global, seat: WordSeat, process: Process) -> Port
         requires process { process ≡ process_after process.setup [] process.process }
         requires seat { (made : ℕ) × (seat.me ≡ (new_view process.process made, [])) }
@@ -64,14 +64,14 @@ impl Port {
         }
     }
 
-    /// Whether its process is idle or down.
+    /// Returns whether its process is idle or down.
     pub(crate) fn is_still(&self) -> bool
         ensures { IsTrue result ↔ IsStill self.now.setup self.now.view.own }
     {
         matches!(self.stage(), Stage::Idle | Stage::Down)
     }
 
-    /// Its seat and its finished calls, once its process is idle or down.
+    /// Returns its seat and its finished calls, once its process is idle or down.
     pub(crate) fn into_parts(self) -> (WordSeat, Vec<Placed>)
         requires still { IsStill self.setup self.view.own }
         ensures table { result.0.table_id ≡ self.table_id }
@@ -84,22 +84,22 @@ impl Port {
         (seat, calls.into_done())
     }
 
-    /// The number of its process.
+    /// Returns the number of its process.
     pub fn process(&self) -> u8
         ensures { result ≡ self.now.view.own.process }
     {
         self.process.process()
     }
 
-    /// Where its process stands.
+    /// Returns the stage of its process.
     pub fn stage(&self) -> Stage
         ensures { result ≡ stage_in self.now.setup self.now.view.own }
     {
         self.process.stage()
     }
 
-    /// Its finished calls, in order. They stand in the changes that it has seen, which are the first of one list of
-    /// changes that all ports see.
+    /// Returns its finished calls, in order. They are consistent with the changes that it has seen, which are the first
+    /// changes of one list that all ports see.
     pub fn answers(&self) -> &[Placed]
         ensures list { result.now ≡ self.now.view.own.calls.done }
         ensures stands { StandInSeen self.now result.now }
@@ -108,7 +108,7 @@ impl Port {
         self.calls.done()
     }
 
-    /// One word step.
+    /// Makes one word step.
     #[inline]
     pub(crate) fn turn(&mut self, board: &Board, flick: bool) -> StepTold
         requires board { IsOf board.now self.old }
@@ -132,7 +132,7 @@ impl Port {
         told
     }
 
-    /// Why an event of its process is refused, if it is: as in a world.
+    /// Returns the refusal of an event of its process, as a world would refuse it.
     fn answer(&self, event: &Event) -> Result<(), Refusal>
         ensures { result ≡ answer_to self.now event.now }
     {
@@ -142,8 +142,12 @@ impl Port {
         }
     }
 
-    /// A call begins, with room made for its entry of the list. It is refused as in a world, and last for want of
-    /// memory; then nothing has happened.
+    /// Begins a call of its process and reserves room for its entry in the list of calls.
+    ///
+    /// # Errors
+    ///
+    /// Returns the [`Refusal`] that a world would return; [`Refusal::Memory`], for a failed allocation, comes last. The
+    /// port is then unchanged.
     pub fn begin(&mut self, board: &Board, command: Command) -> Result<(), Refusal>
         requires { IsOf board.now self.old }
         ensures same { SamePort self.old self.new }
@@ -164,7 +168,11 @@ impl Port {
         Ok(())
     }
 
-    /// The process halts, and its memory unit takes over. It is refused as in a world, and then nothing has happened.
+    /// Halts the process; its memory unit takes over.
+    ///
+    /// # Errors
+    ///
+    /// Returns the [`Refusal`] that a world would return. The port is then unchanged.
     pub fn fail(&mut self) -> Result<(), Refusal>
         ensures same { SamePort self.old self.new }
         ensures answer { result ≡ answer_to self.old (Fail self.old.view.own.process) }
@@ -179,7 +187,11 @@ impl Port {
         Ok(())
     }
 
-    /// The process gives up waiting. It is refused as in a world, and then nothing has happened.
+    /// Withdraws the process, which stops waiting.
+    ///
+    /// # Errors
+    ///
+    /// Returns the [`Refusal`] that a world would return. The port is then unchanged.
     pub fn withdraw(&mut self) -> Result<(), Refusal>
         ensures same { SamePort self.old self.new }
         ensures answer { result ≡ answer_to self.old (Withdraw self.old.view.own.process) }
@@ -193,7 +205,11 @@ impl Port {
         Ok(())
     }
 
-    /// A process that was down may call again. It is refused as in a world, and then nothing has happened.
+    /// Restarts the process, which was down, so that it may call again.
+    ///
+    /// # Errors
+    ///
+    /// Returns the [`Refusal`] that a world would return. The port is then unchanged.
     pub fn restart(&mut self) -> Result<(), Refusal>
         ensures same { SamePort self.old self.new }
         ensures answer { result ≡ answer_to self.old (Restart self.old.view.own.process) }

@@ -1,4 +1,4 @@
-//! The rule of the table, and what its steps tell.
+//! The rule of the table, and the meaning of its steps.
 ghost use Rattle.std.specs.Prelude.{Bool};
 ghost use Rattle.plain_store.specs.{Setup};
 ghost use Rattle.board.specs.Views.{ViewState};
@@ -6,7 +6,7 @@ ghost use Rattle.board.specs.Views.{ViewState};
 use atomic_table::{Join, Play, Split, TableRule};
 use std::marker::{Brand, Model, PhantomData};
 
-/// What a seat knows. No value of it is made.
+/// The ghost state of a seat. No value of it is made.
 pub struct View {
     marker: PhantomData<u8>,
     pub ghost state: { ViewState },
@@ -35,8 +35,8 @@ impl TableRule<(), View, plain_store::Setup> for Agreement {
     ghost first = { λ s. first_view };
 }
 
-/// A word step, for the proof alone: its setup, its flick, and the view of its seat, with what has happened to its
-/// process since the seat's last word step.
+/// A word step, for the proof alone: its setup, its flick, and the view of its seat after the events of its process
+/// since the seat's last word step.
 pub trait Turn {
     ghost setup: { Setup };
 
@@ -57,7 +57,7 @@ impl Turn for Brand {
     ghost view = { first_view };
 }
 
-/// What a load tells.
+/// The meaning of a load.
 pub struct Load<T> {
     turn: PhantomData<T>,
 }
@@ -69,7 +69,7 @@ impl<T: Turn> Play<(), View> for Load<T> {
     ghost then = { λ _ before found after. Loads T.setup T.flick T.view found after.0 × (after.1 ≡ before.1) };
 }
 
-/// What a store tells.
+/// The meaning of a store.
 pub struct WordStore<T> {
     turn: PhantomData<T>,
 }
@@ -81,7 +81,7 @@ impl<T: Turn> Play<(), View> for WordStore<T> {
     ghost then = { λ _ before _ after. Stores T.setup T.flick T.view after.0 × (after.1 ≡ before.1) };
 }
 
-/// The next port's seat is made, cut from port 0's.
+/// The split that makes the next port's seat from port 0's.
 pub struct Newcomer;
 
 impl Split<View> for Newcomer {
@@ -92,7 +92,7 @@ impl Split<View> for Newcomer {
     ghost right = { λ v. new_view v.made 0 };
 }
 
-/// A port's seat is joined to port 0's.
+/// The join of a port's seat to port 0's.
 pub struct Return;
 
 impl Join<View> for Return {

@@ -1,4 +1,4 @@
-//! The image that the words of a board show, off the copies of reader 0.
+//! The image that the words of a board show, read from the copies of reader 0.
 ghost use Rattle.std.specs.Prelude.{◌≡◌, ◌+◌, ◌*◌, ◌<◌, ◌≤◌, length, take, Ok};
 ghost use Rattle.std.specs.Slots.{slots_len, IsFull};
 ghost use Rattle.store_image.specs.{store_in};

@@ -60,7 +60,7 @@ fn store<T: Turn>(
     words.store::<WordStore<T>>(seat, word, new);
 }
 
-/// What a load that found this word gives a read.
+/// Returns the value of a read whose load found this word.
 #[inline]
 fn loaded(flick: bool, word: u64) -> bool
     ensures { result ≡ loaded flick word }
@@ -68,7 +68,7 @@ fn loaded(flick: bool, word: u64) -> bool
     if word == 2 { flick } else { word == 1 }
 }
 
-/// The same. Nearly all steps lead to nothing, and then no room for an answer is copied.
+/// Returns its argument. Most outcomes are `Nothing`, and then no room for an answer is copied.
 #[inline]
 fn briefly(told: StepTold) -> StepTold
     ensures { result ≡ told }
@@ -79,7 +79,7 @@ fn briefly(told: StepTold) -> StepTold
     }
 }
 
-/// A read of one bit: one load, for its begin and its end.
+/// Reads one bit: one load, for its begin and its end.
 #[inline]
 fn read(
     words: &SharedWords,
@@ -105,7 +105,7 @@ fn read(
     briefly(process.advance(flick, loaded(flick, found)))
 }
 
-/// One access of a write of one bit: one store.
+/// Makes one access of a write of one bit: one store.
 #[inline]
 fn write(
     words: &SharedWords,
@@ -130,7 +130,7 @@ fn write(
     briefly(process.advance(flick, false))
 }
 
-/// What the store of a write's access writes, where the bit is written to `value`: the value of a begin, from then on.
+/// Returns the word that an access of a write stores. A begin sets `value` to the value that it writes.
 #[inline]
 fn stored(how: Move, value: &mut bool) -> u64
     requires { IsWrite how }
@@ -148,7 +148,7 @@ fn stored(how: Move, value: &mut bool) -> u64
     }
 }
 
-/// One word step: the next access of the port's process, or of its memory unit; of a read, begin and end.
+/// Makes one word step: the next access of the port's process, or of its memory unit; a read is begun and ended in one.
 #[inline(never)]
 pub(crate) fn word_step(
     words: &SharedWords,

@@ -1,5 +1,5 @@
-//! Which word stands for which single-reader bit: the words go by the owner of the bit, then by its reader, then by the
-//! bits of the owner's registers in order. So a read of a register is of words that lie side by side.
+//! The word of each single-reader bit: words are ordered by the owner of the bit, then by its reader, then by the bits
+//! of the owner's registers in order. So the words of one read of a register are adjacent.
 ghost use Rattle.std.specs.Prelude.{◌≡◌, ◌+◌, ◌<◌, ◌≤◌, Ok};
 ghost use Rattle.plain_store.specs.{checked};
 ghost use Rattle.record.specs.{width};
@@ -9,7 +9,7 @@ use plain_store::Setup;
 use process::{BitCopy, RegisterName};
 use record::{Field, width_of};
 
-/// Where in a row the bits of a register begin.
+/// Returns the position in a row at which the bits of a register begin.
 #[inline]
 pub(crate) fn first_bit(setup: &Setup, field: Field) -> usize
     requires { checked setup.now ≡ Ok tt }
@@ -29,7 +29,7 @@ pub(crate) fn first_bit(setup: &Setup, field: Field) -> usize
     }
 }
 
-/// How many bits one owner has for one reader.
+/// Returns the number of bits of one owner for one reader.
 #[inline]
 pub(crate) fn row_bits(setup: &Setup) -> usize
     requires { checked setup.now ≡ Ok tt }
@@ -39,7 +39,7 @@ pub(crate) fn row_bits(setup: &Setup) -> usize
     first_bit(setup, Field::Image1) + usize::from(width_of(Field::Image1, setup))
 }
 
-/// How many words there are.
+/// Returns the number of words.
 pub(crate) fn words_in(setup: &Setup) -> usize
     requires { checked setup.now ≡ Ok tt }
     ensures words { result ≡ words_in setup.now }
@@ -49,7 +49,7 @@ pub(crate) fn words_in(setup: &Setup) -> usize
     processes * processes * row_bits(setup)
 }
 
-/// The register at a place in a row.
+/// Returns the register at a position in a row.
 fn field_at(setup: &Setup, place: usize) -> Field
     requires good { checked setup.now ≡ Ok tt }
     requires place { place < row_bits setup.now }
@@ -73,7 +73,7 @@ fn field_at(setup: &Setup, place: usize) -> Field
     }
 }
 
-/// Returns the copy of a bit whose word it is.
+/// Returns the copy of the bit to which a word belongs.
 pub(crate) fn copy_of(setup: &Setup, word: usize) -> BitCopy
     requires good { checked setup.now ≡ Ok tt }
     requires word { word < words_in setup.now }

@@ -1,13 +1,13 @@
--- The line of processes, and some of them as a group.
+-- The queue of processes, and some of them as a group.
 use Rattle.std.proofs.Common.{◌≡◌, ℕ, zero, suc, ◌+◌, ◌<◌, min, Bool, true, false, ◌==◌, cond, List, [], ◌∷◌, ◌++◌, length, get_or, set, take, refl, ap, sym, ◌∙◌, arith}
 use Rattle.std.proofs.lemmas.List.{length-append, set_past}
 use Rattle.columns.specs.{Group, State, group_of, line_of_first, lined_up, places_from, ticket_in}
 
--- the line of one process more
+-- the queue of one more process
 pub line_more : (state : State) (p : ℕ) → line_of_first state (p + 1) ≡ cond (ticket_in state p == 0) (line_of_first state p) (lined_up state p (line_of_first state p))
 line_more state p = ap (line_of_first state) (let e : p + 1 ≡ suc p = omega arith in e)
 
--- one process more of a group: it is among the first three, or is counted alone
+-- one more process of a group: it is among the first three, or it is only counted
 group_first : (some : List ℕ) (p : ℕ) → set (take 3 (some ++ 0 ∷ 0 ∷ 0 ∷ [])) (min (length some) 255) p ≡ take 3 ((some ++ p ∷ []) ++ 0 ∷ 0 ∷ 0 ∷ [])
 group_first [] p = refl
 group_first (a ∷ []) p = refl
@@ -24,7 +24,7 @@ group_with some p group count first are counted is = λ i. record {
     more : min (min (length some) 255 + 1) 255 ≡ min (length (some ++ p ∷ [])) 255
     more = let longer = length-append some (p ∷ []) in omega (arith, longer)
 
--- the places of which it is said, and one more
+-- the indexes at which a list is true, with one more item
 places_more : (j k : ℕ) (said : List Bool) (d : Bool) → k < length said → places_from j (take (suc k) said) ≡ places_from j (take k said) ++ cond (get_or said k d) ((j + k) ∷ []) []
 places_more j k [] d within = absurd (omega (arith, within))
 places_more j zero (true ∷ said) d within = ap (λ n. n ∷ []) (let e : j ≡ j + 0 = omega arith in e)

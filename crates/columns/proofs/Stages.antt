@@ -1,4 +1,4 @@
--- Lines that say the marks of a record lead to its stages.
+-- Lines with the marks of a record lead to its stages.
 use Rattle.std.proofs.Common.{◌≡◌, ◌<◌, ◌⊎◌, inl, inr, ℕ, zero, suc, Bool, true, false, cond, nat_lt, ◌==◌, List, [], ◌∷◌, flat_map, fold, get_or, length, map, replicate, refl, ap, sym, subst, ◌∙◌, arith}
 use Rattle.std.proofs.lemmas.Bool.{cases_eq, eq-eqb, ne_eqb, cond-true, cond-false, ltb-false}
 use Rattle.std.proofs.lemmas.Grind.{fold-append}
@@ -8,11 +8,11 @@ use Rattle.record.specs.declared.stages.Stage.TheVariants.{Idle}
 use Rattle.columns.specs.{Saying, StagesAreTheRecords, like, marks_in, marks_said, nothing_told, stage_among, stages_marked, stages_told}
 use Rattle.columns.specs.declared.told.Saying.TheVariants.{Marked, Refused, Tired, Shown, Ended, LockMarked, LockEnded}
 
--- the stage of a process after a mark of one
+-- the stage of process p after a mark of a process
 abbrev pub stage_told : ℕ → Stage → ℕ × Mark → Stage
 stage_told p was said = cond (said.0 == p) (stage_after was said.1) was
 
--- as many stages as before
+-- the number of stages is unchanged
 pub marked_length : (stages : List Stage) (q : ℕ) (mark : Mark) → length (stages_marked stages q mark) ≡ length stages
 marked_length stages q mark = length-set stages q (stage_after (stage_among stages q) mark)
 
@@ -29,7 +29,7 @@ told_length processes stages (Ended events taken refused) = refl
 told_length processes stages (LockMarked q mark) = either_length (nat_lt q processes) stages q (like mark)
 told_length processes stages (LockEnded entries) = refl
 
--- the stage of a process after a mark of one
+-- the stage of process p after a mark of process q
 pub marked_stage : (stages : List Stage) (q : ℕ) (mark : Mark) (p : ℕ) → p < length stages → stage_among (stages_marked stages q mark) p ≡ stage_told p (stage_among stages p) (q, mark)
 marked_stage stages q mark p within = go (cases_eq q p)
   where
@@ -39,7 +39,7 @@ marked_stage stages q mark p within = go (cases_eq q p)
     go (inr other) = get_or-set_other stages q p (stage_after (stage_among stages q) mark) Idle (λ e. other (sym e))
         ∙ sym (cond-false (q == p) (stage_after (stage_among stages p) mark) (stage_among stages p) (ne_eqb q p other))
 
--- and after a mark of a process that is there, or of one that is not
+-- the stage after a mark of process q, which may exist or not
 either_stage : (processes : ℕ) (stages : List Stage) (q : ℕ) (mark : Mark) (p : ℕ) → p < processes → p < length stages → stage_among (cond (nat_lt q processes) (stages_marked stages q mark) stages) p ≡ stage_told p (stage_among stages p) (q, mark)
 either_stage processes stages q mark p is within = go (nat_lt q processes) refl
   where
@@ -47,7 +47,7 @@ either_stage processes stages q mark p is within = go (nat_lt q processes) refl
     go true below = marked_stage stages q mark p within
     go false above = sym (cond-false (q == p) (stage_after (stage_among stages p) mark) (stage_among stages p) (ne_eqb q p (λ same. let past = ltb-false q processes above in omega (arith, same, past, is))))
 
--- and after a line
+-- the stage after a line
 pub line_stage : (processes : ℕ) (stages : List Stage) (line : Saying) (p : ℕ) → p < processes → p < length stages → stage_among (stages_told processes stages line) p ≡ fold (stage_told p) (stage_among stages p) (marks_said line)
 line_stage processes stages (Marked q mark change) p is within = either_stage processes stages q mark p is within
 line_stage processes stages (Refused q refusal) p is within = refl
@@ -57,7 +57,7 @@ line_stage processes stages (Ended events taken refused) p is within = refl
 line_stage processes stages (LockMarked q mark) p is within = either_stage processes stages q (like mark) p is within
 line_stage processes stages (LockEnded entries) p is within = refl
 
--- and after all lines
+-- the stage after all lines
 pub lines_stage : (processes : ℕ) (stages : List Stage) (lines : List Saying) (p : ℕ) → p < processes → p < length stages → stage_among (fold (stages_told processes) stages lines) p ≡ fold (stage_told p) (stage_among stages p) (flat_map marks_said lines)
 lines_stage processes stages [] p is within = refl
 lines_stage processes stages (line ∷ lines) p is within =
@@ -65,7 +65,7 @@ lines_stage processes stages (line ∷ lines) p is within =
     ∙ ap (λ was. fold (stage_told p) was (flat_map marks_said lines)) (line_stage processes stages line p is within)
     ∙ sym (fold-append (stage_told p) (stage_among stages p) (marks_said line) (flat_map marks_said lines))
 
--- the marks of an entry
+-- the stage after the marks of an entry
 entry_stage : (p q : ℕ) (was : Stage) (marks : List Mark) → fold (stage_told p) was (map (λ mark. (q, mark)) marks) ≡ cond (q == p) (fold stage_after was marks) was
 entry_stage p q was marks = go (q == p) refl was marks
   where
@@ -75,7 +75,7 @@ entry_stage p q was marks = go (q == p) refl was marks
     go true e was (mark ∷ marks) = ap (λ b. fold (stage_told p) (cond b (stage_after was mark) was) (map (λ mark. (q, mark)) marks)) e ∙ go true e (stage_after was mark) marks
     go false e was (mark ∷ marks) = ap (λ b. fold (stage_told p) (cond b (stage_after was mark) was) (map (λ mark. (q, mark)) marks)) e ∙ go false e was marks
 
--- and of a record
+-- the stage after the marks of a record
 pub record_stage : (p : ℕ) (past : Past) → fold (stage_told p) Idle (marks_in past) ≡ stage p past
 record_stage p [] = refl
 record_stage p (e ∷ past) =
@@ -83,7 +83,7 @@ record_stage p (e ∷ past) =
     ∙ ap (λ was. fold (stage_told p) was (map (λ mark. (e.process, mark)) e.marks)) (record_stage p past)
     ∙ entry_stage p e.process (stage p past) e.marks
 
--- no process has a stage of its own at first
+-- each process is idle at first
 pub nothing_stage : (n p : ℕ) → get_or (replicate n Idle) p Idle ≡ Idle
 nothing_stage zero p = refl
 nothing_stage (suc n) zero = refl

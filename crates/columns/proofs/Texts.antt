@@ -6,7 +6,7 @@ use Rattle.std.specs.declared.alloc.AllocError.{AllocError}
 use Rattle.record.specs.{field_word}
 use Rattle.columns.specs.{OverlappedRead, read_text, title_text}
 
--- a text that was put together, and another one that is the same
+-- if a result has a text, it has each equal text
 module _ {X : Type 0} (bytes : X → List ℕ) where
   pub ok_along : (line : Result X AllocError) (text other : List ℕ) → IfOk line (λ l. bytes l ≡ text) → text ≡ other → IfOk line (λ l. bytes l ≡ other)
   ok_along (Ok l) text other is same = is ∙ same

@@ -1,4 +1,4 @@
--- What columns leave of accesses for those behind them.
+-- The open accesses and the waves after columns.
 use Rattle.std.specs.Prelude.{List, [], Option}
 use Rattle.columns.specs.Columns.{Seen}
 use Rattle.columns.specs.OpenAccesses.{first_open, none_open}
@@ -6,7 +6,7 @@ use Rattle.columns.specs.Waves.{SeenWave, seen_waves, waves_after, waves_begun}
 use Rattle.columns.specs.declared.access_state.AccessState.{AccessState}
 use Rattle.columns.specs.declared.open_accesses.UnendedAccess.{UnendedAccess}
 
--- the access that each process has open, and the waves
+-- the open access of each process, and the waves
 pub record SeenAccesses : Type 0 where
   pub open_accesses : List (Option UnendedAccess)
   pub waves : List SeenWave
@@ -18,10 +18,10 @@ seen_accesses state = record { open_accesses = state.open_accesses; waves = seen
 abbrev pub no_accesses : SeenAccesses
 no_accesses = record { open_accesses = none_open; waves = [] }
 
--- at the left edge of columns, where the waves that begin in them are drawn too
+-- at the left edge of columns, where the waves that begin in these columns are drawn too
 abbrev pub accesses_at : SeenAccesses → List Seen → SeenAccesses
 accesses_at before columns = record before { waves = waves_begun before.waves columns }
 
--- behind columns
+-- after these columns
 abbrev pub accesses_after : SeenAccesses → List Seen → SeenAccesses
 accesses_after at columns = record { open_accesses = first_open at.open_accesses columns 16; waves = waves_after at.waves columns }

@@ -9,12 +9,12 @@ use Rattle.columns.specs.declared.accesses.ShownAccess.{ShownAccess}
 abbrev pub is_inner : ℕ → Bool
 is_inner byte = nat_le 128 byte && nat_lt byte 192
 
--- how many characters a text has
+-- the number of characters of a text
 abbrev pub characters_of : List ℕ → ℕ
 characters_of [] = 0
 characters_of (byte ∷ text) = cond (is_inner byte) (characters_of text) (characters_of text + 1)
 
--- how many characters the longest row of an access has: its words or its cell, and only its words where it ends
+-- the number of characters of the longest row of an access: its words or its cell, and only its words if it ends
 abbrev pub characters_by : AccessStep → List ℕ → List ℕ → ℕ
 characters_by step.End words cell = characters_of words
 characters_by _ words cell = max (characters_of words) (characters_of cell)
@@ -23,31 +23,31 @@ abbrev pub access_characters : Option ShownAccess → ℕ
 access_characters None = 0
 access_characters (Some access) = characters_by access.step access.words.items access.cell.items
 
--- how the title of an access begins: entry and process
+-- the start of the title of an access: its entry and its process
 abbrev pub title_front : ShownAccess → List ℕ
 title_front access = decimal access.event ++ codes " " ++ decimal access.process ++ codes " "
 
--- where an access began that ends here
+-- the entry that began an access which ends here
 abbrev pub since_text : AccessStep → ℕ → List ℕ
 since_text step.End begin = codes " from " ++ decimal begin
 since_text _ begin = []
 
--- words behind a space, if there are any
+-- words after a space, if there are any
 abbrev pub spaced : List ℕ → List ℕ
 spaced [] = []
 spaced (byte ∷ words) = codes " " ++ byte ∷ words
 
--- the title of an access: entry, process and cell, where it began if it ends here, and its words
+-- the title of an access: its entry, process and cell, the entry that began it if it ends here, and its words
 abbrev pub access_title : ShownAccess → List ℕ
 access_title access =
     title_front access ++ access.cell.items ++ since_text access.step access.begin
     ++ spaced access.words.items
 
--- whether an access overlaps the one that this process has open
+-- whether an access overlaps the open access of this process
 abbrev pub is_over : ShownAccess → ℕ → Bool
 is_over access p = get_or access.overlaps p false
 
--- whether one of these holds
+-- whether one of these values is true
 abbrev pub is_any : List Bool → Bool
 is_any [] = false
 is_any (holds ∷ more) = holds || is_any more

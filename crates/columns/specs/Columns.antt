@@ -1,4 +1,4 @@
--- Columns as lists, and what they are by the lines and the reads that they show.
+-- Columns as lists, and their content, given the lines and the reads that they show.
 use Rattle.std.specs.Prelude.{◌≡◌, ℕ, ◌+◌, ◌*◌, max, min, Bool, true, false, ◌==◌, ◌&&◌, not, ◌||◌, nat_le, nat_lt, cond, List, [], ◌∷◌, ◌++◌, codes, filter_map, find, is_some, length, map, string_bytes, take, IfOk, Result, Option, None, Some, option_map, option_and_then}
 use Rattle.std.specs.Fmt.{decimal}
 use Rattle.std.specs.Global.{Vec}
@@ -21,13 +21,13 @@ use Rattle.columns.specs.declared.told.RunLine.{RunLine}
 use Rattle.columns.specs.declared.told.Saying.{Saying}
 use Rattle.columns.specs.declared.told.Saying.TheVariants.{Ended, LockEnded, LockMarked, Marked, Refused, Shown, Tired}
 
--- words in one row: whether they stand out, their bytes, and how many characters they are
+-- words in one row: whether they are bold, their bytes, and the number of their characters
 pub record Wording : Type 0 where
   pub is_verb : Bool
   pub text : List ℕ
   pub characters : ℕ
 
--- a column, with lists for what its fields hold
+-- a column, with lists for its fields
 pub record Seen : Type 0 where
   pub at : ℕ
   pub event : Option ℕ
@@ -49,7 +49,7 @@ wording row = record { is_verb = row.is_verb; text = row.text.items; characters 
 abbrev pub wordings : Vec TextRow → List Wording
 wordings rows = map wording rows.items
 
--- a call gives these rows, unless memory is wanting
+-- a successful call gives these rows
 abbrev pub GivesRows : {E : Type 0} → Result (Vec TextRow) E → List Wording → Type 0
 GivesRows result rows = IfOk result (λ (given : Vec TextRow). wordings given ≡ rows)
 
@@ -73,18 +73,18 @@ seen column = record {
 abbrev pub worded : Bool → List ℕ → Wording
 worded is_verb text = record { is_verb = is_verb; text = text; characters = length text }
 
--- words that stand out, and others
+-- bold words, and plain words
 abbrev pub verb : List ℕ → Wording
 verb = worded true
 
 abbrev pub rest : List ℕ → Wording
 rest = worded false
 
--- words that stand out, and others below them
+-- bold words, and plain words below them
 abbrev pub verb_and_rest : List ℕ → List ℕ → List Wording
 verb_and_rest above below = verb above ∷ rest below ∷ []
 
--- what is drawn of a store's words: all, or of more than 44 the first 43 and three dots, U+2026
+-- the words of a store as they are drawn: all of them, or the first 43 and three dots, U+2026, if there are more than 44
 abbrev pub shortened : List ℕ → List ℕ
 shortened words = cond (nat_le (length words) 44) words (take 43 words ++ 226 ∷ 128 ∷ 166 ∷ [])
 
@@ -96,22 +96,22 @@ row_shortened words = record { is_verb = false; text = shortened words; characte
 abbrev pub rows_named : List ℕ → List ℕ → List Wording
 rows_named name words = verb name ∷ row_shortened words ∷ []
 
--- what stands out of a refusal, in the lane of its process or in that of the history
+-- the bold words of a refusal, in the lane of its process or in that of the history
 abbrev pub verb_refused : Bool → ℕ → List ℕ
 verb_refused in_lane p = cond in_lane (codes "refused") (decimal p ++ codes " refused")
 
--- how many commands were taken, and how many events refused
+-- the numbers of commands taken and of events refused, in words
 abbrev pub counts_text : (taken refused : ℕ) → List ℕ
 counts_text taken refused = codes "taken " ++ decimal taken ++ codes " refused " ++ decimal refused
 
--- the rows of a mark that stands alone
+-- the rows of a mark alone in its column
 abbrev pub rows_marked : Mark → List Wording
 rows_marked (Called command) = verb_and_rest (codes "call") (command_text command)
 rows_marked (Taken place reply) = verb_and_rest (codes "taken " ++ decimal place) (reply_text reply)
 rows_marked (Answered answer) = verb_and_rest (codes "answer") (answer_text answer)
 rows_marked mark = verb (mark_text mark) ∷ []
 
--- the rows of what a line says that stands alone, in the lane of its process or in that of the history
+-- the rows of a line alone in its column, in the lane of its process or in that of the history
 abbrev pub rows_told : Bool → Saying → List Wording
 rows_told in_lane (Marked p mark change) = rows_marked mark
 rows_told in_lane (Refused p refusal) = verb_and_rest (verb_refused in_lane p) (refusal_text refusal)
@@ -130,11 +130,11 @@ row_by _ = None
 abbrev pub row_shared : RunLine → Option Wording
 row_shared line = row_by line.saying
 
--- it in a list, if the line tells a mark
+-- the row of a line in a list, if the line has a mark
 abbrev pub row_if_marked : RunLine → List Wording
 row_if_marked line = option_to_list (row_shared line)
 
--- the lane of a process, if there are more processes than its number
+-- the lane of a process, if its number is below the number of processes
 abbrev pub lane_among : ℕ → Option ℕ → Option ℕ
 lane_among processes = option_and_then (λ p. cond (nat_lt p processes) (Some p) None)
 
@@ -192,7 +192,7 @@ is_same_event (Some e) (Some f) = e == f
 is_same_event (Some e) None = false
 is_same_event None event = false
 
--- whether a column has a row for a line: marks of a trace stand two in a column
+-- whether a column has a row for a line: it has at most two marks of a trace
 abbrev pub has_row_for : Seen → RunLine → Bool
 has_row_for column line = not (tells_lock_mark line.saying) || nat_lt (length column.lines) 2
 
@@ -200,12 +200,12 @@ has_row_for column line = not (tells_lock_mark line.saying) || nat_lt (length co
 abbrev pub joins : Seen → RunLine → Bool
 joins column line = elim column.read [ Some read ↦ false | None ↦ is_same_event column.event (event_told line) && has_row_for column line ]
 
--- the rows of the lines of a column: those of a line alone, or of two marks a row for each
+-- the rows of the lines of a column: those of a line alone, or one row for each of two marks
 abbrev pub rows_of_lines : Bool → List RunLine → List Wording
 rows_of_lines in_lane (line ∷ []) = rows_told in_lane line.saying
 rows_of_lines in_lane lines = filter_map row_shared lines
 
--- the column once a mark of its event has joined it
+-- the column after a mark of its event has joined it
 abbrev pub joined : Seen → RunLine → Option ℕ → State → Seen
 joined column line frees after = record column {
   lines = column.lines ++ line ∷ [];
@@ -214,41 +214,41 @@ joined column line frees after = record column {
   after = after;
 }
 
--- the line that tells a place in the history, if one does
+-- the first line with a position in the history, if there is one
 abbrev pub taken_in : Seen → Option RunLine
 taken_in column = find (λ line. is_some (place_told line.saying)) column.lines
 
--- so many pixels, of which 65535 at most are told apart
+-- a number of pixels, but 65535 if it is greater
 abbrev pub capped : ℕ → ℕ
 capped pixels = min pixels 65535
 
--- how many digits a number has, and none if there is none
+-- the number of digits of a number, or 0 without a number
 abbrev pub digits_of : Option ℕ → ℕ
 digits_of None = 0
 digits_of (Some n) = length (decimal n)
 
--- how many characters the longest row has
+-- the number of characters of the longest row
 abbrev pub longest_row : List Wording → ℕ
 longest_row [] = 0
 longest_row (row ∷ rows) = max row.characters (longest_row rows)
 
--- how many pixels the words of a column take in its lane
+-- the width of the words of a column in its lane, in pixels
 abbrev pub width_of : Seen → ℕ
 width_of column = capped (max (6 * digits_of column.event) (7 * max (longest_row column.rows) (access_characters column.access)) + 9)
 
--- how many characters the pair has that a command changed
+-- the number of characters of the pair that a command changed
 abbrev pub pair_of : Option TakenChange → ℕ
 pair_of None = 0
 pair_of (Some change) = length (string_bytes change.pair)
 
--- how many pixels a line takes in the lane of the history that tells a place in it
+-- the width in the lane of the history of a line with a position in it, in pixels
 abbrev pub knot_width : RunLine → ℕ
 knot_width line = capped (max (6 * digits_of (place_told line.saying) + 14) (7 * pair_of (change_told line.saying) + 2) + 9)
 
--- how many pixels a column takes in the lane of the history, if it stands there or a line of it does
+-- the width of a column in the lane of the history, in pixels, if the column or a line of it lies there
 abbrev pub width_below_of : Seen → Option ℕ
 width_below_of column = elim column.lane [ None ↦ Some (capped (width_of column + 4)) | Some p ↦ option_map knot_width (taken_in column) ]
 
--- whether it tells that a torn bit was settled, and with it that a command is taken
+-- whether the event of a column settled a torn bit and took a command
 abbrev pub settles_and_takes_in : Seen → Bool
 settles_and_takes_in column = (length column.lines == 2) && is_some (taken_in column)

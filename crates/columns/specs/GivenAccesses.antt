@@ -1,4 +1,4 @@
--- What an access shows, with lists for what its fields hold.
+-- The content of an access, with lists for its fields.
 use Rattle.std.specs.Prelude.{ℕ, Bool, List, Option, option_map}
 use Rattle.columns.specs.declared.accesses.AccessKind.{AccessKind}
 use Rattle.columns.specs.declared.accesses.AccessStep.{AccessStep}

@@ -1,4 +1,4 @@
--- The lines of a trace, and the marks of a record that its marks are drawn like.
+-- The lines of a trace, and the marks of a record that its marks resemble.
 use Rattle.std.specs.Prelude.{ℕ, List, ◌++◌, codes}
 use Rattle.std.specs.Fmt.{decimal}
 use Rattle.record.specs.{Mark}
@@ -16,10 +16,10 @@ like lock.Enter = Entered
 like lock.Leave = Left
 like lock.Answer = Answered Withdrawn
 
--- the entry with this number has a mark of a process
+-- the text of a mark of a process in the entry with this number
 abbrev pub lock_marked_text : (entry p : ℕ) → LockMark → List ℕ
 lock_marked_text entry p mark = decimal entry ++ codes " " ++ decimal p ++ codes " " ++ lock_mark_text mark
 
--- the trace has ended
+-- the text of the end of a trace
 abbrev pub lock_ended_text : ℕ → List ℕ
 lock_ended_text entries = codes "end entries " ++ decimal entries

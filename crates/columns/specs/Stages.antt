@@ -1,4 +1,4 @@
--- The stages that lines have told, and that the record gives.
+-- The stages after lines, and the stages that the record gives.
 use Rattle.std.specs.Prelude.{◌≡◌, ◌<◌, ℕ, cond, nat_lt, List, [], ◌∷◌, ◌++◌, flat_map, fold, get_or, map, replicate, set}
 use Rattle.record.specs.{Mark, Past, Stage, stage, stage_after}
 use Rattle.record.specs.declared.stages.Stage.TheVariants.{Idle}
@@ -6,7 +6,7 @@ use Rattle.columns.specs.LockLines.{like}
 use Rattle.columns.specs.declared.told.Saying.{Saying}
 use Rattle.columns.specs.declared.told.Saying.TheVariants.{LockMarked, Marked}
 
--- the stage of a process among those of all
+-- the stage of a process, from the list of all
 abbrev pub stage_among : List Stage → ℕ → Stage
 stage_among stages p = get_or stages p Idle
 
@@ -14,11 +14,11 @@ stage_among stages p = get_or stages p Idle
 abbrev pub nothing_told : List Stage
 nothing_told = replicate 16 Idle
 
--- after a mark of a process, that process has the stage that the record gives it then, and the others keep theirs
+-- after a mark of a process, that process has the stage that the record then gives it, and the other stages are unchanged
 abbrev pub stages_marked : List Stage → ℕ → Mark → List Stage
 stages_marked stages p mark = set stages p (stage_after (stage_among stages p) mark)
 
--- after what a line of a run of so many processes says
+-- the stages after a line of a run of this number of processes
 abbrev pub stages_told : ℕ → List Stage → Saying → List Stage
 stages_told processes stages (Marked p mark change) = cond (nat_lt p processes) (stages_marked stages p mark) stages
 stages_told processes stages (LockMarked p mark) = cond (nat_lt p processes) (stages_marked stages p (like mark)) stages
@@ -28,7 +28,7 @@ stages_told processes stages _ = stages
 abbrev pub stages_after : ℕ → List Saying → List Stage
 stages_after processes = fold (stages_told processes) nothing_told
 
--- the mark that a line says, with its process; of a trace, the one that its mark is drawn like
+-- the mark of a line, with its process; for a trace, the mark that its mark is drawn like
 abbrev pub marks_said : Saying → List (ℕ × Mark)
 marks_said (Marked p mark change) = (p, mark) ∷ []
 marks_said (LockMarked p mark) = (p, like mark) ∷ []
@@ -39,7 +39,7 @@ abbrev pub marks_in : Past → List (ℕ × Mark)
 marks_in [] = []
 marks_in (e ∷ past) = marks_in past ++ map (λ mark. (e.process, mark)) e.marks
 
--- Lines that say the marks of a record, whatever else they say between them, lead each process to its stage in that record.
+-- Lines with the marks of a record, and with any other lines between them, lead each process to its stage in that record.
 abbrev pub StagesAreTheRecords : Type 0
 StagesAreTheRecords = (processes : ℕ) (lines : List Saying) (past : Past) → flat_map marks_said lines ≡ marks_in past →
     (p : ℕ) → p < processes → p < 16 → stage_among (stages_after processes lines) p ≡ stage p past

@@ -75,7 +75,11 @@ impl ShownAccess {
         }
     }
 
-    /// Returns its title: entry, process and cell, where it began if it ends here, and its words.
+    /// Returns its title: entry, process and cell, the entry that began it if it ends here, and its words.
+    ///
+    /// # Errors
+    ///
+    /// Returns [`AllocError`] if an allocation fails.
     pub fn title(&self, alloc: Global) -> Result<Vec<u8>, AllocError>
         ensures { IfOk result (λ title. title.items ≡ access_title self.now) }
     {

@@ -66,6 +66,10 @@ impl TextRow {
 
 impl Column {
     /// Returns the column of a line alone, before it is placed.
+    ///
+    /// # Errors
+    ///
+    /// Returns [`AllocError`] if an allocation fails.
     pub fn new(
         alloc: Global,
         line: RunLine,
@@ -98,6 +102,10 @@ impl Column {
     }
 
     /// Returns the column of a read, before it is placed.
+    ///
+    /// # Errors
+    ///
+    /// Returns [`AllocError`] if an allocation fails.
     pub fn of_read(
         alloc: Global,
         read: OverlappedRead,
@@ -150,7 +158,11 @@ impl Column {
         self.read.is_none() && self.event.is_some() && self.event == line.event() && has_row
     }
 
-    /// Adds a mark of the event. Of two marks, each has a row.
+    /// Adds a mark of the event. Each of two marks has a row.
+    ///
+    /// # Errors
+    ///
+    /// Returns [`AllocError`] if an allocation fails.
     pub fn join(
         &mut self,
         alloc: Global,
@@ -380,6 +392,10 @@ fn cut_row(alloc: Global, words: &[u8]) -> Result<TextRow, AllocError>
 }
 
 /// Returns the words or, if they are too long, the first of them and three dots.
+///
+/// # Errors
+///
+/// Returns [`AllocError`] if an allocation fails.
 pub fn cut(alloc: Global, words: &[u8]) -> Result<Vec<u8>, AllocError>
     ensures { IfOk result (λ text. text.items ≡ shortened words.now) }
 {

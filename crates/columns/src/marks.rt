@@ -1,4 +1,4 @@
-//! What a mark changes in the state of a picture.
+//! The change of a picture's state by a mark.
 ghost use Rattle.std.specs.Prelude.{◌≡◌};
 ghost use Rattle.record.specs.Stages as record_stages;
 ghost use Rattle.columns.specs.States.{goes_on, inside_marked, places_marked};

@@ -45,6 +45,10 @@ impl Placing {
     }
 
     /// Returns the position of a column, after the words in its lanes.
+    ///
+    /// # Errors
+    ///
+    /// Returns [`AllocError`] if an allocation fails.
     pub fn place(&self, alloc: Global, column: &Column) -> Result<ColumnPlace, AllocError>
         ensures { IfOk result (λ place. place ≡ place_of self.now (seen column.now)) }
     {
@@ -90,6 +94,10 @@ impl Placing {
     }
 
     /// Puts a column at its position.
+    ///
+    /// # Errors
+    ///
+    /// Returns [`AllocError`] if an allocation fails.
     pub fn put(
         &mut self,
         alloc: Global,
@@ -193,6 +201,10 @@ fn place_between(event: u64, left: (u16, u64), right: (u16, u64)) -> u16
 }
 
 /// Spreads the columns of a band over its width, at most to half as much again. Distances never shrink.
+///
+/// # Errors
+///
+/// Returns [`AllocError`] if an allocation fails.
 pub fn stretch(alloc: Global, columns: &mut [Column]) -> Result<(), AllocError>
     ensures told { OnOk result (flat_map told_in columns.new ≡ flat_map told_in columns.old) }
     ensures apart { OnOk result (map seen columns.new ≡ stretched_all (map seen columns.old)) }

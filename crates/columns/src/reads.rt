@@ -35,7 +35,11 @@ impl OverlappedRead {
         two_rows(alloc, self.saw(alloc)?, self.bit_words(alloc)?)
     }
 
-    /// Returns in words the value that it returned.
+    /// Returns the value of the read, in words.
+    ///
+    /// # Errors
+    ///
+    /// Returns [`AllocError`] if an allocation fails.
     pub fn saw(&self, alloc: Global) -> Result<String, AllocError>
         ensures { IfOk result (λ text. string_bytes text ≡ saw_text self.now) }
     {
@@ -44,6 +48,10 @@ impl OverlappedRead {
     }
 
     /// Returns the bit that it read, and the number of reads that are not shown.
+    ///
+    /// # Errors
+    ///
+    /// Returns [`AllocError`] if an allocation fails.
     pub fn bit_words(&self, alloc: Global) -> Result<String, AllocError>
         ensures { IfOk result (λ text. string_bytes text ≡ bit_text self.now) }
     {
@@ -65,6 +73,10 @@ impl OverlappedRead {
     }
 
     /// Returns its title: the process, the bit, the events of its begin and its end, and the value.
+    ///
+    /// # Errors
+    ///
+    /// Returns [`AllocError`] if an allocation fails.
     pub fn title(&self, alloc: Global) -> Result<String, AllocError>
         ensures { IfOk result (λ text. string_bytes text ≡ title_text self.now) }
     {

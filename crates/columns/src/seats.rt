@@ -1,8 +1,8 @@
-//! What a picture stores of a process in addition to its stage.
+//! The state of a process in a picture, in addition to its stage.
 ghost use Rattle.std.specs.Prelude.{◌≡◌, map, set};
 ghost use Rattle.columns.specs.States.{no_seat, not_awaiting};
 
-/// What a picture stores of a process in addition to its stage.
+/// The state of a process in a picture, in addition to its stage.
 #[derive(Clone, Copy)]
 pub(crate) struct KnownProcess {
     /// Its ticket, or 0.

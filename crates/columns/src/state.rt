@@ -114,6 +114,10 @@ impl State {
     }
 
     /// Returns the processes with a ticket, in the order in which the lock serves them.
+    ///
+    /// # Errors
+    ///
+    /// Returns [`AllocError`] if an allocation fails.
     pub fn queue(&self, alloc: Global) -> Result<Vec<u8>, AllocError>
         ensures { IfOk result (λ queue. queue.items ≡ queue_of self.now) }
     {
@@ -141,6 +145,10 @@ impl State {
     }
 
     /// Returns the words in the bar of a process.
+    ///
+    /// # Errors
+    ///
+    /// Returns [`AllocError`] if an allocation fails.
     pub fn word(&self, alloc: Global, process: u8) -> Result<Word, AllocError>
         ensures { IfOk result (λ word. word ≡ word_of self.now process) }
     {
@@ -174,6 +182,10 @@ impl State {
     }
 
     /// Updates the state by a line, and returns the process that its process frees.
+    ///
+    /// # Errors
+    ///
+    /// Returns [`AllocError`] if an allocation fails.
     pub fn take(&mut self, alloc: Global, line: &RunLine) -> Result<Option<u8>, AllocError>
         ensures stages { OnOk result (self.new.stages ≡ stages_next self.old line.now.saying) }
         ensures processes { self.new.processes ≡ self.old.processes }

@@ -10,7 +10,7 @@ use run_lines::ReplayLine;
 use std::alloc::{AllocError, Global};
 use trace::LockMark;
 
-/// What a taken command changed.
+/// The change of the store by a command.
 #[derive(Drop)]
 pub struct TakenChange {
     /// The pair that it changed or added, as `NAME=VALUE`.
@@ -137,6 +137,10 @@ impl RunLine {
     }
 
     /// Returns the line, without its end.
+    ///
+    /// # Errors
+    ///
+    /// Returns [`AllocError`] if an allocation fails.
     pub fn text(&self, alloc: Global) -> Result<Vec<u8>, AllocError>
         ensures { IfOk result (λ text. text.items ≡ text_of self.now) }
     {

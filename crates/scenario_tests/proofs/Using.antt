@@ -1,4 +1,4 @@
--- What the contracts of a world and of a replay give, put together for one caller.
+-- The facts from the contracts of a world and of a replay, put together for one caller.
 use Rattle.std.proofs.Common.{◌≡◌, ℕ, List, ◌∷◌, Option, None, Some, Result, Ok, Err, IfSome, OnOk, ap, subst, sym, ◌∙◌}
 use Rattle.std.specs.Io.KnownBytes.{Appends}
 use Rattle.plain_store.specs.{Setup}

@@ -61,7 +61,7 @@ const CHANGES: [EntryChange; 4] = [
     },
 ];
 
-/// Whether an act has this part.
+/// Returns whether an act has this part.
 fn has(act: &Act, part: &EntryPart) -> bool {
     let _nested: NestedTypes = None;
     match part {
@@ -73,7 +73,7 @@ fn has(act: &Act, part: &EntryPart) -> bool {
     }
 }
 
-/// Gives an act this part in place of its own.
+/// Replaces the part of an act by this one.
 fn set(act: &mut Act, part: &EntryPart) -> Result<(), AllocError> {
     let _nested: NestedTypes = None;
     match part {
@@ -95,7 +95,7 @@ fn set(act: &mut Act, part: &EntryPart) -> Result<(), AllocError> {
     Ok(())
 }
 
-/// Makes a change in a record, and returns whether the entry had the part that is replaced.
+/// Changes an entry of a record, and returns whether the entry had the part that is replaced.
 fn change(record: &mut Record, changed: &EntryChange) -> Result<bool, AllocError> {
     let Some(entry) = record.entries.get_mut(changed.entry) else {
         return Ok(false);
@@ -127,7 +127,7 @@ fn assert_verdicts(
     Ok(())
 }
 
-/// The record of a scenario's run.
+/// Returns the record of a scenario's run.
 fn record_of_run(alloc: Global, scenario: &Scenario) -> Result<Record, AllocError> {
     let events = events_of(alloc, scenario)?;
     record_of(alloc, &scenario.setup, &events)

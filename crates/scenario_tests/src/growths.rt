@@ -1,5 +1,5 @@
-//! Want of memory: what is refused changes nothing, and succeeds at the next try. The test passes with ample
-//! memory, and where any one growth is refused.
+//! Refused allocations: a refused call changes nothing, and succeeds at the next try. The test passes with ample memory,
+//! and also if any one allocation is refused.
 use crate::worlds::{a, make};
 use auditor::World;
 use plain_store::{Command, Setup, Store, Value};
@@ -12,8 +12,8 @@ fn write(count: i64) -> Command {
     Command::Write(a(), Value::Count(count))
 }
 
-/// A process writes a count, and finishes its doorway. Where the call is refused for want of memory, the process is where it
-/// was, and the same call is accepted then.
+/// Makes a process call to write a count and finish its doorway. If an allocation of the call is refused, the process is
+/// still idle, and the next try is accepted.
 fn call(rt: &impl Abort, world: &mut World, process: u8, count: i64) {
     if let Err(refusal) = make(world, Event::Call(process, write(count))) {
         assert!(rt; matches!(refusal, Refusal::Memory));
@@ -24,22 +24,22 @@ fn call(rt: &impl Abort, world: &mut World, process: u8, count: i64) {
     go(rt, world, process, Stage::Waiting);
 }
 
-/// Whether a process is in this stage.
+/// Returns whether a process is in this stage.
 fn is_in(world: &World, process: u8, stage: Stage) -> bool {
     world.stage(process) == Some(stage)
 }
 
-/// How many processes are ahead of one.
+/// Returns the number of processes that are ahead of a process.
 fn ahead(world: &World, process: u8) -> usize {
     world.ahead(process).len()
 }
 
-/// Whether one process is ahead of process 1, and none of the others.
+/// Returns whether one process is ahead of process 1, and none is ahead of the others.
 fn one_is_ahead(world: &World) -> bool {
     ahead(world, 0) == 0 && ahead(world, 1) == 1 && ahead(world, 2) == 0
 }
 
-/// The count of the first name in the newest store; none while somebody is inside.
+/// Returns the count of the first name in the newest store, or `None` while a process is inside.
 fn newest_count(world: &World) -> Option<i64> {
     match world.newest()?.entry(0)? {
         (_, Value::Count(count)) => Some(count),
@@ -47,7 +47,7 @@ fn newest_count(world: &World) -> Option<i64> {
     }
 }
 
-/// Steps of a process until it is in this stage. They take no memory.
+/// Makes steps of a process until it is in this stage. No step allocates.
 fn go(rt: &impl Abort, world: &mut World, process: u8, stage: Stage) {
     for _ in 0..65_536 {
         if is_in(world, process, stage) {
@@ -58,7 +58,7 @@ fn go(rt: &impl Abort, world: &mut World, process: u8, stage: Stage) {
     panic!(rt; "process {process} does not get there");
 }
 
-/// The world of three processes. Where it could not be made, it is made at the next try.
+/// Creates the world of three processes, at the second try if the first one fails.
 fn world_of_three(alloc: Global) -> Result<World, AllocError> {
     let setup = Setup::one(3, 4, 4, 1);
     match World::new(alloc, &setup) {
@@ -67,7 +67,7 @@ fn world_of_three(alloc: Global) -> Result<World, AllocError> {
     }
 }
 
-/// Who calls next, who was before it and finishes then, and the count that the call writes.
+/// The process that calls next, the process that then finishes its earlier call, and the count that the new call writes.
 const TURNS: [(u8, u8, i64); 6] = [
     (2, 0, 2),
     (0, 1, 3),
@@ -77,7 +77,7 @@ const TURNS: [(u8, u8, i64); 6] = [
     (1, 2, 7),
 ];
 
-/// The three processes call in turns, each while the two others wait one behind the other.
+/// Makes the three processes call in turns, each while the two others wait, one after the other.
 fn call_in_turns(rt: &impl Abort, world: &mut World) {
     call(rt, world, 0, 0);
     call(rt, world, 1, 1);
@@ -90,8 +90,8 @@ fn call_in_turns(rt: &impl Abort, world: &mut World) {
     assert!(rt; newest_count(world) == Some(5));
 }
 
-// A world that could not be made is made at the next try. Its three processes call in turns, so that the growths of the
-// history are met by such calls.
+// A world that could not be created is created at the next try. Its three processes call in turns, so that such calls
+// meet the allocations of the history.
 #[test]
 fn calls_succeed_after_refused_growths(rt: HostRuntime) -> Result<(), Fail> {
     let mut world = world_of_three(rt.alloc())?;

@@ -1,5 +1,5 @@
-//! Tests that cross crates, of what no file shows: worlds under single events, the calls of the library by which a run is
-//! listed, recorded, audited and swept, and the words of entries; and two uses of the headline, as callers have it.
+//! Tests that cross crates and that no file covers: worlds under single events, the library calls that list, record,
+//! audit and sweep a run, and the words of entries. Two more functions use the main theorem as a caller.
 #![tactic(auto)]
 
 #[cfg(test)]

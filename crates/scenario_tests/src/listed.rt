@@ -1,5 +1,5 @@
-//! Worked runs as lists of events, each of which is made on a world by itself. What is held across calls that may fail is held
-//! by a function with one exit, which lends it.
+//! Worked runs as lists of events, each of which is made on a world by itself. Values that live across calls that may
+//! fail belong to a function with one exit, which passes them by reference.
 ghost use Rattle.std.specs.Prelude.{◌≡◌, Ok};
 ghost use Rattle.plain_store.specs.{checked};
 
@@ -14,10 +14,10 @@ use scenario::{FromRead, IntoWrite, Scenario, read_scenario};
 use std::alloc::{AllocError, Global};
 use std::test::Fail;
 
-/// For how many bytes of a text there is room from the start, so that want of memory is told as such.
+/// The number of bytes for which a text has room from the start, so that a failed allocation is reported as one.
 const ROOM: usize = 4_096;
 
-/// What a replay of a file prints.
+/// Returns the text that a replay of a file prints.
 fn printed(alloc: Global, file: &str) -> Result<Vec<u8>, Fail> {
     let mut text = Vec::with_capacity(alloc, ROOM)?;
     printed_replies(
@@ -28,14 +28,14 @@ fn printed(alloc: Global, file: &str) -> Result<Vec<u8>, Fail> {
     Ok(text)
 }
 
-/// Adds a line.
+/// Appends a line.
 fn push_line(lines: &mut Vec<u8>, line: &[u8]) -> Result<(), AllocError> {
     lines.extend_from_slice(line)?;
     lines.push(b'\n')?;
     Ok(())
 }
 
-/// The lines of a print that begin with the number of an event.
+/// Returns the lines of a print that begin with the number of an event.
 fn mark_lines(alloc: Global, printed: &[u8]) -> Result<Vec<u8>, Fail> {
     let mut marks = Vec::new(alloc);
     for line in printed.lines() {
@@ -46,13 +46,13 @@ fn mark_lines(alloc: Global, printed: &[u8]) -> Result<Vec<u8>, Fail> {
     Ok(marks)
 }
 
-/// The marks that a replay of a file prints.
+/// Returns the marks that a replay of a file prints.
 fn marks_of_replay(alloc: Global, file: &str) -> Result<Vec<u8>, Fail> {
     let printed = printed(alloc, file)?;
     mark_lines(alloc, &printed)
 }
 
-/// Adds the marks of an act, as a replay prints them.
+/// Appends the marks of an act, as a replay prints them.
 fn push_marks(marks: &mut String, number: usize, process: u8, act: &Act) -> Result<(), AllocError> {
     for mark in act.marks.as_slice() {
         writeln!(marks, "{number} {process} {mark}")?;
@@ -60,13 +60,13 @@ fn push_marks(marks: &mut String, number: usize, process: u8, act: &Act) -> Resu
     Ok(())
 }
 
-/// Makes an event, and adds its marks.
+/// Makes an event, and appends its marks.
 fn make(marks: &mut String, world: &mut World, number: usize, event: Event) -> Result<(), Fail> {
     let act = world.event(event)?;
     Ok(push_marks(marks, number, event.process(), &act)?)
 }
 
-/// The marks of events that are made one by one.
+/// Returns the marks of events that are made one by one.
 fn marks_on(alloc: Global, world: &mut World, events: &[Event]) -> Result<String, Fail> {
     let mut marks = String::new(alloc);
     for (number, event) in events.iter().enumerate() {
@@ -75,7 +75,7 @@ fn marks_on(alloc: Global, world: &mut World, events: &[Event]) -> Result<String
     Ok(marks)
 }
 
-/// The same on a new world.
+/// Returns the marks of events on a new world.
 fn marks_in(alloc: Global, setup: &Setup, events: &[Event]) -> Result<String, Fail>
     requires { checked setup.now ≡ Ok tt }
 {
@@ -83,19 +83,19 @@ fn marks_in(alloc: Global, setup: &Setup, events: &[Event]) -> Result<String, Fa
     marks_on(alloc, &mut world, events)
 }
 
-/// The marks of a scenario's accepted events.
+/// Returns the marks of a scenario's accepted events.
 fn marks_of_scenario(alloc: Global, scenario: &Scenario) -> Result<String, Fail> {
     let events = events_of(alloc, scenario)?;
     marks_in(alloc, &scenario.setup, &events)
 }
 
-/// The same of a file.
+/// Returns the marks of a file's accepted events.
 fn marks_of_events(alloc: Global, file: &str) -> Result<String, Fail> {
     let scenario = read_scenario(alloc, file.as_bytes())?;
     marks_of_scenario(alloc, &scenario)
 }
 
-/// Whether the events of a file have the marks of its replay.
+/// Returns whether the events of a file have the marks of its replay.
 fn has_its_marks(alloc: Global, file: &str) -> Result<bool, Fail> {
     let marks = marks_of_events(alloc, file)?;
     let printed = marks_of_replay(alloc, file)?;

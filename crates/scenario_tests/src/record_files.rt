@@ -1,11 +1,11 @@
-//! Entries as lines: each is read, and what is printed for it is that line again.
+//! Entries as lines: each line is read, and its entry is printed as that line again.
 use record::Entry;
 use record_file::{StepLine, print_entry, read_entry, read_step};
 use scenario::FaultKind::{self, Words};
 use std::alloc::{AllocError, Global};
 use std::test::Fail;
 
-/// What a line of words with single spaces says as an entry.
+/// Returns the entry of a line, whose words have single spaces between them.
 fn read(alloc: Global, line: &str) -> Result<Entry, FaultKind> {
     let words: Vec<&[u8]> = line.as_bytes().split(|b| *b == b' ').collect(alloc)?;
     match words.as_slice() {
@@ -14,7 +14,7 @@ fn read(alloc: Global, line: &str) -> Result<Entry, FaultKind> {
     }
 }
 
-/// What is printed for the entry that a line says, without the end of the line; nothing, where it says none.
+/// Returns the printed entry of a line, without the end of the line; it is empty if the line is not an entry.
 fn printed(alloc: Global, line: &str) -> Result<Vec<u8>, AllocError> {
     let mut printed = Vec::new(alloc);
     match read(alloc, line) {
@@ -46,7 +46,7 @@ const OTHERS: [&str; 4] = [
     "1 0.commit.0.1 settle 1 : settled 1 : taken 3 swapped : leave",
 ];
 
-/// Whether what is printed for the entry that a line says is that line.
+/// Returns whether the entry of a line is printed as that line.
 fn is_printed(alloc: Global, line: &str) -> Result<bool, AllocError> {
     Ok(printed(alloc, line)?.as_slice() == line.as_bytes())
 }
@@ -61,7 +61,7 @@ fn entries_are_read_and_printed(rt: HostRuntime) -> Result<(), Fail> {
     Ok(())
 }
 
-/// Whether a line is read at once as a step without a mark, and printed for it.
+/// Returns whether a line is read at once as a step without a mark, and printed as that line.
 fn is_step(line: &str) -> bool {
     let Some((process, access)) = read_step(line.as_bytes()) else {
         return false;

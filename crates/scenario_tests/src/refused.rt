@@ -1,5 +1,5 @@
-//! Allocations that are refused while a worked run is listed, recorded and audited. The refused call returns that and nothing
-//! else, and the same call then succeeds.
+//! Allocations that are refused while a worked run is listed, recorded and audited. The refused call returns only the
+//! refusal, and the same call then succeeds.
 ghost use Rattle.std.specs.Prelude.{◌≡◌, Ok};
 ghost use Rattle.plain_store.specs.{checked};
 
@@ -103,7 +103,7 @@ fn assert_is_recorded(
     assert_is_good(rt, &scenario.setup, &events, count)
 }
 
-// The test fails for want of memory wherever one allocation is refused, and passes otherwise.
+// The test fails with an allocation error if any one allocation is refused, and passes otherwise.
 #[test]
 fn refused_allocations_are_returned(rt: HostRuntime) -> Result<(), Fail> {
     for (file, count) in &RUNS {

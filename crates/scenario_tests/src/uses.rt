@@ -1,4 +1,4 @@
-//! What callers get from the contracts of a world and of a replay alone: no law is called here, and no proof of
+//! Facts that callers have from the contracts of a world and of a replay alone: no law is called here, and no proof of
 //! the crates below is cited.
 ghost use Rattle.std.specs.Prelude.{◌-◌, ◌^◌, ◌<◌, IfOk, OnOk};
 ghost use Rattle.record.specs.{process_of};
@@ -11,7 +11,11 @@ use record::{Act, Event, Refusal};
 use scenario::{Fault, Sink, Source};
 use std::alloc::Global;
 
-/// Two events, one after the other: with the entry of each no two processes are inside the critical section.
+/// Makes two events, one after the other. With the entry of each, no two processes are inside the critical section.
+///
+/// # Errors
+///
+/// Returns the [`Refusal`] of the first refused event.
 pub fn two_events(world: &mut World, first: Event, second: Event) -> Result<(Act, Act), Refusal>
     ensures alone { IfOk result (λ acts. AreAlone (process_of first) acts.0 (process_of second) acts.1) }
 {
@@ -21,7 +25,11 @@ pub fn two_events(world: &mut World, first: Event, second: Event) -> Result<(Act
     Ok((one, two))
 }
 
-/// A replay: each reply that it prints is the one-thread store's at its place in the history.
+/// Replays a scenario. Each printed reply is the sequential store's at its position in the history.
+///
+/// # Errors
+///
+/// Returns the [`Fault`] of the replay.
 pub fn printed_replies<R: Source, W: Sink>(
     alloc: Global,
     input: &mut R,

@@ -1,5 +1,5 @@
-//! The calls by which a run is listed, recorded, audited and swept, on one call of a process alone; and a sweep of events of
-//! which some are refused.
+//! The calls that list, record, audit and sweep a run, for one call of one process alone; and a sweep of events of which
+//! some are refused.
 ghost use Rattle.std.specs.Prelude.{◌≡◌, Ok};
 ghost use Rattle.plain_store.specs.{checked};
 
@@ -14,17 +14,17 @@ use std::alloc::{AllocError, Global};
 use std::process::Abort;
 use std::test::Fail;
 
-/// The command that reads the one name here.
+/// Returns the command that reads the one name here.
 fn read() -> Command {
     Command::Read(a())
 }
 
-/// Whether there were so many runs, all good, none stuck.
+/// Returns whether there were `runs` runs, all of them good and none stuck.
 fn are_all_good(found: &Swept, runs: u64) -> bool {
     found.runs == runs && found.good == runs && found.stuck == 0 && found.first_bad.is_none()
 }
 
-/// An audit that had no memory has it at the next try.
+/// Audits a record, at the second try if an allocation of the first one fails.
 fn audit_again(alloc: Global, setup: &Setup, record: &Record) -> Result<Verdict, AllocError>
     requires { checked setup.now ≡ Ok tt }
 {
@@ -34,7 +34,7 @@ fn audit_again(alloc: Global, setup: &Setup, record: &Record) -> Result<Verdict,
     }
 }
 
-/// And so does a sweep.
+/// Sweeps events, at the second try if an allocation of the first one fails.
 fn sweep_again(
     alloc: Global,
     setup: &Setup,
@@ -49,20 +49,20 @@ fn sweep_again(
     }
 }
 
-/// Whether an auditor finds no fault with an entry.
+/// Returns whether an auditor finds no fault with an entry.
 fn keeps_the_laws(auditor: &mut Auditor, entry: &Entry) -> bool {
     let (process, access, marks) = parts(entry);
     auditor.hear(process, access, marks).is_none()
 }
 
-/// An auditor finds no fault with the entries of a record.
+/// Asserts that an auditor finds no fault with the entries of a record.
 fn hear_all(rt: &impl Abort, auditor: &mut Auditor, record: &Record) {
     for (number, entry) in record.entries.iter().enumerate() {
         assert!(rt; keeps_the_laws(auditor, entry), "entry {number}");
     }
 }
 
-/// Whether the process of the lone write comes inside with its eighth step.
+/// Returns whether the process of the file `LONE_WRITE` enters with its eighth step.
 fn comes_inside(record: &Record) -> bool {
     match record.entries.get(8) {
         Some(entry) => matches!(
@@ -73,14 +73,14 @@ fn comes_inside(record: &Record) -> bool {
     }
 }
 
-/// The setup of the lone write.
+/// Returns the setup of the file.
 fn setup_of_lone_write() -> Setup
     ensures { checked result ≡ Ok tt }
 {
     Setup::one(1, 2, 2, 1)
 }
 
-/// The events of the lone write.
+/// Returns the events of the file.
 fn events_of_lone_write(alloc: Global) -> Result<Vec<Event>, Fail> {
     let scenario = read_scenario(alloc, LONE_WRITE.as_bytes())?;
     let events = events_of(alloc, &scenario);
@@ -88,33 +88,33 @@ fn events_of_lone_write(alloc: Global) -> Result<Vec<Event>, Fail> {
     Ok(events?)
 }
 
-/// It finds no fault with the record of the lone write.
+/// Asserts that an auditor finds no fault with the record of the file.
 fn hear_lone_write(rt: &(impl Abort + AllocGlobal), record: &Record) -> Result<(), AllocError> {
     let mut auditor = Auditor::new(rt.alloc(), &setup_of_lone_write())?;
     hear_all(rt, &mut auditor, record);
     Ok(())
 }
 
-/// Whether the record of the lone write is good.
+/// Returns whether the record of the file is good.
 fn is_good(alloc: Global, record: &Record) -> Result<bool, AllocError> {
     let verdict = audit_again(alloc, &setup_of_lone_write(), record)?;
     Ok(matches!(verdict, Verdict::Good))
 }
 
-/// Whether it breaks the local program at this entry.
+/// Returns whether a record breaks the local program at this entry.
 fn breaks_the_program(alloc: Global, record: &Record, entry: u64) -> Result<bool, AllocError> {
     let verdict = audit_again(alloc, &setup_of_lone_write(), record)?;
     Ok(matches!(verdict, Verdict::Bad(told, Law::Program) if told == entry))
 }
 
-/// An entry is without its access from then on.
+/// Removes the access of an entry.
 fn drop_access(record: &mut Record, entry: usize) {
     if let Some(entry) = record.entries.get_mut(entry) {
         entry.act.access = None;
     }
 }
 
-/// The record of the lone write is good, and without an access it breaks the local program.
+/// Asserts that the record of the file is good, and that it breaks the local program without one access.
 fn audit_both(rt: &(impl Abort + AllocGlobal), record: &mut Record) -> Result<(), Fail> {
     assert!(rt; record.entries.len() == 761 && comes_inside(record));
     hear_lone_write(rt, record)?;
@@ -124,7 +124,7 @@ fn audit_both(rt: &(impl Abort + AllocGlobal), record: &mut Record) -> Result<()
     Ok(())
 }
 
-/// The record of these events, which are those of the lone write.
+/// Makes the record of these events, which are those of the file, and asserts its verdicts.
 fn audit_record(rt: &(impl Abort + AllocGlobal), events: &[Event]) -> Result<(), Fail> {
     let mut record = record_of(rt.alloc(), &setup_of_lone_write(), events)?;
     audit_both(rt, &mut record)
@@ -138,7 +138,7 @@ fn hears_and_audits_a_record(rt: HostRuntime) -> Result<(), Fail> {
     audit_record(&rt, &events)
 }
 
-/// The sweep of the lone write.
+/// Returns the result of the sweep of the file.
 fn sweep_of_lone_write(alloc: Global) -> Result<Swept, Fail> {
     let events = events_of_lone_write(alloc)?;
     let calls = [(0, Command::Write(a(), Value::Count(5)))];
@@ -154,8 +154,8 @@ fn sweeps_the_lone_write(rt: HostRuntime) -> Result<(), Fail> {
 
 const STEP: Event = Event::Step(0, false);
 
-// Restart and calls of a failed process: it may fail after the call, and again after its restart. What is refused between is
-// no event to be cut after.
+// A failed process restarts and calls: it may fail after the call, and again after its restart. The sweep does not cut a
+// run after a refused event.
 #[test]
 fn sweeps_a_failed_process(rt: HostRuntime) -> Result<(), AllocError> {
     let setup = Setup::one(1, 4, 4, 1);

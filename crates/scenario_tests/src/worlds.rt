@@ -1,4 +1,4 @@
-//! Worlds that are driven by single events. Each is held by a function with one exit, which lends it.
+//! Worlds that are driven by single events. Each belongs to a function with one exit, which passes it by reference.
 use crate::uses::two_events;
 use auditor::World;
 use plain_store::{Command, Name, Setup};
@@ -18,7 +18,7 @@ pub fn make(world: &mut World, event: Event) -> Result<(), Refusal> {
     Ok(())
 }
 
-/// A process reads, and makes 20 steps: whether it waits then.
+/// Makes a process call to read and make 20 steps, and returns whether it then waits.
 fn comes_to_wait(world: &mut World, process: u8) -> Result<bool, Refusal> {
     make(world, Event::Call(process, Command::Read(a())))?;
     for _ in 0..20 {
@@ -27,17 +27,17 @@ fn comes_to_wait(world: &mut World, process: u8) -> Result<bool, Refusal> {
     Ok(world.stage(process) == Some(Stage::Waiting))
 }
 
-/// Whether nobody is ahead of a process.
+/// Returns whether no process is ahead of a process.
 fn is_first(world: &World, process: u8) -> bool {
     world.ahead(process).is_empty()
 }
 
-/// Whether process 0 alone is ahead of process 1.
+/// Returns whether process 0 alone is ahead of process 1.
 fn is_behind_one(world: &World) -> bool {
     matches!(world.ahead(1).as_slice(), [0])
 }
 
-/// Two processes wait, of which the first gives up.
+/// Makes two processes wait, of which the first withdraws.
 fn one_gives_up(rt: &impl Abort, world: &mut World) -> Result<(), Fail> {
     for process in 0..2 {
         assert!(rt; comes_to_wait(world, process)?);
@@ -48,31 +48,31 @@ fn one_gives_up(rt: &impl Abort, world: &mut World) -> Result<(), Fail> {
     Ok(())
 }
 
-// Who finished its doorway before a call began is ahead of it, until it gives up waiting.
+// A process that finished its doorway before a call began is ahead of it, until that process withdraws.
 #[test]
 fn tells_who_is_ahead(rt: HostRuntime) -> Result<(), Fail> {
     let mut world = World::new(rt.alloc(), &Setup::one(2, 2, 2, 1))?;
     one_gives_up(&rt, &mut world)
 }
 
-/// Whether an act is that of a call.
+/// Returns whether an act is that of a call.
 fn asks(act: &Act) -> bool {
     matches!(act.marks.as_slice(), [Mark::Called(Command::Ask)]) && act.access.is_none()
 }
 
-/// Whether an act is that of a step without a mark.
+/// Returns whether an act is that of a step without a mark.
 fn steps(act: &Act) -> bool {
     act.marks.is_empty() && act.access.is_some()
 }
 
-/// Whether a call and a step have the acts that each would have alone.
+/// Returns whether a call and a step have the acts that each would have alone.
 fn calls_and_steps(world: &mut World) -> Result<bool, Refusal> {
     let call = Event::Call(1, Command::Ask);
     let (called, stepped) = two_events(world, call, Event::Step(1, false))?;
     Ok(asks(&called) && steps(&stepped))
 }
 
-/// What two steps are refused for, of which the second is of a process that does not run.
+/// Returns the refusal of two steps, of which the second is of a process that does not run.
 fn refusal_of_steps(world: &mut World) -> Option<Refusal> {
     two_events(world, Event::Step(1, false), Event::Step(0, false)).err()
 }
@@ -84,14 +84,14 @@ fn makes_them(rt: &impl Abort, world: &mut World) -> Result<(), Fail> {
     Ok(())
 }
 
-// Two events have the acts that each would have alone, and the first refusal is told.
+// Two events have the acts that each would have alone, and the first refusal is returned.
 #[test]
 fn makes_two_events(rt: HostRuntime) -> Result<(), Fail> {
     let mut world = World::new(rt.alloc(), &Setup::one(2, 4, 4, 1))?;
     makes_them(&rt, &mut world)
 }
 
-/// A call that fails before its first access, up to its process's restart.
+/// Makes a call that fails before its first access, and the events up to the restart of its process.
 fn call_that_fails(world: &mut World) -> Result<(), Refusal> {
     make(world, Event::Call(0, Command::Read(a())))?;
     make(world, Event::Fail(0))?;
@@ -101,7 +101,7 @@ fn call_that_fails(world: &mut World) -> Result<(), Refusal> {
     make(world, Event::Restart(0))
 }
 
-/// What a call is refused for after 65,535 such calls.
+/// Returns the refusal of a call after 65,535 such calls, if it is refused.
 fn refused_after(world: &mut World) -> Result<Option<Refusal>, Fail> {
     for _ in 0..65_535 {
         call_that_fails(world)?;
@@ -109,7 +109,7 @@ fn refused_after(world: &mut World) -> Result<Option<Refusal>, Fail> {
     Ok(make(world, Event::Call(0, Command::Read(a()))).err())
 }
 
-/// The same in a world of one process.
+/// Returns the refusal of that call in a world of one process.
 fn refused_after_calls(alloc: Global, version: u8) -> Result<Option<Refusal>, Fail> {
     let mut setup = Setup::one(1, 1, 4, 1);
     setup.version = version;

@@ -5,7 +5,7 @@ use std::process::Abort;
 use std::test::Fail;
 use store_image::{BadImage, Image};
 
-/// The bytes of the longest image.
+/// The number of bytes of the longest image.
 const MOST_BYTES: usize = 216;
 
 /// A counter `a` with 5 in one slot, no callers.
@@ -13,7 +13,7 @@ const COUNTER: [u8; 23] = [
     1, 1, 0x61, 0, 0, 0, 0, 0, 0, 0, 8, 0, 0, 0, 0, 0, 0, 0, 5, 0, 0, 0, 0,
 ];
 
-/// The image of two slots.
+/// Returns the image of two slots.
 fn of_two(first: &[u8; 23], second: &[u8; 23]) -> [u8; 46] {
     let mut bytes = [0; 46];
     bytes[..23].copy_from_slice(first);
@@ -21,7 +21,7 @@ fn of_two(first: &[u8; 23], second: &[u8; 23]) -> [u8; 46] {
     bytes
 }
 
-// Those of another length, and those of which a slot breaks a rule.
+// Bytes of another length are refused, and bytes of which a slot breaks a rule.
 #[test]
 fn readers_refuse_bytes_that_are_no_image(rt: HostRuntime) {
     let cases: [(&[u8], u8); 5] = [
@@ -37,7 +37,7 @@ fn readers_refuse_bytes_that_are_no_image(rt: HostRuntime) {
     let mut unclean = COUNTER;
     unclean[22] = 1;
     assert!(rt; matches!(Image::read(&unclean, 0), Err(BadImage::Slot(0))));
-    // An image of two slots that has the counter behind an unused slot, and one that has it twice.
+    // An image of two slots that has the counter after an unused slot, and one that has it twice.
     for first in [[0; 23], COUNTER] {
         let bytes = of_two(&first, &COUNTER);
         assert!(rt; matches!(Image::read(&bytes, 0), Err(BadImage::Slot(1))));
@@ -79,7 +79,7 @@ fn are_of_text(bytes: &[u8]) -> bool {
     true
 }
 
-/// What stands in a slot, by the table of its bytes: `Some(None)` where it is unused.
+/// Returns the name in a slot, by the table of its bytes: `Some(None)` for an unused slot, and `None` for a bad one.
 fn table(slot: &[u8]) -> Option<Option<&[u8]>> {
     if slot.len() != 23 {
         return None;
@@ -103,7 +103,7 @@ fn table(slot: &[u8]) -> Option<Option<&[u8]>> {
     }
 }
 
-/// Whether one of so many slots has this name.
+/// Returns whether one of the first `slots` slots has this name.
 fn has_name(bytes: &[u8], slots: usize, name: &[u8]) -> bool {
     for slot in bytes.chunks_exact(23).take(slots) {
         if let Some(Some(other)) = table(slot)
@@ -115,7 +115,7 @@ fn has_name(bytes: &[u8], slots: usize, name: &[u8]) -> bool {
     false
 }
 
-/// The first of so many slots that the table, or a slot before it, makes bad.
+/// Returns the first of `slots` slots that is bad, by the table or because of a slot before it.
 fn first_fault(bytes: &[u8], slots: usize) -> Option<usize> {
     let mut unused_before = false;
     for (place, slot) in bytes.chunks_exact(23).take(slots).enumerate() {
@@ -133,7 +133,7 @@ fn first_fault(bytes: &[u8], slots: usize) -> Option<usize> {
     None
 }
 
-/// Whether these bytes are read as the table says.
+/// Returns whether these bytes are read as the table states.
 fn is_read_by_the_table(bytes: &[u8], slots: usize, callers: u8) -> bool
     requires { callers ≤ 16 }
 {
@@ -144,7 +144,7 @@ fn is_read_by_the_table(bytes: &[u8], slots: usize, callers: u8) -> bool
     }
 }
 
-/// Changes each byte of an image to some others, and has each outcome compared with the table's.
+/// Changes each byte of an image to some others, and compares each result with that of the table.
 fn each_byte_counts(rt: &impl Abort, image: &Image, slots: u8, callers: u8)
     requires { callers ≤ 16 }
 {
@@ -164,7 +164,7 @@ fn each_byte_counts(rt: &impl Abort, image: &Image, slots: u8, callers: u8)
     }
 }
 
-/// The image of a store in which these pairs were written.
+/// Returns the image of a store in which these pairs were written.
 fn written(slots: u8, callers: u8, pairs: &[(&[u8], Value)]) -> Result<Image, Fail>
     requires some_slots { 1 ≤ slots }
     requires few_slots { slots ≤ 8 }
@@ -181,7 +181,7 @@ fn written(slots: u8, callers: u8, pairs: &[(&[u8], Value)]) -> Result<Image, Fa
     Ok(image)
 }
 
-// In names, in lengths, in values and in the zeros behind them.
+// Bytes are changed in names, in lengths, in values and in the zeros after them.
 #[test]
 fn changed_bytes_are_read_by_the_table(rt: HostRuntime) -> Result<(), Fail> {
     let long = Value::Text(Text::new(b"Twelve_bytes").unwrap());

@@ -4,7 +4,7 @@ use scenario::read_scenario;
 use std::process::Abort;
 use std::test::Fail;
 
-// Lines that are skipped stand before, between and behind the others, of which the last three are run.
+// Skipped lines come before, between and after the other lines. The last three of those are run.
 #[test]
 fn tells_the_number_of_each_line_that_is_run(rt: HostRuntime) -> Result<(), Fail> {
     let file = "# a comment\nbakery 2\n\nprocesses 3\nopen a c:1\n \t# behind blanks\n\

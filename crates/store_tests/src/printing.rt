@@ -3,7 +3,7 @@ use scenario::{Scenario, print_scenario, read_scenario};
 use std::alloc::Global;
 use std::test::Fail;
 
-// Worked examples, and what they print as: all headings, and single spaces.
+// Worked examples, each with its printed text: all headings, and single spaces.
 const PRINTED: [(&str, &str); 5] = [
     (
         "bakery 1\n# x\nslots 2\n  call 0  add a -3\n",
@@ -35,7 +35,7 @@ const EACH: &str = "bakery 2\nprocesses 3\ntickets 32\nstamps 1\nslots 2\nopen a
     go 0 down\nfail 0\nwithdraw 1\nrestart 0\nflick 0\nflick 1\n\
     flick pcg 18446744073709551615\nwander 0\nshow\n";
 
-/// Whether a file prints so.
+/// Returns whether a file prints as this text.
 fn prints(alloc: Global, text: &str, printed: &str) -> Result<bool, Fail> {
     let scenario = read_scenario(alloc, text.as_bytes())?;
     Ok(print_scenario(alloc, &scenario)?.as_slice() == printed.as_bytes())
@@ -49,7 +49,7 @@ fn prints_scenarios(rt: HostRuntime) -> Result<(), Fail> {
     Ok(())
 }
 
-// A scenario that was made by hand has the numbers that its lines have where it is printed: they are read again.
+// If a scenario made by hand is printed and read again, its lines have the numbers that they had.
 #[test]
 fn numbers_lines_as_they_are_printed(rt: HostRuntime) -> Result<(), Fail> {
     let read = read_scenario(rt.alloc(), EACH.as_bytes())?;

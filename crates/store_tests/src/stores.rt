@@ -1,4 +1,4 @@
-//! The calls of examples/worked/one-thread-store on both stores.
+//! The calls of the worked example of the sequential store, on both stores.
 use plain_store::{Caller, NestedTypes, PlainStore, Store};
 use scenario::{Line, read_scenario};
 use std::alloc::{AllocError, Global};
@@ -13,7 +13,7 @@ const CALLS: &str = "bakery 1\ncall 0 add a 1\ncall 0 write a c:9223372036854775
 const REPLIES: &str = "no-name\ndone\noverflow\nvalue c:9223372036854775807\nstore-full\n\
     no-name\nkept c:9223372036854775807\nswapped\nnot-counter\n";
 
-/// Adds what a store replies to the call of a line.
+/// Appends the reply of a store to the call of a line.
 fn push_reply<S: Store>(text: &mut String, store: &mut S, line: &Line) -> Result<(), AllocError> {
     let _nested: NestedTypes = None;
     let Line::Call(process, command) = line else {
@@ -27,7 +27,7 @@ fn push_reply<S: Store>(text: &mut String, store: &mut S, line: &Line) -> Result
     writeln!(text, "{reply}")
 }
 
-/// What a store replies to calls, a line each.
+/// Returns the replies of a store to calls, one per line.
 fn replies_to<S: Store>(
     alloc: Global,
     store: &mut S,
@@ -41,7 +41,7 @@ fn replies_to<S: Store>(
     Ok(text)
 }
 
-/// A store replies so to the calls.
+/// Asserts the replies of a store to the calls.
 fn replies<S: Store>(rt: &(impl Abort + AllocGlobal), store: &mut S) -> Result<(), Fail> {
     let scenario = read_scenario(rt.alloc(), CALLS.as_bytes())?;
     let told = replies_to(rt.alloc(), store, &scenario.lines)?;

@@ -1,14 +1,14 @@
-//! The watch: the law of reads, move by move on one bit, and on bits that are told apart.
+//! The monitor of the law `safe`, move by move on one bit, and on several bits.
 use plain_store::Setup;
 use read_law::Watch;
 use record::{Access, Field, Move};
 use std::alloc::{AllocError, Global};
 use std::test::Fail;
 
-/// A copy of a bit: whose register it is of, its number, and its reader.
+/// A copy of a bit: the owner and the field of its register, its number, and its reader.
 type Place = (u8, Field, u16, u8);
 
-/// Bit 1 of the ticket that process 0 has for process 1.
+/// Bit 1 of the ticket of process 0, in the copy for process 1.
 const T: Place = (0, Field::Ticket, 1, 1);
 
 const BEGIN_READ: Move = Move::BeginRead;
@@ -17,7 +17,7 @@ const ONE: Move = Move::EndRead(true);
 
 const ZERO: Move = Move::EndRead(false);
 
-/// A move on a copy of a bit, and what the watch says of it: whether it keeps the law, or whether it ends an overlapped read.
+/// A move on a copy of a bit, and the expected result: whether it keeps the law, or whether it ends an overlapped read.
 type Heard = (Place, Move, bool);
 
 fn access(place: Place, how: Move) -> Access {
@@ -31,7 +31,7 @@ fn access(place: Place, how: Move) -> Access {
     }
 }
 
-/// What is asked of the watch.
+/// The question to the monitor.
 #[derive(Clone, Copy)]
 enum AskedOfWatch {
     /// Whether a move keeps the law.
@@ -40,7 +40,7 @@ enum AskedOfWatch {
     Overlaps,
 }
 
-/// The number of the first move of which the watch does not say so.
+/// Returns the number of the first move for which the result is not the expected one.
 fn first_otherwise(
     alloc: Global,
     heard: &[Heard],
@@ -62,7 +62,7 @@ fn first_otherwise(
     Ok(None)
 }
 
-/// A read alone gives what was written.
+/// A read alone returns the value written.
 const READ_ALONE: [Heard; 8] = [
     (T, BEGIN_READ, true),
     (T, ONE, false),
@@ -74,7 +74,7 @@ const READ_ALONE: [Heard; 8] = [
     (T, ONE, true),
 ];
 
-/// An overlapped read gives anything.
+/// An overlapped read returns any value.
 const OVERLAPPED: [Heard; 14] = [
     // It begins during a write.
     (T, Move::BeginWrite(true), true),
@@ -84,14 +84,14 @@ const OVERLAPPED: [Heard; 14] = [
     // The write has ended in between.
     (T, Move::EndWrite, true),
     (T, ZERO, true),
-    // A write begins and ends during it.
+    // A write begins and ends during the read.
     (T, BEGIN_READ, true),
     (T, ZERO, false),
     (T, Move::BeginWrite(false), true),
     (T, Move::EndWrite, true),
     (T, ONE, true),
     (T, ZERO, true),
-    // The next one is bound again.
+    // The next read is bound again.
     (T, BEGIN_READ, true),
     (T, ONE, false),
 ];
@@ -107,7 +107,7 @@ const SETTLED: [Heard; 7] = [
     (T, ONE, true),
 ];
 
-/// No read began that these could be the ends of, so the law says nothing.
+/// No read began that these moves could end, so the law allows each of them.
 const WITHOUT_BEGIN: [Heard; 5] = [
     (T, ONE, true),
     (T, ZERO, true),
@@ -116,8 +116,8 @@ const WITHOUT_BEGIN: [Heard; 5] = [
     (T, ZERO, true),
 ];
 
-/// A write that ends twice ends with what it began with; and a read has what was there before it, though a write ends in
-/// it that never began.
+/// A write that ends twice ends with the value with which it began. A read returns the value from before it, even if a
+/// write that never began ends during it.
 const OUT_OF_TURN: [Heard; 9] = [
     (T, Move::BeginWrite(true), true),
     (T, Move::Settle(false), true),
@@ -165,7 +165,7 @@ const ENDS_OF_OVERLAPPED: [Heard; 16] = [
     (T, ONE, false),
 ];
 
-/// Reads of other copies: of another bit, of another reader's copy, and of a bit that is not there.
+/// Reads of other copies: a read of another bit, of another reader's copy, and of a bit that does not exist.
 const OTHER_READS: [Heard; 8] = [
     (T, BEGIN_READ, false),
     ((0, Field::Ticket, 0, 1), BEGIN_READ, false),
@@ -177,8 +177,8 @@ const OTHER_READS: [Heard; 8] = [
     (T, ONE, true),
 ];
 
-// A write overlaps a read of its bit if it was open as the read began, or began before the read ended. It overlaps no read of
-// another bit, or of another reader's copy; and no read ends of a bit that is not there.
+// A write overlaps a read of its bit if it was open when the read began, or began before the read ended. It overlaps no
+// read of another bit, or of another reader's copy. A move on a bit that does not exist ends no overlapped read.
 #[test]
 fn the_end_of_an_overlapped_read_is_told(rt: HostRuntime) -> Result<(), Fail> {
     let tables: [&[Heard]; 2] = [&ENDS_OF_OVERLAPPED, &OTHER_READS];
@@ -189,7 +189,7 @@ fn the_end_of_an_overlapped_read_is_told(rt: HostRuntime) -> Result<(), Fail> {
     Ok(())
 }
 
-/// One is written to a bit, and then other copies are read, which open at 0.
+/// One bit is set to 1, and then other copies are read, which are initially 0.
 const APART: [Heard; 16] = [
     (T, Move::BeginWrite(true), true),
     (T, Move::EndWrite, true),
@@ -201,7 +201,7 @@ const APART: [Heard; 16] = [
     ((1, Field::Ticket, 1, 1), ONE, false),
     ((0, Field::Stamp1, 1, 1), BEGIN_READ, true),
     ((0, Field::Stamp1, 1, 1), ONE, false),
-    // There is no process 2, and no ticket bit 2: what ends a read of these keeps the law.
+    // Process 2 and ticket bit 2 do not exist: the end of a read of these keeps the law.
     ((2, Field::Ticket, 1, 1), ONE, true),
     ((0, Field::Ticket, 1, 255), ONE, true),
     ((0, Field::Ticket, 2, 1), ONE, true),
@@ -210,7 +210,7 @@ const APART: [Heard; 16] = [
     (T, ONE, true),
 ];
 
-// Each copy of each bit of each register is heard by itself.
+// Each copy of each bit of each register is monitored by itself.
 #[test]
 fn bits_are_told_apart(rt: HostRuntime) -> Result<(), Fail> {
     let other = first_otherwise(rt.alloc(), &APART, AskedOfWatch::Keeps)?;

@@ -1,4 +1,4 @@
-//! Weighing: the lists of two ports, in which each call goes by a name. All calls are of the value `a`.
+//! Weighing the lists of two ports, in which each call has a name. All calls concern the name `a`.
 ghost use Rattle.std.specs.Prelude.{◌≤◌};
 
 use call_check::{Placed, Weighed, weigh};
@@ -8,12 +8,12 @@ use std::process::Abort;
 use std::test::Fail;
 use store_image::Image;
 
-/// Calls.
+/// The calls, by name.
 #[derive(Clone, Copy)]
 enum CallMade {
     Write,
     Read,
-    // The read with another place, reply or answer.
+    // The read with another position, reply or answer.
     ReadLate,
     ReadNever,
     ReadNowhere,
@@ -22,16 +22,16 @@ enum CallMade {
     ReadWithdrawn,
     // A read before the first change.
     ReadNothing,
-    // The write, cut by a failure, with its place and without one.
+    // The write, cut by a failure, with its position and without one.
     CutWrite,
     LostWrite,
-    // What comes behind the write and the read.
+    // The calls after the write and the read.
     AddOne,
     ReadSix,
     Swap,
     SwapNoName,
     AddNothing,
-    // In version 2: asks after the first change, which are told these numbers, and one that a failure cut before it was taken.
+    // For version 2: asks after the first change, which return these numbers, and an ask cut before it was taken.
     AskOne,
     AskTwo,
     LostAsk,
@@ -43,29 +43,29 @@ use CallMade::{
     Write,
 };
 
-/// The lists of two ports, and what they weigh.
+/// The lists of two ports, and the result of weighing them.
 type Row = (&'static [CallMade], &'static [CallMade], Weighed);
 
 // Against the image after the write.
 const AT_FIVE: [Row; 14] = [
     (&[Write], &[Read], Weighed::Good),
-    // The place is above that of the last store, and below one that no call can have.
+    // The position is above that of the last store; in the second row it is one that no call can have.
     (&[Write], &[ReadLate], Weighed::Bad(1, 0)),
     (&[Write], &[ReadNever], Weighed::Bad(1, 0)),
-    // It is one of two that would change store 0.
+    // It is one of two calls that would change store 0.
     (&[Write], &[Write], Weighed::Bad(0, 0)),
     (&[ReadNothing], &[Write, Write], Weighed::Bad(1, 0)),
     (&[ReadNothing, Write], &[Write, Write], Weighed::Bad(0, 1)),
-    // Its place is that of the change before it in its list; below that of the read before it.
+    // Its position is that of the change before it in its list, or is below that of the read before it.
     (&[Write, ReadNothing], &[Read], Weighed::Bad(0, 1)),
     (&[Write], &[Read, ReadNothing], Weighed::Bad(1, 1)),
     (&[Write], &[ReadNothing, Read], Weighed::Good),
     // Its reply is not that of its store.
     (&[Write], &[ReadOther], Weighed::Bad(1, 0)),
-    // It has a reply and no place, another answer and a place.
+    // It has a reply and no position, or another answer and a position.
     (&[Write], &[ReadNowhere], Weighed::Bad(1, 0)),
     (&[Write], &[ReadWithdrawn], Weighed::Bad(1, 0)),
-    // A cut call may have a place or none, and a taken one that changes counts.
+    // A cut call may have a position or none; if it was taken and changes the store, it counts as a change.
     (&[CutWrite, LostWrite], &[Read], Weighed::Good),
     (&[LostWrite], &[], Weighed::BadEnd),
 ];
@@ -73,14 +73,14 @@ const AT_FIVE: [Row; 14] = [
 // Against the image of the empty store.
 const AT_NOTHING: [Row; 1] = [(&[Write], &[Read], Weighed::BadEnd)];
 
-/// A true run: 5 is written, read, and made 6 by an add; 6 is read, and made 7 by a compare and swap; an add of 0 tells
-/// 7. The changes are the write, the add of 1 and the swap, so that the stores are four.
+/// A true run: 5 is written and read, and an add makes it 6. Then 6 is read, and a compare and swap makes it 7. An add
+/// of 0 returns 7. The changes are the write, the add of 1 and the swap, so there are four stores.
 const FIRST: &[CallMade] = &[Write, ReadSix, Swap];
 
 const SECOND: &[CallMade] = &[Read, AddOne, AddNothing];
 
-// The true run, with two calls of a list in the other order; with the lists in the other order, which no store of version 1
-// tells; and with two bad calls, of which it is that of the lower port, though the other one comes sooner in its list.
+// The true run with two calls of a list swapped, with the two lists swapped, which makes no difference in version 1, and
+// with two bad calls. The result is then the bad call of the lower port, even if the other is earlier in its list.
 const AT_SEVEN: [Row; 6] = [
     (&[ReadSix, Write, Swap], SECOND, Weighed::Bad(0, 1)),
     (&[Write, Swap, ReadSix], SECOND, Weighed::Bad(0, 2)),
@@ -163,7 +163,7 @@ fn placed(made: CallMade) -> Placed {
     }
 }
 
-/// The image of a store in which this was written, by process 0 as its first call.
+/// Returns the image of a store in which process 0 has written this count, as its first call.
 fn image(count: i64, callers: u8) -> Result<Image, AllocError>
     requires { callers ≤ 16 }
 {
@@ -219,14 +219,14 @@ fn weighs_lists(rt: HostRuntime) -> Result<(), Fail> {
     weighs(&rt, &AT_SEVEN, &image(7, 0)?)
 }
 
-/// How a call of the true run is another one.
+/// A change of a call of the true run.
 #[derive(Clone, Copy)]
 enum Change {
     Place(Option<u32>),
     Answer(Option<Answer>),
 }
 
-/// A list in which the call of this index, if there is one, is another one.
+/// Returns a list in which the call at this index, if there is one, is changed.
 fn changed(
     alloc: Global,
     calls: &[CallMade],
@@ -248,7 +248,7 @@ fn changed(
     Ok(list)
 }
 
-/// Weighs the true run in which a call is another one.
+/// Weighs the true run with one changed call.
 fn weighed_with(
     alloc: Global,
     port: usize,
@@ -266,33 +266,33 @@ fn weighed_with(
     weighed(alloc, first, second, &image)
 }
 
-/// Calls of the true run by port and index, each with another place, and what is then weighed.
+/// Calls of the true run by port and index, each with another position, and the result of weighing then.
 const OTHER_PLACES: [(usize, usize, Option<u32>, Weighed); 16] = [
     (0, 0, Some(0), Weighed::Good),
-    // The write: no call changes store 0, so that each later place is above it.
+    // The write: no call changes store 0, so each later position is above it.
     (0, 0, Some(1), Weighed::Bad(0, 0)),
     (0, 0, None, Weighed::Bad(0, 0)),
-    // The read of 6: the change before it has place 0; store 1 has 5, store 3 has 7; there is no store 4.
+    // The read of 6: the change before it has position 0. Store 1 has 5, store 3 has 7, and there is no store 4.
     (0, 1, Some(0), Weighed::Bad(0, 1)),
     (0, 1, Some(1), Weighed::Bad(0, 1)),
     (0, 1, Some(3), Weighed::Bad(0, 1)),
     (0, 1, Some(4), Weighed::Bad(0, 1)),
     (0, 1, None, Weighed::Bad(0, 1)),
-    // The swap: below the place of the read; above store 2, which no call changes now.
+    // The swap: below the position of the read, and above store 2, which no call changes now.
     (0, 2, Some(1), Weighed::Bad(0, 2)),
     (0, 2, Some(3), Weighed::Bad(0, 2)),
-    // The read of 5: store 0 is empty, store 2 has 6.
+    // The read of 5: store 0 is empty, and store 2 has 6.
     (1, 0, Some(0), Weighed::Bad(1, 0)),
     (1, 0, Some(2), Weighed::Bad(1, 0)),
-    // The add of 1: no call changes store 1, so that the other port's read is above it.
+    // The add of 1: no call changes store 1, so the other port's read is above it.
     (1, 1, Some(0), Weighed::Bad(0, 1)),
     (1, 1, Some(2), Weighed::Bad(0, 1)),
-    // The add of 0: store 2 has 6; there is no store 4.
+    // The add of 0: store 2 has 6, and there is no store 4.
     (1, 2, Some(2), Weighed::Bad(1, 2)),
     (1, 2, Some(4), Weighed::Bad(1, 2)),
 ];
 
-/// The same calls, each with another answer, which makes it bad.
+/// Calls of the true run, each with another answer, which makes it bad.
 const OTHER_ANSWERS: [(usize, usize, Answer); 9] = [
     (0, 0, Answer::Reply(Reply::StoreFull)),
     (0, 1, Answer::Reply(Reply::Value(Value::Count(5)))),
@@ -300,13 +300,13 @@ const OTHER_ANSWERS: [(usize, usize, Answer); 9] = [
     (1, 0, Answer::Reply(Reply::NoName)),
     (1, 1, Answer::Reply(Reply::Sum(7))),
     (1, 2, Answer::Reply(Reply::Done)),
-    // Not taken, and yet with a place.
+    // Calls with a position whose answer means that they were not taken.
     (0, 0, Answer::Withdrawn),
     (0, 1, Answer::StampsFull),
     (1, 2, Answer::TicketsFull { process: 1 }),
 ];
 
-/// The true run in which a call is another one weighs this.
+/// Asserts the result of weighing the true run with one changed call.
 fn weighs_so(
     rt: &(impl Abort + AllocGlobal),
     port: usize,
@@ -336,7 +336,7 @@ fn weighs_other_answers(rt: HostRuntime) -> Result<(), Fail> {
     Ok(())
 }
 
-// Cut, and taken all the same.
+// Each call of the true run may be cut and still be taken.
 #[test]
 fn weighs_cut_calls(rt: HostRuntime) -> Result<(), Fail> {
     for (port, index) in [(0, 0), (0, 1), (0, 2), (1, 0), (1, 1), (1, 2)] {
@@ -345,15 +345,15 @@ fn weighs_cut_calls(rt: HostRuntime) -> Result<(), Fail> {
     Ok(())
 }
 
-/// The list of a port, and what it weighs against the image after the write, in which its number is 1.
+/// The list of a port, and the result of weighing it against the image after the write, in which its number is 1.
 const IN_TWO: [(&[CallMade], Weighed); 3] = [
     (&[Write, AskOne], Weighed::Good),
-    // A cut call before it makes the write the second one of its process: the asker is told so, and the image has this number.
+    // After a cut call the write is call 2 of its process: a later ask returns 2, and the image must have this number.
     (&[LostAsk, Write, AskOne], Weighed::Bad(0, 2)),
     (&[LostAsk, Write, AskTwo], Weighed::BadEnd),
 ];
 
-/// Weighs in version 2 the list of a port, which is short, and an empty one.
+/// Weighs, in version 2, the short list of a port and an empty list.
 fn weighed_in_two(alloc: Global, calls: &[CallMade], image: &Image) -> Result<Weighed, AllocError> {
     let setup = Setup {
         version: 2,
@@ -366,7 +366,7 @@ fn weighed_in_two(alloc: Global, calls: &[CallMade], image: &Image) -> Result<We
     weigh(alloc, &setup, &[list, Vec::new(alloc)], image)
 }
 
-// The asker is told the number of its write.
+// An ask returns the number of the last write.
 #[test]
 fn weighs_version_two(rt: HostRuntime) -> Result<(), Fail> {
     let written = image(5, 2)?;

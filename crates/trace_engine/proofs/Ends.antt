@@ -1,4 +1,4 @@
--- What is read of a whole file, line by line.
+-- The reading of a whole file, line by line.
 use Rattle.std.proofs.Common.{◌≡◌, ℕ, ◌+◌, ◌≤◌, Bool, true, false, List, [], ◌∷◌, ◌++◌, length, Option, Some, None, Result, Ok, Err, IfErr, IfSome, IsErrAnd, refl, ap, sym, subst, ◌∙◌, arith}
 use Rattle.std.proofs.lemmas.List.{length-append}
 use Rattle.std.specs.Io.KnownBytes.{IsAtEnd, prepend_known}
@@ -12,11 +12,11 @@ use Rattle.trace_engine.specs.Trials.{GoesOn, ObservesAt, IsObserved, IsReadUpTo
 use Rattle.trace_engine.proofs.LineReads.{few_in, long_read}
 use Rattle.trace_engine.proofs.Trials.{unless_then}
 
--- what was read so far
+-- the result of reading so far
 abbrev pub read_so_far : Option TraceProgress → List TraceEntry → List ℕ → TraceRead
 read_so_far before entries numbers = record { last = before; entries = entries; numbers = numbers }
 
--- the line is read, and then the rest
+-- reading these lines reads the first line, and then the rest
 line_then : (n : ℕ) (text line rest : List ℕ) (before now : Option TraceProgress) (entries : List TraceEntry) (numbers : List ℕ) → TakesLine text line rest → line_read line before ≡ Ok now →
     rest_read n text (read_so_far before entries numbers) ≡ rest_read (n + 1) rest (read_so_far (cleared now) (entries ++ entry_in now) (numbers ++ number_in n now))
 line_then n text line rest before now entries numbers takes read =
@@ -24,57 +24,57 @@ line_then n text line rest before now entries numbers takes read =
     ∙ ap (λ r. (at_line n r >>= λ now. lines_read (n + 1) (lines rest) (read_so_far (cleared now) (entries ++ entry_in now) (numbers ++ number_in n now))) >>= said_by (n + length (line ∷ lines rest))) read
     ∙ ap (λ m. lines_read (n + 1) (lines rest) (read_so_far (cleared now) (entries ++ entry_in now) (numbers ++ number_in n now)) >>= said_by m) {y = n + 1 + length (lines rest)} (omega arith)
 
--- or it has a fault
+-- reading stops at the first line if that has a fault
 line_fault : (n : ℕ) (text line : List ℕ) (others : List (List ℕ)) (before : Option TraceProgress) (entries : List TraceEntry) (numbers : List ℕ) (kind : FaultKind) → lines text ≡ line ∷ others → line_read line before ≡ Err kind →
     rest_read n text (read_so_far before entries numbers) ≡ Err (record { line = n; kind = kind })
 line_fault n text line others before entries numbers kind is fault =
     ap (λ ls. lines_read n ls (read_so_far before entries numbers) >>= said_by (n + length ls)) is
     ∙ ap (λ r. (at_line n r >>= λ now. lines_read (n + 1) others (read_so_far (cleared now) (entries ++ entry_in now) (numbers ++ number_in n now))) >>= said_by (n + length (line ∷ others))) fault
 
--- reading what is left, behind so many lines, gives what reading all gives
+-- reading the rest, after `taken` lines, gives the same result as reading the whole text
 abbrev pub GoesOnTo : Option TraceProgress → List TraceEntry → List ℕ → ℕ → List ℕ → List ℕ → Type 0
 GoesOnTo before entries numbers taken text left = rest_read (taken + 1) left (read_so_far before entries numbers) ≡ trace_said text
 
--- a relation of three moments
+-- two relations between texts, each known or not, compose to a third
 pub reported_on : (a b c : Option (List ℕ)) (P Q R : List ℕ → List ℕ → Type 0) → ((x y z : List ℕ) → P x y → Q y z → R x z) → Told a b P → Told b c Q → Told a c R
 reported_on None b c P Q R then first next = tt
 reported_on (Some x) None c P Q R then first next = absurd first
 reported_on (Some x) (Some y) None P Q R then first next = absurd next
 reported_on (Some x) (Some y) (Some z) P Q R then first next = then x y z first next
 
--- a fact of the whole input, by what is left of it
+-- a fact of the whole input, from a fact of the rest of it
 of_input : (to_come rest : Option (List ℕ)) (P : List ℕ → List ℕ → Type 0) (Q R : List ℕ → Type 0) → ((x y : List ℕ) → P x y → Q y → R x) → Told to_come rest P → IfSome rest Q → IfSome to_come R
 of_input None rest P Q R then reported is = tt
 of_input (Some x) None P Q R then reported is = absurd reported
 of_input (Some x) (Some y) P Q R then reported is = then x y reported is
 
--- nothing is left
+-- no byte remains
 at_end : (mid : Option (List ℕ)) → IsAtEnd mid → IfSome mid (λ y. y ≡ [])
 at_end None is = tt
 at_end (Some y) is = is
 
--- and no end was reported
+-- no end was reported yet
 pub none_reported : (ahead : Given) (to_come : Option (List ℕ)) → ahead.ended ≡ false → EndHolds ahead to_come
 none_reported ahead to_come open_yet reported = let both : false ≡ true = sym open_yet ∙ reported in absurd (cc)
 
--- a line more
+-- one more line
 pub goes_on : (before now : Option TraceProgress) (entries : List TraceEntry) (numbers : List ℕ) (taken taken' : ℕ) (line x y z : List ℕ) → taken' ≡ taken + 1 → line_read line before ≡ Ok now → GoesOnTo before entries numbers taken x y → TakesLine y line z →
     GoesOnTo (cleared now) (entries ++ entry_in now) (numbers ++ number_in taken' now) taken' x z
 goes_on before now entries numbers taken taken' line x y z one says so_far takes =
     subst (λ n. GoesOnTo (cleared now) (entries ++ entry_in now) (numbers ++ number_in n now) n x z) (sym one)
     (sym (line_then (taken + 1) y line z before now entries numbers takes says) ∙ so_far)
 
--- no line yet
+-- before the first line
 goes_on_at_first : (to_come : Option (List ℕ)) (taken : ℕ) → taken ≡ 0 → Told to_come (prepend_known [] to_come) (GoesOnTo None [] [] taken)
 goes_on_at_first None taken none = tt
 goes_on_at_first (Some text) taken none = subst (λ n. GoesOnTo None [] [] n text text) (sym none) refl
 
--- no line is left
+-- no line remains
 ended : (before : Option TraceProgress) (entries : List TraceEntry) (numbers : List ℕ) (taken : ℕ) (x y : List ℕ) → GoesOnTo before entries numbers taken x y → y ≡ [] → rest_read (taken + 1) [] (read_so_far before entries numbers) ≡ trace_said x
 ended before entries numbers taken x y so_far none = subst (λ y. GoesOnTo before entries numbers taken x y) none so_far
 
 module _ {H : Type 0} (HasObserved : H → TraceSetup → List TraceEntry → List ℕ → Type 0) where
-  -- what was read and observed, and that reading the rest gives what reading all gives
+  -- the part that was read and observed; reading the rest gives the same result as reading the whole text
   pub record Onwards (to_come rest : Option (List ℕ)) (taken : ℕ) (reader : Option TraceProgress) (reporter : Option H) : Type 0 where
     pub before : Option TraceProgress
     pub entries : List TraceEntry
@@ -83,7 +83,7 @@ module _ {H : Type 0} (HasObserved : H → TraceSetup → List TraceEntry → Li
     pub few : length entries ≤ taken
     pub goes_on : Told to_come rest (GoesOnTo before entries numbers taken)
 
-  -- as many entries were observed as were read
+  -- the number of observed entries is the number of entries read
   observed_count : (count : H → ℕ) → ((h : H) (s : TraceSetup) (entries : List TraceEntry) (numbers : List ℕ) → HasObserved h s entries numbers → count h ≡ length entries) → (h : Option H) (before : Option TraceProgress) (entries : List TraceEntry) (numbers : List ℕ) → ObservesAt HasObserved h before entries numbers → count_by count h ≡ length entries
   observed_count count counts None before entries numbers observed = sym (ap (λ (l : List TraceEntry). length l) observed.0)
   observed_count count counts (Some h) None entries numbers observed = absurd observed
@@ -93,14 +93,14 @@ module _ {H : Type 0} (HasObserved : H → TraceSetup → List TraceEntry → Li
   onwards_few count counts to_come rest taken reader h u =
       let few : length u.entries ≤ taken = u.few in let same = observed_count count counts h u.before u.entries u.numbers u.read_up_to.observed in omega (arith, few, same)
 
-  -- before the first line, where no bytes have come yet
+  -- before the first line, when no byte has arrived
   pub onwards_start : (to_come : Option (List ℕ)) (ahead : Given) (taken : ℕ) (reader : Option TraceProgress) (h : Option H) → ahead.bytes ≡ [] → ahead.ended ≡ false → taken ≡ 0 → IsReadUpTo HasObserved reader h None [] [] → Onwards to_come (coming ahead to_come) taken reader h
   onwards_start to_come ahead taken reader h fresh open_yet none read_up_to =
       subst (λ (l : List ℕ). Onwards to_come (prepend_known l (unless_ended ahead.ended to_come)) taken reader h) (sym fresh)
       (subst (λ (b : Bool). Onwards to_come (prepend_known [] (unless_ended b to_come)) taken reader h) (sym open_yet)
       (record { before = None; entries = []; numbers = []; read_up_to = read_up_to; few = omega arith; goes_on = goes_on_at_first to_come taken none }))
 
-  -- a line more
+  -- one more line
   abbrev pub onwards_on : (to_come mid rest : Option (List ℕ)) (l l' : LineState) (reader reader' : Option TraceProgress) (h h' : Option H) (u : Onwards to_come mid l.taken reader h) → TakesNext l l' mid rest →
       GoesOn HasObserved l'.taken l'.line u.before reader' h' u.entries u.numbers → Onwards to_come rest l'.taken reader' h'
   onwards_on to_come mid rest l l' reader reader' h h' u takes on = record {
@@ -132,7 +132,7 @@ module _ {H : Type 0} (HasObserved : H → TraceSetup → List TraceEntry → Li
       of_input to_come mid (GoesOnTo u.before u.entries u.numbers taken) IsTooLong (λ text. trace_said text ≡ Err (record { line = taken + 1; kind = TooLong }))
       (λ x y so_far is. sym so_far ∙ line_fault (taken + 1) y is.line is.others u.before u.entries u.numbers TooLong is.is (long_read is.line u.before is.long)) u.goes_on long
 
-  -- no line more, for a fault
+  -- no further line, because of a fault
   pub next_fault : (to_come mid rest : Option (List ℕ)) (l l' : LineState) (reader : Option TraceProgress) (h : Option H) (f : Fault) (u : Onwards to_come mid l.taken reader h) → GoesToNext (Err f) l l' mid rest → IsTraceFault f to_come
   next_fault to_come mid rest l l' reader h (fault.Line f) u goes = subst (λ (f : LineFault). IsTraceFault (fault.Line f) to_come) (sym goes.0) (onwards_long to_come mid l.taken reader h u goes.1)
   next_fault to_come mid rest l l' reader h fault.Read u goes = tt
@@ -146,7 +146,7 @@ module _ {H : Type 0} (HasObserved : H → TraceSetup → List TraceEntry → Li
       of_input to_come mid (GoesOnTo u.before u.entries u.numbers taken) (λ y. y ≡ []) (λ text. trace_said text ≡ Err (record { line = taken + 1; kind = NotFirst }))
       (λ x y so_far is. sym (ended u.before u.entries u.numbers taken x y so_far is) ∙ ap (λ b. rest_read (taken + 1) [] (read_so_far b u.entries u.numbers)) none ∙ ap (λ n. Err (record { line = n; kind = NotFirst })) {y = taken + 1} (omega arith)) u.goes_on (at_end mid end)
 
-  -- what holds of all that the text says
+  -- a fact of the whole trace that the text means
   pub onwards_all : (P : TraceSetup → List TraceEntry → List ℕ → Type 0) (to_come mid : Option (List ℕ)) (taken : ℕ) (reader : Option TraceProgress) (h : Option H) (u : Onwards to_come mid taken reader h) (p : TraceProgress) → u.before ≡ Some p →
       P p.setup u.entries u.numbers → IsAtEnd mid → IfSome to_come (IsOfTrace P)
   onwards_all P to_come mid taken reader h u p read holds end =
@@ -156,7 +156,7 @@ module _ {H : Type 0} (HasObserved : H → TraceSetup → List TraceEntry → Li
         holds = holds;
       }) u.goes_on (at_end mid end)
 
--- a fact of the fault that is answered
+-- a fact of the fault that is returned
 pub if_err : {A : Type 0} (r : Result A Fault) (f : Fault) (P : Fault → Type 0) → IsErrAnd r (λ e. e ≡ f) → P f → IfErr r P
 if_err (Ok x) f P is holds = tt
 if_err (Err e) f P is holds = subst P (sym is) holds

@@ -8,16 +8,16 @@ use Rattle.files.specs.declared.faults.Fault.TheVariants as fault
 use Rattle.trace.specs.{TraceEntry, TraceSetup}
 use Rattle.trace_engine.specs.Reports.{HasReported, IsOfTrace, IsTraceFault, ReporterState, ReportsAll, ReportsFront, ReportsTrace, TraceEnds}
 
--- what follows of the whole input, where it is known
+-- an implication about the whole input, if the input is known
 pub if_some : (o : Option (List ℕ)) (P Q : List ℕ → Type 0) → ((x : List ℕ) → P x → Q x) → IfSome o P → IfSome o Q
 if_some None P Q then is = tt
 if_some (Some x) P Q then is = then x is
 
--- nothing was written
+-- the output is unchanged
 pub keeps : (old new : Option (List ℕ)) → new ≡ old → Keeps old new
 keeps old new same = subst (λ n. Keeps old n) (sym same) (kept old)
 
--- what a call that writes answers where it failed
+-- the result of a failed write
 abbrev pub cut_by : Fault → Result (Unit {0}) Fault
 cut_by f = Err f
 
@@ -48,7 +48,7 @@ module _ (why : Bool) where
     end,
   )
 
-  -- a front of it was, before a call failed
+  -- only the start of the report was written, because a write failed
   pub ends_cut : (r : Result ℕ Fault) (f : Fault) (t : ReporterState) (reported : List ℕ) (status : ℕ) (old new : Streams) → IsErrAnd r (λ e. e ≡ f) → cut_by f ≡ cut_by fault.Write → IfSome old.to_come (IsOfTrace (HasReported why t)) → Reporting t reported status →
       new.write_failures ≡ old.write_failures + 1 → WritesFront old.taken new.taken reported → TraceEnds why r old new
   ends_cut (Ok s) f t reported status old new is write observed report failed front = absurd is

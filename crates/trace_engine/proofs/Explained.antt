@@ -9,7 +9,7 @@ use Rattle.trace_judge.proofs.Sound.{means-sound}
 use Rattle.trace_engine.specs.Lines.{lines_if, trace_reason_lines, trace_status_of, trace_verdict_line}
 use Rattle.trace_engine.specs.Reports.{AreLinesAt, AreLinesOf, HasReported, ReporterState, ReportsTrace, is_good}
 
--- the number at the end
+-- the last number of a list
 last_number : (ns : List ℕ) (n k : ℕ) → length ns ≡ k → slice_get (ns ++ n ∷ []) k ≡ Some n
 last_number ns n k long = subst (λ k. slice_get (ns ++ n ∷ []) k ≡ Some n) long (at ns)
   where
@@ -17,7 +17,7 @@ last_number ns n k long = subst (λ k. slice_get (ns ++ n ∷ []) k ≡ Some n) 
     at [] = refl
     at (m ∷ ns) = at ns
 
--- and one before it
+-- a number before the last
 number_before : (ns : List ℕ) (n k m : ℕ) → slice_get ns k ≡ Some m → slice_get (ns ++ n ∷ []) k ≡ Some m
 number_before [] n k m is = absurd (cc)
 number_before (x ∷ ns) n zero m is = is
@@ -37,7 +37,7 @@ good_is : (v : TraceVerdict) → is_good v ≡ true → v ≡ Good
 good_is Good is = refl
 good_is (Bad k l) is = absurd (true≢false (sym is))
 
--- lines that are not asked for
+-- if no lines are asked for, there are none
 unasked : (s : TraceSetup) (entries : List TraceEntry) (numbers : List ℕ) (v : TraceVerdict) (lines : List ℕ) → AreLinesOf false s entries numbers v lines → lines ≡ []
 unasked s entries numbers Good lines are = are
 unasked s entries numbers (Bad k l) lines are = are
@@ -47,7 +47,7 @@ none_asked s entries numbers Good lines none = none
 none_asked s entries numbers (Bad k l) lines none = none
 
 module _ (s : TraceSetup) (entries : List TraceEntry) (numbers : List ℕ) (n : ℕ) (e : TraceEntry) where
-  -- one more entry behind the bad one
+  -- the lines are unchanged by one more entry after the bad one
   lines_stay : (k : ℕ) (l : TraceLaw) (lines : List ℕ) → AreLinesAt s entries numbers k l lines → AreLinesAt s (entries ++ e ∷ []) (numbers ++ n ∷ []) k l lines
   lines_stay k l lines at = record {
     entry = at.entry;
@@ -78,7 +78,7 @@ module _ (s : TraceSetup) (entries : List TraceEntry) (numbers : List ℕ) (n : 
           subst (λ (v : TraceVerdict). AreLinesOf true s (entries ++ e ∷ []) (numbers ++ n ∷ []) v t.lines) (sym (judged.verdict ∙ verdict_bad s entries e k l (sym reported.judged.verdict ∙ is)))
           (lines_stay k l t.lines (subst (λ (v : TraceVerdict). AreLinesOf true s entries numbers v t.lines) is are))
 
-  -- no reasons behind a good verdict
+  -- after a good verdict there are no reasons
   pub reported_good : (why : Bool) (t t' : ReporterState) → HasReported why t s entries numbers → HasJudged t'.judge s (entries ++ e ∷ []) → t'.why ≡ t.why → t'.lines ≡ t.lines → is_good t.judge.verdict ≡ true → AreReasonsOf s (entries ++ e ∷ []) (verdict_of s (entries ++ e ∷ [])) None →
       HasReported why t' s (entries ++ e ∷ []) (numbers ++ n ∷ [])
   reported_good why t t' reported judged same lines good reasons = record {
@@ -156,7 +156,7 @@ reported_first why t s asked none judged = record {
   are = subst (λ (v : TraceVerdict). AreLinesOf why s [] [] v t.lines) (sym judged.verdict) none;
 }
 
--- what is reported
+-- the report on the entries observed
 pub reports : (why : Bool) (t : ReporterState) (reported : List ℕ) (status n : ℕ) (v : TraceVerdict) (s : TraceSetup) (entries : List TraceEntry) (numbers : List ℕ) → HasReported why t s entries numbers → v ≡ verdict_of s entries → n ≡ length entries → status ≡ trace_status_of v →
     reported ≡ trace_verdict_line n v ++ t.lines → ReportsTrace why s entries numbers reported status
 reports why t reported status n v s entries numbers has is count answer text = record {
@@ -167,7 +167,7 @@ reports why t reported status n v s entries numbers has is count answer text = r
   text = text ∙ (λ i. trace_verdict_line (count i) (is i) ++ t.lines);
 }
 
--- what follows, where there was memory
+-- an implication about a successful result
 pub ok_then : {A E : Type 0} (r : Result A E) {P Q : Type 0} → (P → Q) → OnOk r P → OnOk r Q
 ok_then (Ok a) then p = then p
 ok_then (Err e) then p = tt

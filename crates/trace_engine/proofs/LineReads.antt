@@ -1,4 +1,4 @@
--- What a line of a trace file leaves of what was read before it.
+-- The effect of a line of a trace file on the progress of reading.
 use Rattle.std.proofs.Common.{◌≡◌, ℕ, ◌==◌, ◌<◌, ◌≤◌, ◌||◌, ◌&&◌, not, nat_lt, Bool, true, false, if◌then◌else◌, List, [], ◌∷◌, ◌++◌, length, codes, Option, Some, None, Result, Ok, Err, ◌⊎◌, inl, inr, refl, ap, sym, ◌∙◌, arith, true≢false}
 use Rattle.std.proofs.lemmas.Bool.{or_left, or_right}
 use Rattle.std.proofs.lemmas.Bool.Decides.{nat_tests}
@@ -16,12 +16,12 @@ use Rattle.trace_file.specs.TraceFiles.{TraceProgress, cell_name_of, cleared, de
 use Rattle.trace_file.specs.declared.keywords.TraceLine.{TraceLine}
 use Rattle.trace_file.specs.declared.keywords.TraceLine.TheVariants as line
 
--- a line says no entry, and what has ended stays
+-- the line is not an entry, and what has ended stays ended
 pub record LeftQuiet (p now : TraceProgress) : Type 0 where
   pub entry : now.entry ≡ p.entry
   pub stays : p.ended ≡ true → (now.ended ≡ true) × (now.setup ≡ p.setup)
 
--- it says one, and the setup stays
+-- the line is an entry, and the setup is unchanged
 pub record LeftEntry (p now : TraceProgress) : Type 0 where
   pub entry : TraceEntry
   pub is : now.entry ≡ Some entry
@@ -31,7 +31,7 @@ pub record LeftEntry (p now : TraceProgress) : Type 0 where
 abbrev pub Left : TraceProgress → TraceProgress → Type 0
 Left p now = LeftQuiet p now ⊎ LeftEntry p now
 
--- what was read is one thing
+-- reading has one result
 ok_same : {A : Type 0} (x y : A) → (let r : Result A FaultKind = Ok x in r) ≡ Ok y → x ≡ y
 ok_same x y is = cc
 
@@ -44,7 +44,7 @@ held p now b r is late keeps =
     let a = passed (fault_if b NotFirst) (λ in_place. r) now is in
     inl (record { entry = keeps a.next; stays = λ over. absurd (true≢false (sym (late over) ∙ no_fault b NotFirst a.value a.first)) })
 
--- `processes N` behind its check
+-- `processes N` after its check
 abbrev processes_rest : List (List ℕ) → TraceProgress → Result TraceProgress FaultKind
 processes_rest words p = counted 1 words >>= λ counts. number_at 255 (word 0 words) >>= λ n. fault_if (not (is_in_range 1 16 n)) BadSetup >>= λ fits. Ok (record p { setup = record p.setup { processes = n }; has_processes = true })
 
@@ -60,7 +60,7 @@ unfolding processes_read
 processes_left words p now is = held p now (p.has_processes || is_declared p) (processes_rest words p) is
     (λ over. or_right p.has_processes (is_declared p) (or_left p.ended (not (length p.setup.registers == 0)) over)) (processes_same words p now)
 
--- `memory M` behind its check
+-- `memory M` after its check
 abbrev memory_rest : TraceMemory → List (List ℕ) → TraceProgress → Result TraceProgress FaultKind
 memory_rest memory words p = counted 0 words >>= λ counts. Ok (record p { setup = record p.setup { memory = memory }; has_memory = true })
 
@@ -79,7 +79,7 @@ memory_left (name ∷ words) p now is =
     held p now (p.has_memory || is_declared p) (memory_rest a.value words p) a.next
     (λ over. or_right p.has_memory (is_declared p) (or_left p.ended (not (length p.setup.registers == 0)) over)) (memory_same a.value words p now)
 
--- a register behind its check
+-- a register after its check
 declared_same : (r : TraceRegister) (p now : TraceProgress) → declared_read r p ≡ Ok now → now.entry ≡ p.entry
 declared_same r p now h = by (may_declare p.setup r) h
   where
@@ -120,7 +120,7 @@ entry_left first words p now is =
       setup = ap (λ (q : TraceProgress). q.setup) (sym same);
     })
 
--- a line behind the first, by what its first word means
+-- a line after the first, by the meaning of its first word
 said_left : (kind : TraceLine) (first : List ℕ) (words : List (List ℕ)) (p now : TraceProgress) → line_said kind first words p ≡ Ok now → Left p now
 said_left line.Trace first words p now is = absurd (cc)
 said_left line.Processes first words p now is = processes_left words p now is
@@ -129,7 +129,7 @@ said_left line.Register first words p now is = register_left false words p now i
 said_left line.Shared first words p now is = register_left true words p now is
 said_left line.Entry first words p now is = entry_left first words p now is
 
--- a line behind the first
+-- a line after the first
 pub record LeftLater (p : TraceProgress) (now : Option TraceProgress) : Type 0 where
   pub next : TraceProgress
   pub is : now ≡ Some next
@@ -146,7 +146,7 @@ later_left (first ∷ words) p now is = by (begins_with 35 first) is
         let b = passed (known (kind_of first)) (λ kind. line_said kind first words p) a.value a.first in
         record { next = a.value; is = sym (ok_same (Some a.value) now a.next); left = said_left b.value first words p a.value b.next }
 
--- the first line says no entry
+-- the first line is not an entry
 first_none : (first : List ℕ) (words : List (List ℕ)) (p : TraceProgress) → first_read first words ≡ Ok p → p.entry ≡ None
 first_none first words p is = by (bytes_eq first (codes "trace") && ((length words == 1) && bytes_eq (word 0 words) (codes "1"))) is
   where
@@ -170,22 +170,22 @@ short_read line before short =
     let test : nat_lt 128 (length line) ≡ false = grind (arith, nat_tests) in
     ap (λ t. if t then Err TooLong else words_read trace_grammar (words_of line) before) test
 
--- and one that is too long is not
+-- a line that is too long is refused
 pub long_read : (line : List ℕ) (before : Option TraceProgress) → 128 < length line → line_read line before ≡ Err TooLong
 long_read line before long =
     let test : nat_lt 128 (length line) ≡ true = grind (arith, nat_tests) in
     ap (λ t. if t then Err TooLong else words_read trace_grammar (words_of line) before) test
 
--- what was taken stays taken
+-- clearing the entry twice is clearing it once
 pub clear_twice : (now : Option TraceProgress) → cleared (cleared now) ≡ cleared now
 clear_twice None = refl
 clear_twice (Some p) = refl
 
--- where no entry was read, there is none to take
+-- if no entry was read, clearing it changes nothing
 pub quiet_is_cleared : (now : TraceProgress) → now.entry ≡ None → Some now ≡ cleared (Some now)
 quiet_is_cleared now none = ap (λ (o : Option TraceEntry). Some (record now { entry = o })) none
 
--- a line says one entry at most
+-- a line is at most one entry
 pub few_in : (now : Option TraceProgress) → length (entry_in now) ≤ 1
 few_in None = omega arith
 few_in (Some p) = by p.entry
@@ -194,11 +194,11 @@ few_in (Some p) = by p.entry
     by None = omega arith
     by (Some e) = omega arith
 
--- what was read before a line, and was taken, says no entry
+-- progress whose entry is cleared has none
 pub empty : (p : TraceProgress) → cleared (Some p) ≡ Some p → p.entry ≡ None
 empty p clear = ap (λ (o : Option TraceProgress). elim o as (λ _. Option TraceEntry) [ None ↦ None | Some q ↦ q.entry ]) (sym clear)
 
--- a line that says no entry has no number, and one that says one has its own
+-- a line that is not an entry adds no number, and an entry adds its own
 pub number_of_none : (n : ℕ) (now : Option TraceProgress) → entry_in now ≡ [] → number_in n now ≡ []
 number_of_none n None none = refl
 number_of_none n (Some p) none = by p.entry none

@@ -1,7 +1,7 @@
--- Texts behind one another.
+-- Texts that follow one another.
 use Rattle.std.proofs.Common.{◌≡◌, ℕ, List, [], ◌++◌, sym, ◌∙◌, append_assoc, append-nil}
 
--- nothing more
+-- with an empty text
 pub none : (t : List ℕ) → t ≡ t ++ []
 none t = sym (append-nil t)
 

@@ -1,4 +1,4 @@
--- What a line of a trace file leaves of what was observed before it.
+-- The effect of a line of a trace file on the observed entries.
 use Rattle.std.proofs.Common.{◌≡◌, ℕ, ◌≤◌, Bool, List, [], ◌∷◌, ◌++◌, length, IsSome, Option, Some, None, Ok, inl, inr, ap, sym, subst, ◌∙◌, append-nil}
 use Rattle.std.specs.Option.{option_to_list}
 use Rattle.files.specs.{FaultKind, UnlessMemory, words_of, words_read}
@@ -8,23 +8,23 @@ use Rattle.trace_file.specs.TraceFiles.{TraceProgress, cleared, entry_in, line_r
 use Rattle.trace_engine.specs.Trials.{GoesOn, Observes, ObservesAt, IsReadUpTo}
 use Rattle.trace_engine.proofs.LineReads.{clear_twice, empty, first_left, later_left, number_of_none, number_of_some, short_read}
 
--- what follows from a fact that is known unless memory ran out
+-- an implication between facts that are known unless memory ran out
 pub unless_then : (kind : FaultKind) {P Q : Type 0} → (P → Q) → UnlessMemory kind P → UnlessMemory kind Q
 unless_then Memory leads p = p
 unless_then _ leads p = leads p
 
 module _ {H : Type 0} (HasObserved : H → TraceSetup → List TraceEntry → List ℕ → Type 0) where
-  -- what was observed with a setup was observed with an equal one
+  -- entries observed with a setup were observed with an equal one
   observed_at : (s t : TraceSetup) (h : H) (entries : List TraceEntry) (numbers : List ℕ) → s ≡ t → HasObserved h s entries numbers → HasObserved h t entries numbers
   observed_at s t h entries numbers same observed = subst (λ s. HasObserved h s entries numbers) same observed
 
-  -- with nothing more
+  -- with no further entries
   with_none : (h : Option H) (before : Option TraceProgress) (entries more : List TraceEntry) (numbers at : List ℕ) → more ≡ [] → at ≡ [] → ObservesAt HasObserved h before entries numbers → ObservesAt HasObserved h before (entries ++ more) (numbers ++ at)
   with_none h before entries more numbers at none zero observed =
       subst (λ (l : List TraceEntry). ObservesAt HasObserved h before l (numbers ++ at)) (sym (ap (λ l. entries ++ l) none ∙ append-nil entries))
       (subst (λ (l : List ℕ). ObservesAt HasObserved h before entries l) (sym (ap (λ l. numbers ++ l) zero ∙ append-nil numbers)) observed)
 
-  -- behind a line that says no entry
+  -- after a line that is not an entry
   still_at : (line : List ℕ) (before now : Option TraceProgress) (h : Option H) (entries : List TraceEntry) (numbers : List ℕ) → words_read trace_grammar (words_of line) before ≡ Ok now → cleared before ≡ before → entry_in now ≡ [] →
       ObservesAt HasObserved h before entries numbers → ObservesAt HasObserved h (cleared now) entries numbers
   still_at line before now None entries numbers read clear none observed = observed
@@ -57,12 +57,12 @@ module _ {H : Type 0} (HasObserved : H → TraceSetup → List TraceEntry → Li
       before_it None observed same = observed
       before_it (Some i) observed same = observed_at p.setup now.setup i entries numbers (sym same) observed.1
 
-  -- what its words say, by what was read before it
+  -- the words of a line are read after the reader's progress as after `before`
   read_at : (line : List ℕ) (reader : Option TraceProgress) (h : Option H) (before : Option TraceProgress) (entries : List TraceEntry) (numbers : List ℕ) → IsReadUpTo HasObserved reader h before entries numbers →
       words_read trace_grammar (words_of line) reader ≡ words_read trace_grammar (words_of line) before
   read_at line reader h before entries numbers read_up_to = ap (λ (o : Option TraceProgress). words_read trace_grammar (words_of line) o) read_up_to.read
 
-  -- How a line ends: it says no entry
+  -- The end of a line that is not an entry.
   pub ends_quiet : (n : ℕ) (line : List ℕ) (reader reader' now : Option TraceProgress) (h : Option H) (before : Option TraceProgress) (entries : List TraceEntry) (numbers : List ℕ) → length line ≤ 128 → IsReadUpTo HasObserved reader h before entries numbers →
       words_read trace_grammar (words_of line) reader ≡ Ok now → reader' ≡ cleared now → entry_in now ≡ [] → GoesOn HasObserved n line before reader' h entries numbers
   ends_quiet n line reader reader' now h before entries numbers short read_up_to read same none =
@@ -77,7 +77,7 @@ module _ {H : Type 0} (HasObserved : H → TraceSetup → List TraceEntry → Li
         };
       }
 
-  -- it is an entry, which was observed
+  -- the end of a line that is an entry, which was observed
   pub ends_observed : (n : ℕ) (line : List ℕ) (reader reader' : Option TraceProgress) (now : TraceProgress) (e : TraceEntry) (h h' : Option H) (before : Option TraceProgress) (entries : List TraceEntry) (numbers : List ℕ) → length line ≤ 128 → IsReadUpTo HasObserved reader h before entries numbers →
       words_read trace_grammar (words_of line) reader ≡ Ok (Some now) → now.entry ≡ Some e → reader' ≡ cleared (Some now) → IsSome h' →
       ((entries : List TraceEntry) (numbers : List ℕ) → Observes HasObserved h now.setup entries numbers → Observes HasObserved h' now.setup (entries ++ e ∷ []) (numbers ++ n ∷ [])) → GoesOn HasObserved n line before reader' h' entries numbers

@@ -17,30 +17,30 @@ abbrev pub trace_status_of : TraceVerdict → ℕ
 trace_status_of Good = 0
 trace_status_of (Bad entry law) = 3
 
--- a word and a number
+-- the line of a word and a number
 abbrev pub number_line : List ℕ → ℕ → List ℕ
 number_line word n = word ++ (codes " " ++ (decimal n ++ codes "\n"))
 
--- a word and the number of an entry, if there is one
+-- the line of a word and the number of an entry, if there is one
 abbrev pub number_if : List ℕ → Option ℕ → List ℕ
 number_if word None = []
 number_if word (Some n) = number_line word n
 
--- a word and an entry
+-- the line of a word and an entry
 abbrev pub entry_line : List ℕ → List TraceRegister → TraceEntry → List ℕ
 entry_line word registers e = word ++ (codes " " ++ trace_entry_line registers e)
 
--- the entry with a value with which it keeps all laws, if there is one
+-- the line of the entry with a value with which it keeps all laws, if there is one
 abbrev pub may_if : List TraceRegister → TraceEntry → Option ℕ → List ℕ
 may_if registers e None = []
 may_if registers e (Some v) = entry_line (codes "may") registers (entry_reading v e)
 
--- with each
+-- the lines of all these values
 abbrev pub may_lines : List TraceRegister → TraceEntry → List (Option ℕ) → List ℕ
 may_lines registers e [] = []
 may_lines registers e (v ∷ values) = may_if registers e v ++ may_lines registers e values
 
--- why it is refused
+-- the text of a refusal
 abbrev pub refused_text : TraceRefused → List ℕ
 refused_text (by.Access r) = cell_refusal_text r
 refused_text (by.Marks r) = lock_mark_refusal_text r
@@ -49,12 +49,12 @@ abbrev pub refused_line : Option TraceRefused → List ℕ
 refused_line None = []
 refused_line (Some r) = codes "refused " ++ (refused_text r ++ codes "\n")
 
--- the stage of its process
+-- the line of the stage of the process, if the process exists
 abbrev pub stage_line : Option LockStage → List ℕ
 stage_line None = []
 stage_line (Some stage) = codes "stage " ++ (lock_stage_text stage ++ codes "\n")
 
--- a word, a process and an entry, for each process from q on that has one
+-- the lines of a word, a process and an entry, for each process from q on that has an entry
 abbrev pub pair_line : List ℕ → ℕ → ℕ → List ℕ
 pair_line word q n = word ++ (codes " " ++ (decimal q ++ (codes " " ++ (decimal n ++ codes "\n"))))
 
@@ -66,23 +66,23 @@ abbrev pub pair_lines : List ℕ → ℕ → List (Option ℕ) → List ℕ
 pair_lines word q [] = []
 pair_lines word q (n ∷ entries) = pair_if word q n ++ pair_lines word (q + 1) entries
 
--- the entry itself, and how it would keep all laws
+-- the line number, the entry, and the values with which the entry would keep all laws
 abbrev pub entry_lines : ℕ → List TraceRegister → TraceEntry → TraceReasons → List ℕ
 entry_lines n registers e r = number_line (codes "line") n ++ (entry_line (codes "is") registers e ++ may_lines registers e r.may)
 
--- its process
+-- the lines about the process of the entry
 abbrev pub process_lines : TraceReasons → List ℕ
 process_lines r = refused_line r.refused ++ (stage_line r.stage ++ number_if (codes "open") r.opened)
 
--- the other processes
+-- the lines about the other processes
 abbrev pub other_lines : TraceReasons → List ℕ
 other_lines r = pair_lines (codes "inside") 0 r.inside ++ (pair_lines (codes "waits") 0 r.waits ++ number_if (codes "doorway") r.doorway)
 
--- the lines of the reasons of an entry of line n
+-- the lines of the reasons of an entry, whose line has number n
 abbrev pub trace_reason_lines : ℕ → List TraceRegister → TraceEntry → TraceReasons → List ℕ
 trace_reason_lines n registers e r = entry_lines n registers e r ++ (process_lines r ++ other_lines r)
 
--- these lines, if there are reasons and they are asked for
+-- the lines of the reasons, if there are reasons and they are asked for
 abbrev pub lines_if : Bool → ℕ → List TraceRegister → TraceEntry → Option TraceReasons → List ℕ
 lines_if true n registers e (Some r) = trace_reason_lines n registers e r
 lines_if _ n registers e _ = []

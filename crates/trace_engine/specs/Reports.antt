@@ -10,7 +10,7 @@ use Rattle.trace_judge.specs.{AreReasons, HasJudged, JudgeState, MeansSound, Tra
 use Rattle.trace_judge.specs.declared.verdicts.TraceVerdict.TheVariants.{Good, Bad}
 use Rattle.trace_engine.specs.Lines.{trace_reason_lines, trace_status_of, trace_verdict_line}
 
--- these are the lines of the reasons of entry k, which breaks law l first, by the entries before it
+-- these are the lines of the reasons of entry k, which breaks law l first, after the entries before it
 pub record AreLinesAt (s : TraceSetup) (entries : List TraceEntry) (numbers : List ℕ) (k : ℕ) (l : TraceLaw) (lines : List ℕ) : Type 0 where
   pub entry : TraceEntry
   pub past : TracePast
@@ -23,13 +23,13 @@ pub record AreLinesAt (s : TraceSetup) (entries : List TraceEntry) (numbers : Li
   pub are : AreReasons s past entry l given
   pub is : lines ≡ trace_reason_lines number s.registers entry given
 
--- these are the lines behind a verdict: those of the reasons of a bad one, if they are asked for
+-- these are the lines after a verdict: those of the reasons of a bad verdict, if they are asked for
 abbrev pub AreLinesOf : Bool → TraceSetup → List TraceEntry → List ℕ → TraceVerdict → List ℕ → Type 0
 AreLinesOf why s entries numbers Good lines = lines ≡ []
 AreLinesOf false s entries numbers (Bad k l) lines = lines ≡ []
 AreLinesOf true s entries numbers (Bad k l) lines = AreLinesAt s entries numbers k l lines
 
--- a verdict is good
+-- the verdict is good
 abbrev pub is_good : TraceVerdict → Bool
 is_good Good = true
 is_good (Bad k l) = false
@@ -40,7 +40,7 @@ pub record ReporterState : Type 0 where
   pub why : Bool
   pub lines : List ℕ
 
--- it has observed these entries of a trace with this setup, and these are the numbers of their lines; reasons are asked for or not
+-- the reporter has observed these entries of a trace with this setup, at the lines with these numbers; `why` is whether reasons are asked for
 pub record HasReported (why : Bool) (t : ReporterState) (s : TraceSetup) (entries : List TraceEntry) (numbers : List ℕ) : Type 0 where
   pub asked : t.why ≡ why
   pub judged : HasJudged t.judge s entries
@@ -52,16 +52,16 @@ pub record ReportsTrace (why : Bool) (s : TraceSetup) (entries : List TraceEntry
   pub lines : List ℕ
   pub are : AreLinesOf why s entries numbers (verdict_of s entries) lines
   pub answer : status ≡ trace_status_of (verdict_of s entries)
-  pub sound : MeansSound (verdict_of s entries) entries  -- if it is good, none enters while another is inside or ahead
+  pub sound : MeansSound (verdict_of s entries) entries  -- if it is good, no process enters while another is inside or ahead
   pub text : reported ≡ trace_verdict_line (length entries) (verdict_of s entries) ++ lines
 
--- a text says a trace, and this holds of exactly that trace and of the numbers of its lines
+-- the text means a trace, and this holds of that trace and of the line numbers of its entries
 pub record IsOfTrace (P : TraceSetup → List TraceEntry → List ℕ → Type 0) (text : List ℕ) : Type 0 where
   pub said : TraceSaid
   pub says : trace_said text ≡ Ok said
   pub holds : P said.setup said.entries said.numbers
 
--- why reading ends early: a fault of what the input says, a call that failed, or want of memory
+-- the cause of an early end of reading: a fault of the input, a failed call, or a failed allocation
 abbrev pub IsTraceFault : Fault → Option (List ℕ) → Type 0
 IsTraceFault (fault.Line f) to_come = IfSome to_come (λ text. UnlessMemory f.kind (trace_said text ≡ Err f))
 IsTraceFault fault.Read to_come = Unit {0}
@@ -74,14 +74,14 @@ pub record ReportsAll (why : Bool) (text : List ℕ) (status : ℕ) (old new : O
   pub is : IsOfTrace (λ s entries numbers. ReportsTrace why s entries numbers reported status) text
   pub written : Appends old new reported
 
--- a front of it was written
+-- only the start of that report may have been written
 pub record ReportsFront (why : Bool) (text : List ℕ) (old new : Option (List ℕ)) : Type 0 where
   pub reported : List ℕ
   pub status : ℕ
   pub is : IsOfTrace (λ s entries numbers. ReportsTrace why s entries numbers reported status) text
   pub front : WritesFront old new reported
 
--- How the engine ends: with the verdict on what the whole input says, and its reasons if they are asked for; or with its fault. Each fault has its cause, and nothing was written unless the verdict is known.
+-- How the engine ends: with the status of the verdict on the whole input, after the report was written; or with a fault. Each fault has its cause, and nothing was written unless the verdict is known.
 abbrev pub TraceEnds : Bool → Result ℕ Fault → Streams → Streams → Type 0
 TraceEnds why (Ok status) old new = IfSome old.to_come (λ text. ReportsAll why text status old.taken new.taken) × IsAtEnd new.to_come
 TraceEnds why (Err (fault.Line f)) old new = IfSome old.to_come (λ text. UnlessMemory f.kind (trace_said text ≡ Err f)) × Keeps old.taken new.taken

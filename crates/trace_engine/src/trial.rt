@@ -35,6 +35,10 @@ impl TraceTrial {
     }
 
     /// Reads one more line, which is not too long, and judges its entry.
+    ///
+    /// # Errors
+    ///
+    /// Returns the fault of the line, or [`FaultKind::Memory`] if an allocation fails.
     pub fn line(&mut self, number: u64, line: &[u8]) -> Result<(), FaultKind>
         requires short { length line.now ≤ 128 }
         requires few { count_in self.old.reporter < 2 ^ 64 - 1 }
@@ -63,6 +67,10 @@ impl TraceTrial {
 
 impl TraceTrial {
     /// Returns the judge of the entries of the lines so far, unless all of these were skipped.
+    ///
+    /// # Errors
+    ///
+    /// Returns [`AllocError`] if an allocation fails.
     pub fn into_reporter(self) -> Result<Option<TraceReporter>, AllocError>
         ensures { IfOk result (λ reporter.
             (before : Option TraceProgress) (entries : List Entry) (numbers : List ℕ) →

@@ -13,7 +13,7 @@ use Rattle.board.specs.Closings.{bytes_of}
 use Rattle.board.proofs.Seats.{some_processes}
 use Rattle.board.proofs.shown_image.image_shown.Goals as goal
 
--- the newest version once the loop has folded those of all processes
+-- the newest version, after the loop has folded the versions of all processes
 abbrev IsNewest : Setup → List ℕ → NewestVersion → Type 0
 IsNewest s words newest = newest ≡ newest_version (versions_shown s words)
 

@@ -3,6 +3,6 @@ use Rattle.columns.specs.{room_below_of, seen}
 use Rattle.columns.proofs.Lists.{room_left}
 use Rattle.columns.proofs.layout.room_below.Given as goal
 
--- what all columns need is what the columns from the present one on need, or what is needed already
+-- the height that all columns need is that of the columns from the present one on, or is needed already
 abbrev pub invariant-loop-column : goal.invariant-loop-column
 invariant-loop-column l = (room_below_of (map seen l.columns) ≡ room_left l.room (map seen (drop l.column-index l.columns))) × (l.room ≤ 14)

@@ -2,6 +2,6 @@ use Rattle.std.proofs.Common.{◌≡◌, take}
 use Rattle.columns.specs.{group_of, places_from}
 use Rattle.columns.proofs.state.places_said.Given as goal
 
--- those before the present one of which it is said
+-- the indexes before the present one at which the list is true
 abbrev pub invariant-loop-place : goal.invariant-loop-place
 invariant-loop-place l = l.group ≡ group_of (places_from 0 (take l.place l.said))

@@ -4,7 +4,7 @@ use Rattle.trace_engine.specs.{HasReported}
 use Rattle.trace_engine.proofs.Ends.{Onwards}
 use Rattle.trace_engine.proofs.engine.judge_file.Given as goal
 
--- reading what is left goes on to what reading all gives, each entry so far was observed, a source that has reported its
+-- reading the rest gives what reading the whole text gives, each entry so far was observed, a source that has reported its
 -- end is at it, and no call has failed
 abbrev pub invariant-lines : goal.invariant-lines
 invariant-lines g l = record {

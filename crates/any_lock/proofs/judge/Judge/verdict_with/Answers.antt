@@ -7,7 +7,7 @@ use Rattle.any_lock.proofs.Breaks.{told_by}
 use Rattle.any_lock.proofs.Told.{AreTold, found_good, reasons_given, told_law, told_on}
 use Rattle.any_lock.proofs.judge.Judge.verdict_with.Goals as goal
 
--- the entry that is heard, the judge before it, and what is told of it
+-- the observed entry, the judge before it, and the results for it
 abbrev heard_in : goal.After-found → Entry
 heard_in c = record { process = c.args.process; access = c.args.access.now; marks = c.args.marks.now }
 

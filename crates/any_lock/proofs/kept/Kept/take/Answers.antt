@@ -5,7 +5,7 @@ use Rattle.any_lock.specs.{KeptState}
 use Rattle.any_lock.proofs.Unmarked.{given_at}
 use Rattle.any_lock.proofs.kept.Kept.take.Goals as goal
 
--- what holds if there is a value, where there is one
+-- a fact of an optional value, if there is a value
 at_ok : {A E P : Type 0} (r : Result A E) → IsOk r → OnOk r P → P
 at_ok (Ok a) is told = told
 at_ok (Err e) is told = absurd (true≢false (sym is))

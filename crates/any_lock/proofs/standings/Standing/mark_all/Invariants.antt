@@ -2,7 +2,7 @@ use Rattle.std.proofs.Common.{◌≡◌, drop}
 use Rattle.any_lock.specs.{marked_all, refusal_on}
 use Rattle.any_lock.proofs.standings.Standing.mark_all.Given as goal
 
--- what is refused, and what is marked, is so from the present mark on
+-- the refusal and the state, from the present mark on
 abbrev pub invariant-loop-mark : goal.invariant-loop-mark
 invariant-loop-mark l = record {
   refused : refusal_on l.setup l.entry l.fn.self l.marks ≡ refusal_on l.setup l.entry l.self (drop l.mark-index l.marks);

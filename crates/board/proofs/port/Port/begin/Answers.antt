@@ -25,7 +25,7 @@ returns-in-Err c =
     let no = refused c.args.self.now (λ p. Call p c.args.command) c.process.result c.answer.result c.in-Err.refusal c.in-Err.is c.answer.ensures c.process.ensures in
     record { same = (refl, refl, refl, refl); answer = inl no.0; port = tt; unchanged = refl }
 
--- where there is no memory
+-- if the allocation fails
 pub invariant_of-self : goal.invariant_of-self
 invariant_of-self c =
     let same = where_err (c.begin.new.self ≡ c.self.inside.calls) c.begin.result c.begin.ensures.unchanged c.if-is_err.ensures.value in
