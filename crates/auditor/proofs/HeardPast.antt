@@ -1,4 +1,4 @@
--- What an auditor reports of the entries that it has heard.
+-- The reports of an auditor on the entries that it has observed.
 use Rattle.std.proofs.Common.{◌≡◌, ◌≤◌, ◌<◌, ◌^◌, ℕ, suc, List, [], ◌∷◌, ◌++◌, length, Option, Some, None, ap, subst, arith}
 use Rattle.std.proofs.lemmas.List.{length_push}
 use Rattle.plain_store.specs.{Reply, Setup}
@@ -31,7 +31,7 @@ is_counted s past (Some k) few is = ap (λ k. Some k) is
 pub taken_is : (a : AuditorState) (past : Past) → HasHeard a past → length past < 2 ^ 64 → a.taken ≡ Some (length (history a.core.setup past))
 taken_is a past h few = is_counted a.core.setup past a.taken few h.counted
 
--- what a core tells of each record that it shows is so of the entries heard
+-- a fact about each record that a core shows holds of the entries observed
 pub of_heard : (a : AuditorState) (past : Past) (P : List Taken → Setup → Past → Type 0) (core : CoreState) → core ≡ a.core → HasHeard a past →
     ((taken : List Taken) (events : List Event) → Shows (with_history core taken) events → P taken core.setup (past_of core.setup events)) → P (history a.core.setup past) a.core.setup past
 of_heard a past P core same h each =

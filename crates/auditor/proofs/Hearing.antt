@@ -1,4 +1,4 @@
--- What an auditor keeps and answers when it has heard an entry.
+-- The state and the result of an auditor after it has observed an entry.
 use Rattle.std.proofs.Common.{◌≡◌, ℕ, nat_lt, Bool, true, false, List, [], ◌∷◌, length, map, Option, Some, None, Ok, refl, sym, ap, subst, ◌∙◌, true≢false, arith, IsTrue}
 use Rattle.std.specs.List.{list_any}
 use Rattle.plain_store.specs.{Reply, Setup, checked}
@@ -22,7 +22,7 @@ use Rattle.auditor.proofs.Marks.{all_placed-again}
 use Rattle.auditor.proofs.Obeys.{obeys}
 use Rattle.auditor.proofs.Tried.{IsTried, refused_step, refused_event, tried, right_place, wrong_event, wrong_place, wrong_step, wrong_unit}
 
--- The auditor goes on.
+-- The auditor observes an entry that keeps all laws.
 pub heard_on : (old new : CoreState) (before after : Option ℕ) (past : Past) (h : HasHeard (record { core = old; taken = before }) past) (w : Event) (e : Entry) (taken : List Rattle.record.specs.declared.history.Taken.Taken) →
     new.setup ≡ old.setup → entry_of old.setup (past_of old.setup h.events) w ≡ Some e → Shows (with_history new taken) (w ∷ h.events) → IsCount after (length taken) →
     IsHeard old.setup past e (record { core = new; taken = after }) None
@@ -48,9 +48,9 @@ heard_on old new before after past h w e taken same adds shows counted = (
     taken_is : taken ≡ history new.setup (e ∷ past)
     taken_is = ap (λ (w : WorldState). w.history) shows.shown ∙ ap (history new.setup) now
 
--- What the auditor shows, branch by branch.
+-- The results of the auditor, branch by branch.
 
--- the marks of a step have their place
+-- the marks of a step have their position
 at-placed : (n : ℕ) (ms : List Mark) → AreAt n (map (placed n) ms)
 at-placed n [] k r (i, l, e) = absurd (omega (arith, l))
 at-placed n (mark.Taken j q ∷ ms) k r (zero, l, e) = sym (ap (λ (t : ℕ × Reply). t.0) e)
@@ -63,7 +63,7 @@ alike-open n e a t h = record { process = h.process; access = h.access; marks = 
 alike-placed : (n : ℕ) (e : Entry) (a : Access) (t : StepTold) → IsAlike e (stepped_as e.process a t) → IsAlike e (step_told n e.process a t)
 alike-placed n e a t h = record { process = h.process; access = h.access; marks = h.marks ∙ sym (all_placed-again 0 n (marks_told t)) }
 
--- what the auditor knows of the step that it has made
+-- the facts about a step that the auditor has made
 pub record StepMade (a : AuditorState) (past : Past) (e : Entry) (access : Access) (told : StepTold) : Type 0 where
   pub heard : HasHeard a past
   pub none : event_in e ≡ None
@@ -126,7 +126,7 @@ module _ (a : AuditorState) (past : Past) (e : Entry) (access : Access) (told : 
       is : e ≡ stepped
       is = right_place setup h.heard.events e stepped step_tried (alike-placed place e access told alike) (subst (λ m. AreAt m e.marks) (sym same_place) at)
 
--- Two steps that a process may make by one flick lead to the same.
+-- Two steps of a process by one flick have the same entry.
 pub alike_again : (a : AuditorState) (past : Past) (e : Entry) (access other : Access) (told then : StepTold) → StepMade a past e access told → StepMade a past e other then → IsAlike e (stepped_as e.process access told) → IsAlike e (stepped_as e.process other then)
 alike_again a past e access other told then first second alike =
     let before : List Taken = history a.core.setup past in
@@ -135,7 +135,7 @@ alike_again a past e access other told then first second alike =
     let same : step_told n e.process access told ≡ step_told n e.process other then = cc in
     alike-open n e other then (subst (IsAlike e) same (alike-placed n e access told alike))
 
--- An event that is no step.
+-- An event other than a step.
 
 marked-tells : (p : ℕ) (marks : List Mark) (w : Event) → event_marked p marks ≡ Some w → list_any tells_event marks ≡ true
 marked-tells p (mark.Called c ∷ ms) w h = refl
@@ -156,7 +156,7 @@ pub heard_refused_event : (a : AuditorState) (past : Past) (e : Entry) (w : Even
 heard_refused_event a past e w r h is refuses = subst (λ past. BreaksNext law.Program a.core.setup past e) h.past_is
     (refused_event a.core.setup (past_of a.core.setup h.events) e w r is (refuses (history a.core.setup past) h.events h.shows) (event-tells e w is))
 
--- no event is told by marks that take a command
+-- the mark of an event other than a step takes no command
 takes_none : (p n : ℕ) (access : Option Access) (effect : Effect) (w : Event) → event_in (entry_with p (act_of n (record { access = access; effect = effect }))) ≡ Some w → reply_taken (marks_of effect) ≡ None
 takes_none p n (Some a) effect w h = absurd (cc)
 takes_none p n None (Calls c) w h = refl
@@ -174,7 +174,7 @@ takes_none p n None (Steps (Settles v)) w h = refl
 takes_none p n None (Steps (SettlesAndTakes v r)) w h = absurd (cc)
 takes_none p n None (Steps Lies) w h = refl
 
--- what the auditor knows of the event that it has made
+-- the facts about an event that the auditor has made
 pub record EventMade (a : AuditorState) (past : Past) (e : Entry) (w : Event) (access : Option Access) (effect : Effect) (new : CoreState) : Type 0 where
   pub heard : HasHeard a past
   pub is : event_in e ≡ Some w
@@ -198,7 +198,7 @@ heard_event a past e w access effect new h =
     made : entry_of s (past_of s h.heard.events) w ≡ Some (entry_with (process_of w) (act_of n (record { access = access; effect = effect })))
     made = h.adds (history s past) h.heard.events h.heard.shows
 
-    -- the entry that it adds is the one that tells it
+    -- the entry that the event adds is the one that determined it
     same : e ≡ entry_with (process_of w) (act_of n (record { access = access; effect = effect }))
     same =
         let both : Some e ≡ Some (entry_with (process_of w) (act_of n (record { access = access; effect = effect }))) =

@@ -16,14 +16,14 @@ use Rattle.world.proofs.WorldShows.{past-after}
 use Rattle.read_law.specs.declared.verdicts.Law.TheVariants as law
 use Rattle.auditor.specs.{IsMade, IsOfEvent, KeepsAll, KeepsProgram, KeepsUnit, KeepsTogether, OwesAt, tells_event}
 
--- an entry is made by the step that it is of
+-- an entry of a step is made by that step
 pub made_by : (s : Setup) (past : Past) (e : Entry) (p : ℕ) (flick : Bool) → e.process ≡ p → stepped s past p flick ≡ Some e → IsMade s past e
 made_by s past e p flick is h = (flick, e, ap (λ q. stepped s past q flick) is ∙ h, record { process = refl; access = refl; marks = refl })
 
 marks_only : (e x : Entry) → Some x ≡ Some e → has tells_event x ≡ true → has tells_event e ≡ false → ⊥
 marks_only e x h shown none = let is : x ≡ e = cc in true≢false (sym shown ∙ ap (has tells_event) is ∙ none)
 
--- a step that is not refused is owed
+-- the entry of a step that is not refused is owed
 owed : (s : Setup) (past : Past) (e : Entry) (p : ℕ) (flick : Bool) (x : Stage) → refused_at (event.Step p flick) x ≡ None → IsMade s past e → OwesAt x s past e
 owed s past e p flick stages.Idle h m = absurd (cc)
 owed s past e p flick stages.Down h m = absurd (cc)

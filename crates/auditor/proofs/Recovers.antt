@@ -11,7 +11,7 @@ use Rattle.read_law.specs.declared.verdicts.Law.TheVariants as law
 use Rattle.auditor.specs.{IsAlike, IsMade, IsOfEvent, KeepsAll, OwesAt, tells_event}
 use Rattle.auditor.proofs.Marks.{same_marks}
 
--- what a step makes has the process, and marks with their place
+-- the entry that a step makes has its process, and its marks have their position
 pub record StepIs (s : Setup) (past : Past) (p : ℕ) (made : Entry) : Type 0 where
   pub process : made.process ≡ p
   pub rest : List Mark
@@ -27,14 +27,14 @@ step_is s past p flick made h =
       marks = ap (λ (e : Entry). e.marks) (sym n.2);
     }
 
--- an entry that is made but for places, and whose places are right, is made
+-- an entry that is alike to one that a step makes, with the right positions, equals it
 pub is_made : (s : Setup) (past : Past) (e made : Entry) (flick : Bool) → stepped s past e.process flick ≡ Some made → IsAlike e made → TakesItsPlace s past e → e ≡ made
 is_made s past e made flick h alike kept =
     let is : StepIs s past e.process made = step_is s past e.process flick made h in
     let marks : e.marks ≡ made.marks = same_marks (length (history s past)) e.marks made.marks is.rest (λ k r c. (kept k r c).0) is.marks alike.marks in
     λ i. let x : Entry = record { process = alike.process i; access = alike.access i; marks = marks i } in x
 
--- a process that may step is not refused a step
+-- a step that its stage does not refuse adds the entry that the step makes
 pub entry-step : (s : Setup) (past : Past) (p : ℕ) (flick : Bool) → p < s.processes → refused_at (event.Step p flick) (stage p past) ≡ None → entry_of s past (event.Step p flick) ≡ stepped s past p flick
 entry-step s past p flick below h = go (nat_lt p s.processes) (is_less p s.processes below) (refused_at (event.Step p flick) (stage p past)) h
   where
@@ -47,7 +47,7 @@ entry-step s past p flick below h = go (nat_lt p s.processes) (is_less p s.proce
     go true k (Some r) l = cc
     go false k r l = cc
 
--- who owes a step may step
+-- the step of a process that owes an entry is not refused by its stage
 pub owes : (s : Setup) (past : Past) (e : Entry) (x : Stage) → OwesAt x s past e → ((flick : Bool) → refused_at (event.Step e.process flick) x ≡ None)
 owes s past e stages.Idle h flick = absurd h
 owes s past e stages.Down h flick = absurd h
@@ -57,7 +57,7 @@ owes s past e stages.Waiting h flick = refl
 owes s past e stages.Inside h flick = refl
 owes s past e stages.Leaving h flick = refl
 
--- what it owes is a step, of its program or of its memory unit
+-- the entry that a process owes is a step of its program or of its memory unit
 pub makes : (s : Setup) (past : Past) (e : Entry) (x : Stage) → OwesAt x s past e → (x ≡ stages.Settling → IsMade s past e) → IsMade s past e
 makes s past e stages.Idle h unit = absurd h
 makes s past e stages.Down h unit = absurd h

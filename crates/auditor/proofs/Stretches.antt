@@ -14,12 +14,12 @@ pub walks-flicks : (n : ℕ) (newest : Access) (overlapped : ℕ) (old new : Wor
 walks-flicks zero newest overlapped old new f g p (same, same_flicks, none) = same_flicks
 walks-flicks (suc n) newest overlapped old new f g p (w, x, access, before, walks, last, made, after, counts) = after ∙ ap after_flick (walks-flicks n access before old w f x p walks)
 
--- the setup stays
+-- a world keeps its setup
 pub walks-setup : (n : ℕ) (newest : Access) (overlapped : ℕ) (old new : WorldState) (f g : FlickState) (p : ℕ) → Walks old f p n newest overlapped new g → new.setup ≡ old.setup
 walks-setup zero newest overlapped old new f g p (same, same_flicks, none) = ap (λ (w : WorldState). w.setup) same
 walks-setup (suc n) newest overlapped old new f g p (w, x, access, before, walks, last, made, after, counts) = made.steps.setup ∙ walks-setup n access before old w f x p walks
 
--- the world shows the n steps, too
+-- the world also shows the n steps
 pub walks-shown : (n : ℕ) (newest : Access) (overlapped : ℕ) (old new : WorldState) (f g : FlickState) (p : ℕ) (events : List Event) → Walks old f p n newest overlapped new g → Shows old events → Shows new (steps_on p f n events)
 walks-shown zero newest overlapped old new f g p events (same, same_flicks, none) shows = subst (λ w. Shows w events) (sym same) shows
 walks-shown (suc n) newest overlapped old new f g p events (w, x, access, before, walks, last, made, after, counts) shows =
@@ -32,7 +32,7 @@ steps-alike s p f zero x y same = same
 steps-alike s p f (suc n) x y same =
     ap (λ (past : Past). elim (entry_of s past (Step p (flick_of (flicks_after n f)))) as (λ _. Past) [ None ↦ past | Some e ↦ e ∷ past ]) (steps-alike s p f n x y same)
 
--- the auditor has heard the steps that it has made
+-- the auditor has observed the steps that it has made
 pub heard-steps : (a : AuditorState) (new : CoreState) (f g : FlickState) (p n : ℕ) (newest : Access) (overlapped : ℕ) → CoreWalks a.core f p n newest overlapped new g → (events : List Event) → HasHeard a (past_of a.core.setup events) →
     HasHeard (record { core = new; taken = a.taken }) (past_of a.core.setup (steps_on p f n events))
 heard-steps a new f g p n newest overlapped runs events h = record {

@@ -1,4 +1,4 @@
--- An entry that is not the entry of the step that it tells: which law it breaks first.
+-- An entry that differs from the entry of the step that it determines, and the law that it breaks first.
 use Rattle.std.proofs.Common.{◌≡◌, ℕ, ◌<◌, nat_lt, Bool, true, false, cond, List, [], ◌∷◌, length, map, Option, Some, None, Ok, refl, sym, ap, subst, ◌∙◌, true≢false, arith}
 use Rattle.std.specs.List.{list_any}
 use Rattle.std.proofs.lemmas.Bool.Decides.{nat_tests}
@@ -18,13 +18,13 @@ use Rattle.auditor.proofs.Marks.{same_marks}
 use Rattle.auditor.proofs.Obeys.{obeys}
 use Rattle.auditor.proofs.Recovers.{StepIs, makes, owes, step_is}
 
--- The step that an entry tells was made, and this is its entry.
+-- The step that an entry determines was made, and m is its entry.
 pub record IsTried (s : Setup) (events : List Event) (e m : Entry) : Type 0 where
   pub good : checked s ≡ Ok tt
   pub given : AreGiven s events
   pub adds : entry_of s (past_of s events) (event.Step e.process (flick_in e.access)) ≡ Some m
 
--- what it is known by
+-- the process of the tried step exists, its stage does not refuse the step, and the step adds m
 pub tried : (s : Setup) (events : List Event) (e m : Entry) → IsTried s events e m →
     (nat_lt e.process s.processes ≡ true) × (refused_at (event.Step e.process (flick_in e.access)) (stage e.process (past_of s events)) ≡ None) × (stepped s (past_of s events) e.process (flick_in e.access) ≡ Some m)
 tried s events e m t = entry-accepted s (past_of s events) (event.Step e.process (flick_in e.access)) m t.adds
@@ -35,7 +35,7 @@ less a b h = grind (arith, nat_tests)
 not-less : (a b : ℕ) → a < b → nat_lt a b ≡ true
 not-less a b h = grind (arith, nat_tests)
 
--- a step is refused whatever its flick
+-- whether a step is refused does not depend on its flick
 any-flick : (p : ℕ) (f g : Bool) (x : Stage) → refused_at (event.Step p f) x ≡ None → refused_at (event.Step p g) x ≡ None
 any-flick p f g stages.Idle h = absurd (cc)
 any-flick p f g stages.Down h = absurd (cc)
@@ -54,11 +54,11 @@ same_step s events e m t flick made is acc =
     let both : Some made ≡ Some m = sym again ∙ ap (λ a. stepped s (past_of s events) e.process (flick_in a)) (sym acc) ∙ known.2 in
     cc
 
--- what is not alike is not made
+-- an entry that is not alike to the tried one is not made
 not_made : (s : Setup) (events : List Event) (e m : Entry) → IsTried s events e m → (IsAlike e m → ⊥) → IsMade s (past_of s events) e → ⊥
 not_made s events e m t wrong (flick, made, is, alike) = wrong (subst (IsAlike e) (same_step s events e m t flick made is alike.access) alike)
 
--- what is not the tried step's, and tells no event, is of no event
+-- an entry that is not the tried one, and for which `event_in` finds no event, is of no event
 not_of_event : (s : Setup) (events : List Event) (e m : Entry) → IsTried s events e m → (e ≡ m → ⊥) → event_in e ≡ None → IsOfEvent s (past_of s events) e → ⊥
 not_of_event s events e m t wrong none (w, is) = by w (entry-accepted s past w e is).2
   where
@@ -75,7 +75,7 @@ not_of_event s events e m t wrong none (w, is) = by w (entry-accepted s past w e
     by (event.Restart p) h = other _ (restarts p) h
     by (event.Step p flick) h = wrong (same_step s events e m t flick e (ap (λ q. stepped s past q flick) (step_is s past p flick e h).process ∙ h) refl)
 
--- no law after `Safe` stands before `Program`
+-- no law after `Safe` precedes `Program`
 none-before : (s : Setup) (past : Past) (e : Entry) (k : Law) → 0 < number_of k → number_of k < 1 → Keeps k s past e
 none-before s past e law.Safe a b = absurd (omega (arith, a))
 none-before s past e law.Program a b = absurd (omega (arith, b))
@@ -95,7 +95,7 @@ only-program s past e kept law.Together a b = absurd (omega (arith, b))
 only-program s past e kept law.Overtaken a b = absurd (omega (arith, b))
 only-program s past e kept law.History a b = absurd (omega (arith, b))
 
--- An entry whose step is refused, and that tells no event.
+-- An entry whose step is refused, and that determines no other event.
 pub refused_step : (s : Setup) → checked s ≡ Ok tt → (events : List Event) (e : Entry) (r : Refusal) → refused s (past_of s events) (event.Step e.process (flick_in e.access)) ≡ Some r → event_in e ≡ None →
     BreaksNext law.Program s (past_of s events) e
 refused_step s good events e r wrong none = breaks-program s past e (λ kept. go (has tells_event e) kept.0 kept.1)
@@ -103,7 +103,7 @@ refused_step s good events e r wrong none = breaks-program s past e (λ kept. go
     past : Past
     past = past_of s events
 
-    -- it would not be refused
+    -- the step would not be refused
     free : (flick : Bool) → e.process < s.processes → refused_at (event.Step e.process flick) (stage e.process past) ≡ None → ⊥
     free flick below ok = let f : Some r ≡ None = sym wrong ∙ here (nat_lt e.process s.processes) (not-less e.process s.processes below) (refused_at (event.Step e.process (flick_in e.access)) (stage e.process past)) (any-flick e.process flick (flick_in e.access) (stage e.process past) ok) in cc
       where
@@ -126,7 +126,7 @@ refused_step s good events e r wrong none = breaks-program s past e (λ kept. go
     go true below (w, is) = let a = entry-accepted s past w e is in by w a.1 a.2 below
     go false below h = free false below (owes s past e (stage e.process past) h false)
 
--- An entry that tells an event which is refused.
+-- An entry that determines an event which is refused.
 pub refused_event : (s : Setup) (past : Past) (e : Entry) (w : Event) (r : Refusal) → event_in e ≡ Some w → refused s past w ≡ Some r → has tells_event e ≡ true → BreaksNext law.Program s past e
 refused_event s past e w r is wrong tells = breaks-program s past e (λ kept. go (has tells_event e) tells kept.1)
   where
@@ -148,7 +148,7 @@ refused_event s past e w r is wrong tells = breaks-program s past e (λ kept. go
     go true k (v, l) = by v (entry-accepted s past v e l).2 l
     go false k h = true≢false (sym k)
 
--- An entry that the tried step's is not alike.
+-- An entry that is not alike to that of the tried step.
 pub wrong_step : (s : Setup) (events : List Event) (e m : Entry) → IsTried s events e m → (IsAlike e m → ⊥) → has tells_event e ≡ false → (stage e.process (past_of s events) ≡ stages.Settling → ⊥) → BreaksNext law.Program s (past_of s events) e
 wrong_step s events e m t wrong plain runs = breaks-program s past e (λ kept. go (has tells_event e) plain kept.1)
   where
@@ -175,7 +175,7 @@ wrong_unit s events e m t wrong plain st = record {
     past : Past
     past = past_of s events
 
--- An entry with the mark of an event that is of none.
+-- An entry with the mark of an event, which is the entry of no event.
 pub wrong_event : (s : Setup) (events : List Event) (e m : Entry) → IsTried s events e m → (e ≡ m → ⊥) → event_in e ≡ None → has tells_event e ≡ true → BreaksNext law.Program s (past_of s events) e
 wrong_event s events e m t wrong none tells = breaks-program s past e (λ kept. go (has tells_event e) tells kept.1)
   where
@@ -186,7 +186,7 @@ wrong_event s events e m t wrong none tells = breaks-program s past e (λ kept. 
     go true k h = not_of_event s events e m t wrong none h
     go false k h = true≢false (sym k)
 
--- An entry that is the tried step's but for places.
+-- An entry that is that of the tried step, except for positions.
 
 any-placed : (k : ℕ) (ms : List Mark) → list_any is_entered (map (placed k) ms) ≡ list_any is_entered ms
 any-placed k [] = refl
@@ -214,7 +214,7 @@ all-but-history s past e p u t o law.Together a b = t
 all-but-history s past e p u t o law.Overtaken a b = o
 all-but-history s past e p u t o law.History a b = absurd (omega (arith, b))
 
--- a step's event is given with those before it
+-- events in range, followed by a step, are in range
 given-step : (s : Setup) (events : List Event) (p : ℕ) (flick : Bool) → AreGiven s events → AreGiven s (event.Step p flick ∷ events)
 given-step s events p flick g = record { opening = g.opening; commands = g.commands }
 
@@ -241,7 +241,7 @@ wrong_place s events e m t alike plain wrong = record {
     kept : KeepsAll s past m
     kept = obeys s t.good events (event.Step e.process (flick_in e.access)) m (given-step s events e.process (flick_in e.access) t.given) t.adds
 
--- and whose places are right: it is the step's
+-- if its positions are right, it is that of the tried step
 pub right_place : (s : Setup) (events : List Event) (e m : Entry) → IsTried s events e m → IsAlike e m → AreAt (length (history s (past_of s events))) e.marks → e ≡ m
 right_place s events e m t alike at =
     let is : StepIs s (past_of s events) e.process m = step_is s (past_of s events) e.process (flick_in e.access) m (tried s events e m t).2 in

@@ -6,7 +6,7 @@ use Rattle.auditor.specs.{AllKeep, BreaksFirst, IsBadAt, IsVerdict, KeepsAll, La
 use Rattle.read_law.specs.declared.verdicts.Law.TheVariants as law
 use Rattle.read_law.specs.declared.verdicts.Verdict.TheVariants.{Good, Bad}
 
--- an entry in a past in which all laws are kept keeps them
+-- an entry in a past in which all laws are kept keeps all laws
 keeps-in : (s : Setup) (later : Past) (e : Entry) (past : Past) → AllKeep s (later ++ e ∷ past) → KeepsAll s past e
 keeps-in s [] e past all = all.0
 keeps-in s (x ∷ later) e past all = keeps-in s later e past all.1
@@ -21,7 +21,7 @@ good_only s entries (Bad k l) all is = absurd (not_bad s entries k l all is)
 
 -- Two bad entries.
 
--- what stands at two places of one past: the one with fewer entries before it stands before the other
+-- if all laws are kept before the later of two entries of one past, the earlier entry keeps all laws
 inner : (s : Setup) (later more : Past) (e x : Entry) (past rest : Past) → later ++ e ∷ past ≡ more ++ x ∷ rest → length past < length rest → AllKeep s rest → KeepsAll s past e
 inner s [] [] e x past rest h l all = let same : past ≡ rest = cc in let long = ap length same in absurd (omega (arith, l, long))
 inner s [] (y ∷ more) e x past rest h l all = let same : past ≡ more ++ x ∷ rest = cc in let long = ap length same ∙ length-append more (x ∷ rest) in absurd (omega (arith, l, long))

@@ -20,7 +20,7 @@ of_events s (e ∷ past) kept =
     let here : IsOfEvent s past e = recovers s past e kept.0 in
     (here.0 ∷ before.0, past-after s before.0 here.0 e (ap (λ l. entry_of s l here.0) before.1 ∙ here.1) ∙ ap (λ l. e ∷ l) before.1)
 
--- A record that an auditor has heard whole is that of the events that its core shows.
+-- A record of which an auditor has observed all entries is that of the events that its core shows.
 pub true_record : (a : AuditorState) (s : Setup) (entries : List Entry) → a.core.setup ≡ s → HasHeard a (reverse entries) → IsTrueRecord s entries
 true_record a s entries same heard = subst (λ s. IsTrueRecord s entries) same (record {
   events = reverse heard.events;
@@ -43,7 +43,7 @@ good_of s good (what ∷ events) given = go (entry_of s (past_of s events) what)
     go None k before = subst (AllKeep s) (sym (ap (λ o. elim o as (λ _. Past) [ None ↦ past_of s events | Some e ↦ e ∷ past_of s events ]) k)) before
     go (Some e) k before = subst (AllKeep s) (sym (past-after s events what e k)) (obeys s good events what e given k, before)
 
--- The verdict on the record of given events is that it is good.
+-- The verdict on the record of events that are in range is `Good`.
 pub good_of_events : (s : Setup) → checked s ≡ Ok tt → (entries : List Entry) (v : Verdict Law) → IsVerdict s entries v → IsGoodOfEvents s entries v
 good_of_events s good entries v is events same given =
     good_only s entries v (subst (AllKeep s) (sym (reverse-reverse (past_of s (reverse events))) ∙ ap reverse same) (good_of s good (reverse events) given)) is

@@ -1,4 +1,4 @@
--- An entry with an access and without a mark, of a process that is within a number access.
+-- An entry with an access and without a mark, of a process that is within a register access.
 use Rattle.std.proofs.Common.{◌≡◌, ◌<◌, ℕ, Bool, false, true≢false, List, [], Option, None, Some, refl, sym, ap, subst, ◌∙◌}
 use Rattle.std.specs.Prelude.{unwrap_or}
 use Rattle.record.specs.{Access, Entry, Past, Taken, history}
@@ -11,7 +11,7 @@ use Rattle.read_law.specs.declared.verdicts.Law.TheVariants as law
 use Rattle.auditor.specs.{AuditorState, BreaksNext, HasHeard, IsHeard, flick_in}
 use Rattle.auditor.proofs.Hearing.{heard_on, heard_wrong}
 
--- what the auditor knows of its step that it has made
+-- the facts about a step within a register access that the auditor has made
 abbrev pub MadeWithin : CoreState → ℕ → Bool → Access → Bool → CoreState → Type 0
 MadeWithin core p flick made overlapped new = (taken : List Taken) → MakesQuietly (with_history core taken) p flick made overlapped (with_history new taken)
 
@@ -22,7 +22,7 @@ made_adds core new p flick overlapped made m taken = subst (AddsQuietly (with_hi
 abbrev pub access_entry : ℕ → Access → Entry
 access_entry p access = record { process = p; access = Some access; marks = [] }
 
--- what it knows of the next access, which is not made yet
+-- the facts about the next access, which is not made yet
 pub record IsNextWithin (core : CoreState) (p : ℕ) (flick : Bool) (next : Access) : Type 0 where
   pub within : 0 < left_in core.seats p
   pub adds : CoreAddsQuietly core p flick next
@@ -37,7 +37,7 @@ next_made a past p flick overlapped next made new is m h =
     let before : List Taken = history a.core.setup past in
     same_access p made next (sym (made_adds a.core new p flick overlapped made m before h.events h.shows) ∙ is.adds before h.events h.shows)
 
--- the entry of that step is heard
+-- the entry of that step is observed
 pub heard_within : (a : AuditorState) (past : Past) (p : ℕ) (overlapped : Bool) (access next made : Access) (new : CoreState) → IsNextWithin a.core p (flick_in (Some access)) next → next ≡ access → MadeWithin a.core p (flick_in (Some access)) made overlapped new → HasHeard a past →
     IsHeard a.core.setup past (access_entry p access) (record { core = new; taken = a.taken }) None
 heard_within a past p overlapped access next made new is same m h =
@@ -46,7 +46,7 @@ heard_within a past p overlapped access next made new is same m h =
     subst (λ x. IsHeard a.core.setup past (access_entry p x) (record { core = new; taken = a.taken }) None) (next_made a past p flick overlapped next made new is m h ∙ same)
     (heard_on a.core new a.taken a.taken past h (event.Step p flick) (access_entry p made) before (m before).steps.setup (made_adds a.core new p flick overlapped made m before h.events h.shows) ((m before).steps.shows h.events h.shows) h.counted)
 
--- and one with another access breaks a law
+-- an entry with another access breaks a law
 pub other_heard : (a : AuditorState) (past : Past) (p : ℕ) (access next : Access) → IsNextWithin a.core p (flick_in (Some access)) next → HasHeard a past → (next ≡ access → ⊥) → BreaksNext law.Program a.core.setup past (access_entry p access)
 other_heard a past p access next is h wrong =
     heard_wrong a past (access_entry p access) next Nothing (record { heard = h; none = refl; adds = is.adds }) false

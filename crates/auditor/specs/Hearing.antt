@@ -1,4 +1,4 @@
--- What an auditor keeps, and what it answers to an entry or to a stretch of accesses.
+-- The state of an auditor, and its result for an entry or for a stretch of accesses.
 use Rattle.std.specs.Prelude.{◌≡◌, ◌↔◌, ℕ, zero, suc, ◌+◌, ◌-◌, ◌<◌, ◌≤◌, ◌^◌, IsTrue, map, nat_lt, Bool, true, false, Contains, List, [], ◌∷◌, length, Option, None, Some}
 use Rattle.record.specs.safe_bit.declared.Move.TheVariants.{BeginWrite, EndWrite, BeginRead, EndRead, Settle}
 use Rattle.record.specs.{Access, Entry, Event, Mark, Past, Taken, entry_of, history, past_of, placed, reply_taken, stage, takings}
@@ -15,22 +15,22 @@ use Rattle.read_law.specs.declared.verdicts.Law.{Law}
 use Rattle.read_law.specs.declared.verdicts.Law.TheVariants as law
 use Rattle.auditor.specs.Verdicts.{IsAlike, Keeps, KeepsAll, number_of}
 
--- the flick that an access tells: the value with which a read ends, or a write begins or is settled
+-- the flick that an access determines: the value with which a read ends, or a write begins or is settled
 abbrev pub flick_in : Option Access → Bool
 flick_in None = false
 flick_in (Some a) = elim a.how [ BeginWrite v ↦ v | EndWrite ↦ false | BeginRead ↦ false | EndRead v ↦ v | Settle v ↦ v ]
 
--- how many commands were taken: a number, or none from 2^64 on
+-- how many commands were taken: their number, or `None` from 2^64 on
 abbrev pub IsCount : Option ℕ → ℕ → Type 0
 IsCount None n = 2 ^ 64 ≤ n
 IsCount (Some k) n = k ≡ n
 
--- what an auditor keeps: a core, and how many commands were taken
+-- the state of an auditor: a core, and how many commands were taken
 pub record AuditorState : Type 0 where
   pub core : CoreState
   pub taken : Option ℕ
 
--- it has heard these entries, and no law was broken
+-- the auditor has observed these entries, and none of them broke a law
 pub record HasHeard (a : AuditorState) (past : Past) : Type 0 where
   pub events : List Event
   pub past_is : past_of a.core.setup events ≡ past
@@ -43,12 +43,12 @@ pub record BreaksNext (l : Law) (s : Setup) (past : Past) (e : Entry) : Type 0 w
   pub broken : Keeps l s past e → ⊥
   pub before : (k : Law) → 0 < number_of k → number_of k < number_of l → Keeps k s past e
 
--- what is answered to an entry: none if it keeps all laws, else the first after `Safe` that it breaks
+-- the result for an entry: `None` if it keeps all laws, and otherwise the first law after `Safe` that it breaks
 abbrev pub IsHeard : Setup → Past → Entry → AuditorState → Option Law → Type 0
 IsHeard s past e then None = KeepsAll s past e × HasHeard then (e ∷ past)
 IsHeard s past e then (Some l) = BreaksNext l s past e
 
--- this holds of every past that it has heard
+-- this holds of every past that the auditor has observed
 abbrev pub OfHeard : AuditorState → (Setup → Past → Type 0) → Type 0
 OfHeard a P = (past : Past) → HasHeard a past → P a.core.setup past
 
@@ -56,34 +56,34 @@ OfHeard a P = (past : Past) → HasHeard a past → P a.core.setup past
 abbrev pub IsAddedByStep : AuditorState → ℕ → Bool → Option Entry → Type 0
 IsAddedByStep a p flick added = OfHeard a (λ s past. length past < 2 ^ 64 → added ≡ entry_of s past (Step p flick))
 
--- this is what is answered to an entry, whatever past was heard
+-- this is the result for an entry, for every past that the auditor has observed
 abbrev pub Hears : AuditorState → Entry → AuditorState → Option Law → Type 0
 Hears a e then law = OfHeard a (λ s past. IsHeard s past e then law)
 
--- these events, and n steps of p after them, each by the next flick; the newest first
+-- these events, followed by n steps of p, each by the next flick; the newest first
 abbrev pub steps_on : ℕ → FlickState → ℕ → List Event → List Event
 steps_on p f zero events = events
 steps_on p f (suc n) events = Step p (flick_of (flicks_after n f)) ∷ steps_on p f n events
 
--- this holds of every past that the auditor has heard, once p has made n steps by these flicks
+-- this holds of every past that the auditor has observed, after n more steps of p by these flicks
 abbrev pub OfHeardSteps : AuditorState → FlickState → ℕ → ℕ → (Setup → Past → Type 0) → Type 0
 OfHeardSteps a f p n P =
     (events : List Event) → HasHeard a (past_of a.core.setup events) → P a.core.setup (past_of a.core.setup (steps_on p f n events))
 
--- the auditor has then heard these steps, too
+-- the auditor has then observed these steps, too
 abbrev pub HearsSteps : AuditorState → FlickState → ℕ → ℕ → AuditorState → Type 0
 HearsSteps a f p n then = OfHeardSteps a f p n (λ s past. HasHeard then past)
 
--- the auditor answers this to a stretch of n accesses of p within a register access: its answer to the newest access, after p has made the others
+-- this is the result for a stretch of n accesses of p within a register access: that for the newest access, after p has made the others
 abbrev pub HearsRun : AuditorState → FlickState → ℕ → ℕ → Access → AuditorState → Option Law → Type 0
 HearsRun a f p n newest then law =
     n ≤ left_in a.core.seats p → OfHeardSteps a f p (n - 1) (λ s past. IsHeard s past (entry_by p (Some newest) []) then law)
 
--- the auditor has then heard the stretch except its newest access
+-- the auditor has then observed the stretch except its newest access
 abbrev pub HearsBefore : AuditorState → FlickState → ℕ → ℕ → AuditorState → Type 0
 HearsBefore a f p n then = n ≤ left_in a.core.seats p → HearsSteps a f p (n - 1) then
 
--- the event of a process that one mark alone tells, if it tells one
+-- the event other than a step whose entry of process p has just these marks, if there is one
 abbrev pub event_marked : ℕ → List Mark → Option Event
 event_marked p (Called c ∷ []) = Some (Call p c)
 event_marked p (Failed ∷ []) = Some (Fail p)
@@ -95,47 +95,47 @@ event_marked p _ = None
 abbrev pub event_in : Entry → Option Event
 event_in e = elim e.access [ None ↦ event_marked e.process e.marks | Some a ↦ None ]
 
--- this is answered to each entry of an event
+-- this is the result for each entry of an event
 abbrev pub HearsEvent : AuditorState → Event → AuditorState → Option Law → Type 0
 HearsEvent a event then law = (past : Past) (e : Entry) → event_in e ≡ Some event → HasHeard a past → IsHeard a.core.setup past e then law
 
--- one more, if a command is taken
+-- n, and one more if a command is taken
 abbrev pub with_reply : ℕ → Option Reply → ℕ
 with_reply n None = n
 with_reply n (Some r) = n + 1
 
--- the count of commands goes on by what a step leads to
+-- the count of commands after what a step leads to
 abbrev pub CountsOn : Option ℕ → StepTold → Option ℕ → Type 0
 CountsOn taken told then = (n : ℕ) → IsCount taken n → IsCount then (with_reply n (reply_taken (marks_told told)))
 
--- the answer tells whether a process that there is settles, whatever the core shows
+-- the result is whether a process that exists settles, for each history and list of events that the core shows
 abbrev pub TellsSettling : CoreState → ℕ → Bool → Type 0
 TellsSettling core p told =
     (taken : List Taken) (events : List Event) → Shows (with_history core taken) events → nat_lt p core.setup.processes ≡ true → IsTrue told ↔ (stage p (past_of core.setup events) ≡ Settling)
 
--- each command that marks take has this place
+-- each command that the marks take has position n
 abbrev pub AreAt : ℕ → List Mark → Type 0
 AreAt n ms = (k : ℕ) (r : Reply) → Contains (takings ms) (k, r) → k ≡ n
 
--- the law that an entry breaks which is not the step's of its process, but for places: by whether it has the mark of an event, and whether its process is settling
+-- the law broken by an entry that differs from its process's step in more than positions, by whether it has the mark of an event, and whether the process is settling
 abbrev pub law_of_wrong : Bool → Bool → Law
 law_of_wrong true settles = law.Program
 law_of_wrong false true = law.Unit
 law_of_wrong false false = law.Program
 
--- and one whose places are wrong
+-- the law broken by an entry that differs only in positions, by whether it has the mark of an event
 abbrev pub law_of_misplaced : Bool → Law
 law_of_misplaced true = law.Program
 law_of_misplaced false = law.History
 
--- the entry of a step that has this access and leads to this, its place left open
+-- the entry of a step that has this access and leads to this, without the position of its command
 abbrev pub stepped_as : ℕ → Access → StepTold → Entry
 stepped_as p a t = record { process = p; access = Some a; marks = marks_told t }
 
--- the same with this place
+-- the entry of such a step, with position n
 abbrev pub step_told : ℕ → ℕ → Access → StepTold → Entry
 step_told n p a t = record { process = p; access = Some a; marks = map (placed n) (marks_told t) }
 
--- the answer tells whether an entry with this access and these marks is that of the step, but for places, whoever makes both
+-- the result is whether an entry with this access and these marks is that of the step, except for positions, whichever process makes both
 abbrev pub TellsAlike : Option Access → List Mark → Access → StepTold → Bool → Type 0
 TellsAlike access marks made t told = (p : ℕ) → IsTrue told ↔ IsAlike (entry_by p access marks) (stepped_as p made t)

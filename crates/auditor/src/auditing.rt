@@ -11,9 +11,9 @@ use read_law::{Law, Verdict, Watch, parts};
 use record::{Entry, Record};
 use std::alloc::{AllocError, Global};
 
-/// The verdict on a record: the lowest entry that breaks a law, and the first law that it breaks. The one fault is want
-/// of memory. It takes the entries one by one, and those before a bad one twice. A good record is that of some list of
-/// events, and the headline holds of each of its entries. The record of every list of events is good.
+/// Returns the verdict on a record: the lowest entry that breaks a law, and the first law that it breaks. The one fault is an
+/// allocation failure. It observes the entries one by one, and those before a bad one twice. A good record is that of a list of
+/// events, and the main theorem holds of each of its entries. The record of every list of events is good.
 pub fn audit(alloc: Global, setup: &Setup, given: &Record) -> Result<Verdict, AllocError>
     requires { checked setup.now ≡ Ok tt }
     ensures verdict { IfOk result (λ verdict. IsVerdict setup.now given.now verdict) }
@@ -41,7 +41,7 @@ fn audit_all(alloc: Global, setup: &Setup, entries: &[Entry]) -> Result<Verdict,
     Ok(Verdict::Good)
 }
 
-/// The first law that an entry breaks, which breaks this one first after `Safe`, behind entries that keep all laws.
+/// Returns the first law that an entry breaks, after entries that keep all laws. The first after `Safe` is `law`.
 #[tactic(auto, using(crate::proofs::Firsts::breaks_safe, crate::proofs::Firsts::breaks_then))]
 fn first_law(
     alloc: Global,
@@ -62,7 +62,7 @@ fn first_law(
     }
 }
 
-/// Whether an entry keeps the law `Safe`, behind entries that keep all laws: a watch hears them all.
+/// Returns whether an entry keeps the law `Safe`, after entries that keep all laws. A [`Watch`] observes them all.
 fn is_safe(
     alloc: Global,
     setup: &Setup,

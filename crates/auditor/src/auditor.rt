@@ -17,12 +17,10 @@ use std::alloc::{AllocError, Global};
 use std::marker::Model;
 use world::{Core, Effect, Flicks, StepTold};
 
-/// An audit that goes on. It takes the entries of a record one at a time and keeps what a world keeps beside its
-/// history, and how many commands were taken: so it needs the same memory however long the record is.
-///
-/// As long as no entry breaks a law the entries are those of a list of events, and the auditor's core is that of
-/// the world that shows them. Each entry tells the event that it can only be of; that one is made, and what it adds
-/// is compared with the entry.
+/// An audit in progress. It observes the entries of a record one at a time. It keeps what a world keeps, except the history,
+/// and how many commands were taken, so it needs the same memory however long the record is. As long as no entry breaks a
+/// law, the entries are those of a list of events, and the auditor's core is that of the world that shows them. Each entry
+/// determines the one event that it can be of. The auditor makes that event, and compares what it adds with the entry.
 #[derive(Drop)]
 pub struct Auditor {
     pub(crate) alloc: Global,
@@ -39,7 +37,11 @@ impl Model for Auditor {
 }
 
 impl Auditor {
-    /// Before the first entry. The one fault is want of memory.
+    /// Creates an auditor that has observed nothing.
+    ///
+    /// # Errors
+    ///
+    /// Returns [`AllocError`] if there is no memory for the auditor.
     pub fn new(alloc: Global, setup: &Setup) -> Result<Auditor, AllocError>
         requires { checked setup.now ≡ Ok tt }
         ensures setup { IfOk result (λ a. a.core.setup ≡ setup.now) }
@@ -52,8 +54,7 @@ impl Auditor {
         })
     }
 
-    /// Becomes as the other, of the same setup: it has heard the same entries. So an audit can go on from here more than
-    /// once. It takes no memory.
+    /// Becomes a copy of an auditor of the same setup, so that an audit can continue more than once. It allocates no memory.
     pub fn copy_from(&mut self, other: &Auditor)
         requires setup { self.old.core.setup ≡ other.now.core.setup }
         ensures { self.new ≡ other.now }
@@ -63,11 +64,10 @@ impl Auditor {
     }
 
     /// Observes one more entry, by its parts. Returns the first law after `Safe` that it breaks, or `None` if it keeps all
-    /// laws. An entry that breaks a law changes nothing, so the auditor still has observed the entries before it.
+    /// laws. An entry that breaks a law changes nothing, so the auditor has still observed just the entries before it. An entry
+    /// that breaks `Safe` breaks `Program` or `Unit` too; a [`Watch`](read_law::Watch) decides whether it breaks `Safe`.
     ///
-    /// An entry that breaks `Safe` breaks `Program` or `Unit` too; a [`Watch`](read_law::Watch) tells whether it does.
-    ///
-    /// The marks are lent. An `Entry` has room for three, which would be cleared and moved for each Step, though few have one.
+    /// The marks are borrowed. An `Entry` has room for three, all cleared and moved for each step, though few steps have one.
     #[inline]
     pub fn hear(&mut self, process: u8, access: &Option<Access>, marks: &[Mark]) -> Option<Law>
         ensures setup { result ≡ None → self.new.core.setup ≡ self.old.core.setup }
@@ -91,7 +91,7 @@ impl Auditor {
     ///
     /// Returns what observing each access by itself returns. The accesses before `newest` break no law, because the
     /// process's program makes them. If `newest` breaks a law, the auditor has observed those before it. If the register
-    /// access has fewer than `steps` unmarked accesses left, the auditor returns [`Law::Program`] and stays as it is.
+    /// access has fewer than `steps` unmarked accesses left, the auditor returns [`Law::Program`] and is unchanged.
     pub fn hear_run(
         &mut self,
         process: u8,
@@ -129,8 +129,8 @@ impl Auditor {
         let _made = self.core.run(process, &mut flicks.twin(), steps);
     }
 
-    /// Observes an entry without a mark, of a process within a register access of its call. The process can do nothing else
-    /// than its next step, and it does not settle, so the access of that step is all there is to compare.
+    /// Observes an entry without a mark, of a process within a register access of its call. The process can only make its next
+    /// step, and it does not settle, so only the access of that step has to be compared.
     #[inline]
     fn hear_within(&mut self, process: u8, told: Access) -> Option<Law>
         requires { 0 < left_in self.old.core.seats process }
@@ -146,7 +146,7 @@ impl Auditor {
         None
     }
 
-    /// An entry that tells an event which is no step.
+    /// Observes an entry that is the entry of this event, which is not a step.
     fn hear_event(&mut self, event: &Event) -> Option<Law>
         ensures setup { result ≡ None → self.new.core.setup ≡ self.old.core.setup }
         ensures heard { HearsEvent self.old event.now self.new result }
@@ -159,7 +159,7 @@ impl Auditor {
         None
     }
 
-    /// An entry that tells no event but a step.
+    /// Observes an entry that can only be of a step.
     #[inline(never)]
     fn hear_step(&mut self, process: u8, access: &Option<Access>, marks: &[Mark]) -> Option<Law>
         requires { event_in (entry_by process access.now marks.now) ≡ None }
@@ -186,7 +186,7 @@ impl Auditor {
     }
 }
 
-/// The law that is broken by an entry with these marks that is not the step's of its process.
+/// Returns the law that is broken by an entry with these marks that differs from the entry of its process's step.
 fn wrong(marks: &[Mark], settles: bool) -> Law
     ensures { result ≡ law_of_wrong (list_any tells_event marks.now) settles }
 {
@@ -197,7 +197,7 @@ fn wrong(marks: &[Mark], settles: bool) -> Law
     }
 }
 
-/// The law that is broken by one that is but for the place of the command that is taken.
+/// Returns the law that is broken by an entry that differs only in the position of the command that is taken.
 fn misplaced(marks: &[Mark]) -> Law
     ensures { result ≡ law_of_misplaced (list_any tells_event marks.now) }
 {
@@ -208,7 +208,7 @@ fn misplaced(marks: &[Mark]) -> Law
     }
 }
 
-/// Whether a process that is there settles.
+/// Returns whether a process that exists settles.
 #[inline]
 fn settles(core: &Core, process: u8) -> bool
     ensures { TellsSettling core.now process result }

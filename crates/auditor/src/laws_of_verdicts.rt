@@ -1,12 +1,12 @@
-//! What verdicts say of records. Each law is a function with nothing to do, whose contract is the law.
+//! The consequences of verdicts for records. Each law is a function that does nothing, whose contract is the law.
 ghost use Rattle.auditor.specs.Verdicts.{GoodAccessesAreThere, GoodIsOfEvents, OfEventsIsGood, VerdictsAreUnique};
 
-/// A record in which each entry keeps each law is the record of some list of events. So the headline holds of it.
+/// A record in which each entry keeps each law is the record of some list of events. Therefore the main theorem holds of it.
 pub fn good_records_are_of_events()
     ensures { GoodIsOfEvents }
 {}
 
-/// In the record of every list of events each entry keeps each law.
+/// In the record of every list of events, each entry keeps each law.
 pub fn records_of_events_are_good()
     ensures { OfEventsIsGood }
 {}
@@ -16,8 +16,8 @@ pub fn records_have_one_verdict()
     ensures { VerdictsAreUnique }
 {}
 
-/// In a record in which each entry keeps each law, each access is of a bit that is there. So a watch that has heard it
-/// tells exactly whether the next entry keeps the law `Safe`, whatever that entry is.
+/// In a record in which each entry keeps each law, each access is of a bit that exists. Therefore a watch that has observed it
+/// decides exactly whether the next entry keeps the law `Safe`, whatever that entry is.
 pub fn good_records_access_what_is_there()
     ensures { GoodAccessesAreThere }
 {}

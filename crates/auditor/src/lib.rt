@@ -1,5 +1,5 @@
-//! Verdicts on given records: which entry is the first that breaks a law, and which law it breaks. An auditor hears the
-//! entries one by one, in memory of a fixed size. Every record of a list of events is good, which is a law here.
+//! Verdicts on given records: which entry is the first that breaks a law, and which law it breaks. An [`Auditor`] observes the
+//! entries one by one, in memory of a fixed size. Every record of a list of events is good; a law of this crate states it.
 //!
 //! ```rust
 //! let mut auditor = Auditor::new(alloc, setup)?;

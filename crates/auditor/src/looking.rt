@@ -1,4 +1,4 @@
-//! What an auditor reports of the entries that it has observed. It stays as it is.
+//! The reports of an auditor on the entries that it has observed. They leave it unchanged.
 ghost use Rattle.std.specs.Prelude.{◌≡◌};
 ghost use Rattle.record.specs.{refused};
 ghost use Rattle.world.specs.{stage_in};

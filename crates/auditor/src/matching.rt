@@ -1,4 +1,4 @@
-//! Whether an entry is the one that is expected.
+//! Comparison of an entry with the entry that is expected.
 ghost use Rattle.std.specs.Prelude.{◌≡◌, ◌↔◌, ℕ, true, false, IsTrue, Option, Some, None, map};
 ghost use Rattle.std.specs.List.{list_any};
 ghost use Rattle.record.specs.{placed};
@@ -13,7 +13,7 @@ use record::{Access, Entry, Event, Field, Mark, Move};
 use std::alloc::Global;
 use world::{StepTold, step_marks};
 
-/// The flick that an access tells, if there is one.
+/// Returns the flick that an access determines, or false if there is no access.
 #[inline]
 pub(crate) fn flick_in(access: &Option<Access>) -> bool
     ensures { result ≡ flick_in access.now }
@@ -24,7 +24,7 @@ pub(crate) fn flick_in(access: &Option<Access>) -> bool
     }
 }
 
-/// The flick that an access tells: the value with which a read ends, or a write begins or is settled.
+/// Returns the flick that an access determines: the value with which a read ends, or a write begins or is settled.
 #[inline]
 pub(crate) fn flick_of(access: Access) -> bool
     ensures { result ≡ flick_in (Some access) }
@@ -35,7 +35,7 @@ pub(crate) fn flick_of(access: Access) -> bool
     }
 }
 
-/// The event other than a step that an entry may be of.
+/// Returns the event other than a step that an entry may be of.
 #[inline]
 pub fn event_in(process: u8, access: &Option<Access>, marks: &[Mark]) -> Option<Event>
     ensures { result ≡ event_in (entry_by process access.now marks.now) }
@@ -52,7 +52,7 @@ pub fn event_in(process: u8, access: &Option<Access>, marks: &[Mark]) -> Option<
     }
 }
 
-/// Whether one of the marks is that of an event which is no step.
+/// Returns whether one of the marks is that of an event other than a step.
 pub fn tells_event(marks: &[Mark]) -> bool
     ensures { result ≡ list_any tells_event marks.now }
 {
@@ -64,8 +64,8 @@ pub fn tells_event(marks: &[Mark]) -> bool
     })
 }
 
-/// Whether an entry with this access and these marks is, but for places, that of a step which made this access and
-/// leads to this.
+/// Returns whether an entry with this access and these marks is, except for positions, that of a step which made the access
+/// `made` and leads to `told`.
 #[inline]
 pub(crate) fn is_alike(
     alloc: Global,
@@ -79,7 +79,7 @@ pub(crate) fn is_alike(
     is_access(access, made) && are_told(alloc, marks, told)
 }
 
-/// Whether the access is this one.
+/// Returns whether an entry's access exists and equals `access`.
 fn is_access(told: &Option<Access>, access: &Access) -> bool
     ensures { IsTrue result ↔ (told.now ≡ Some access.now) }
 {
@@ -89,7 +89,7 @@ fn is_access(told: &Option<Access>, access: &Access) -> bool
     }
 }
 
-/// Whether an access is that one.
+/// Returns whether two accesses are equal.
 #[inline]
 pub(crate) fn is_that(access: Access, that: Access) -> bool
     ensures { IsTrue result ↔ (access ≡ that) }
@@ -97,7 +97,7 @@ pub(crate) fn is_that(access: Access, that: Access) -> bool
     access == that
 }
 
-/// Whether the marks are those that a step leads to, but for places.
+/// Returns whether the marks are those that a step leads to, except for positions.
 #[inline]
 fn are_told(alloc: Global, marks: &[Mark], told: &StepTold) -> bool
     ensures { IsTrue result ↔ (map (placed 0) marks.now ≡ map (placed 0) (marks_told told.now)) }
@@ -108,7 +108,8 @@ fn are_told(alloc: Global, marks: &[Mark], told: &StepTold) -> bool
     }
 }
 
-/// The same of a step which leads to something. Few do, and the others are to have no room made for marks.
+/// Returns whether the marks are those that a step leads to, except for positions, if it leads to something. Few steps do,
+/// and for the others no room should be made for marks.
 #[inline(never)]
 fn are_those_of(alloc: Global, marks: &[Mark], told: &StepTold) -> bool
     ensures { IsTrue result ↔ (map (placed 0) marks.now ≡ map (placed 0) (marks_told told.now)) }
@@ -116,7 +117,7 @@ fn are_those_of(alloc: Global, marks: &[Mark], told: &StepTold) -> bool
     are_alike(marks, &step_marks(alloc, told, 0))
 }
 
-/// Whether marks are the same, but for places.
+/// Returns whether two lists of marks are equal, except for positions.
 fn are_alike(marks: &[Mark], others: &[Mark]) -> bool
     ensures { IsTrue result ↔ (map (placed 0) marks.now ≡ map (placed 0) others.now) }
 {
@@ -131,14 +132,14 @@ fn are_alike(marks: &[Mark], others: &[Mark]) -> bool
     true
 }
 
-/// Whether two marks are the same.
+/// Returns whether two marks are equal.
 fn is_same(mark: &Mark, other: &Mark) -> bool
     ensures { IsTrue result ↔ (mark.now ≡ other.now) }
 {
     mark == other
 }
 
-/// The mark, with the place 0 if it has one.
+/// Returns the mark, with the position 0 if it has a position.
 fn unplaced(mark: &Mark) -> Mark
     ensures { result ≡ placed 0 mark.now }
 {
@@ -148,7 +149,7 @@ fn unplaced(mark: &Mark) -> Mark
     }
 }
 
-/// Whether so many commands were taken.
+/// Returns whether `count` commands were taken. A count of `None` is 2^64 or more.
 fn is_count(taken: Option<u64>, count: u64) -> bool
     ensures { (n : ℕ) → IsCount taken n → IsTrue result ↔ (count ≡ n) }
 {
@@ -158,7 +159,7 @@ fn is_count(taken: Option<u64>, count: u64) -> bool
     }
 }
 
-/// Whether each command that is taken has the place after so many.
+/// Returns whether each command that the marks take has the position after the `taken` earlier commands.
 #[inline]
 pub(crate) fn are_at(marks: &[Mark], taken: Option<u64>) -> bool
     ensures { (n : ℕ) → IsCount taken n → IsTrue result ↔ AreAt n marks.now }
@@ -173,7 +174,7 @@ pub(crate) fn are_at(marks: &[Mark], taken: Option<u64>) -> bool
     true
 }
 
-/// How many commands were taken, after what a step leads to.
+/// Returns how many commands were taken, after what a step leads to.
 #[inline]
 pub(crate) fn more(taken: Option<u64>, told: &StepTold) -> Option<u64>
     ensures { CountsOn taken told.now result }

@@ -1,18 +1,18 @@
--- What is known of how far processes are within their number accesses, from Step to Step.
+-- The lower bound on how many of each process's next Steps are within a register access, from Step to Step.
 use Rattle.std.proofs.Common.{◌≡◌, ◌<◌, ◌≤◌, ℕ, suc, List, replicate, set, slice_index, ap, ◌∙◌, arith, inl, inr}
 use Rattle.std.proofs.lemmas.Bool.{cases_eq}
 use Rattle.std.proofs.lemmas.List.{get_or-replicate, get_or-set_other, get_or-set_same, length-replicate, length-set}
 use Rattle.world.specs.{KeepOthers, Seat, left_in}
 use Rattle.course.specs.{IsCounted}
 
--- at first nothing is known
+-- the bound is 0 for each process at first
 pub none_known : (seats : List Seat) → IsCounted (replicate 256 1) seats
 none_known seats = record { all = length-replicate {A = ℕ} 256 1; some = λ p inside. let is = one p inside in omega (arith, is); known = λ p inside. let is = one p inside in omega (arith, is) }
   where
     one : (p : ℕ) → p < 256 → slice_index (replicate 256 1) p ≡ 1
     one p inside = get_or-replicate 256 p 1 0 inside
 
--- after a Step of a process of which so much is known
+-- the bound after a Step of p, of which at least `quiet` - 1 next Steps are within a register access
 pub counted_put : (within : List ℕ) (p quiet : ℕ) (old new : List Seat) → IsCounted within old → 0 < quiet → quiet ≤ suc (left_in new p) → KeepOthers old p new → IsCounted (set within p quiet) new
 counted_put within p quiet old new counted some few others = record { all = length-set within p quiet ∙ counted.all; some = λ q inside. (by q inside).0; known = λ q inside. (by q inside).1 }
   where

@@ -1,4 +1,4 @@
--- What is heard of a run is counted, and has its text.
+-- A listener counts the events of a run, and the text of its reports is the text of the run.
 use Rattle.std.proofs.Common.{◌≡◌, ℕ, zero, suc, ◌+◌, List, ◌∷◌, ◌++◌, length, Some, refl, ap, sym, subst, ◌∙◌, arith, add-zero, append-nil}
 use Rattle.plain_store.specs.{Setup}
 use Rattle.record.specs.declared.events.Event.TheVariants.{Step}
@@ -6,17 +6,17 @@ use Rattle.course.specs.{Happening, Happens, PassQuietly, Stepped, StepsOn, Summ
 use Rattle.course.specs.Writing.{Counts}
 use Rattle.course.proofs.Tellings.{Quietly, counts_more, quiet_counts, told_is}
 
--- so many events more
+-- a summary with n events more
 abbrev pub with_events : ℕ → Summary → Summary
 with_events n summary = record summary { events = summary.events + n }
 
--- what is told is counted
+-- a report is counted
 pub counts_heard : (s : Setup) (before : List Happening) (this : Happening) (told : Told) (had has : Summary) → Happens s before this told → has ≡ counted told had → Counts s before had → Counts s (this ∷ before) has
 counts_heard s before this told had has h is counts =
     let more = counts_more s before this told had h.tells counts.events counts.refused in
     subst (λ (n : Summary). Counts s (this ∷ before) n) (sym is) (record { events = more.0; refused = more.1 })
 
--- and its text is that of what happens
+-- the text of a report is that of what happens
 pub text_heard : (s : Setup) (before : List Happening) (this : Happening) (told : Told) (had : Summary) → Happens s before this told → Counts s before had → text_of s (this ∷ before) ≡ text_of s before ++ told_text had.events told
 text_heard s before this told had h counts = ap (λ l. text_of s before ++ l) (sym (ap (λ n. told_text n told) counts.events ∙ told_is s (past_after s before) this told h.tells))
 

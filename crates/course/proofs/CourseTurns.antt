@@ -1,4 +1,4 @@
--- One turn of a course, by what the world answers.
+-- One turn of a course, by the result of the world.
 use Rattle.std.proofs.Common.{◌≡◌, ℕ, zero, suc, arith, ◌-◌, ◌<◌, ◌≤◌, Bool, true, false, nat_lt, cond, length, List, [], ◌∷◌, IfOk, Result, Ok, Err, Option, None, Some, option_map, refl, ap, sym, subst, ◌∙◌, inl, inr}
 use Rattle.std.proofs.lemmas.Bool.Decides.{nat_tests}
 use Rattle.std.specs.declared.alloc.AllocError.{AllocError}
@@ -16,11 +16,11 @@ use Rattle.course.specs.{Accepted, CourseState, Follows, IsMarked, Lacks, Looks,
 use Rattle.course.specs.declared.told.Told.TheVariants as told
 use Rattle.course.proofs.Refusals.{shows_refused}
 
--- what was taken before an event is what the world keeps
+-- the world keeps as many commands as were taken before an event
 pub place_is : (w : WorldState) (events : List Event) (taken : List Taken) (place : ℕ) → Shows w events → taken ≡ history w.setup (past_of w.setup events) → place ≡ length taken → length w.history ≡ place
 place_is w events taken place shows are is = ap (λ (w : WorldState). length w.history) shows.shown ∙ ap length (sym are) ∙ sym is
 
--- an event that is no Step has a mark
+-- an event other than a Step has a mark
 one_marked : (p : ℕ) (mark : Mark) (e : Entry) → marked p mark ≡ Some e → e.marks ≡ [] → ⊥
 one_marked p mark e is none = let same : Some (mark ∷ []) ≡ Some e.marks = ap (option_map (λ (e : Entry). e.marks)) is in absurd (cc)
 
@@ -38,7 +38,7 @@ event_marked s past event e still is none = by (refused s past event) is
     by (Some r) is = absurd (cc)
     by None is = added_marked s past event e still is none
 
--- and no access, so that with it no read ends
+-- it makes no access, so it does not end a read
 one_unread : (p : ℕ) (mark : Mark) (past : Past) (e : Entry) → marked p mark ≡ Some e → false ≡ ends_overlapped_read past e
 one_unread p mark past e is = let same : Some None ≡ Some e.access = ap (option_map (λ (e : Entry). e.access)) is in let none : None ≡ e.access = cc in ap (λ (o : Option Access). elim o as (λ _. Bool) [ None ↦ false | Some a ↦ ends_overlapped (moves_of a past) a.how ]) none
 
@@ -87,7 +87,7 @@ event_refused w w' flicks left p event r is given (inl away) other same run foll
       setup = ap (λ (w : WorldState). w.setup) same;
     }
 
--- an event that is turned away, where that is told
+-- an event that is refused, where the refusal is reported
 pub event_refused_by : (w w' : WorldState) (flicks : FlickState) (left p : ℕ) (event : Event) (r : Refusal) (result : Result (Option Told) AllocError) → p ≡ process_of event → is_event event ≡ true → IsTurnedAway w event r → w' ≡ w →
     IfOk result (λ answer. (answer ≡ Some (told.Refused p r)) × (r ≡ Memory → ⊥)) →
     IfOk result (λ answer. (run : Run) → Follows (course w flicks left) run → Makes (course w flicks left) run (happens (Tries event) (left - 1) run) answer (course w' flicks (left - 1)))
@@ -96,7 +96,7 @@ event_refused_by w w' flicks left p event r (Ok answer) is given away same answe
     let family : Option Told → Type 0 = λ answer. (run : Run) → Follows (course w flicks left) run → Makes (course w flicks left) run (happens (Tries event) (left - 1) run) answer (course w' flicks (left - 1)) in
     subst family (sym answered.0) (event_refused w w' flicks left p event r is given away answered.1 same)
 
--- a process that is not there
+-- a process that does not exist
 pub beyond_told : (w : WorldState) (p : ℕ) (events : List Event) → Shows w events → stage_in w.setup (past_of w.setup events) p ≡ None → nat_lt p w.setup.processes ≡ false
 beyond_told w p events shows none = by (nat_lt p w.setup.processes) refl
   where
@@ -105,7 +105,7 @@ beyond_told w p events shows none = by (nat_lt p w.setup.processes) refl
     by true h =
         let no : Some (stage p (past_of w.setup events)) ≡ None = sym (ap (λ b. cond b (Some (stage p (past_of w.setup events))) None) h) ∙ none in absurd (cc)
 
--- one that is there, and its stage
+-- a process that exists, and its stage
 pub stage_told : (w : WorldState) (p : ℕ) (at : Stage) (events : List Event) → Shows w events → stage_in w.setup (past_of w.setup events) p ≡ Some at → (nat_lt p w.setup.processes ≡ true) × (stage p (past_of w.setup events) ≡ at)
 stage_told w p at events shows some = by (nat_lt p w.setup.processes) refl
   where
@@ -113,7 +113,7 @@ stage_told w p at events shows some = by (nat_lt p w.setup.processes) refl
     by false h = let no : None ≡ Some at = sym (ap (λ b. cond b (Some (stage p (past_of w.setup events))) None) h) ∙ some in absurd (cc)
     by true h = let same : Some (stage p (past_of w.setup events)) ≡ Some at = sym (ap (λ b. cond b (Some (stage p (past_of w.setup events))) None) h) ∙ some in (h, (cc))
 
--- `go` of a process that is not there
+-- `go` of a process that does not exist
 pub go_lacks : (w : WorldState) (flicks : FlickState) (had left p : ℕ) (target : Target) → ((events : List Event) → Shows w events → None ≡ stage_in w.setup (past_of w.setup events) p) →
     (run : Run) → Follows (course w flicks had) run → Makes (course w flicks had) run (go_turn w.setup p target left run) (Some (told.Refused p NoProcess)) (course w flicks 0)
 go_lacks w flicks had left p target none run follows =
@@ -121,7 +121,7 @@ go_lacks w flicks had left p target none run follows =
     subst (λ b. Makes (course w flicks had) run (elim b as (λ _. Turn) [ false ↦ happens (Lacks p) 0 run | true ↦ elim (is_there target (stage p (past_in w.setup run))) [ true ↦ ends run | false ↦ on_turn w.setup p left run ] ]) (Some (told.Refused p NoProcess)) (course w flicks 0))
     (sym no) (record { tells = ((refl, refl), tt); follows = record { shows = follows.shows; flicks = follows.flicks }; left = refl; setup = refl })
 
--- where it is there, the turn goes by whether it is where it is to go
+-- if the process exists, the turn depends on whether it is at its target
 pub go_turn_there : (w : WorldState) (left p : ℕ) (target : Target) (at : Stage) (b : Bool) → is_there target at ≡ b → ((events : List Event) → Shows w events → Some at ≡ stage_in w.setup (past_of w.setup events) p) → (run : Run) → Shows w (tried run.happened) →
     go_turn w.setup p target left run ≡ (elim b as (λ _. Turn) [ true ↦ ends run | false ↦ on_turn w.setup p left run ])
 go_turn_there w left p target at b is some run shows =
@@ -129,19 +129,19 @@ go_turn_there w left p target at b is some run shows =
     ap (λ b. elim b as (λ _. Turn) [ false ↦ happens (Lacks p) 0 run | true ↦ elim (is_there target (stage p (past_in w.setup run))) [ true ↦ ends run | false ↦ on_turn w.setup p left run ] ]) there.0
     ∙ ap (λ b. elim b as (λ _. Turn) [ true ↦ ends run | false ↦ on_turn w.setup p left run ]) (ap (is_there target) there.1 ∙ is)
 
--- `go` of one that is where it is to go
+-- `go` of a process that is at its target
 pub go_ends : (w : WorldState) (flicks : FlickState) (had left p : ℕ) (target : Target) (at : Stage) → is_there target at ≡ true → ((events : List Event) → Shows w events → Some at ≡ stage_in w.setup (past_of w.setup events) p) →
     (run : Run) → Follows (course w flicks had) run → Makes (course w flicks had) run (go_turn w.setup p target left run) None (course w flicks 0)
 go_ends w flicks had left p target at is some run follows =
     subst (λ t. Makes (course w flicks had) run t None (course w flicks 0)) (sym (go_turn_there w left p target at true is some run follows.shows))
     (record { tells = tt; follows = record { shows = follows.shows; flicks = follows.flicks }; left = refl; setup = refl })
 
--- a process that is there has a Step to make by its stage
+-- whether a process that exists has a Step to make depends on its stage
 pub mover_told : (w : WorldState) (p : ℕ) (at : Stage) → ((events : List Event) → Shows w events → Some at ≡ stage_in w.setup (past_of w.setup events) p) → (flicks : FlickState) (left : ℕ) →
     (run : Run) → Follows (course w flicks left) run → has_step at ≡ has_step (stage p (past_in w.setup run))
 mover_told w p at some flicks left run follows = ap has_step (sym (stage_told w p at (tried run.happened) follows.shows (sym (some (tried run.happened) follows.shows))).1)
 
--- one that is not there is none of the processes
+-- a process that does not exist is not below the number of processes
 pub mover_beyond : (w : WorldState) (p : ℕ) → ((events : List Event) → Shows w events → None ≡ stage_in w.setup (past_of w.setup events) p) → (flicks : FlickState) (left : ℕ) →
     (run : Run) → Follows (course w flicks left) run → p < w.setup.processes → ⊥
 mover_beyond w p none flicks left run follows within =
@@ -153,13 +153,13 @@ pub turn_next : (s : Setup) (line : Line) (left : ℕ) (run : Run) → (left ≡
 turn_next s line zero run some_left = absurd (some_left refl)
 turn_next s line (suc left) run some_left = ap (λ n. next_turn s line n run) (omega arith)
 
--- the next turn of a line is the turn of what it says
+-- the next turn of a line is the next turn of the line that it equals
 pub turn_made : (old new : CourseState) (line l : Line) (answer : Option Told) → (old.left ≡ 0 → ⊥) → line ≡ l →
     ((run : Run) → Follows old run → Makes old run (next_turn old.world.setup l (old.left - 1) run) answer new) → (run : Run) → Follows old run → Makes old run (turn_of old.world.setup line old.left run) answer new
 turn_made old new line l answer some_left is makes run follows =
     subst (λ (turn : Turn). Makes old run turn answer new) (sym (ap (λ line. turn_of old.world.setup line old.left run) is ∙ turn_next old.world.setup l old.left run some_left)) (makes run follows)
 
--- the same, where there was memory
+-- the turn of a result that is not an allocation failure
 pub turn_made_by : (old new : CourseState) (line l : Line) (result : Result (Option Told) AllocError) → (old.left ≡ 0 → ⊥) → line ≡ l →
     IfOk result (λ answer. (run : Run) → Follows old run → Makes old run (next_turn old.world.setup l (old.left - 1) run) answer new) → IfOk result (λ answer. (run : Run) → Follows old run → Makes old run (turn_of old.world.setup line old.left run) answer new)
 turn_made_by old new line l (Ok answer) some_left is makes = turn_made old new line l answer some_left is makes
@@ -170,7 +170,7 @@ pub turn_ended : (old : CourseState) (line : Line) → old.left ≡ 0 → (run :
 turn_ended old line none run follows =
     subst (λ n. Makes old run (turn_of old.world.setup line n run) None old) (sym none) (record { tells = tt; follows = record { shows = follows.shows; flicks = follows.flicks }; left = none; setup = refl })
 
--- a line that sets where flicks come from
+-- a line that sets the source of flicks
 pub flick_made : (w : WorldState) (flicks flicks' : FlickState) (left : ℕ) (flick : Flick) → left ≤ 1 → flicks' ≡ after_set flick flicks →
     (run : Run) → Follows (course w flicks left) run → Makes (course w flicks left) run (next_turn w.setup (line.Flick flick) (left - 1) run) None (course w flicks' (left - 1))
 flick_made w flicks flicks' left flick few is run follows = record {
@@ -180,7 +180,7 @@ flick_made w flicks flicks' left flick few is run follows = record {
   setup = refl;
 }
 
--- a line that shows it
+-- a line that shows the newest store
 pub show_made : (w : WorldState) (flicks : FlickState) (left : ℕ) (answer : Told) → ((events : List Event) → Shows w events → TellsOf w.setup (past_of w.setup events) Looks answer) → IsMarked answer →
     (run : Run) → Follows (course w flicks left) run → Makes (course w flicks left) run (next_turn w.setup line.Show (left - 1) run) (Some answer) (course w flicks (left - 1))
 show_made w flicks left answer is marked run follows = record {

@@ -1,4 +1,4 @@
--- How many events the turns of a line make: each makes one, or it is the last.
+-- How many events the turns of a line make: each turn makes one, unless it is the last.
 use Rattle.std.proofs.Common.{◌≡◌, inl, inr, ℕ, zero, suc, ◌+◌, ◌-◌, ◌<◌, ◌≤◌, nat_lt, Bool, true, false, List, [], ◌∷◌, ◌++◌, length, Option, None, Some, Ok, is_none, refl, ap, sym, subst, ◌∙◌, arith}
 use Rattle.std.specs.Prelude.{◌⊎◌}
 use Rattle.std.proofs.lemmas.Bool.{cases_lt}
@@ -29,11 +29,11 @@ event_adds s good before event accepted =
     let same : length (past_after s (Tries event ∷ before)) ≡ length (adds.0 ∷ past) = ap (λ (o : Option Entry). length (elim o as (λ _. Past) [ None ↦ past | Some e ↦ e ∷ past ])) adds.1 in
     omega (arith, same)
 
--- one that is refused
+-- an event that is refused
 event_kept : (s : Setup) (before : List Happening) (event : Event) (r : Refusal) → refused s (past_after s before) event ≡ Some r → length (past_after s (Tries event ∷ before)) ≡ length (past_after s before)
 event_kept s before event r is = ap (λ (past : Past). length past) (past_kept s (tried before) event r is)
 
--- a turn makes an event and leaves so many turns, or it is the last of its line
+-- a turn makes an event and leaves `left` turns, or it is the last of its line
 pub data TurnMakes (s : Setup) (left : ℕ) (run : Run) (turn : Turn) : Type 0 where
   MakesOne : events_in s turn.run ≡ events_in s run + 1 → turn.left ≡ left → TurnMakes s left run turn
   MakesNone : events_in s turn.run ≡ events_in s run → turn.left ≡ 0 → TurnMakes s left run turn
@@ -86,7 +86,7 @@ turn_makes s good line.Show left run few = MakesNone refl (omega (arith, few))
 
 -- Turns without a mark.
 
--- each makes an event
+-- each of these turns makes an event
 module _ (s : Setup) (good : checked s ≡ Ok tt) (l : Line) where
   quiet_makes : (left : ℕ) (run : Run) → suc left ≤ turns_in l → IsQuiet s (past_in s run) (turn_of s l (suc left) run).this → (events_in s (turn_of s l (suc left) run).run ≡ events_in s run + 1) × ((turn_of s l (suc left) run).left ≡ left)
   quiet_makes left run few quiet = by (turn_makes s good l left run few) (turned s l (suc left) run)
@@ -116,20 +116,20 @@ module _ (s : Setup) (good : checked s ≡ Ok tt) (l : Line) where
       let events = rest.1 in
       (omega (arith, turns, fewer), omega (arith, events, longer))
 
-  -- So many turns of a line.
+  -- The first n turns of a line.
 
-  -- none
+  -- no turns
   pub none_made : (left : ℕ) (run : Run) → turns_made s l 0 left run ≡ run
   unfolding turns_made
   none_made left run = refl
 
-  -- of a line that has ended
+  -- a line that has ended
   pub ended_still : (n : ℕ) (run : Run) → turns_made s l n 0 run ≡ run
   unfolding turns_made
   ended_still zero run = refl
   ended_still (suc n) run = ended_still n run
 
-  -- all that are left
+  -- all turns that are left
   pub all_made : (n left : ℕ) (run : Run) → left ≤ n → left ≤ turns_in l → turns_made s l n left run ≡ rest_of s l left run
   unfolding turns_made
   all_made zero zero run all few = sym (rest_none s l run)
@@ -140,7 +140,7 @@ module _ (s : Setup) (good : checked s ≡ Ok tt) (l : Line) where
       let less : t.left ≤ left = makes_fewer s left run t (turn_makes s good l left run few) in
       all_made n t.left t.run (omega (arith, all, less)) (omega (arith, few, less)) ∙ sym (turn_on s l (suc left) run few)
 
-  -- those above the floor that so many turns leave
+  -- the turns above the floor that `most` turns leave are the first `most` turns
   pub part_made : (most : ℕ) (run : Run) → turns_made s l (turns_in l - (turns_in l - most)) (turns_in l) run ≡ part_of_line s most l run
   part_made most run = by (cases_lt most (turns_in l))
     where
@@ -148,7 +148,7 @@ module _ (s : Setup) (good : checked s ≡ Ok tt) (l : Line) where
       by (inl less) = let same : turns_in l - (turns_in l - most) ≡ most = omega (arith, less) in ap (λ n. turns_made s l n (turns_in l) run) same
       by (inr more) = all_made (turns_in l - (turns_in l - most)) (turns_in l) run (omega (arith, more)) (omega arith) ∙ sym (all_made most (turns_in l) run more (omega arith))
 
-  -- those above a floor, after turns without a mark
+  -- the turns above a floor, after turns without a mark
   pub quiet_turns_made : (floor quiet left : ℕ) (run : Run) (left' : ℕ) (run' : Run) → left ≤ turns_in l → floor ≤ left' → QuietTurns s l quiet left run left' run' → turns_made s l (left - floor) left run ≡ turns_made s l (left' - floor) left' run'
   unfolding turns_made
   quiet_turns_made floor zero left run left' run' few above (same, at) = λ i. turns_made s l (sym same i - floor) (sym same i) (sym at i)
@@ -160,7 +160,7 @@ module _ (s : Setup) (good : checked s ≡ Ok tt) (l : Line) where
       let next : suc left - floor ≡ suc (t.left - floor) = omega (arith, above, lower, fewer) in
       ap (λ n. turns_made s l n (suc left) run) next ∙ quiet_turns_made floor quiet t.left t.run left' run' (omega (arith, few, fewer)) above more
 
-  -- and after any turn
+  -- the turns above a floor, after any turn
   pub turn_turns_made : (floor left : ℕ) (run : Run) → left ≤ turns_in l → floor < left → turns_made s l (left - floor) left run ≡ turns_made s l ((turn_of s l left run).left - floor) (turn_of s l left run).left (turn_of s l left run).run
   unfolding turns_made
   turn_turns_made floor zero run few above = absurd (omega (arith, above))
@@ -176,9 +176,9 @@ module _ (s : Setup) (good : checked s ≡ Ok tt) (l : Line) where
       by (MakesOne more is) = ap (λ n. turns_made s l (n - floor) t.left t.run) (sym is)
       by (MakesNone same none) = ap (λ n. turns_made s l (left - floor) n t.run) none ∙ ended_still (left - floor) t.run ∙ sym (ended_still (t.left - floor) t.run) ∙ ap (λ n. turns_made s l (t.left - floor) n t.run) (sym none)
 
-  -- A front of the line.
+  -- The first events of the line.
 
-  -- so many turns make as many events, unless all are made
+  -- n turns make n events, unless all turns are made
   pub record FrontMade (n : ℕ) (run now whole : Run) : Type 0 where
     pub more : List Happening
     pub is : whole.happened ≡ more ++ now.happened

@@ -28,7 +28,7 @@ runs_both : (s : Setup) (before after : List Line) (run : Run) → runs s (befor
 runs_both s [] after run = refl
 runs_both s (line ∷ before) after run = runs_both s before after (run_after s line run)
 
--- what happens leaves no fewer events
+-- a happening does not make the record shorter
 happening_more : (s : Setup) (before : List Happening) (this : Happening) → length (past_after s before) ≤ length (past_after s (this ∷ before))
 happening_more s before (Tries event) = by (entry_of s (past_after s before) event)
   where
@@ -51,12 +51,12 @@ events_more s now whole more is =
 
 -- A part of a run.
 
--- events are still to be made: all of the lines so far were
+-- if events are still to be made, all of the lines so far were played
 all_so_far : (s : Setup) (until : Until) (start now whole : Run) (made : ℕ) → events_in s now ≡ events_in s start + made → 0 < events_to until made → IsPart s until start now whole → now ≡ whole
 all_so_far s End start now whole made events more part = part
 all_so_far s (Event n) start now whole made events more part = elim part.ends [ inl many ↦ absurd (omega (arith, many, events, more)) | inr all ↦ sym all ]
 
--- a line more
+-- one more line is played
 part_on : (s : Setup) → checked s ≡ Ok tt → (until : Until) (line : Line) (start now whole : Run) (made : ℕ) → turns_in line < 2 ^ 32 → events_in s now ≡ events_in s start + made → IsPart s until start now whole →
     IsPart s until start (part_of_line s (events_to until made) line now) (run_after s line whole)
 part_on s good End line start now whole made few events part =
@@ -90,7 +90,7 @@ part_on s good (Event n) line start now whole made few events part = by part.end
 
 -- The line that made the newest event.
 
--- as many events leave it
+-- a run with as many events has the same newest line
 newest_same : (s : Setup) (lines : List Line) (start now now' : Run) (newest : Option LineMade) → events_in s now' ≡ events_in s now → MadeNewest s lines start now newest → MadeNewest s lines start now' newest
 newest_same s lines start now now' None same made = same ∙ made
 newest_same s lines start now now' (Some line) same made =
@@ -122,7 +122,7 @@ newest_new s good until lines start now made k line more within next events part
 
 -- Lines.
 
--- the first k of them from a run on: the run now, what was heard, and how many events were made
+-- the first k lines were played: the run now, what was observed, the number of events made, and the line that made the newest
 pub record PlayedTo {L : Type 0} (Hears : L → Setup → List Happening → List Happening → L → Type 0) (s : Setup) (lines : List Line) (until : Until) (k : ℕ) (start : Run) (course : CourseState) (was is : L) (made : ℕ) (newest : Option LineMade) : Type 0 where
   pub now : Run
   pub plays : Plays Hears s start now course was is
@@ -158,11 +158,11 @@ module _ {L : Type 0} (Hears : L → Setup → List Happening → List Happening
     good : checked s ≡ Ok tt
     good = (good_of s course u.now u.plays.setup u.plays.follows).0
 
-    -- with the next line
+    -- the first k + 1 lines are the first k lines and the next one
     one_more : runs s (take (k + 1) lines) start ≡ run_after s line (runs s (take k lines) start)
     one_more = let same : k + 1 ≡ suc k = omega arith in ap (λ n. runs s (take n lines) start) same ∙ ap (λ l. runs s l start) (take_next lines k line (drop (k + 1) lines) next) ∙ runs_both s (take k lines) (line ∷ []) start
 
-    -- a line more, which was heard: where it makes events, it made the newest
+    -- one more line, which was observed: if it makes events, it made the newest
     pub lines_on : (course' : CourseState) (more : ℕ) (newest' : Option LineMade) → ((a b c : L) (s : Setup) (x y z : List Happening) → Hears a s x y b → Hears b s y z c → Hears a s x z c) → turns_in line < 2 ^ 32 →
         ((run : Run) → Follows course run → Plays Hears course.world.setup run (part_of_line course.world.setup (events_to until made) line run) course' is is') →
         ((run : Run) → Follows course run → events_in course.world.setup (part_of_line course.world.setup (events_to until made) line run) ≡ events_in course.world.setup run + more) →
@@ -185,7 +185,7 @@ module _ {L : Type 0} (Hears : L → Setup → List Happening → List Happening
           ];
         }
 
-    -- a fault in it
+    -- a fault in the next line
     pub lines_cut : (Stops : L → Setup → List Happening → List Happening → Fault → L → Type 0) (fault : Fault) → ((a b : L) (s : Setup) (x y more : List Happening) (fault : Fault) → Stops a s x y fault b → Stops a s x (more ++ y) fault b) →
         ((a b c : L) (s : Setup) (x y z : List Happening) (fault : Fault) → Hears a s x y b → Stops b s y z fault c → Stops a s x z fault c) → StopsLine Stops course line is is' fault → 0 < events_to until made → Stops was s start.happened (runs s lines start).happened fault is'
     lines_cut Stops fault stops_before stops_on cut some =
@@ -200,13 +200,13 @@ module _ {L : Type 0} (Hears : L → Setup → List Happening → List Happening
         subst (λ l. Stops was s start.happened l fault is') (sym all)
         (stops_on was is is' s start.happened u.now.happened (grows.more ++ after.happened) fault u.plays.hears (stops_before is is' s u.now.happened after.happened grows.more fault torn))
 
--- played to the end
+-- lines that are played to the end
 pub plays_whole : {L : Type 0} (Hears : L → Setup → List Happening → List Happening → L → Type 0) (s : Setup) (lines : List Line) (until : Until) (start : Run) (course : CourseState) (was is : L) (newest : Option LineMade) → until ≡ End → PlaysPart Hears s lines until start course was is newest → Plays Hears s start (runs s lines start) course was is
 plays_whole Hears s lines until start course was is newest end u =
     let part : u.now ≡ runs s lines start = subst (λ until. IsPart s until start u.now (runs s lines start)) end u.part in
     subst (λ (r : Run). Plays Hears s start r course was is) part u.plays
 
--- as a line that makes all its turns is
+-- if a line may make all its turns, its part is the whole line
 pub line_whole : {L : Type 0} (Hears : L → Setup → List Happening → List Happening → L → Type 0) (s : Setup) (l : Line) (most : ℕ) (run : Run) (course : CourseState) (was is : L) → turns_in l ≤ most → Plays Hears s run (part_of_line s most l run) course was is → Plays Hears s run (run_after s l run) course was is
 line_whole Hears s l most run course was is all plays =
     let good : checked s ≡ Ok tt = (good_of s course (part_of_line s most l run) plays.setup plays.follows).0 in

@@ -1,4 +1,4 @@
--- `go`: Steps without a mark leave the process where it is, so that it is away until one has marks.
+-- `go`: a Step without a mark leaves the process in its stage, so the process is not at its target until a Step has marks.
 use Rattle.std.proofs.Common.{◌≡◌, ℕ, zero, suc, arith, ◌<◌, true, false, nat_lt, List, Some, refl, ap, sym, subst, ◌∙◌, inl, inr}
 use Rattle.plain_store.specs.{Setup}
 use Rattle.record.specs.{Event, Stage, past_of, stage}
@@ -11,19 +11,19 @@ use Rattle.course.specs.{ComesOn, ComesTo, CourseState, Follows, Happening, IsAl
 use Rattle.course.specs.declared.told.Told.TheVariants as told
 use Rattle.course.proofs.CourseTurns.{stage_told}
 
--- where a process is away a turn of `go` is a Step, or the last one
+-- if a process is not at its target, a turn of `go` is a Step or the last turn
 away_turn : (s : Setup) (p : ℕ) (target : Target) (left : ℕ) (run : Run) → IsAway s p target run → go_turn s p target left run ≡ on_turn s p left run
 away_turn s p target left run is =
     ap (λ b. elim b as (λ _. Turn) [ false ↦ happens (Lacks p) 0 run | true ↦ elim (is_there target (stage p (past_in s run))) [ true ↦ ends run | false ↦ on_turn s p left run ] ]) is.there
     ∙ ap (λ b. elim b as (λ _. Turn) [ true ↦ ends run | false ↦ on_turn s p left run ]) is.away
 
--- as long as two turns are left, a Step
+-- as long as two turns are left, the turn is a Step
 pub go_steps : (s : Setup) (p steps : ℕ) (target : Target) (left : ℕ) (run : Run) → IsAway s p target run → 1 < left → turn_of s (line.Go p target) left run ≡ turn_of s (line.Step p steps) left run
 go_steps s p steps target zero run is more = absurd (omega (arith, more))
 go_steps s p steps target (suc zero) run is more = absurd (omega (arith, more))
 go_steps s p steps target (suc (suc left)) run is more = away_turn s p target (suc left) run is
 
--- what the world answers of where the process stands
+-- a process is not at its target if the stage that the world returns is not
 pub is_away : (w : WorldState) (p : ℕ) (target : Target) (at : Stage) → is_there target at ≡ false → ((events : List Event) → Shows w events → Some at ≡ stage_in w.setup (past_of w.setup events) p) →
     (flicks : FlickState) (left : ℕ) (run : Run) → Follows (course w flicks left) run → IsAway w.setup p target run
 is_away w p target at elsewhere some flicks left run follows =

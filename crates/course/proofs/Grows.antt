@@ -6,7 +6,7 @@ use Rattle.scenario.specs.{Line, Target}
 use Rattle.scenario.specs.declared.lines.Line.TheVariants as line
 use Rattle.course.specs.{Happening, Lacks, Run, Tires, go_rest, goes, is_there, may_step, movers, once, past_in, picked, rest_of, run_after, runs, stepped, steps, wanders, with_happening}
 
--- what has happened after is what had happened before, and more
+-- the later happenings are the earlier ones, and more
 pub record Grows (before after : List Happening) : Type 0 where
   pub more : List Happening
   pub is : after ≡ more ++ before
@@ -72,7 +72,7 @@ go_grows s p target (suc left) run = by (nat_lt p s.processes)
     by true = goes_grow s p target left run
     by false = grows_one run.happened (Lacks p)
 
--- what is left of a line
+-- the turns that are left of a line
 pub rest_grows : (s : Setup) (line : Line) (left : ℕ) (run : Run) → Grows run.happened (rest_of s line left run).happened
 rest_grows s (line.Call p command) left run = once_grows s left run (run_after s (line.Call p command) run) (grows_one run.happened _)
 rest_grows s (line.Step p n) left run = steps_grow s p left run
@@ -84,7 +84,7 @@ rest_grows s (line.Flick flick) left run = once_grows s left run (run_after s (l
 rest_grows s (line.Wander n) left run = wanders_grow s left run
 rest_grows s line.Show left run = once_grows s left run (run_after s line.Show run) (grows_one run.happened _)
 
--- a line, and lines
+-- a whole line, and a list of lines
 pub line_grows : (s : Setup) (line : Line) (run : Run) → Grows run.happened (run_after s line run).happened
 line_grows s (line.Call p command) run = grows_one run.happened _
 line_grows s (line.Step p n) run = steps_grow s p n run

@@ -1,4 +1,4 @@
--- A store is known by its image, and the newest store by that of the registers.
+-- A store is determined by its image, and the newest store by the image in the registers.
 use Rattle.std.proofs.Common.{◌≡◌, ◌*◌, ◌+◌, Bool, true, false, cond, List, [], ◌++◌, length, Option, Some, None, option_map, IfSome, refl, ap, sym, ◌∙◌, arith}
 use Rattle.record.specs.store_image.{IsStore, image_of, store_read, used_in}
 use Rattle.plain_store.specs.{Contents}
@@ -9,7 +9,7 @@ use Rattle.world.proofs.history_laws_proofs.DataAlways.{data_of}
 use Rattle.world.specs.Shows.{Shows, WorldState}
 use Rattle.course.specs.{newest_store}
 
--- stores with one image are one
+-- stores with the same image are equal
 pub same_image : (a b : Contents) → IsStore a → IsStore b → image_of a ≡ image_of b → a ≡ b
 same_image a b good other same =
     let slots : a.slots ≡ b.slots = omega (arith, long, good.some_slots, other.some_slots, good.few_slots, other.few_slots, good.few_callers, other.few_callers) in
@@ -24,7 +24,7 @@ same_image a b good other same =
     long : 23 * a.slots + 2 * length a.numbers ≡ 23 * b.slots + 2 * length b.numbers
     long = sym (length-image_of a good) ∙ ap length same ∙ length-image_of b other
 
--- so the store that a world shows as its newest is the one after its history
+-- therefore the store that a world shows as its newest is the one after its history
 pub newest_is : (w : WorldState) (events : List Event) (store : Option Contents) → Shows w events → IfSome store IsStore → option_map image_of store ≡ newest w.setup (past_of w.setup events) → store ≡ newest_store w.setup (past_of w.setup events)
 newest_is w events store shows good is = by store (is_somebody_inside w.setup past) good is
   where

@@ -1,4 +1,4 @@
--- Each entry of a run is one of a process that is there.
+-- Each entry of a run is one of a process that exists.
 use Rattle.std.proofs.Common.{◌≡◌, ◌<◌, nat_lt, true, List, Some, sym, subst, arith}
 use Rattle.std.proofs.lemmas.Bool.Decides.{nat_tests}
 use Rattle.plain_store.specs.{Setup}

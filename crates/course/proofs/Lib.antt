@@ -18,13 +18,13 @@ pub mod EventsMade
 pub mod Fronts
 pub mod Refusals
 pub mod InTurn
--- What happens in a run, and its text
+-- The happenings of a run, and their text
 pub mod Grows
 pub mod Tellings
 pub mod Images
--- What the auditor of a run hears
+-- The audit of a run
 pub mod Listeners
--- From line to line of a run to its end
+-- A run from line to line, up to its end
 pub mod Underways
 pub mod Played
 pub mod Counting

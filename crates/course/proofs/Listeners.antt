@@ -1,4 +1,4 @@
--- What the auditor of a run has heard: no entry breaks a law.
+-- The auditor of a run has observed no entry that breaks a law.
 use Rattle.std.proofs.Common.{◌≡◌, List, [], ◌∷◌, length, reverse, Option, None, Some, Ok, refl, ap, sym, subst, ◌∙◌}
 use Rattle.std.proofs.lemmas.List.{length-reverse, reverse-reverse}
 use Rattle.plain_store.specs.{Setup, checked}
@@ -38,16 +38,16 @@ run_past said =
 pub run_length : (said : Script) → length (run_record said) ≡ length (past_after said.setup (happenings said))
 run_length said = sym (length-reverse (run_record said)) ∙ ap length (run_past said)
 
--- its verdict is that it is good
+-- the verdict on the record of a scenario's run is `Good`
 pub run_is_good : (said : Script) → checked said.setup ≡ Ok tt → AreGiven said.setup (tried (happenings said)) → IsVerdict said.setup (run_record said) Good
 run_is_good said good given = subst (AllKeep said.setup) (sym (run_past said)) (good_of said.setup good (tried (happenings said)) given)
 
--- an entry that keeps all laws is heard so
+-- if an entry keeps all laws, the auditor reports no law and has observed it
 kept_heard : (s : Setup) (past : Past) (e : Entry) (then : AuditorState) (law : Option Law) → KeepsAll s past e → IsHeard s past e then law → (law ≡ None) × HasHeard then (e ∷ past)
 kept_heard s past e then None keeps is = (refl, is.1)
 kept_heard s past e then (Some l) keeps is = absurd (is.broken (keeps l))
 
--- an entry more, which breaks no law
+-- one more entry is observed, which breaks no law
 pub audits_more : (s : Setup) (past : Past) (e : Entry) (old new : Audit) (a : AuditorState) (law : Option Law) → KeepsAll s past e → Audits s past old → ((past : Past) → HasHeard old.auditor past → IsHeard old.auditor.core.setup past e a law) →
     (law ≡ None → a.core.setup ≡ old.auditor.core.setup) → new.auditor ≡ a → (law ≡ None → new.verdict ≡ old.verdict) → Audits s (e ∷ past) new
 audits_more s past e old new a law keeps audits hears setup is kept =
@@ -63,7 +63,7 @@ audits_more s past e old new a law keeps audits hears setup is kept =
 pub keeps_more : (s : Setup) (before : List Happening) (event : Event) (e : Entry) → checked s ≡ Ok tt → AreGiven s (event ∷ tried before) → entry_of s (past_after s before) event ≡ Some e → KeepsAll s (past_after s before) e × (past_after s (Tries event ∷ before) ≡ e ∷ past_after s before)
 keeps_more s before event e good given adds = (obeys s good (tried before) event e given adds, past-after s (tried before) event e adds)
 
--- what is told is heard, if it is an entry
+-- a report of an entry is observed
 pub told_audited : (s : Setup) (before : List Happening) (this : Happening) (made : Accepted) (answer : Told) (old new : Audit) → answer ≡ told.Accepted made → Happens s before this answer →
     ((s : Setup) (past : Past) → KeepsAll s past (entry_made made) → Audits s past old → Audits s (entry_made made ∷ past) new) → Audits s (past_after s before) old → Audits s (past_after s (this ∷ before)) new
 told_audited s before this made answer old new is h heard audits = by this (subst (λ answer. TellsOf s (past_after s before) this answer) is h.tells) h.given
@@ -76,7 +76,7 @@ told_audited s before this made answer old new is h heard audits = by this (subs
     by (Tires p) tells given = absurd tells
     by Looks tells given = absurd tells
 
--- and nothing is added to the past by what is no entry
+-- a report of anything else adds nothing to the past
 pub other_audited : (s : Setup) (before : List Happening) (this : Happening) (answer : Told) (old : Audit) → ((made : Accepted) → answer ≡ told.Accepted made → ⊥) → Happens s before this answer → Audits s (past_after s before) old → Audits s (past_after s (this ∷ before)) old
 other_audited s before this answer old other h audits = by this answer other h.tells
   where
@@ -89,7 +89,7 @@ other_audited s before this answer old other h audits = by this answer other h.t
     by (Tires p) answer other tells = audits
     by Looks answer other tells = audits
 
--- and so is a Step without a mark
+-- a Step without a mark is observed
 pub stepped_audited : (s : Setup) (before : List Happening) (made : Stepped) (old new : Audit) → StepsOn s before made →
     ((s : Setup) (past : Past) → KeepsAll s past (record { process = made.process; access = Some made.access; marks = [] }) → Audits s past old → Audits s (record { process = made.process; access = Some made.access; marks = [] } ∷ past) new) →
     Audits s (past_after s before) old → Audits s (past_after s (Tries (Step made.process made.flick) ∷ before)) new

@@ -1,4 +1,4 @@
--- `wander` where one process alone has a Step to make and the flicks are constant: as a line of its Steps, but that each pick takes a word.
+-- `wander`, when one process alone has a Step to make and flicks are constant. Its turns are those of a line of Steps, except that each pick draws a word.
 use Rattle.std.proofs.Common.{◌≡◌, ℕ, zero, suc, arith, ◌+◌, ◌-◌, ◌<◌, Bool, true, false, List, [], ◌∷◌, length, slice_index, Option, None, Some, is_none, inl, refl, ap, sym, subst, ◌∙◌, add-zero}
 use Rattle.std.proofs.lemmas.Nat.{mod_below}
 use Rattle.plain_store.specs.{Setup}
@@ -25,16 +25,16 @@ constant_bit f is = by f.mode refl is
 bit_of : (f : FlickState) (bit : Bool) → f.mode ≡ Constant bit → flick_of f ≡ bit
 bit_of f bit is = ap (λ m. flick_by m f.generator) is
 
--- a flick takes no word
+-- a flick draws no word
 flick_stays : (f : FlickState) (bit : Bool) → f.mode ≡ Constant bit → after_flick f ≡ f
 flick_stays f bit is = ap (λ m. let g : FlickState = record f { generator = after_flick_by m f.generator } in g) is
 
--- picks leave the mode
+-- picks keep the mode
 picks_mode : (n : ℕ) (f : FlickState) → (picks_after n f).mode ≡ f.mode
 picks_mode zero f = refl
 picks_mode (suc n) f = picks_mode n f
 
--- one more may be the first as well
+-- n picks after one are n + 1 picks
 picks_first : (n : ℕ) (f : FlickState) → picks_after n (after_pick f) ≡ picks_after (suc n) f
 picks_first zero f = refl
 picks_first (suc n) f = ap after_pick (picks_first n f)
@@ -47,7 +47,7 @@ pick_one p f =
     let none : pick_of 1 f ≡ 0 = omega (arith, less) in
     ap (slice_index (p ∷ [])) none
 
--- its Step is not refused
+-- the Step of the only process that can make one is not refused
 lone_may : (s : Setup) (p : ℕ) (run : Run) → movers s (past_in s run) ≡ p ∷ [] → MaySteps p s run.happened
 lone_may s p run are = subst (λ q. MaySteps q s run.happened) (pick_one p run.flicks) (pick_steps s run (p ∷ []) are (omega arith))
 
@@ -56,7 +56,7 @@ lone_step s p left run are =
     let may : may_step s p run ≡ true = ap is_none (lone_may s p run are (flick_of run.flicks)) in
     ap (λ b. made_turn p (elim b as (λ _. ℕ) [ true ↦ left | false ↦ 0 ]) run) may
 
--- the turn that picks it makes the same Step
+-- the turn that picks the process makes the Step that it would make in a line of its Steps
 abbrev lone_made : ℕ → ℕ → Run → FlickState → Turn
 lone_made p left run source = record { this = Some (Tries (next_step p run)); left = left; run = drawn_run (stepped p run) (after_pick source) }
 
@@ -94,7 +94,7 @@ lone_quiet s steps n p bit (suc quiet) (suc left) run source left' run' here the
       count = let count = u.count in omega (arith, count);
     }
 
--- the course once the words of the picks are taken
+-- the course after the words of the picks are drawn
 abbrev pub lone_course : ℕ → CourseState → CourseState
 lone_course had mid = course mid.world (picks_after (had - mid.left) mid.flicks) mid.left
 
@@ -102,7 +102,7 @@ module _ {L : Type 0} (Hears : L → Setup → List Happening → List Happening
   here : (bit : Bool) × (run.flicks.mode ≡ Constant bit)
   here = constant_bit run.flicks constant
 
-  -- they are heard
+  -- the Steps without a mark are observed
   pub lone_on : (Next : Setup → Line → Run → Type 0) → ComesOn Hears s (line.Step p steps) had run was is mid Next → ComesOn Hears s (line.Wander n) had run was is (lone_course had mid) (ArePicked (p ∷ []))
   lone_on Next u =
       let v = lone_quiet s steps n p here.0 u.quiet had run run.flicks mid.left u.now here.1 here.1 are u.turns in
@@ -118,7 +118,7 @@ module _ {L : Type 0} (Hears : L → Setup → List Happening → List Happening
         next = sym v.are;
       }
 
-  -- and the turn that tells
+  -- the turn that is reported
   lone_told : (before : ℕ) (answer : Told) → ComesTo Hears s (line.Step p steps) had run was is before (Some answer) mid → ComesTo Hears s (line.Wander n) had run was is before (Some answer) (lone_course had mid)
   lone_told before answer u = by before u.turns u.tells u.follows u.left_is
     where
@@ -144,12 +144,12 @@ module _ {L : Type 0} (Hears : L → Setup → List Happening → List Happening
             setup = u.setup;
           }
 
-  -- up to there, or down to a floor
+  -- turns up to the one that is reported, or down to the floor
   pub lone_whole : (floor before : ℕ) (answer : Option Told) → (answer ≡ None → mid.left ≡ floor) → (answer ≡ None → before ≡ floor) → RunsTo Hears s (line.Step p steps) had run was is p floor before answer mid → ComesAlong Hears s (line.Wander n) had run was is floor before answer (lone_course had mid)
   lone_whole floor before None ended at u = inl (comes_down Hears s (line.Wander n) had run was is floor before (lone_course had mid) (ArePicked (p ∷ [])) (ended refl) (at refl) (lone_on (IsAlone p floor) u))
   lone_whole floor before (Some answer) ended at u = (u.0, lone_told before answer u.1)
 
--- the only one of a list
+-- a list of length 1 holds its first element
 pub only_one : (ps : List ℕ) → length ps ≡ 1 → ps ≡ slice_index ps 0 ∷ []
 only_one [] one = absurd (omega (arith, one))
 only_one (p ∷ []) one = refl

@@ -1,4 +1,4 @@
--- The processes with a Step to make, one by one, and that a Step without a mark leaves them. None of their Steps is refused.
+-- The processes with a Step to make, one by one. A Step without a mark leaves them as they are. None of their Steps is refused.
 use Rattle.std.proofs.Common.{◌≡◌, ℕ, zero, suc, ◌+◌, nat_lt, Bool, true, false, cond, ◌==◌, List, [], ◌∷◌, ◌++◌, Option, None, Some, filter, fold, length, slice_index, ◌<◌, refl, ap, subst, sym, ◌∙◌, arith, add-zero, add-one, eqb-true}
 use Rattle.std.specs.Prelude.{slice_index_or}
 use Rattle.std.specs.List.{range_with_len}
@@ -15,7 +15,7 @@ use Rattle.world.specs.flicks.{pick_of}
 use Rattle.course.specs.{AddsMarks, Happening, Run, has_step, movers, past_after, past_in, pick_among}
 use Rattle.course.proofs.Refusals.{entry_by}
 
--- one number more, which passes or not
+-- a range with one number more, which the filter keeps or drops
 pub filter_more : (p : ℕ → Bool) (a n j : ℕ) → a + n ≡ j → filter p (range_with_len a (suc n)) ≡ filter p (range_with_len a n) ++ cond (p j) (j ∷ []) []
 filter_more p a zero j e = ap (λ k. cond (p k) (k ∷ []) []) (sym (add-zero a) ∙ e)
 filter_more p a (suc n) j e = by (p a) (filter_more p (a + 1) n j (omega (arith, e)))
@@ -26,7 +26,7 @@ filter_more p a (suc n) j e = by (p a) (filter_more p (a + 1) n j (omega (arith,
     by true more = ap (λ l. a ∷ l) more
     by false more = more
 
--- the same of those that passed so far
+-- the numbers kept so far, with one number more
 pub kept_more : (p : ℕ → Bool) (items : List ℕ) (k : ℕ) (b : Bool) → items ≡ filter p (range_with_len 0 k) → p k ≡ b → items ++ cond b (k ∷ []) [] ≡ filter p (range_with_len 0 (k + 1))
 kept_more p items k b so_far is =
     ap (λ l. l ++ cond b (k ∷ []) []) so_far ∙ ap (λ b. filter p (range_with_len 0 k) ++ cond b (k ∷ []) []) (sym is)
@@ -49,27 +49,27 @@ stage_kept p e past none = by (e.process == p)
     by true = ap (fold stage_after (stage p past)) none
     by false = refl
 
--- so an event without a mark does
+-- an event without a mark leaves each process in its stage
 pub stage_quiet : (s : Setup) (p : ℕ) (events : List Event) (event : Event) → AddsMarks s (past_of s events) event [] → stage p (past_of s (event ∷ events)) ≡ stage p (past_of s events)
 stage_quiet s p events event adds =
     let e : Entry = entry_by event adds.0 [] in
     ap (λ (o : Option Entry). stage p (elim o as (λ _. Past) [ None ↦ past_of s events | Some e ↦ e ∷ past_of s events ])) adds.1 ∙ stage_kept p e (past_of s events) refl
 
--- and the same processes have a Step to make
+-- after an event without a mark, the same processes have a Step to make
 pub movers_quiet : (s : Setup) (events : List Event) (event : Event) → AddsMarks s (past_of s events) event [] → movers s (past_of s (event ∷ events)) ≡ movers s (past_of s events)
 movers_quiet s events event adds = λ i. filter (λ p. has_step (stage_quiet s p events event adds i)) (processes s)
 
--- Who may step.
+-- The processes that may make a Step.
 
 -- no Step of this process is refused
 abbrev pub MaySteps : ℕ → Setup → List Happening → Type 0
 MaySteps p s happened = (flick : Bool) → refused s (past_after s happened) (Step p flick) ≡ None
 
--- a Step is made unless its stage refuses it, by whatever flick
+-- a Step is made unless its stage refuses it, for each flick
 abbrev unless : Option Refusal → Option Refusal
 unless o = elim o as (λ _. Option Refusal) [ Some r ↦ Some r | None ↦ None ]
 
--- a process with a Step to make
+-- no Step of a process with a Step to make is refused
 pub mover_steps : (s : Setup) (happened : List Happening) (p : ℕ) → p < s.processes → has_step (stage p (past_after s happened)) ≡ true → MaySteps p s happened
 mover_steps s happened p within has flick =
     let there : nat_lt p s.processes ≡ true = grind (arith, nat_tests) in
@@ -84,7 +84,7 @@ mover_steps s happened p within has flick =
     by stages.Leaving has = refl
     by stages.Settling has = refl
 
--- a picked one
+-- no Step of a picked process is refused
 pub pick_steps : (s : Setup) (run : Run) (ps : List ℕ) → movers s (past_in s run) ≡ ps → 0 < length ps → MaySteps (pick_among ps run) s run.happened
 pick_steps s run ps are some =
     let k : ℕ = pick_of (length ps) run.flicks in

@@ -1,4 +1,4 @@
--- A line that is being played: what was heard of it, and what is left.
+-- A line that is being played: what was observed of it, and the turns that are left.
 use Rattle.std.proofs.Common.{◌≡◌, inl, inr, ℕ, ◌+◌, ◌-◌, ◌<◌, ◌≤◌, List, [], ◌∷◌, ◌++◌, length, map, Option, None, Some, Result, Ok, Err, IfErr, IfOk, IsErrAnd, refl, ap, sym, subst, ◌∙◌, arith}
 use Rattle.plain_store.specs.{Setup, checked}
 use Rattle.record.specs.{AreGiven, Event}
@@ -13,11 +13,11 @@ use Rattle.course.proofs.Tellings.{counts_more}
 use Rattle.course.proofs.TurnLaw.{rest_whole, turn_on}
 use Rattle.course.proofs.Underways.{Turned, One, Nothing, silent_one, told_none, told_one, turned}
 
--- what a course shows is of a good setup, and given
+-- the setup of the run that a course shows is good, and its events are in range
 pub good_of : (s : Setup) (course : CourseState) (run : Run) → course.world.setup ≡ s → Follows course run → (checked s ≡ Ok tt) × AreGiven s (tried run.happened)
 good_of s course run setup follows = subst (λ s. (checked s ≡ Ok tt) × AreGiven s (tried run.happened)) setup (follows.shows.good, follows.shows.given)
 
--- the turn that tells: this happens
+-- the happening of the turn that is reported
 record Tells1 (s : Setup) (line : Line) (left : ℕ) (now : Run) (answer : Told) : Type 0 where
   this : Happening
   same : (turn_of s line left now).run.happened ≡ this ∷ now.happened
@@ -45,7 +45,7 @@ tells_one s line left now answer course tells follows setup = by (turned s line 
           };
         }
 
--- the first turns of a line were made and heard, and made so many events
+-- the first turns of a line were made and observed, and made `made` events
 abbrev pub PlaysTurns : {L : Type 0} → (L → Setup → List Happening → List Happening → L → Type 0) → Setup → Line → ℕ → Run → CourseState → L → L → ℕ → Type 0
 PlaysTurns Hears s line most start course was is made = Plays Hears s start (part_of_line s most line start) course was is × (events_in s (part_of_line s most line start) ≡ events_in s start + made)
 
@@ -53,7 +53,7 @@ part_played : {L : Type 0} (Hears : L → Setup → List Happening → List Happ
 part_played Hears s line most start course was is made now all follows setup hears events =
     (record { follows = subst (λ (r : Run). Follows course r) all follows; setup = setup; hears = subst (λ (r : Run). Hears was s start.happened r.happened is) all hears }, sym (ap (events_in s) all) ∙ events)
 
--- a line from a run on: the run now, what was heard, what is left of the line and of its part above a floor, and how many events were made
+-- a line from a run on: the run now, what was observed, the turns left of the line and above the floor, and the number of events made
 pub record Played {L : Type 0} (Hears : L → Setup → List Happening → List Happening → L → Type 0) (s : Setup) (line : Line) (floor : ℕ) (start : Run) (was : L) (course : CourseState) (made : ℕ) (is : L) : Type 0 where
   pub now : Run
   pub follows : Follows course now
@@ -63,7 +63,7 @@ pub record Played {L : Type 0} (Hears : L → Setup → List Happening → List 
   pub turns : turns_made s line (course.left - floor) course.left now ≡ turns_made s line (turns_in line - floor) (turns_in line) start
   pub events : events_in s now ≡ events_in s start + made
 
--- what is told makes its events
+-- a report counts the events that its turn makes
 told_events : (s : Setup) (before : List Happening) (this : Happening) (answer : Told) → TellsOf s (past_after s before) this answer → length (past_after s (this ∷ before)) ≡ length (past_after s before) + events_told answer
 told_events s before this answer tells = by answer (counts_more s before this answer (record { events = length (past_after s before); taken = 0; refused = refusals s before }) tells refl refl).0
   where
@@ -89,7 +89,7 @@ module _ {L : Type 0} (Hears : L → Setup → List Happening → List Happening
     good : checked s ≡ Ok tt
     good = (good_of s course u.now u.setup u.follows).0
 
-    -- the part of the line that is played
+    -- the run now is the part of the line that is played
     all_of : (most : ℕ) (now : Run) → floor ≡ turns_in line - most → now ≡ turns_made s line (turns_in line - floor) (turns_in line) start → now ≡ part_of_line s most line start
     all_of most now at is = is ∙ ap (λ n. turns_made s line (turns_in line - n) (turns_in line) start) at ∙ part_made s good line most start
 
@@ -108,13 +108,13 @@ module _ {L : Type 0} (Hears : L → Setup → List Happening → List Happening
       comes_now : (answer : Option Told) → Comes answer → ComesAlong Hears s line course.left u.now is is' floor before answer course'
       comes_now answer comes = subst (λ s. ComesAlong Hears s line course.left u.now is is' floor before answer course') u.setup (comes u.now u.follows)
 
-      -- what a turn leaves of the line
+      -- after a turn, the rest of the line leads to the end of the line
       rest_after : (answer : Option Told) (c : ComesTo Hears s line course.left u.now is is' before answer course') → rest_of s line (turn_of s line before c.now).left (turn_of s line before c.now).run ≡ run_after s line start
       rest_after answer c =
           let q = rest_quiet s line c.quiet course.left u.now before c.now few c.turns in
           sym (q.1 ∙ turn_on s line before c.now q.0) ∙ u.rest
 
-      -- and of its part
+      -- after a turn, the rest of its part leads to the end of the part
       turns_after : (answer : Option Told) → floor < before → (c : ComesTo Hears s line course.left u.now is is' before answer course') →
           turns_made s line ((turn_of s line before c.now).left - floor) (turn_of s line before c.now).left (turn_of s line before c.now).run ≡ turns_made s line (turns_in line - floor) (turns_in line) start
       turns_after answer above c =
@@ -122,7 +122,7 @@ module _ {L : Type 0} (Hears : L → Setup → List Happening → List Happening
           let lower = q.0 in
           sym (quiet_turns_made s good line floor c.quiet course.left u.now before c.now few (omega (arith, above)) c.turns ∙ turn_turns_made s good line floor before c.now (omega (arith, few, lower)) above) ∙ u.turns
 
-      -- the events of turns without a mark
+      -- the number of events of turns without a mark
       quiet_events : (answer : Option Told) (c : ComesTo Hears s line course.left u.now is is' before answer course') → events_in s c.now ≡ events_in s start + (made + (course.left - before))
       quiet_events answer c =
           let q = quiet_made s good line c.quiet course.left u.now before c.now few c.turns in
@@ -134,7 +134,7 @@ module _ {L : Type 0} (Hears : L → Setup → List Happening → List Happening
       heard_to : (answer : Option Told) (c : ComesTo Hears s line course.left u.now is is' before answer course') → Hears was s start.happened c.now.happened is'
       heard_to answer c = hears_on was is is' s start.happened u.now.happened c.now.happened u.hears c.hears
 
-      -- a turn more, which is heard
+      -- one more turn, which is observed
       pub played_on : (is'' : L) (answer : Told) → Comes (Some answer) →
           ((s : Setup) (before : List Happening) (this : Happening) → Happens s before this answer → Hears is' s before (this ∷ before) is'') → Played Hears s line floor start was course' (made + (course.left - before) + events_told answer) is''
       played_on is'' answer comes heard =
@@ -186,7 +186,7 @@ module _ {L : Type 0} (Hears : L → Setup → List Happening → List Happening
                   (subst (λ l. Hears was s start.happened l is') (sym same) (heard_to None c)) (last ∙ quiet_events None c)
 
       module _ (Stops : L → Setup → List Happening → List Happening → Fault → L → Type 0) (stops_on : (a b c : L) (s : Setup) (x y z : List Happening) (fault : Fault) → Hears a s x y b → Stops b s y z fault c → Stops a s x z fault c) (fault : Fault) where
-        -- a fault as a turn is heard
+        -- a fault when the listener observes a turn
         pub played_cut : (is'' : L) (answer : Told) → ((a b : L) (s : Setup) (x y more : List Happening) (fault : Fault) → Stops a s x y fault b → Stops a s x (more ++ y) fault b) → Comes (Some answer) →
             ((s : Setup) (before : List Happening) (this : Happening) → Happens s before this answer → Stops is' s before (this ∷ before) fault is'') → Stops was s start.happened (run_after s line start).happened fault is''
         played_cut is'' answer stops_before comes cut =
@@ -207,25 +207,25 @@ module _ {L : Type 0} (Hears : L → Setup → List Happening → List Happening
         (stops_on was is is' s start.happened u.now.happened (rest_of s line course.left u.now).happened fault u.hears
         (subst (λ s. Stops is s u.now.happened (rest_of s line course.left u.now).happened fault is') u.setup (cut u.now u.follows)))
 
--- a fault before anything is heard
+-- a fault before the listener has observed anything
 pub unheard : {L : Type 0} (Stops : L → Setup → List Happening → List Happening → Fault → L → Type 0) (s : Setup) (line : Line) (left : ℕ) (run : Run) (a : L) (fault : Fault) → ((a b : L) (s : Setup) (x y more : List Happening) (fault : Fault) → Stops a s x y fault b → Stops a s x (more ++ y) fault b) →
     Stops a s run.happened run.happened fault a → Stops a s run.happened (rest_of s line left run).happened fault a
 unheard Stops s line left run a fault stops_before cut =
     let more : Grows run.happened (rest_of s line left run).happened = rest_grows s line left run in
     subst (λ l. Stops a s run.happened l fault a) (sym more.is) (stops_before a a s run.happened run.happened more.more fault cut)
 
--- the setup of a run that was played is good, and the run given
+-- the setup of a run that was played is good, and its events are in range
 pub played_good : {L : Type 0} {Hears : L → Setup → List Happening → List Happening → L → Type 0} {s : Setup} {before after : Run} {course : CourseState} {was is : L} → Plays Hears s before after course was is → (checked s ≡ Ok tt) × AreGiven s (tried after.happened)
 played_good {L} {Hears} {s} {before} {after} {course} plays = good_of s course after plays.setup plays.follows
 
 -- Room, and faults that are passed on.
 
--- what is so anyway
+-- a fact that holds anyway holds of a success
 pub any_ok : {A E : Type 0} (r : Result A E) (P : Type 0) → P → IfOk r (λ a. P)
 any_ok (Ok a) P p = p
 any_ok (Err e) P p = tt
 
--- a turn that tells leaves one less than before
+-- the room needed after a turn is at most the number of turns left before it
 pub wanted_by : {E : Type 0} (r : Result (Option Told) E) (n m : ℕ) → (r ≡ Ok None → m ≡ n) → ((r ≡ Ok None → ⊥) → m ≡ n + 1) → IfOk r (λ told. room_wanted told n ≤ m)
 wanted_by (Ok None) n m none some = let same = none refl in omega (arith, same)
 wanted_by (Ok (Some told)) n m none some = let more = some (λ no. absurd (cc)) in omega (arith, more)
@@ -238,7 +238,7 @@ pub on_fault : {A : Type 0} (r : Result A Fault) (e : Fault) (P : Fault → Type
 on_fault (Ok a) e P is p = tt
 on_fault (Err x) e P is p = subst P (sym is) p
 
--- what is so of every outcome, as what it tells or its fault
+-- facts of a result, by its success or its fault
 pub where_ok : {A : Type 0} (r : Result A Fault) (P Q : A → Type 0) → IfOk r P → ((a : A) → r ≡ Ok a → P a → Q a) → IfOk r Q
 where_ok (Ok a) P Q p f = f a refl p
 where_ok (Err x) P Q p f = tt
@@ -251,7 +251,7 @@ pub where_err : {A : Type 0} (r : Result A Fault) (P Q : Fault → Type 0) → I
 where_err (Ok a) P Q p f = tt
 where_err (Err x) P Q p f = f x p
 
--- events alone are what was tried
+-- if only events happen, they are the events that were tried
 pub tried_all : (events : List Event) → tried (map Tries events) ≡ events
 tried_all [] = refl
 tried_all (event ∷ events) = ap (λ l. event ∷ l) (tried_all events)

@@ -1,4 +1,4 @@
--- Steps of a line, one after another: those without a mark are heard, and each leaves who makes the next.
+-- Steps of a line, one after another. Steps without a mark are observed, and none of them changes which processes may make the next Step.
 use Rattle.std.proofs.Common.{◌≡◌, ℕ, zero, suc, ◌+◌, ◌-◌, ◌<◌, ◌≤◌, Bool, List, [], ◌∷◌, ◌++◌, Option, None, Some, inr, refl, ap, sym, subst, ◌∙◌, arith}
 use Rattle.plain_store.specs.{Setup}
 use Rattle.record.specs.declared.events.Event.TheVariants.{Step}
@@ -13,7 +13,7 @@ use Rattle.course.proofs.TurnLaw.{turn_less, turn_on}
 
 -- Turns without a mark.
 
--- after such turns
+-- turns without a mark, after others
 pub turns_then : (s : Setup) (line : Line) (quiet more left : ℕ) (run : Run) (mid : ℕ) (run_mid : Run) (left' : ℕ) (run' : Run) → QuietTurns s line quiet left run mid run_mid → QuietTurns s line more mid run_mid left' run' →
     QuietTurns s line (quiet + more) left run left' run'
 turns_then s line zero more left run mid run_mid left' run' (same, at) rest =
@@ -24,7 +24,7 @@ turns_then s line (suc quiet) more left run mid run_mid left' run' (first, turns
     subst (λ k. QuietTurns s line k left run left' run') all
     (first, turns_then s line quiet more (turn_of s line left run).left (turn_of s line left run).run mid run_mid left' run' turns rest)
 
--- they leave what is to be done
+-- turns without a mark do not change how the line ends
 pub rest_quiet : (s : Setup) (line : Line) (quiet left : ℕ) (run : Run) (left' : ℕ) (run' : Run) → left ≤ turns_in line → QuietTurns s line quiet left run left' run' → (left' ≤ turns_in line) × (rest_of s line left run ≡ rest_of s line left' run')
 rest_quiet s line zero left run left' run' few (same, at) = (omega (arith, same, few), λ i. rest_of s line (sym same i) (sym at i))
 rest_quiet s line (suc quiet) left run left' run' few (first, more) =
@@ -34,11 +34,11 @@ rest_quiet s line (suc quiet) left run left' run' few (first, more) =
 
 -- A Step.
 
--- the run from which it is made: no more has happened, but its flick comes from here
+-- the run from which a Step is made: no more has happened, and its flick comes from `source`
 abbrev pub drawn_run : Run → FlickState → Run
 drawn_run run source = record { happened = run.happened; flicks = source }
 
--- the next turn of a line makes a Step of this process, by this flick, and leaves so many turns
+-- the next turn of a line makes a Step of p by this flick, and leaves `left'` turns
 pub record IsStep (w : WorldState) (line : Line) (left p : ℕ) (flick : Bool) (run : Run) (source : FlickState) (left' : ℕ) : Type 0 where
   pub shows : Shows w (tried run.happened)
   pub by : flick ≡ flick_of source
@@ -48,7 +48,7 @@ pub record IsStep (w : WorldState) (line : Line) (left p : ℕ) (flick : Bool) (
 pub quiet_adds : (w w' : WorldState) (p : ℕ) (flick : Bool) (run : Run) (source : FlickState) → StepsQuietly w p flick w' → Shows w (tried run.happened) → flick ≡ flick_of source → AddsMarks w.setup (past_in w.setup run) (next_step p (drawn_run run source)) []
 quiet_adds w w' p flick run source q shows is = subst (λ b. AddsMarks w.setup (past_in w.setup run) (Step p b) []) is (Some q.access, q.adds (tried run.happened) shows)
 
--- Steps without a mark, and then others
+-- Steps without a mark, followed by others
 comes_both : {L : Type 0} (A B C : L → Setup → List Happening → List Happening → L → Type 0) (s : Setup) (line : Line) (had : ℕ) (start : Run) (was mid is : L) (course : CourseState) (Next : Setup → Line → Run → Type 0) → ComesOn A s line had start was mid course Next →
     ((x y z : List Happening) → A was s x y mid → B mid s y z is → C was s x z is) → (course' : CourseState) (Then : Setup → Line → Run → Type 0) → ((run : Run) → Follows course run → Next course.world.setup line run → ComesOn B course.world.setup line course.left run mid is course' Then) →
     ComesOn C s line had start was is course' Then
@@ -72,7 +72,7 @@ module _ {L : Type 0} (Hears : L → Setup → List Happening → List Happening
       subst (λ (c : CourseState). ComesOn Hears old.world.setup line old.left start a a c Next) (sym same)
       (record { quiet = 0; now = start; turns = (refl, refl); hears = nothing; follows = record { shows = follows.shows; flicks = follows.flicks }; setup = refl; next = next })
 
-  -- a turn that tells, with none before it
+  -- a turn that is reported, with no turn before it
   pub at_once : (line : Line) (start : Run) (old new : CourseState) (a : L) (answer : Option Told) → Hears a old.world.setup start.happened start.happened a → Makes old start (turn_of old.world.setup line old.left start) answer new → ComesTo Hears old.world.setup line old.left start a a old.left answer new
   at_once line start old new a answer nothing m = record {
     quiet = 0;
@@ -90,7 +90,7 @@ module _ {L : Type 0} (Hears : L → Setup → List Happening → List Happening
   comes_once line start old new a floor None nothing above m = inr (above, at_once line start old new a None nothing m)
   comes_once line start old new a floor (Some answer) nothing above m = (above, at_once line start old new a (Some answer) nothing m)
 
-  -- down to a floor
+  -- turns down to the floor
   pub comes_down : (s : Setup) (line : Line) (had : ℕ) (start : Run) (was is : L) (floor before : ℕ) (course : CourseState) (Next : Setup → Line → Run → Type 0) → course.left ≡ floor → before ≡ floor → ComesOn Hears s line had start was is course Next → ComesDown Hears s line had start was is floor before course
   comes_down s line had start was is floor before course Next left_is before_is u = record {
     quiet = u.quiet;
@@ -121,7 +121,7 @@ module _ {L : Type 0} (Hears : L → Setup → List Happening → List Happening
         next = next;
       }
 
-  -- one that tells
+  -- a Step that is reported
   pub one_told : (w w' : WorldState) (line : Line) (left p : ℕ) (flick : Bool) (run : Run) (source flicks : FlickState) (left' : ℕ) (a : L) (answer : Told) → (TellsOf w.setup (past_in w.setup run) (Tries (next_step p (drawn_run run source))) answer → Hears a w.setup run.happened run.happened a) → IsStep w line left p flick run source left' → TellsStep w p flick answer w' →
       flicks ≡ after_flick source → ComesTo Hears w.setup line left run a a left (Some answer) (course w' flicks left')
   one_told w w' line left p flick run source flicks left' a answer nothing step t after =
@@ -162,12 +162,12 @@ module _ {L : Type 0} (Hears : L → Setup → List Happening → List Happening
           setup = c.setup;
         }
 
-    -- and then a fault
+    -- then a fault
     pub comes_stop : (Stops : L → Setup → List Happening → List Happening → Fault → L → Type 0) → ((a b c : L) (s : Setup) (x y z : List Happening) (fault : Fault) → Hears a s x y b → Stops b s y z fault c → Stops a s x z fault c) → (fault : Fault) (course' : CourseState) (Then : Setup → Line → Run → Type 0) →
         ((run : Run) → Follows course run → Next course.world.setup line run → ComesOn (StopsBy Stops fault) course.world.setup line course.left run mid is course' Then) → ComesOn (StopsBy Stops fault) s line had start was is course' Then
     comes_stop Stops stops_on fault course' Then = comes_both Hears (StopsBy Stops fault) (StopsBy Stops fault) s line had start was mid is course Next u (λ x y z before cut. stops_on was mid is s x y z fault before cut) course' Then
 
--- a fault as Steps without a mark are heard: a front of what the line makes was
+-- a fault when Steps without a mark are observed: the listener has observed a prefix of what the line makes
 pub line_stops : {L : Type 0} (Stops : L → Setup → List Happening → List Happening → Fault → L → Type 0) (s : Setup) (line : Line) (had : ℕ) (run : Run) (was is : L) (fault : Fault) (course : CourseState) (Next : Setup → Line → Run → Type 0) →
     ((a b : L) (s : Setup) (x y more : List Happening) (fault : Fault) → Stops a s x y fault b → Stops a s x (more ++ y) fault b) → ComesOn (StopsBy Stops fault) s line had run was is course Next → had ≤ turns_in line → Stops was s run.happened (rest_of s line had run).happened fault is
 line_stops Stops s line had run was is fault course Next stops_before u few =
@@ -180,7 +180,7 @@ module _ {L : Type 0} (HasRoom : L → ℕ → Type 0) (room_less : (a : L) (n k
   pub room_now : (things : ℕ) → things ≤ left → HasRoom was had → HasRoom now things
   room_now things few room = room_less now things (0 + left) (omega (arith, few)) (before 0 (room_less was (0 + had) had (omega arith) room))
 
-  -- after one of them
+  -- room after one of these turns
   pub room_after : (is : L) (told : Option Told) → 0 < left → LeavesRoom HasRoom now 1 is 0 told → LeavesRoom HasRoom was had is (left - 1) told
   room_after is told some wants more room = by told (wants (more + (left - 1)) (room_less now (more + (left - 1) + 1) (more + left) (omega (arith, some)) (before more room)))
     where
@@ -188,7 +188,7 @@ module _ {L : Type 0} (HasRoom : L → ℕ → Type 0) (room_less : (a : L) (n k
       by None there = room_less is (more + (left - 1)) (more + (left - 1) + 0) (omega arith) there
       by (Some answer) there = room_less is (more + (left - 1 + 1)) (more + (left - 1) + (0 + 1)) (omega arith) there
 
-  -- also where it has fewer turns left
+  -- room that suffices for more turns suffices for fewer
   pub room_fewer : (is : L) (told : Option Told) (fewer more : ℕ) → fewer ≤ more → LeavesRoom HasRoom was had is more told → LeavesRoom HasRoom was had is fewer told
   room_fewer is None fewer more less wants others room = room_less is (others + fewer) (others + more) (omega (arith, less)) (wants others room)
   room_fewer is (Some told) fewer more less wants others room = room_less is (others + (fewer + 1)) (others + (more + 1)) (omega (arith, less)) (wants others room)

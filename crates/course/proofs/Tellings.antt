@@ -1,4 +1,4 @@
--- The text of what is told is the text of what happens.
+-- The text of a report is the text of what happens.
 use Rattle.std.proofs.Common.{◌≡◌, ℕ, ◌+◌, List, [], ◌∷◌, length, Option, None, Some, ap, sym, ◌∙◌, arith, add-zero}
 use Rattle.plain_store.specs.{Setup}
 use Rattle.record.specs.{Entry, Event, Past, Refusal, added, entry_of, past_of, process_of, refused}
@@ -18,7 +18,7 @@ refused_text s past event p r whose is =
     ap (λ p. refused_line p r) whose
     ∙ sym (ap (λ (o : Option Refusal). elim o as (λ _. List ℕ) [ Some refusal ↦ refused_line (process_of event) refusal | None ↦ elim (added s past event) [ None ↦ [] | Some e ↦ entry_text (length past) e ] ]) is)
 
--- what is told
+-- any report
 pub told_is : (s : Setup) (past : Past) (this : Happening) (answer : Told) → TellsOf s past this answer → told_text (length past) answer ≡ text_at s past this
 told_is s past (Tries event) (told.Accepted made) tells =
     accepted_text s past event (entry_made made) tells.1
@@ -43,19 +43,19 @@ longer : (s : Setup) (events : List Event) (event : Event) (e : Entry) → entry
 longer s events event e is =
     ap (λ (o : Option Entry). length (elim o as (λ _. Past) [ None ↦ past_of s events | Some e ↦ e ∷ past_of s events ])) is ∙ omega arith
 
--- a refused one leaves it
+-- a refused event leaves the record as long as it is
 as_long : (s : Setup) (events : List Event) (event : Event) (r : Refusal) → refused s (past_of s events) event ≡ Some r → length (past_of s (event ∷ events)) ≡ length (past_of s events)
 as_long s events event r is =
     ap (λ (o : Option Entry). length (elim o as (λ _. Past) [ None ↦ past_of s events | Some e ↦ e ∷ past_of s events ])) (none_added s (past_of s events) event r is)
 
--- 1 for a refused event, 0 for one that is made
+-- a refused event counts as 1 refusal, and one that is made as 0
 refused_counts : (s : Setup) (past : Past) (event : Event) (r : Refusal) → refused s past event ≡ Some r → refusals_at s past (Tries event) ≡ 1
 refused_counts s past event r is = ap (λ (o : Option Refusal). elim o as (λ _. ℕ) [ None ↦ 0 | Some r ↦ 1 ]) is
 
 made_counts : (s : Setup) (past : Past) (event : Event) (e : Entry) → entry_of s past event ≡ Some e → refusals_at s past (Tries event) ≡ 0
 made_counts s past event e is = ap (λ (o : Option Refusal). elim o as (λ _. ℕ) [ None ↦ 0 | Some r ↦ 1 ]) (not_refused s past event e is)
 
--- what is counted is what has happened
+-- the counts after a report are those of what has happened
 pub counts_more : (s : Setup) (before : List Happening) (this : Happening) (answer : Told) (summary : Summary) → TellsOf s (past_after s before) this answer →
     summary.events ≡ length (past_after s before) → summary.refused ≡ refusals s before →
     ((counted answer summary).events ≡ length (past_after s (this ∷ before))) × ((counted answer summary).refused ≡ refusals s (this ∷ before))
@@ -79,7 +79,7 @@ counts_more s before Looks (told.Accepted made) summary tells events refused = a
 counts_more s before Looks (told.Refused q r) summary tells events refused = absurd tells
 counts_more s before Looks (told.Tired q) summary tells events refused = absurd tells
 
--- what has no mark has no text, and counts as one event
+-- a happening without a mark has no text, and counts as one event
 pub record Quietly (s : Setup) (before : List Happening) (this : Happening) : Type 0 where
   pub text : text_at s (past_after s before) this ≡ []
   pub events : length (past_after s (this ∷ before)) ≡ length (past_after s before) + 1

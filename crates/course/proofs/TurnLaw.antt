@@ -6,7 +6,7 @@ use Rattle.scenario.specs.{Line, Target}
 use Rattle.scenario.specs.declared.lines.Line.TheVariants as line
 use Rattle.course.specs.{Lacks, Run, Tires, Turn, ends, go_rest, go_turn, goes, happens, is_there, may_step, movers, on_turn, once, past_in, picked, rest_of, run_after, step_turn, stepped, steps, turn_of, turns_in, wander_turn, wanders, with_happening}
 
--- with all its turns it does all
+-- with all its turns left, a line does all that it does
 pub rest_whole : (s : Setup) (line : Line) (run : Run) → rest_of s line (turns_in line) run ≡ run_after s line run
 rest_whole s (line.Call p command) run = refl
 rest_whole s (line.Step p n) run = refl
@@ -18,7 +18,7 @@ rest_whole s (line.Flick flick) run = refl
 rest_whole s (line.Wander n) run = refl
 rest_whole s line.Show run = refl
 
--- with none it does nothing
+-- with no turns left, a line does nothing
 pub rest_none : (s : Setup) (line : Line) (run : Run) → rest_of s line 0 run ≡ run
 rest_none s (line.Call p command) run = refl
 rest_none s (line.Step p n) run = refl
@@ -30,11 +30,11 @@ rest_none s (line.Flick flick) run = refl
 rest_none s (line.Wander n) run = refl
 rest_none s line.Show run = refl
 
--- what a turn leaves to be done
+-- the run after the turns that a turn leaves
 after_turn : Setup → Line → Turn → Run
 after_turn s line turn = rest_of s line turn.left turn.run
 
--- a line that has but one turn
+-- a line that has only one turn
 lone : (left : ℕ) (run : Run) (f : Run → Run) → suc left ≤ 1 → run ≡ once left run (f run)
 lone zero run f few = refl
 lone (suc left) run f few = absurd (omega (arith, few))
@@ -55,7 +55,7 @@ wander_on s n left run = by (movers s (past_in s run))
     by [] = refl
     by (p ∷ ps) = refl
 
--- of a `go` of a process that is there and not where it is to go
+-- `go` of a process that exists and is not at its target
 on_on : (s : Setup) (p : ℕ) (target : Target) (left : ℕ) (run : Run) → nat_lt p s.processes ≡ true → is_there target (stage p (past_in s run)) ≡ false → goes s p target left run ≡ go_rest s p target (on_turn s p left run).left (on_turn s p left run).run
 on_on s p target zero run there away = ap (λ b. elim b as (λ _. Run) [ true ↦ run | false ↦ with_happening (Tires p) run ]) away
 on_on s p target (suc left) run there away =
@@ -88,7 +88,7 @@ go_on s p target left run = by (nat_lt p s.processes) refl
         on true is = stays left is
         on false is = on_on s p target left run h is
 
--- one turn, and what is left then
+-- one turn, and the turns that it leaves
 pub turn_on : (s : Setup) (line : Line) (left : ℕ) (run : Run) → left ≤ turns_in line → rest_of s line left run ≡ rest_of s line (turn_of s line left run).left (turn_of s line left run).run
 unfolding after_turn
 turn_on s line zero run few = refl
@@ -102,7 +102,7 @@ turn_on s (line.Flick flick) (suc left) run few = refl
 turn_on s (line.Wander n) (suc left) run few = wander_on s n left run
 turn_on s line.Show (suc left) run few = lone left (run_after s line.Show run) (run_after s line.Show) few
 
--- a turn never leaves more turns
+-- a turn never increases the number of turns left
 step_turn_less : (s : Setup) (p left : ℕ) (run : Run) → (step_turn s p left run).left ≤ left
 step_turn_less s p left run = by (may_step s p run)
   where

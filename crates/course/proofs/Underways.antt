@@ -1,4 +1,4 @@
--- What has happened after a turn, and what it tells.
+-- The happenings after a turn, and the report of the turn.
 use Rattle.std.proofs.Common.{◌≡◌, ℕ, zero, suc, Bool, true, false, nat_lt, List, [], ◌∷◌, Option, None, Some, refl, subst}
 use Rattle.plain_store.specs.{Setup}
 use Rattle.record.specs.{Past, stage}
@@ -7,7 +7,7 @@ use Rattle.scenario.specs.declared.lines.Line.TheVariants as line
 use Rattle.course.specs.{Happening, IsMarked, Lacks, Run, Tells, TellsOf, Told, Turn, ends, go_turn, happens, is_there, movers, on_turn, past_in, turn_of, wander_turn}
 pub use Rattle.course.proofs.Counting.{with_events}
 
--- what has happened after a turn: one thing more, or nothing, and then the line has ended
+-- after a turn there is one happening more; or there is none, and the line has ended
 pub data Turned (turn : Turn) (before : List Happening) : Type 0 where
   One : (this : Happening) → turn.this ≡ Some this → turn.run.happened ≡ this ∷ before → Turned turn before
   Nothing : turn.this ≡ None → turn.left ≡ 0 → turn.run.happened ≡ before → Turned turn before
@@ -40,7 +40,7 @@ turned s (line.Flick flick) (suc left) run = Nothing refl refl refl
 turned s (line.Wander n) (suc left) run = wander_turned left run (movers s (past_in s run))
 turned s line.Show (suc left) run = One _ refl refl
 
--- where something is told, it is what happens
+-- a report is one of what happens in the turn
 pub told_one : (s : Setup) (past : Past) (o : Option Happening) (this : Happening) (answer : Told) → o ≡ Some this → Tells s past o (Some answer) → TellsOf s past this answer × IsMarked answer
 told_one s past o this answer is tells = subst (λ o. Tells s past o (Some answer)) is tells
 

@@ -1,4 +1,4 @@
--- Steps of picked processes without a mark: who may be picked stays the same.
+-- Steps of picked processes without a mark, which leave the processes that may be picked unchanged.
 use Rattle.std.proofs.Common.{◌≡◌, ℕ, zero, suc, arith, ◌-◌, ◌<◌, ◌≤◌, Bool, List, [], ◌∷◌, ◌++◌, length, slice_index, Option, None, Some, refl, ap, inl, sym, subst, ◌∙◌}
 use Rattle.plain_store.specs.{Setup}
 use Rattle.record.specs.declared.events.Event.TheVariants as event
@@ -14,11 +14,11 @@ use Rattle.course.proofs.CourseTurns.{turn_next}
 use Rattle.course.proofs.Movers.{movers_quiet}
 use Rattle.course.proofs.Runnings.{IsStep, comes_down, comes_stop, comes_then, comes_to, drawn_run, line_stops, one_on, one_told, quiet_adds}
 
--- these may be picked
+-- these processes may be picked
 abbrev pub ArePicked : List ℕ → Setup → Line → Run → Type 0
 ArePicked ps s l run = ps ≡ movers s (past_in s run)
 
--- the turn of `wander` with one to pick
+-- the turn of `wander` with at least one process to pick
 pub pick_turn : (s : Setup) (steps left p : ℕ) (flicks : FlickState) (ps : List ℕ) (run : Run) → (left ≡ 0 → ⊥) → 0 < length ps → flicks ≡ run.flicks → p ≡ slice_index ps (pick_of (length ps) flicks) → ps ≡ movers s (past_in s run) →
     turn_of s (line.Wander steps) left run ≡ made_turn p (left - 1) (after_pick_in run)
 pick_turn s steps left p flicks ps run some_left some same is are =
@@ -39,7 +39,7 @@ module _ (w w' : WorldState) (steps left p : ℕ) (ps : List ℕ) (flick : Bool)
   then : flicks' ≡ after_flick source
   then = after ∙ ap (λ f. after_flick (after_pick f)) follows.flicks
 
-  -- a Step of one that is picked
+  -- a Step of a process that is picked
   picked_step : IsStep w (line.Wander steps) left p flick run source (left - 1)
   picked_step = record { shows = follows.shows; by = by; turn = pick_turn w.setup steps left p flicks ps run some_left some follows.flicks picked are }
 
@@ -52,7 +52,7 @@ module _ (w w' : WorldState) (steps left p : ℕ) (ps : List ℕ) (flick : Bool)
       ComesTo Hears w.setup (line.Wander steps) left run a a left (Some answer) (course w' flicks' (left - 1))
   picked_told Hears a answer nothing t = one_told Hears w w' (line.Wander steps) left p flick run source flicks' (left - 1) a answer nothing picked_step t then
 
--- with nobody to pick the line has ended
+-- with no process to pick, the line has ended
 pub wander_ends : (w : WorldState) (flicks : FlickState) (left steps : ℕ) (ps : List ℕ) → ps ≡ [] → (run : Run) → Follows (course w flicks left) run → ps ≡ movers w.setup (past_in w.setup run) → Makes (course w flicks left) run (turn_of w.setup (line.Wander steps) left run) None (course w flicks 0)
 wander_ends w flicks left steps ps none run follows are =
     subst (λ (turn : Turn). Makes (course w flicks left) run turn None (course w flicks 0)) (sym (by left run (sym are ∙ none)))
@@ -62,13 +62,13 @@ wander_ends w flicks left steps ps none run follows are =
     by zero run none = refl
     by (suc left) run none = ap (λ ps. wander_turn left run ps) none
 
--- What the turns of `wander` draw.
+-- The words that the turns of `wander` draw.
 
--- the flicks once all turns but so many of a course are made
+-- the flicks after all turns of a course except `left`
 abbrev pub drawn_to : CourseState → ℕ → FlickState
 drawn_to course left = turns_drawn (course.left - left) course.flicks
 
--- none is made yet
+-- no turn is made yet
 pub drawn_none : (old : CourseState) (flicks : FlickState) (left : ℕ) → flicks ≡ old.flicks → left ≡ old.left → drawn_to old left ≡ flicks
 drawn_none old flicks left same all = let none : old.left - left ≡ 0 = omega (arith, all) in ap (λ n. turns_drawn n old.flicks) none ∙ sym same
 
@@ -76,7 +76,7 @@ drawn_none old flicks left same all = let none : old.left - left ≡ 0 = omega (
 pub drawn_more : (old : CourseState) (left : ℕ) → 0 < left → left ≤ old.left → drawn_to old (left - 1) ≡ after_flick (after_pick (drawn_to old left))
 drawn_more old left some few = let more : old.left - (left - 1) ≡ suc (old.left - left) = omega (arith, some, few) in ap (λ n. turns_drawn n old.flicks) more
 
--- What the next turn makes of a course of `wander`, by a Step whose flick comes from here.
+-- The course of `wander` after the next turn, a Step whose flick comes from `source`.
 module _ {L : Type 0} (Hears : L → Setup → List Happening → List Happening → L → Type 0) (hears_on : (a b c : L) (s : Setup) (x y z : List Happening) → Hears a s x y b → Hears b s y z c → Hears a s x z c) (old : CourseState) (steps left p : ℕ) (ps : List ℕ) (run : Run) (was mid is : L) (w w' : WorldState) (source : FlickState)
     (more : 0 < left) (few : left ≤ old.left) (some : 0 < length ps) (picked : p ≡ slice_index ps (pick_of (length ps) (drawn_to old left))) (from : source ≡ after_pick (drawn_to old left))
     (u : ComesOn Hears old.world.setup (line.Wander steps) old.left run was mid (course w (drawn_to old left) left) (ArePicked ps)) where
@@ -96,7 +96,7 @@ module _ {L : Type 0} (Hears : L → Setup → List Happening → List Happening
   pub wander_on : HearsStep Hears w p (flick_of source) w' mid is → ComesOn Hears old.world.setup (line.Wander steps) old.left run was is next (ArePicked ps)
   wander_on h = comes_then Hears hears_on old.world.setup (line.Wander steps) old.left run was mid is now (ArePicked ps) u next (ArePicked ps) (one Hears h)
 
-  -- the one above the floor, or one that tells
+  -- the last Step above the floor, or a Step that is reported
   pub wander_to : ((a : L) (s : Setup) (x : List Happening) → Hears a s x x a) → (floor before : ℕ) (told : Option Told) (flicks : FlickState) → floor < left → MakesStep Hears w p (flick_of source) told w' mid is → (told ≡ None → (left - 1 ≡ floor) × (before ≡ floor)) → ((told ≡ None → ⊥) → before ≡ left) → flicks ≡ drawn_to old (left - 1) →
       ComesAlong Hears old.world.setup (line.Wander steps) old.left run was is floor before told (course w' flicks (left - 1))
   wander_to hears_nothing floor before None flicks above h ended at same =
@@ -110,7 +110,7 @@ module _ {L : Type 0} (Hears : L → Setup → List Happening → List Happening
             (λ run follows are. picked_told w w' steps left p ps (flick_of source) run now.flicks flicks some_left some picked (ap flick_of from) (same ∙ drawn_more old left more few) follows are Hears mid answer (λ tells. hears_nothing mid w.setup run.happened) both.0)),
       )
 
-  -- a fault at one without a mark
+  -- a fault when the listener observes a Step without a mark
   pub wander_stops : (Stops : L → Setup → List Happening → List Happening → Fault → L → Type 0) → ((a b c : L) (s : Setup) (x y z : List Happening) (fault : Fault) → Hears a s x y b → Stops b s y z fault c → Stops a s x z fault c) →
       ((a b : L) (s : Setup) (x y more : List Happening) (fault : Fault) → Stops a s x y fault b → Stops a s x (more ++ y) fault b) → (fault : Fault) → HearsStep (StopsBy Stops fault) w p (flick_of source) w' mid is → old.left ≤ steps →
       Stops was old.world.setup run.happened (rest_of old.world.setup (line.Wander steps) old.left run).happened fault is
@@ -125,12 +125,12 @@ pick_by_flick f = by f.mode
     by (Constant bit) = refl
     by Generator = refl
 
--- a pick may be drawn before flicks or behind them
+-- a pick may be drawn before flicks or after them
 pick_first : (n : ℕ) (f : FlickState) → after_pick (flicks_after n f) ≡ flicks_after n (after_pick f)
 pick_first zero f = refl
 pick_first (suc n) f = pick_by_flick (flicks_after n f) ∙ ap after_flick (pick_first n f)
 
--- so all picks may be drawn first
+-- therefore all picks may be drawn first
 pub picks_first : (n : ℕ) (f : FlickState) → flicks_after n (picks_after n f) ≡ turns_drawn n f
 picks_first zero f = refl
 picks_first (suc n) f = ap after_flick (sym (pick_first n (picks_after n f)) ∙ ap after_pick (picks_first n f))

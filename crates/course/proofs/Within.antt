@@ -1,4 +1,4 @@
--- Steps within a number access, as they are heard.
+-- Steps within a register access, as a listener observes them.
 use Rattle.std.proofs.Common.{◌≡◌, ◌∙◌, ℕ, zero, suc, ◌+◌, ◌<◌, Bool, cond, List, [], ◌∷◌, Option, None, Some, ap, refl, subst, sym, arith}
 use Rattle.plain_store.specs.{Setup}
 use Rattle.record.specs.{Access, AreGiven, Entry, Past, entry_of}
@@ -10,7 +10,7 @@ use Rattle.world.specs.Walks.{MakesQuietly, StepsQuietly, TellsOverlapped}
 use Rattle.world.proofs.WorldWithin.{left-shown}
 use Rattle.course.specs.{Happening, HearsPassing, HearsStep, HearsUnmarked, IsNewest, PassQuietly, PassWithin, StepsOn, StepsWithin, Tries, overlapped_in, past_after, tried}
 
--- it is made within the access
+-- a Step is made within the access
 pub steps_within : (w w' : WorldState) (p : ℕ) (flick : Bool) (access : Access) (last : Bool) (before : List Happening) → MakesQuietly w p flick access last w' → Shows w (tried before) → StepsWithin w.setup before p flick
 steps_within w w' p flick access last before made shows = record {
   good = shows.good;
@@ -18,7 +18,7 @@ steps_within w w' p flick access last before made shows = record {
   within = let here = left-shown w (tried before) p shows made.within in let some = made.within in omega (arith, here, some);
 }
 
--- a Step more
+-- one more Step
 pub passes_then : (s : Setup) (p n : ℕ) (x y : List Happening) → PassWithin s p n x y → (flick : Bool) → StepsWithin s y p flick → PassWithin s p (suc n) x (Tries (Step p flick) ∷ y)
 passes_then s p zero x y same flick step = (flick, subst (λ l. StepsWithin s l p flick) same step, ap (λ l. Tries (Step p flick) ∷ l) same)
 passes_then s p (suc n) x y (f, w, more) flick step = (f, w, passes_then s p n (Tries (Step p f) ∷ x) y more flick step)
@@ -41,14 +41,14 @@ steps_on w w' p flick number before q shows number_is within overlapped tells = 
   overlapped = tells (tried before) shows;
 }
 
--- its entry is the newest
+-- the entry of the Step is the newest
 pub is_newest : (s : Setup) (p : ℕ) (flick : Bool) (access : Access) (before : List Happening) → entry_of s (past_after s before) (Step p flick) ≡ Some (record { process = p; access = Some access; marks = [] }) → IsNewest s p access (Tries (Step p flick) ∷ before)
 is_newest s p flick access before adds = (past_after s before, ap (λ (o : Option Entry). elim o as (λ _. Past) [ None ↦ past_after s before | Some e ↦ e ∷ past_after s before ]) adds)
 
 pub newest_made : (w w' : WorldState) (p : ℕ) (flick : Bool) (access : Access) (last : Bool) (before : List Happening) → MakesQuietly w p flick access last w' → Shows w (tried before) → IsNewest w.setup p access (Tries (Step p flick) ∷ before)
 newest_made w w' p flick access last before made shows = subst (λ a. IsNewest w.setup p a (Tries (Step p flick) ∷ before)) made.access_is (is_newest w.setup p flick made.steps.access before (made.steps.adds (tried before) shows))
 
--- and one more is known to end a read that a write overlapped, or not to
+-- the count of Steps that end a read that a write overlapped, after one Step more
 pub overlapped_more : (w w' : WorldState) (p : ℕ) (flick : Bool) (access : Access) (last : Bool) (n count : ℕ) (before : List Happening) → MakesQuietly w p flick access last w' → Shows w (tried before) → count ≡ overlapped_in n (past_after w.setup before) →
     count + cond last 1 0 ≡ overlapped_in (suc n) (past_after w.setup (Tries (Step p flick) ∷ before))
 overlapped_more w w' p flick access last n count before m shows same =
@@ -59,7 +59,7 @@ overlapped_more w w' p flick access last n count before m shows same =
     (λ i. same i + cond (m.tells (tried before) shows i) 1 0) ∙ sym (ap (overlapped_in (suc n)) then)
 
 module _ {L : Type 0} (R : L → Setup → List Happening → List Happening → L → Type 0) (w w' : WorldState) (p : ℕ) (flick : Bool) (access : Access) (last : Bool) (was is : L) (made : MakesQuietly w p flick access last w') where
-  -- one within a number access is heard
+  -- a Step within a register access is observed
   pub within_heard : HearsUnmarked R (record { process = p; flick = flick; access = access; overlapped = last; number = None }) was is → HearsStep R w p flick w' was is
   within_heard heard = record {
     step = made.steps;
@@ -68,7 +68,7 @@ module _ {L : Type 0} (R : L → Setup → List Happening → List Happening →
         (subst (λ (a : Access). TellsOverlapped w a last) (sym made.access_is) made.tells)));
   }
 
-  -- or passed by
+  -- a Step within a register access is passed as a group of one
   pub within_passed : (overlapped : ℕ) → overlapped ≡ cond last 1 0 → HearsPassing R p 1 access.how overlapped was is → HearsStep R w p flick w' was is
   within_passed overlapped one passed = record {
     step = made.steps;

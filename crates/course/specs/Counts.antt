@@ -1,8 +1,8 @@
--- What is known of how far processes are within their number accesses.
+-- A lower bound on how many of each process's next Steps are within a register access.
 use Rattle.std.specs.Prelude.{ℕ, suc, ◌≡◌, ◌<◌, ◌≤◌, List, length, slice_index}
 use Rattle.world.specs.{Seat, left_in}
 
--- of each of 256 processes one less than so many next steps, at least, are within its number access
+-- each of 256 processes has a positive number, at most 1 more than the number of its next Steps within a register access
 pub record IsCounted (within : List ℕ) (seats : List Seat) : Type 0 where
   pub all : length within ≡ 256
   pub some : (p : ℕ) → p < 256 → 0 < slice_index within p

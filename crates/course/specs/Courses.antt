@@ -1,4 +1,4 @@
--- What the cursor of a run keeps, and which run it shows.
+-- The state of a course, and the run that it shows.
 use Rattle.std.specs.Prelude.{◌≡◌, ◌≤◌, ℕ, zero, suc, [], Option, Some}
 use Rattle.plain_store.specs.{Setup}
 use Rattle.record.specs.{Past}
@@ -11,27 +11,27 @@ use Rattle.course.specs.Telling.{AddsMarks, Tells}
 use Rattle.course.specs.Turns.{Turn, turn_of}
 use Rattle.course.specs.declared.told.Told.{Told}
 
--- the world, where flicks and picks come from, and how many turns of the present line are left
+-- the world, the source of flicks and picks, and the number of turns left of the present line
 pub record CourseState : Type 0 where
   pub world : WorldState
   pub flicks : FlickState
   pub left : ℕ
 
--- a course, by its parts
+-- the course with these parts
 abbrev pub course : WorldState → FlickState → ℕ → CourseState
 course w flicks left = record { world = w; flicks = flicks; left = left }
 
--- how many processes there are
+-- the number of processes is the one in the setup, and is at most 16
 pub record KeepsCourse (processes : ℕ) (world : WorldState) : Type 0 where
   pub are : processes ≡ world.setup.processes
   pub few : processes ≤ 16
 
--- the course shows a run: its world shows the record of what has happened
+-- the course shows a run: its world shows the record of what has happened, and its flicks are those of the run
 pub record Follows (course : CourseState) (run : Run) : Type 0 where
   pub shows : Shows course.world (tried run.happened)
   pub flicks : course.flicks ≡ run.flicks
 
--- the course goes on by a turn, and tells what happens
+-- the course makes a turn, and reports what happens in it
 pub record Makes (old : CourseState) (run : Run) (turn : Turn) (answer : Option Told) (new : CourseState) : Type 0 where
   pub tells : Tells old.world.setup (past_after old.world.setup run.happened) turn.this answer
   pub follows : Follows new turn.run
@@ -43,7 +43,7 @@ abbrev pub IsQuiet : Setup → Past → Option Happening → Type 0
 IsQuiet s past (Some (Tries event)) = AddsMarks s past event []
 IsQuiet s past _ = ⊥
 
--- so many turns of a line without a mark: from a run with so many turns left, and on to another
+-- `quiet` turns of a line without a mark lead from a run with `left` turns left to another with `left'` turns left
 abbrev pub QuietTurns : Setup → Line → ℕ → ℕ → Run → ℕ → Run → Type 0
 QuietTurns s line zero left run left' run' = (left' ≡ left) × (run' ≡ run)
 QuietTurns s line (suc quiet) left run left' run' =

@@ -1,4 +1,4 @@
--- What the auditor of a run has heard.
+-- The audit of the entries of a run.
 use Rattle.std.specs.Prelude.{◌≡◌}
 use Rattle.plain_store.specs.{Setup}
 use Rattle.record.specs.{Past}
@@ -6,7 +6,7 @@ use Rattle.auditor.specs.{HasHeard}
 use Rattle.auditor.specs.read_law.declared.verdicts.Verdict.TheVariants.{Good}
 use Rattle.course.specs.declared.judging.Audit.{Audit}
 
--- it has heard the entries of this past, and none broke a law
+-- the auditor has observed the entries of this past, and none of them broke a law
 pub record Audits (s : Setup) (past : Past) (audit : Audit) : Type 0 where
   pub setup : audit.auditor.core.setup ≡ s
   pub heard : HasHeard audit.auditor past

@@ -6,7 +6,7 @@ use Rattle.scenario.specs.{Script}
 use Rattle.course.specs.Happenings.{Happening, accepted, tried}
 use Rattle.course.specs.Runs.{happenings}
 
--- those of what has happened that were accepted, the oldest first
+-- the events that were accepted among these happenings, the oldest first
 abbrev pub listed : Setup → List Happening → List Event
 listed s happened = reverse (accepted s (tried happened))
 

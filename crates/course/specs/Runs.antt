@@ -1,4 +1,4 @@
--- The run of a scenario: what its lines do, each against the record so far.
+-- The run of a scenario: what each line does, given the record so far.
 use Rattle.std.specs.Prelude.{ℕ, zero, suc, Bool, true, false, nat_lt, List, [], ◌∷◌, length, filter, slice_index, is_none}
 use Rattle.plain_store.specs.{Setup}
 use Rattle.record.specs.{Event, Past, Stage, Taken, history, processes, refused, stage}
@@ -10,12 +10,12 @@ use Rattle.scenario.specs.declared.lines.Target.TheVariants as target
 use Rattle.world.specs.flicks.{FlickState, constant_flicks, after_set, flick_of, after_flick, pick_of, after_pick}
 use Rattle.course.specs.Happenings.{Happening, Tries, Lacks, Tires, Looks, past_after}
 
--- a run so far: what has happened, and where its next flicks and picks come from
+-- a run so far: what has happened, and the source of its next flicks and picks
 pub record Run : Type 0 where
   pub happened : List Happening
   pub flicks : FlickState
 
--- at the start the flicks are all 0
+-- the run before anything has happened; its flicks are all 0
 abbrev pub run_at_start : Run
 run_at_start = record { happened = []; flicks = constant_flicks false }
 
@@ -27,7 +27,7 @@ past_in s run = past_after s run.happened
 abbrev pub taken_in : Setup → Run → List Taken
 taken_in s run = history s (past_in s run)
 
--- one thing more
+-- the run with one more happening
 abbrev pub with_happening : Happening → Run → Run
 with_happening this run = record run { happened = this ∷ run.happened }
 
@@ -35,20 +35,20 @@ with_happening this run = record run { happened = this ∷ run.happened }
 abbrev pub next_step : ℕ → Run → Event
 next_step p run = event.Step p (flick_of run.flicks)
 
--- it is made or refused, and takes its flick either way
+-- the run after the next Step of p, which uses a flick whether it is made or refused
 abbrev pub stepped : ℕ → Run → Run
 stepped p run = record { happened = Tries (next_step p run) ∷ run.happened; flicks = after_flick run.flicks }
 
--- it would be made
+-- the next Step of p would be made
 abbrev pub may_step : Setup → ℕ → Run → Bool
 may_step s p run = is_none (refused s (past_in s run) (next_step p run))
 
--- `step`: so many Steps of a process, up to the first that is refused
+-- `step`: n Steps of a process, up to the first that is refused
 abbrev pub steps : Setup → ℕ → ℕ → Run → Run
 steps s p zero run = run
 steps s p (suc n) run = elim (may_step s p run) [ true ↦ steps s p n (stepped p run) | false ↦ stepped p run ]
 
--- the stage is where a process is to go
+-- a process in this stage has reached the target of a `go`
 abbrev pub is_there : Target → Stage → Bool
 is_there target.Wait Doorway = false
 is_there target.Wait Settling = false
@@ -63,7 +63,7 @@ is_there target.Idle _ = false
 is_there target.Down Down = true
 is_there target.Down _ = false
 
--- `go` of a process that is there: at most so many Steps up to a stage, or to the first that is refused; after that many the process is tired
+-- `go` of a process that exists: at most n Steps, up to the target or to the first that is refused; if n Steps do not reach the target, the process is tired
 abbrev pub goes : Setup → ℕ → Target → ℕ → Run → Run
 goes s p target zero run = elim (is_there target (stage p (past_in s run))) [ true ↦ run | false ↦ with_happening (Tires p) run ]
 goes s p target (suc n) run = elim (is_there target (stage p (past_in s run))) [
@@ -71,38 +71,38 @@ goes s p target (suc n) run = elim (is_there target (stage p (past_in s run))) [
   | false ↦ elim (may_step s p run) [ true ↦ goes s p target n (stepped p run) | false ↦ stepped p run ]
 ]
 
--- a process with a Step to make: it is running, or its memory unit is settling
+-- a process in this stage has a Step to make: it is running, or its memory unit is settling
 abbrev pub has_step : Stage → Bool
 has_step Idle = false
 has_step Down = false
 has_step _ = true
 
--- those with a Step to make, ascending
+-- the processes with a Step to make, ascending
 abbrev pub movers : Setup → Past → List ℕ
 movers s past = filter (λ p. has_step (stage p past)) (processes s)
 
--- the one that is picked among these
+-- the process that is picked among these
 abbrev pub pick_among : List ℕ → Run → ℕ
 pick_among ps run = slice_index ps (pick_of (length ps) run.flicks)
 
--- the run once the word of the pick is taken
+-- the run after the word of the pick is drawn
 abbrev pub after_pick_in : Run → Run
 after_pick_in run = record run { flicks = after_pick run.flicks }
 
--- a Step of a picked one: the word of the pick comes before that of the flick
+-- the run after a Step of a picked process, whose pick is drawn before its flick
 abbrev pub picked : List ℕ → Run → Run
 picked ps run = stepped (pick_among ps run) (after_pick_in run)
 
--- `wander`: so many Steps of picked processes, while there is one to pick
+-- `wander`: n Steps of picked processes, while there is a process to pick
 abbrev pub wanders : Setup → ℕ → Run → Run
 wanders s zero run = run
 wanders s (suc n) run = elim (movers s (past_in s run)) [ [] ↦ run | p ∷ ps ↦ wanders s n (picked (p ∷ ps) run) ]
 
--- the Steps that a `go` makes at most
+-- the greatest number of Steps of a `go`
 abbrev pub go_limit : ℕ
 go_limit = 65536
 
--- what a line does
+-- the run after a line
 abbrev pub run_after : Setup → Line → Run → Run
 run_after s (line.Call p command) run = with_happening (Tries (event.Call p command)) run
 run_after s (line.Step p n) run = steps s p n run
@@ -114,7 +114,7 @@ run_after s (line.Flick flick) run = record run { flicks = after_set flick run.f
 run_after s (line.Wander n) run = wanders s n run
 run_after s line.Show run = with_happening Looks run
 
--- what lines do, in order
+-- the run after lines, in order
 abbrev pub runs : Setup → List Line → Run → Run
 runs s [] run = run
 runs s (line ∷ lines) run = runs s lines (run_after s line run)

@@ -1,4 +1,4 @@
--- Who makes the next Steps of a line, up to one that has a mark.
+-- The process that makes the next Steps of a line, up to a Step that has a mark.
 use Rattle.std.specs.Prelude.{◌≡◌, ◌⊎◌, ◌≤◌, ℕ, zero, suc, true, false, nat_lt}
 use Rattle.plain_store.specs.{Setup}
 use Rattle.record.specs.{stage}
@@ -9,23 +9,23 @@ use Rattle.course.specs.Runs.{Run, is_there, past_in}
 use Rattle.course.specs.declared.told.Told.{Told}
 use Rattle.course.specs.declared.told.Told.TheVariants as told
 
--- a process is there, and not where it is to go
+-- a process exists, and is not at its target
 pub record IsAway (s : Setup) (p : ℕ) (target : Target) (run : Run) : Type 0 where
   pub there : nat_lt p s.processes ≡ true
   pub away : is_there target (stage p (past_in s run)) ≡ false
 
--- the line makes Steps of this process, while more than so many turns are left: the last turn of a `go` is none
+-- the line makes Steps of p, while more than `floor` turns are left; the last turn of a `go` makes no Step
 abbrev pub IsAlone : ℕ → ℕ → Setup → Line → Run → Type 0
 IsAlone p floor s l run = ((steps : ℕ) × (l ≡ line.Step p steps)) ⊎ ((target : Target) × (l ≡ line.Go p target) × IsAway s p target run × (1 ≤ floor))
 
--- how many turns a Step that tells leaves of so many: one that is refused ends a line of one process
+-- the turns left after a reported Step, of `left`: a refused Step ends a line of one process
 abbrev pub left_told : Told → ℕ → ℕ
 left_told (told.Accepted made) left = left
 left_told (told.Refused p refusal) left = 0
 left_told (told.Tired p) left = left
 left_told (told.Shown line) left = left
 
--- the flicks after so many turns of `wander`, each of which takes a pick and a flick
+-- the flicks after n turns of `wander`, each of which draws a pick and a flick
 abbrev pub turns_drawn : ℕ → FlickState → FlickState
 turns_drawn zero flicks = flicks
 turns_drawn (suc n) flicks = after_flick (after_pick (turns_drawn n flicks))

@@ -8,7 +8,7 @@ use Rattle.course.specs.declared.summaries.Summary.{Summary}
 use Rattle.course.specs.declared.told.Told.{Told}
 use Rattle.course.specs.declared.told.Told.TheVariants as told
 
--- events accepted, commands taken, refusals told
+-- the numbers of events accepted, of commands taken, and of refusals reported
 abbrev pub summary_of : Setup → List Happening → Summary
 summary_of s happened = record {
   events = length (past_after s happened);
@@ -16,14 +16,14 @@ summary_of s happened = record {
   refused = refusals s happened;
 }
 
--- the counts after what is told; the commands taken are counted at the end
+-- the counts after a report; the commands taken are counted at the end
 abbrev pub counted : Told → Summary → Summary
 counted (told.Accepted made) summary = record summary { events = summary.events + 1 }
 counted (told.Refused p refusal) summary = record summary { refused = summary.refused + 1 }
 counted (told.Tired p) summary = summary
 counted (told.Shown store) summary = summary
 
--- so many more may be counted
+-- the counts do not overflow when `more` more are counted
 abbrev pub CanCount : Summary → ℕ → Type 0
 CanCount summary more = (summary.events + more < 2 ^ 64) × (summary.refused + more < 2 ^ 64)
 

@@ -1,4 +1,4 @@
--- What a sink took of a text that grows as a listener hears a run.
+-- The part of a growing text that a sink took, while a listener observes a run.
 use Rattle.std.specs.Prelude.{◌≡◌, ◌+◌, ℕ, List, ◌++◌, Option, Err, refl}
 use Rattle.std.proofs.Common.{ap, sym, ◌∙◌, add-zero}
 use Rattle.scenario.specs.files.{Fault}
@@ -6,12 +6,12 @@ use Rattle.scenario.specs.files.declared.faults.Fault.TheVariants.{Memory}
 use Rattle.course.specs.Growing.{part_after, part_longer, part_none, writes_both, writes_none}
 use Rattle.course.specs.Writing.{IsWriteFault, Writes, WritesPart, failed_write}
 
--- where this held before, the text that was added was written; no call failed
+-- if P held before, the text that was added was written; no call failed
 pub record Took (P : Type 0) (before after : List ℕ) (old new : Option (List ℕ)) (failed fails : ℕ) : Type 0 where
   pub writes : P → Writes before after old new
   pub whole : fails ≡ failed
 
--- a front of it was written, and then came this fault
+-- if P held before, a prefix of the text was written; then this fault occurred
 pub record TookPart (P : Type 0) (before after : List ℕ) (old new : Option (List ℕ)) (failed fails : ℕ) (fault : Fault) : Type 0 where
   pub part : P → WritesPart before after old new
   pub is : IsWriteFault fault

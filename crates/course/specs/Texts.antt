@@ -11,46 +11,46 @@ use Rattle.course.specs.Runs.{happenings}
 use Rattle.course.specs.Summaries.{summary_of}
 use Rattle.course.specs.declared.summaries.Summary.{Summary}
 
--- a mark of the event with this number, of this process
+-- the line of a mark of the event with this number, of process p
 abbrev pub mark_line : ℕ → ℕ → Mark → List ℕ
 mark_line number p mark = with_end (marked_text number p mark)
 
--- an event of a process is refused
+-- the line of a refused event of process p
 abbrev pub refused_line : ℕ → Refusal → List ℕ
 refused_line p refusal = with_end (refused_text p refusal)
 
--- the marks of the entry with this number, in their order
+-- the lines of the marks of the entry with this number, in their order
 abbrev pub entry_text : ℕ → Entry → List ℕ
 entry_text number e = flat_map (mark_line number e.process) e.marks
 
--- an event against the past before it: the marks that it adds, or why it is refused
+-- the text of an event after this past: the marks that it adds, or why it is refused
 abbrev pub event_text : Setup → Past → Event → List ℕ
 event_text s past event = elim (refused s past event) [
   | Some refusal ↦ refused_line (process_of event) refusal
   | None ↦ elim (added s past event) [ None ↦ [] | Some e ↦ entry_text (length past) e ]
 ]
 
--- the store after the history, while nobody is inside
+-- the store after the history, or none if a process is inside
 abbrev pub newest_store : Setup → Past → Option Contents
 newest_store s past = cond (is_somebody_inside s past) None (Some (store_after s (history s past)))
 
--- a store in words, or that somebody is inside
+-- a store in words, or `busy` if a process is inside
 abbrev pub newest_words : Option Contents → List ℕ
 newest_words None = codes "busy"
 newest_words (Some store) = store_words store.pairs
 
--- the same on one line
+-- the line that shows these words
 abbrev pub store_text : Option Contents → List ℕ
 store_text store = with_end (shown_text (newest_words store))
 
--- what happens, against the past before it
+-- the text of what happens after this past
 abbrev pub text_at : Setup → Past → Happening → List ℕ
 text_at s past (Tries event) = event_text s past event
 text_at s past (Lacks p) = refused_line p NoProcess
 text_at s past (Tires p) = with_end (tired_text p)
 text_at s past Looks = store_text (newest_store s past)
 
--- all that has happened
+-- the text of all that has happened
 abbrev pub text_of : Setup → List Happening → List ℕ
 text_of s [] = []
 text_of s (this ∷ before) = text_of s before ++ text_at s (past_after s before) this

@@ -1,4 +1,4 @@
--- A run turn by turn: what the next turn of a line does, and how many turns are left then. It stands beside the definition of the run.
+-- A run turn by turn: what the next turn of a line does, and how many turns are left then. Runs.antt defines the run line by line.
 use Rattle.std.specs.Prelude.{ℕ, zero, suc, nat_lt, Bool, true, false, List, [], ◌∷◌, Option, None, Some}
 use Rattle.plain_store.specs.{Setup}
 use Rattle.record.specs.declared.events.Event.TheVariants as event
@@ -9,7 +9,7 @@ use Rattle.world.specs.flicks.{after_set}
 use Rattle.course.specs.Happenings.{Happening, Tries, Lacks, Tires, Looks}
 use Rattle.course.specs.Runs.{Run, past_in, with_happening, next_step, stepped, steps, goes, wanders, run_after, may_step, is_there, movers, pick_among, after_pick_in, go_limit}
 
--- how many turns a line may make; the last one of a `go` looks where the process is, and makes no Step
+-- how many turns a line may make; the last turn of a `go` looks whether the process has reached its target, and makes no Step
 abbrev pub turns_in : Line → ℕ
 turns_in (line.Step p n) = n
 turns_in (line.Wander n) = n
@@ -28,7 +28,7 @@ makes_steps (line.Wander n) = true
 makes_steps (line.Go p target) = true
 makes_steps _ = false
 
--- what happens, if something does, and then the turns that are left and the run
+-- a turn: what happens in it, if something does, the turns left after it, and the run after it
 pub record Turn : Type 0 where
   pub this : Option Happening
   pub left : ℕ
@@ -42,15 +42,15 @@ ends run = record { this = None; left = 0; run = run }
 abbrev pub happens : Happening → ℕ → Run → Turn
 happens this left run = record { this = Some this; left = left; run = with_happening this run }
 
--- a Step
+-- the next Step of p is made or refused
 abbrev pub made_turn : ℕ → ℕ → Run → Turn
 made_turn p left run = record { this = Some (Tries (next_step p run)); left = left; run = stepped p run }
 
--- a Step, which ends the line where it is refused
+-- the next Step of p is made, or is refused and ends the line
 abbrev pub step_turn : Setup → ℕ → ℕ → Run → Turn
 step_turn s p left run = made_turn p (elim (may_step s p run) [ true ↦ left | false ↦ 0 ]) run
 
--- a turn of `go` of a process that is not there yet
+-- a turn of `go` of a process that is not at its target
 abbrev pub on_turn : Setup → ℕ → ℕ → Run → Turn
 on_turn s p zero run = happens (Tires p) 0 run
 on_turn s p (suc left) run = step_turn s p (suc left) run
@@ -67,7 +67,7 @@ abbrev pub wander_turn : ℕ → Run → List ℕ → Turn
 wander_turn left run [] = ends run
 wander_turn left run (p ∷ ps) = made_turn (pick_among (p ∷ ps) run) left (after_pick_in run)
 
--- the next turn of a line, where so many are left after it
+-- the next turn of a line, with `left` turns left after it
 abbrev pub next_turn : Setup → Line → ℕ → Run → Turn
 next_turn s (line.Call p command) left run = happens (Tries (event.Call p command)) left run
 next_turn s (line.Step p n) left run = step_turn s p left run
@@ -79,22 +79,22 @@ next_turn s (line.Flick flick) left run = ends (record run { flicks = after_set 
 next_turn s (line.Wander n) left run = wander_turn left run (movers s (past_in s run))
 next_turn s line.Show left run = happens Looks left run
 
--- the next turn of a line with so many left; with none it has ended
+-- the next turn of a line with this number of turns left; with none left, the line has ended
 abbrev pub turn_of : Setup → Line → ℕ → Run → Turn
 turn_of s line zero run = ends run
 turn_of s line (suc left) run = next_turn s line left run
 
--- what a line with one turn or none left does
+-- the run after a line of at most one turn, with this number of turns left
 abbrev pub once : ℕ → Run → Run → Run
 once zero run after = run
 once (suc left) run after = after
 
--- what a `go` does that has so many turns left
+-- the run after the rest of a `go` with this number of turns left
 abbrev pub go_rest : Setup → ℕ → Target → ℕ → Run → Run
 go_rest s p target zero run = run
 go_rest s p target (suc left) run = elim (nat_lt p s.processes) [ true ↦ goes s p target left run | false ↦ with_happening (Lacks p) run ]
 
--- what a line does that has so many turns left
+-- the run after the rest of a line with `left` turns left
 abbrev pub rest_of : Setup → Line → ℕ → Run → Run
 rest_of s (line.Call p command) left run = once left run (run_after s (line.Call p command) run)
 rest_of s (line.Step p n) left run = steps s p left run
@@ -106,11 +106,11 @@ rest_of s (line.Flick flick) left run = once left run (run_after s (line.Flick f
 rest_of s (line.Wander n) left run = wanders s left run
 rest_of s line.Show left run = once left run (run_after s line.Show run)
 
--- the run once the first n turns are made of a line that has so many turns left; a line that has ended makes no turn
+-- the run after the first n turns of a line with `left` turns left; a line that has ended makes no turn
 unfoldable pub turns_made : Setup → Line → ℕ → ℕ → Run → Run
 turns_made s line zero left run = run
 turns_made s line (suc n) left run = turns_made s line n (turn_of s line left run).left (turn_of s line left run).run
 
--- the run once the first n turns of a line are made, or all of its turns if it has fewer
+-- the run after the first n turns of a line, or after all of its turns if it has fewer
 abbrev pub part_of_line : Setup → ℕ → Line → Run → Run
 part_of_line s n line run = turns_made s line n (turns_in line) run

@@ -1,4 +1,4 @@
--- What an engine writes as its run goes on.
+-- The text that an engine writes while its run continues.
 use Rattle.std.specs.Prelude.{◌≡◌, ℕ, List, ◌++◌, Option, length, Result, Ok, Err}
 use Rattle.std.specs.Io.KnownBytes.{Appends}
 use Rattle.plain_store.specs.{Setup}
@@ -7,7 +7,7 @@ use Rattle.scenario.specs.files.declared.faults.Fault.TheVariants.{Line, Read, W
 use Rattle.course.specs.Happenings.{Happening, past_after, refusals}
 use Rattle.course.specs.declared.summaries.Summary.{Summary}
 
--- writing ends early only by a call that failed, or for want of memory
+-- writing ends early only by a call that failed, or by a failed allocation
 abbrev pub IsWriteFault : Fault → Type 0
 IsWriteFault Write = Unit {0}
 IsWriteFault Memory = Unit {0}
@@ -22,19 +22,19 @@ failed_write (Err Read) = 0
 failed_write (Err (Line fault)) = 0
 failed_write (Ok done) = 0
 
--- a text has grown from the one to the other, and what was added was written
+-- a text has grown from `before` to `after`, and the text that was added was written
 pub record Writes (before after : List ℕ) (old new : Option (List ℕ)) : Type 0 where
   pub text : List ℕ
   pub is : after ≡ before ++ text
   pub taken : Appends old new text
 
--- a front of it was written
+-- a text has grown from `before` to `after`, and a prefix of the text that was added was written
 pub record WritesPart (before after : List ℕ) (old new : Option (List ℕ)) : Type 0 where
   pub text : List ℕ
   pub is : after ≡ before ++ text
   pub front : WritesFront old new text
 
--- events and refusals are counted up to here
+-- the events and refusals among these happenings are counted
 pub record Counts (s : Setup) (happened : List Happening) (summary : Summary) : Type 0 where
   pub events : summary.events ≡ length (past_after s happened)
   pub refused : summary.refused ≡ refusals s happened

@@ -1,4 +1,4 @@
-//! A listener, and an auditor that hears each entry beside it.
+//! A listener, together with an auditor that observes each entry.
 ghost use Rattle.std.specs.Prelude.{◌≡◌, ◌↔◌, [], ◌∷◌, List, IfOk, IsTrue, None, Ok, Some, true};
 ghost use Rattle.plain_store.specs.{checked};
 ghost use Rattle.plain_store.specs.declared.setups.Setup.{Setup as Given};
@@ -17,20 +17,24 @@ use record::{Access, Mark, Move};
 use scenario::Fault;
 use std::alloc::{AllocError, Global};
 
-/// What an auditor finds of the entries of a run.
+/// The audit of the entries of a run.
 #[derive(Drop)]
 pub struct Audit {
     alloc: Global,
     auditor: Auditor,
-    /// How many entries it has heard, or 2^64 - 1 if there were more.
+    /// The number of entries that it has observed, or 2^64 - 1 if there were more.
     entries: u64,
-    /// A run's entries break no law, which is proved; what the auditor answers decides all the same. The law that it
-    /// tells is the first one after `Safe`, for which it would need the entries before.
+    /// The verdict so far. It is proved that a run's entries break no law, and yet the auditor's result decides. The law
+    /// of a bad verdict is the first one after `Safe`, because the law `Safe` needs the entries before.
     verdict: Verdict,
 }
 
 impl Audit {
-    /// One that has heard nothing.
+    /// Creates an audit that has observed nothing.
+    ///
+    /// # Errors
+    ///
+    /// Returns [`AllocError`] if there is no memory for the auditor.
     pub fn new(alloc: Global, setup: &Setup) -> Result<Audit, AllocError>
         requires { checked setup.now ≡ Ok tt }
         ensures { IfOk result (Audits setup.now []) }
@@ -43,14 +47,14 @@ impl Audit {
         })
     }
 
-    /// The verdict on the entries so far.
+    /// Returns the verdict on the entries so far.
     pub fn verdict(&self) -> Verdict
         ensures { (s : Given) (past : Past) → Audits s past self.now → result ≡ Good }
     {
         self.verdict
     }
 
-    /// Hears what a turn tells, if it is an entry.
+    /// Observes what a turn reports, if that is an entry.
     #[inline(never)]
     fn hear_told(&mut self, told: &Told)
         ensures { (s : Given) (before : List Happening) (this : Happening) →
@@ -64,7 +68,7 @@ impl Audit {
         }
     }
 
-    /// Hears an entry, unless one before has broken a law.
+    /// Observes an entry, unless one before has broken a law.
     #[inline]
     fn hear(&mut self, process: u8, access: &Option<Access>, marks: &[Mark])
         ensures { (s : Given) (past : Past) →
@@ -79,7 +83,7 @@ impl Audit {
         self.note(law);
     }
 
-    /// Whether no entry has broken a law.
+    /// Returns whether no entry has broken a law.
     #[inline]
     fn is_good(&self) -> bool
         ensures { IsTrue result ↔ (self.now.verdict ≡ Good) }
@@ -87,7 +91,7 @@ impl Audit {
         matches!(self.verdict, Verdict::Good)
     }
 
-    /// One more entry was heard, which breaks this law or none.
+    /// Records that one more entry was observed, and the law that it breaks, if it breaks one.
     #[inline]
     fn note(&mut self, law: Option<Law>)
         ensures auditor { self.new.auditor ≡ self.old.auditor }
@@ -100,7 +104,7 @@ impl Audit {
     }
 }
 
-/// A listener, and the audit of what it hears.
+/// A listener, and the audit of what it observes.
 #[derive(Drop)]
 pub struct Overheard<L: Listener + Drop> {
     pub listener: L,

@@ -1,5 +1,5 @@
-//! One run of a scenario: a line is played on the world, turn by turn, and a listener hears what each turn tells before the
-//! next is made. An auditor may hear it too.
+//! One run of a scenario: a line is played on the world, turn by turn, and a [`Listener`] observes what each turn reports
+//! before the next is made. An auditor may observe it too: see [`Overheard`].
 //!
 //! ```rust
 //! let mut course = Course::new(alloc, &scenario.setup)?;

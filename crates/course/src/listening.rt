@@ -1,4 +1,4 @@
-//! Who hears a run as its course makes it.
+//! Listeners, which observe a run while its course makes it.
 ghost use Rattle.std.specs.Prelude.{◌≡◌, ◌+◌, ◌<◌, ◌≤◌, ◌++◌, ℕ, List, ◌∷◌, Bool, false, OnOk, IfErr};
 ghost use Rattle.plain_store.specs.{Setup};
 ghost use Rattle.record.specs.declared.events.Event.TheVariants.{Step};
@@ -11,29 +11,33 @@ use crate::told::{Stepped, Told};
 use record::Move;
 use scenario::Fault;
 
-/// Who hears a run. Two relations say what it has heard between two moments: of what happened in a run of a setup,
-/// from the one list of it to the other.
+/// A listener, which observes a run. Two relations describe what it has observed between two moments: the happenings of a
+/// run of a setup, from the first list of them to the second.
 pub trait Listener {
-    /// Whether each Step without a mark is heard. If not, those within a number access are passed by, many at once.
+    /// Whether the listener observes each Step without a mark. If not, those within a register access are passed in groups.
     ghost hears_steps: { Self → Bool };
 
-    /// The same, as the course asks it.
+    /// Returns whether the listener observes each Step without a mark.
     fn hears_steps(&self) -> bool
         ensures { result ≡ hears_steps self.now };
 
-    /// How many events it has heard of, for who looks on.
+    /// Returns the number of events observed so far, for an onlooker.
     fn events(&self) -> u64;
 
-    /// It has room for so many things more.
+    /// The listener has room for this number of things more.
     ghost HasRoom: { Self → ℕ → Type 0 };
 
-    /// It has heard this.
+    /// The listener has observed these happenings.
     ghost Hears: { Self → Setup → List Happening → List Happening → Self → Type 0 };
 
-    /// It has heard a front of this, and then came a fault.
+    /// The listener has observed a prefix of these happenings; then this fault occurred.
     ghost Stops: { Self → Setup → List Happening → List Happening → WhyEnded → Self → Type 0 };
 
-    /// Hears what a turn tells.
+    /// Observes what a turn reports.
+    ///
+    /// # Errors
+    ///
+    /// Returns the fault by which the listener stops. The relation `Stops` describes what it has then observed.
     fn hear(&mut self, told: &Told) -> Result<(), Fault>
         requires { HasRoom self.old 1 }
         ensures ok { OnOk result (HearsTold Hears told.now self.old self.new) }
@@ -41,7 +45,11 @@ pub trait Listener {
         ensures cut { IfErr result (λ fault.
             HearsTold (StopsBy Stops fault) told.now self.old self.new) };
 
-    /// Hears a Step without a mark.
+    /// Observes a Step without a mark.
+    ///
+    /// # Errors
+    ///
+    /// Returns the fault by which the listener stops. The relation `Stops` describes what it has then observed.
     fn step(&mut self, made: Stepped) -> Result<(), Fault>
         requires { HasRoom self.old 1 }
         ensures ok { OnOk result (HearsUnmarked Hears made self.old self.new) }
@@ -49,8 +57,8 @@ pub trait Listener {
         ensures cut { IfErr result (λ fault.
             HearsUnmarked (StopsBy Stops fault) made self.old self.new) };
 
-    /// So many Steps of this process, within a number access of its call and without a mark, are passed by; the newest of
-    /// them made this move, and so many of them ended a read that a write overlapped.
+    /// Observes `steps` Steps of this process in one call. They are within a register access of its call and have no mark.
+    /// The last of them made the move `newest`, and `overlapped` of them ended a read that a write overlapped.
     fn pass(&mut self, process: u8, steps: u32, newest: Move, overlapped: u32)
         requires some { 0 < steps }
         requires room { HasRoom self.old steps }
@@ -64,7 +72,7 @@ pub trait Listener {
 
     ghost hears_on: { (a b c : Self) (s : Setup) (x y z : List Happening) → Hears a s x y b → Hears b s y z c → Hears a s x z c };
 
-    /// A course may find no memory before it has let anything be heard.
+    /// A course may run out of memory before the listener has observed anything.
     ghost stops_unheard: { (a : Self) (s : Setup) (x : List Happening) → Stops a s x x Memory a };
 
     ghost stops_before: { (a b : Self) (s : Setup) (x y more : List Happening) (fault : WhyEnded) → Stops a s x y fault b → Stops a s x (more ++ y) fault b };

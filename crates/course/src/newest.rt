@@ -7,7 +7,11 @@ use plain_store::store_words;
 use std::alloc::{AllocError, Global};
 use world::Image;
 
-/// The newest store in words, or `busy`, if somebody is inside.
+/// Returns the newest store in words, or `busy` if a process is inside.
+///
+/// # Errors
+///
+/// Returns [`AllocError`] if there is no memory for the words.
 pub fn newest_words(alloc: Global, store: &Option<Image>) -> Result<String, AllocError>
     ensures { IfOk result (λ words. string_bytes words ≡ words_of store.now) }
 {

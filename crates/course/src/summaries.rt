@@ -15,12 +15,12 @@ pub struct Summary {
     pub events: u64,
     /// Commands that were taken.
     pub taken: u64,
-    /// Refusals that were told.
+    /// Refusals that were reported.
     pub refused: u64,
 }
 
 impl Summary {
-    /// Nothing has happened yet.
+    /// Returns the numbers of a run in which nothing has happened.
     pub fn new() -> Summary
         ensures { result ≡ record { events = 0; taken = 0; refused = 0 } }
     {
@@ -31,7 +31,7 @@ impl Summary {
         }
     }
 
-    /// Counts what is told. The commands taken are counted at the end.
+    /// Counts a report. The commands taken are counted at the end.
     pub fn count(&mut self, told: &Told)
         requires events { self.old.events < 2 ^ 64 - 1 }
         requires refused { self.old.refused < 2 ^ 64 - 1 }
@@ -45,7 +45,7 @@ impl Summary {
     }
 }
 
-/// A replay that ended well is done, whatever its numbers are.
+/// A replay that ends without a fault has the status `DONE`, whatever its numbers are.
 impl Ending for Summary {
     ghost status_of_end = { λ _. 0 };
 
@@ -54,7 +54,7 @@ impl Ending for Summary {
     }
 }
 
-/// It counts what it hears. Steps without a mark may pass by it, many at once.
+/// A summary counts what it observes. Steps without a mark may be passed to it in groups.
 impl Listener for Summary {
     ghost hears_steps = { λ _. false };
 

@@ -1,4 +1,4 @@
-//! What the turns of a run tell.
+//! The reports that the turns of a run make.
 ghost use Rattle.std.specs.Prelude.{◌≡◌, ◌≤◌};
 ghost use Rattle.course.specs.Telling.{entry_made, events_told, marks_made};
 
@@ -9,7 +9,7 @@ use std::alloc::Global;
 use world::{Effect, Image, event_marks};
 
 /// An event that was accepted, the access that it makes, if it makes one, and what it leads to. A command that it takes
-/// gets this place in the history.
+/// gets this position in the history.
 #[derive(Clone, Copy)]
 pub struct Accepted {
     pub event: Event,
@@ -21,7 +21,7 @@ pub struct Accepted {
 }
 
 impl Accepted {
-    /// The marks of its entry, in their order. They take no memory.
+    /// Returns the marks of the event's entry, in their order. They use no allocated memory.
     pub fn marks(&self, alloc: Global) -> SmallVec<Mark, 3>
         ensures { result.items ≡ marks_made self.now }
     {
@@ -29,7 +29,7 @@ impl Accepted {
         event_marks(alloc, &self.effect, self.place)
     }
 
-    /// Its entry. It takes no memory.
+    /// Returns the event's entry. It uses no allocated memory.
     pub fn entry(&self, alloc: Global) -> Entry
         ensures { result ≡ entry_made self.now }
     {
@@ -44,7 +44,7 @@ impl Accepted {
     }
 }
 
-/// A Step that was made and has no mark: whose it is, its flick and its access.
+/// A Step that was made and has no mark: its process, its flick and its access.
 #[derive(Clone, Copy)]
 pub struct Stepped {
     pub process: u8,
@@ -52,11 +52,11 @@ pub struct Stepped {
     pub access: Access,
     /// Whether the access ends a read that a write overlapped.
     pub overlapped: bool,
-    /// How much of a number its process had read before it; not told of a Step within a number access.
+    /// How much of a number the process had read before it; `None` only for a Step within a register access.
     pub number: Option<u32>,
 }
 
-/// What a turn of a run tells.
+/// The report of a turn of a run.
 #[derive(Drop)]
 pub enum Told {
     Accepted(Accepted),
@@ -64,12 +64,12 @@ pub enum Told {
     Refused { process: u8, refusal: Refusal },
     /// This process has made all the Steps of a `go`.
     Tired(u8),
-    /// The newest store; none while somebody is inside.
+    /// The newest store, or `None` while a process is inside.
     Shown(Option<Image>),
 }
 
 impl Told {
-    /// Returns 1 for an accepted event, and 0 for everything else.
+    /// Returns 1 for an accepted event, and 0 for any other report.
     pub(crate) fn events(&self) -> u32
         ensures events { result ≡ events_told self.now }
         ensures one { result ≤ 1 }

@@ -27,11 +27,11 @@ use std::alloc::{AllocError, Global};
 use std::marker::Model;
 use world::{Core, Effect, Flicks, Image, World};
 
-/// The Steps that a `go` makes at most.
+/// The greatest number of Steps of a `go`.
 const GO_LIMIT: u32 = 65_536;
 
-/// A run of a scenario: the world, where flicks and picks come from, and how many turns the present line may
-/// still make. Contracts see these three, and speak of every run that they show.
+/// A run of a scenario: the world, the source of flicks and picks, and the number of turns that the present line may
+/// still make. Contracts refer to these three, and to every run that they show.
 #[derive(Drop)]
 pub struct Course {
     alloc: Global,
@@ -52,7 +52,11 @@ impl Model for Course {
 }
 
 impl Course {
-    /// A run in which nothing has happened.
+    /// Creates a run in which nothing has happened.
+    ///
+    /// # Errors
+    ///
+    /// Returns [`AllocError`] if there is no memory for the world.
     pub fn new(alloc: Global, setup: &Setup) -> Result<Course, AllocError>
         requires { checked setup.now ≡ Ok tt }
         ensures setup { IfOk result (λ course. course.world.setup ≡ setup.now) }
@@ -67,28 +71,28 @@ impl Course {
         })
     }
 
-    /// How many commands were taken.
+    /// Returns the number of commands taken.
     pub fn taken(&self) -> u64
         ensures { InItsRun self.now (λ run. result ≡ length (taken_in self.now.world.setup run)) }
     {
         self.world.history().len() as u64
     }
 
-    /// The commands taken, in their order.
+    /// Returns the commands taken, in their order.
     pub fn history(&self) -> &[Taken]
         ensures { InItsRun self.now (λ run. result.now ≡ taken_in self.now.world.setup run) }
     {
         self.world.history()
     }
 
-    /// What its world keeps but for the history.
+    /// Returns the state of the world, except the history.
     pub fn core(&self) -> &Core
         ensures { with_history result.now self.now.world.history ≡ self.now.world }
     {
         self.world.core()
     }
 
-    /// A line begins.
+    /// Begins a line.
     fn begin(&mut self, line: &Line)
         ensures course { self.new ≡ record self.old { left = turns_of line.now } }
         ensures few { self.new.left < 2 ^ 32 }
@@ -96,7 +100,7 @@ impl Course {
         self.left = turns_in(line);
     }
 
-    /// Makes the turn of a line that makes no Steps, and returns what it tells.
+    /// Makes the turn of a line that makes no Steps, and returns what it reports.
     fn make(&mut self, line: &Line) -> Result<Option<Told>, AllocError>
         requires few { self.old.left ≤ turns_of line.now }
         requires some_left { 0 < self.old.left }
@@ -127,7 +131,7 @@ impl Course {
         }
     }
 
-    /// Makes an event, unless it is refused, and tells it.
+    /// Makes an event, unless it is refused, and reports it.
     fn event(&mut self, event: Event) -> Result<Option<Told>, AllocError>
         requires some_left { 0 < self.old.left }
         requires given { is_event event ≡ true }
@@ -145,7 +149,7 @@ impl Course {
                     event,
                     place,
                     access,
-                    // Only a Step has an access, and this event is none.
+                    // Only a Step has an access, and this event is not a Step.
                     overlapped: false,
                     effect,
                 };
@@ -155,7 +159,7 @@ impl Course {
         }
     }
 
-    /// The store after the history; none while somebody is inside.
+    /// Returns the store after the history, or `None` if a process is inside.
     fn newest(&self) -> Option<Image>
         ensures { (events : List Happening) → Shows self.now.world events →
             result ≡ newest_store self.now.world.setup (past_of self.now.world.setup events) }
@@ -168,7 +172,7 @@ impl Course {
     }
 }
 
-/// Tells that an event of this process was refused, unless it was so for want of memory.
+/// Reports that an event of this process was refused, or returns an error if the refusal is one for lack of memory.
 fn refused(process: u8, refusal: Refusal) -> Result<Option<Told>, AllocError>
     ensures { IfOk result (λ told.
         (told ≡ Some (Told.Refused process refusal)) × (refusal ≡ Memory → ⊥)) }
@@ -179,7 +183,8 @@ fn refused(process: u8, refusal: Refusal) -> Result<Option<Told>, AllocError>
     }
 }
 
-/// How many turns a line may make. The last one of a `go` looks where the process is, and makes no Step.
+/// Returns how many turns a line may make. The last turn of a `go` looks whether the process has reached its target, and
+/// makes no Step.
 fn turns_in(line: &Line) -> u32
     ensures { result ≡ turns_of line.now }
 {

@@ -13,7 +13,7 @@ pub enum Until {
 }
 
 impl Until {
-    /// Returns how many events may still be made after so many, or more than a line can make.
+    /// Returns how many events may still be made after `made`. For `End` it is more than a line can make.
     pub(crate) fn events_after(self, made: u64) -> u64
         ensures { result ≡ events_to self made }
     {

@@ -1,4 +1,4 @@
--- One access of a write, as the register's contract tells it.
+-- One access of a write, as the register's contract describes it.
 use Rattle.std.proofs.Common.{◌≡◌, ◌≢◌, ℕ, ◌+◌, ◌<◌, ◌≤◌, ◌==◌, ◌||◌, List, Bool, true, false, cond, Some, length, refl, sym, ap, subst, ◌∙◌, arith}
 use Rattle.std.proofs.lemmas.List.{length_push}
 use Rattle.std.proofs.lemmas.Bool.{eqb-true, eqb-false}
@@ -128,6 +128,6 @@ reader_on : (made reader : ℕ) (next v : Bool) → (cond {A = Settling} next (r
 reader_on made reader true v = omega arith
 reader_on made reader false v = omega arith
 
--- a settling stays at its copy or goes on to the next
+-- a settling stays at its copy or continues with the next
 pub settled_reader : (t t' : Settling) (v : Bool) → t' ≡ settle_after t v → t'.reader ≤ t.reader + 1
 settled_reader t t' v e = omega (arith, ap (λ (x : Settling). x.reader) e, reader_on t.made t.reader (t.begun || is_open_at t.made t.reader) v)

@@ -1,10 +1,10 @@
--- What becomes of a register that is written.
+-- A register during writes and settling.
 use Rattle.std.specs.Prelude.{ℕ, List, Bool}
 use Rattle.reader_copies.specs.{IsWritten, Settling, with_value}
 use Rattle.reader_copies.specs.safe_bit.Cell.{Cell}
 use Rattle.safe_number.specs.{IsSettling, IsWriting, NumberWrite}
 
--- a write goes on
+-- a write continues
 abbrev pub WritesOn : List (List Cell) → NumberWrite → List ℕ → List (List Cell) → NumberWrite → Type 0
 WritesOn row run value row_then run_then = (old : ℕ → Bool) → IsWriting row old value run → IsWriting row_then old value run_then
 

@@ -8,7 +8,7 @@ ghost use Rattle.register_drive.specs.Reads.{AreWritten};
 use reader_copies::Progress;
 use safe_number::{ReadRun, Register, WriteRun};
 
-/// Writes a whole value, and answers how many accesses it took.
+/// Writes a whole value, and returns how many accesses it took, or `None` after 2^32 - 1 accesses.
 pub fn write_all(register: &mut Register, width: u16, value: &[u8], reader: u8) -> Option<u64>
     requires shape { IsRow register.old width }
     requires wide { 0 < width }
@@ -31,7 +31,7 @@ pub fn write_all(register: &mut Register, width: u16, value: &[u8], reader: u8) 
     None
 }
 
-/// Reads a whole value that nobody writes, and answers how many accesses it took.
+/// Reads a whole value while no process writes, and returns how many accesses it took, or `None` after 2^32 - 1 accesses.
 pub fn read_all(register: &mut Register, width: u16, reader: u8, run: &mut ReadRun) -> Option<u64>
     requires shape { IsRow register.old width }
     requires wide { 0 < width }

@@ -1,5 +1,5 @@
-//! A register driven by one reader or writer alone, one access after another: whole writes, whole reads, and writes
-//! that are cut and settled. The contracts say what the register then has, and what a read gives.
+//! A register driven by one reader or writer alone, one access after another: whole writes, whole reads, and interrupted
+//! writes that are settled. The contracts state the value that the register then has, and the value that a read returns.
 #![tactic(auto)]
 
 mod drive;

@@ -1,4 +1,4 @@
-//! Writes that are cut, and their torn bit settled.
+//! Interrupted writes, and the settling of their torn bit.
 ghost use Rattle.std.specs.Prelude.{◌≡◌, ℕ, Bool, ◌<◌, ◌≤◌, ◌*◌, length, OnSome};
 ghost use Rattle.reader_copies.specs.{IsRow, IsWritten, settled_at};
 ghost use Rattle.safe_number.specs.{IsWriting, IsSettling};
@@ -8,7 +8,7 @@ ghost use Rattle.register_drive.specs.Writes.{SettlesAt, WritesOn};
 use reader_copies::{Progress, Torn};
 use safe_number::{Register, WriteRun};
 
-/// Makes at most so many accesses of a write.
+/// Makes at most `steps` accesses of a write.
 pub fn write_some(register: &mut Register, run: &mut WriteRun, value: &[u8], steps: u32, reader: u8)
     requires going { run.old.bit < run.old.width }
     requires value { run.old.width ≤ 8 * length value.now }
@@ -28,7 +28,7 @@ pub fn write_some(register: &mut Register, run: &mut WriteRun, value: &[u8], ste
     }
 }
 
-/// Settles a torn bit at `value`, and answers how many accesses it took.
+/// Settles a torn bit at `value`, and returns how many accesses it took, or `None` after 2^32 - 1 accesses.
 pub fn settle_all(
     register: &mut Register,
     width: u16,
@@ -58,8 +58,8 @@ pub fn settle_all(
     None
 }
 
-/// Makes at most so many accesses of a write of a value, settles its torn bit at `settled`, and answers
-/// that bit and how many accesses settling took.
+/// Makes at most `steps` accesses of a write of a value, and settles its torn bit at `settled`, if there is one. Returns
+/// that bit and how many accesses settling took, or `None` after 2^32 - 1 accesses of settling.
 pub fn cut_and_settle(
     register: &mut Register,
     width: u16,

@@ -1,4 +1,4 @@
--- Who stands inside is there alone.
+-- A process that is inside is the only one inside.
 use Rattle.std.proofs.Common.{◌≡◌, ℕ, Bool, true, false, List, Some, Ok, refl, sym, ◌∙◌}
 use Rattle.std.specs.Prelude.{IsTrue, nat_lt, cond, Option}
 use Rattle.plain_store.specs.{Setup, checked}
@@ -13,7 +13,7 @@ use Rattle.board.proofs.laws.FrameInside.{inside-is, stage-is}
 use Rattle.world.specs.{stage_in}
 use Rattle.world.specs.Shows.{Shows, WorldState}
 
--- the stage of a part is inside only where its process is
+-- the stage of a part is `Inside` only if the process is inside there
 part_inside : (x : Part) (fresh : Bool) → stage_of x fresh ≡ stages.Inside → is_inside_at x fresh ≡ true
 part_inside Raises fresh h = absurd (cc)
 part_inside (Asks j js ts) fresh h = absurd (cc)
@@ -42,7 +42,7 @@ doing_inside (Closes command number (Lowers w)) h = absurd (cc)
 doing_inside (Closes command number Quit) h = absurd (cc)
 doing_inside (Closes command number Ended) h = absurd (cc)
 
--- a process whose stage is inside is inside
+-- a process whose stage is `Inside` is inside
 pub stands_inside : (s : Setup) → checked s ≡ Ok tt → (events : List Event) (p : ℕ) → stage p (past_of s events) ≡ stages.Inside → inside p (past_of s events) ≡ true
 stands_inside s g events p h =
     inside-is s (is_good s g) events p ∙ doing_inside (doing s p (past_of s events)) (sym (stage-is s (is_good s g) events p) ∙ h)
@@ -51,7 +51,7 @@ there : (b : Bool) (x y : Stage) → cond b (Some x) Option.None ≡ Some y → 
 there true x y h = cc
 there false x y h = absurd (cc)
 
--- in a world, who stands inside is there alone
+-- in a world, a process that is inside is the only one inside
 pub stands_alone : MutualExclusion → (w : WorldState) (events : List Event) → Shows w events → (p : ℕ) → stage_in w.setup (past_of w.setup events) p ≡ Some stages.Inside →
     (other : ℕ) → IsTrue (inside other (past_of w.setup events)) → other ≡ p
 stands_alone law w events shows p h other i =

@@ -1,5 +1,5 @@
-//! A tour of the library. First a world made by hand: two processes call, one fails in the middle of its change, and looks
-//! up afterwards what became of it. Then a board, whose ports call on threads. docs/LIBRARY.md leads through it.
+//! A tour of the library. It begins with a world made by hand: two processes call, one fails in the middle of its change, and
+//! looks up afterwards what became of it. A board follows, whose ports call on threads. docs/LIBRARY.md leads through it.
 #![tactic(auto)]
 
 ghost use Rattle.std.specs.Prelude.{◌≡◌, ℕ, IfOk, IsTrue, List, Ok, OnOk, Some};
@@ -20,7 +20,7 @@ use std::sync::Wait;
 use std::thread::{self, Threads};
 use world::{Act, Event, Flicks, Stage, World};
 
-/// Both parts begin with two processes and the counter `a` at 5.
+/// Runs both parts, each with two processes and the counter `a` at 5.
 fn main(rt: HostRuntime) -> Result<()> {
     let counter = Name::new(b"a")?;
     let mut setup = Setup::one(2, 2, 2, 1);
@@ -31,7 +31,7 @@ fn main(rt: HostRuntime) -> Result<()> {
     on_threads(&rt, &setup, counter)
 }
 
-/// Process 0 fails within its change, and looks up what became of it.
+/// Runs the first part: process 0 fails within its change, and looks up what became of it.
 fn by_hand(rt: &HostRuntime, setup: &Setup, counter: Name) -> Result<()>
     requires { checked setup.now ≡ Ok tt }
 {
@@ -49,8 +49,8 @@ fn show<T: Print + AllocGlobal>(rt: &T, store: &Image) -> Result<()> {
     Ok(())
 }
 
-/// Both processes call, and process 0 fails within the write of its commit bit. Its memory unit settles that at 1, so the change
-/// is taken, as `ask` tells once process 0 is back.
+/// Makes both processes call, and process 0 fail within the write of its commit bit. Its memory unit settles that bit at 1, so
+/// the change is taken. The command `ask` reports this once process 0 has restarted.
 fn fail_and_look_up<T: Print>(rt: &T, world: &mut World, counter: Name) -> Result<()> {
     make(rt, world, Event::Call(0, Command::Add(counter, 1)))?;
     make(rt, world, Event::Call(1, Command::Add(counter, 10)))?;
@@ -64,7 +64,7 @@ fn fail_and_look_up<T: Print>(rt: &T, world: &mut World, counter: Name) -> Resul
     go(rt, world, 0, false, Stage::Idle)
 }
 
-/// Makes an event, and prints its marks. The headline holds of its entry.
+/// Makes an event, and prints its marks. The main theorem (the headline) holds of its entry.
 fn make<T: Print>(rt: &T, world: &mut World, event: Event) -> Result<Act>
     ensures headline { IfOk result (λ act. KeepsTheHeadline world.old (process_of event) act) }
 {
@@ -77,7 +77,7 @@ fn make<T: Print>(rt: &T, world: &mut World, event: Event) -> Result<Act>
     Ok(act)
 }
 
-/// Makes steps of a process up to this stage. If it then stands inside, nobody else does: the headline's first sentence.
+/// Makes steps of a process up to this stage. If it is then inside, no other process is: the main theorem's first sentence.
 fn go<T: Print>(rt: &T, world: &mut World, process: u8, flick: bool, stage: Stage) -> Result<()>
     ensures alone { OnOk result ((events : List Happening) → Shows world.new events → stage_in world.new.setup (past_of world.new.setup events) process ≡ Some Inside → (other : ℕ) → IsTrue (inside other (past_of world.new.setup events)) → other ≡ process) }
 {
@@ -104,7 +104,7 @@ fn begin_commit<T: Print>(rt: &T, world: &mut World, process: u8) -> Result<()> 
     bail!("process {process} does not come to its commit bit")
 }
 
-/// The same two calls of ports of a board.
+/// Makes the two calls of the first part by ports of a board.
 #[tactic(auto, using(board::proofs::Orders::all_are_made, board::proofs::Orders::first_are_made))]
 fn on_threads<T: Print + AllocGlobal + Threads + Wait + Sync>(
     rt: &T,
@@ -122,7 +122,7 @@ fn on_threads<T: Print + AllocGlobal + Threads + Wait + Sync>(
     }
 }
 
-/// Each port makes its call, on a thread of its own.
+/// Makes the call of each port, on a thread of its own.
 #[tactic(auto, using(board_runs::proofs::PortsThen::is_of, board_runs::proofs::PortsThen::are_then))]
 fn call_all<R: Threads + Wait + Sync>(
     rt: &R,
@@ -148,7 +148,7 @@ fn call_all<R: Threads + Wait + Sync>(
     );
 }
 
-/// A call of a port, which is driven until it is answered.
+/// Begins a call of a port, and drives the port until the call is answered.
 fn call<R: Wait>(rt: &R, board: &Board, port: &mut Port, command: Command)
     requires { IsOf board.now port.old }
     ensures { SamePort port.old port.new }

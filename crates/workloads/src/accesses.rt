@@ -1,4 +1,4 @@
-//! How long a step of a register takes, of 1728 bits and with 16 readers.
+//! The time that a step of a register of 1728 bits and with 16 readers takes.
 ghost use Rattle.std.specs.Prelude.{ℕ, Bool, ◌≤◌, IfOk};
 ghost use Rattle.record.specs.reader_copies.{IsRow, IsWritten};
 ghost use Rattle.register_drive.specs.{IsIdle};
@@ -9,10 +9,14 @@ use register_drive::{ReadRun, Register, read_all, write_all};
 use std::rt::Clock;
 use std::time::Instant;
 
-/// What is written.
+/// The value that is written.
 const VALUE: [u8; 216] = [0x5a; 216];
 
-/// Makes so many whole writes and then so many whole reads, and prints how many steps these are.
+/// Makes `times` whole writes and then `times` whole reads, and prints how many steps these are.
+///
+/// # Errors
+///
+/// Returns an error if memory runs out, an access does not end, or the clock or a stream fails.
 pub fn times<T: Print + Eprint + Clock + AllocGlobal>(rt: &T, times: u32) -> Result<()> {
     let mut register = Register::new(rt.alloc(), 1728, 16)?;
     let mut run = ReadRun::new(rt.alloc(), 1728)?;
@@ -20,7 +24,7 @@ pub fn times<T: Print + Eprint + Clock + AllocGlobal>(rt: &T, times: u32) -> Res
     timed(rt, &mut register, &mut run, false, times)
 }
 
-/// Writes the value again and again, or reads it, and tells how many accesses that took.
+/// Writes the value `times` times, or reads it, and prints how many accesses that took.
 fn timed<T: Print + Eprint + Clock>(
     rt: &T,
     register: &mut Register,

@@ -1,5 +1,5 @@
-//! How long a word step takes, of a port on one thread, and of two ports on two threads; and how long the largest board takes
-//! to be made.
+//! The time that a word step takes, of a port on one thread, and of two ports on two threads. Also the time that making the
+//! largest board takes.
 ghost use Rattle.std.specs.Prelude.{◌≡◌, ℕ, Some, slice_get};
 ghost use Rattle.board_runs.specs.board.{IsOf, PortState};
 
@@ -23,8 +23,12 @@ const ALONE: [(&str, u8, u8); 4] = [
     ("word steps alone of 16, slots 8", 16, 8),
 ];
 
-/// Prints what each run leaves: of so many calls of a port alone, and of ports on threads, each of which is given turns so
-/// many times.
+/// Prints the results of each run: `calls` calls of a port alone, and ports on threads, each of which is given turns `times`
+/// times.
+///
+/// # Errors
+///
+/// Returns an error if memory runs out, a call does not end as expected, or the clock or a stream fails.
 pub fn times<T: Print + Eprint + Clock + AllocGlobal + Threads + Sync>(
     rt: &T,
     calls: u32,
@@ -38,7 +42,7 @@ pub fn times<T: Print + Eprint + Clock + AllocGlobal + Threads + Sync>(
     together(rt, "ports together of 2, slots 8", 8, times)
 }
 
-/// The making of the largest board: how many ports it has.
+/// Makes the largest board, and prints how many ports it has.
 fn largest<T: Print + Eprint + Clock + AllocGlobal>(rt: &T) -> Result<()> {
     let setup = counting(2, 16, 32, 8)?;
     let start = Instant::now(rt)?;
@@ -48,7 +52,7 @@ fn largest<T: Print + Eprint + Clock + AllocGlobal>(rt: &T) -> Result<()> {
     Ok(())
 }
 
-/// Calls of port 0 of so many.
+/// Times calls of port 0 of a board with `processes` processes.
 fn alone<T: Print + Eprint + Clock + AllocGlobal>(
     rt: &T,
     run: &str,
@@ -64,7 +68,7 @@ fn alone<T: Print + Eprint + Clock + AllocGlobal>(
     }
 }
 
-/// So many calls of a port: how many word steps each of them takes, and how long all take.
+/// Makes `calls` calls of a port, and prints how many word steps each of them takes, and how long all take.
 fn timed_alone<T: Print + Eprint + Clock>(
     rt: &T,
     run: &str,
@@ -87,7 +91,7 @@ fn timed_alone<T: Print + Eprint + Clock>(
     Ok(())
 }
 
-/// Two ports, each on a thread of its own.
+/// Times two ports, each on a thread of its own.
 fn together<T: Print + Eprint + Clock + AllocGlobal + Threads + Sync>(
     rt: &T,
     run: &str,
@@ -99,8 +103,8 @@ fn together<T: Print + Eprint + Clock + AllocGlobal + Threads + Sync>(
     timed_together(rt, run, &board, ports, times)
 }
 
-/// So many times some turns of each of these ports, on threads: how many ports they are, and the least number of word steps
-/// that one counts.
+/// Gives turns to each of these ports `times` times, on threads, and prints how many ports they are, and the least number of
+/// word steps that a port counts.
 fn timed_together<T: Print + Eprint + Clock + Threads + Sync>(
     rt: &T,
     run: &str,

@@ -5,13 +5,17 @@ ghost use Rattle.plain_store.specs.{checked};
 use anyhow::Result;
 use plain_store::{Name, Setup, Value};
 
-/// The counter's name.
+/// Returns the counter's name.
 pub fn counter() -> Name {
     Name::new(b"a").unwrap()
 }
 
-/// A setup with so many ticket and stamp bits, whose store opens with the counter at 0 in version 2, and with none in version 1.
-/// Fails where a number is out of its range.
+/// Returns a setup with `bits` ticket bits and stamp bits, whose store opens with the counter at 0 in version 2, and without it
+/// in version 1.
+///
+/// # Errors
+///
+/// Returns an error if a number is out of its range.
 pub fn counting(version: u8, processes: u8, bits: u8, slots: u8) -> Result<Setup>
     ensures { IfOk result (λ setup. checked setup ≡ Ok tt) }
 {

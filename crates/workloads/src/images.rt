@@ -1,4 +1,4 @@
-//! How long a command on a full image takes.
+//! The time that a command on a full image takes.
 use crate::timing::tell;
 use anyhow::Result;
 use call_check::Image;
@@ -10,7 +10,11 @@ const NAMES: [&str; 8] = [
     "first", "second", "third", "fourth", "fifth", "sixth", "seventh", "eighth",
 ];
 
-/// Makes so many rounds of 8 adds, and prints the last reply.
+/// Makes `rounds` rounds of 8 adds, and prints the last reply.
+///
+/// # Errors
+///
+/// Returns an error if memory runs out, or if the clock or a stream fails.
 pub fn times<T: Print + Eprint + Clock>(rt: &T, rounds: u32) -> Result<()> {
     let _nested: NestedTypes = None;
     let mut image = Image::empty(8, 16);
@@ -30,7 +34,7 @@ pub fn times<T: Print + Eprint + Clock>(rt: &T, rounds: u32) -> Result<()> {
     Ok(())
 }
 
-/// Writes 0 to 8 counters. The commands that add 1 to each.
+/// Writes 0 to 8 counters, and returns the commands that add 1 to each.
 fn fill(image: &mut Image) -> Result<[Command; 8]> {
     let _nested: NestedTypes = None;
     let caller = Caller {

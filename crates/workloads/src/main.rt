@@ -1,4 +1,4 @@
-//! Loads for the crates of the store, each a part of this program: what bench/ times, and rounds of ports that
+//! Workloads for the crates of the store, each a part of this program: those that bench/ times, and rounds of ports that
 //! `tests/byhand/soak_boards.py` judges.
 #![tactic(auto)]
 
@@ -16,14 +16,18 @@ use std::io;
 use std::rt::Clock;
 use std::thread::Threads;
 
-/// All parts, in the order in which they are run: whole writes and whole reads of a register; commands on an image; word steps
-/// of ports, and the making of the largest board; long lists of finished calls, which are weighed; and
-/// rounds of ports that are cut by failures.
+/// All parts, in the order in which they are run:
+///
+/// - `registers`: whole writes and whole reads of a register,
+/// - `image`: commands on an image,
+/// - `board`: word steps of ports, and the making of the largest board,
+/// - `weigh`: long lists of finished calls, which are weighed,
+/// - `rounds`: rounds of ports that are interrupted by failures.
 const PARTS: [&str; 5] = ["registers", "image", "board", "weigh", "rounds"];
 
-/// Runs the part that the first word names, or all parts if there is none, and prints what they leave. The second and the
-/// third word are numbers, which say how much of it there is; of `rounds` the second is a scenario, and the third says how many of
-/// its lines are carried out by turns. What took how long goes to standard error.
+/// Runs the part that the first word names, or all parts without that word, and prints what they leave. The second and the
+/// third word are numbers that set the size of the part. For `rounds` the second is a scenario, and the third is the number of
+/// its lines that are carried out by turns. Timings go to standard error.
 fn main(rt: HostRuntime) -> Result<()> {
     if let Some(part) = word(&rt, 1)? {
         return run(&rt, part.as_str());
@@ -58,7 +62,7 @@ fn run<T: Env + Print + Eprint + Clock + AllocGlobal + Threads + Sync>(
     }
 }
 
-/// The number that the word at this place says, if there is one.
+/// Returns the number that the word at this position denotes, or `None` without that word.
 fn number<T: Env + AllocGlobal>(rt: &T, at: usize) -> Result<Option<u32>> {
     match word(rt, at)? {
         Some(word) => Ok(Some(word.parse()?)),
@@ -66,7 +70,7 @@ fn number<T: Env + AllocGlobal>(rt: &T, at: usize) -> Result<Option<u32>> {
     }
 }
 
-/// The word at this place, if there is one.
+/// Returns the word at this position, if there is one.
 fn word<T: Env + AllocGlobal>(rt: &T, at: usize) -> io::Result<Option<String>> {
     Ok(env::args(rt)?.nth(at))
 }

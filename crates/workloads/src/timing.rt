@@ -1,10 +1,14 @@
-//! What was timed, told in one form.
+//! The one form in which timings are printed.
 use std::fmt::Display;
 use std::io;
 use std::rt::Clock;
 use std::time::Instant;
 
-/// Prints what a run has left, and to standard error how many steps it made since its start, in how many nanoseconds.
+/// Prints what a run has left, and prints to standard error the number of its steps and the nanoseconds since its start.
+///
+/// # Errors
+///
+/// Returns the error of the clock or of a stream.
 pub fn tell<T: Print + Eprint + Clock>(
     rt: &T,
     run: &str,

@@ -1,4 +1,4 @@
-//! How long weighing takes, of the largest lists of finished calls.
+//! The time that the linearizability check (weighing) takes for the largest lists of finished calls.
 ghost use Rattle.std.specs.Prelude.{◌≡◌, ◌≤◌, All, IsTrue, List, Ok, length};
 ghost use Rattle.plain_store.specs.{checked};
 ghost use Rattle.record.specs.declared.calls.Placed.{Placed as Finished};
@@ -16,10 +16,10 @@ use record::Placed;
 use std::rt::Clock;
 use std::time::Instant;
 
-/// The most calls of a process in version 2.
+/// The greatest number of calls of a process in version 2.
 const MOST_CALLS: u32 = 65_535;
 
-/// What is weighed.
+/// The histories that are weighed.
 const HISTORIES: [History; 5] = [
     History {
         name: "adds",
@@ -53,8 +53,12 @@ const HISTORIES: [History; 5] = [
     },
 ];
 
-/// Prints the verdict on each history, or on that of one number alone, with so many calls of each of 16 processes, 65,535 if
-/// not said. In version 1, which has no such bound, each of 8 makes twice as many.
+/// Prints the verdict on each history, or only on history number `only`. Each of 16 processes makes `calls` calls, 65,535 if
+/// that is `None`. In version 1, which has no such bound, each of 8 processes makes twice as many.
+///
+/// # Errors
+///
+/// Returns an error if memory runs out, a history has too many calls, or the clock or a stream fails.
 pub fn times<T: Print + Eprint + Clock + AllocGlobal>(
     rt: &T,
     calls: Option<u32>,
@@ -69,7 +73,7 @@ pub fn times<T: Print + Eprint + Clock + AllocGlobal>(
     Ok(())
 }
 
-/// Weighs a history of so many calls of each process.
+/// Weighs a history with `rounds` calls of each process.
 fn weighed<T: Print + Eprint + Clock + AllocGlobal>(
     rt: &T,
     history: &History,
@@ -86,7 +90,7 @@ fn weighed<T: Print + Eprint + Clock + AllocGlobal>(
     timed(rt, &setup, &lists, &image, history.name, calls)
 }
 
-/// Weighs these lists, which have so many calls.
+/// Weighs these lists, which have `calls` calls together.
 fn timed<T: Print + Eprint + Clock + AllocGlobal>(
     rt: &T,
     setup: &Setup,
@@ -106,7 +110,7 @@ fn timed<T: Print + Eprint + Clock + AllocGlobal>(
     Ok(())
 }
 
-/// Whether no list has more calls than a process of version 2 may have.
+/// Returns whether no list has more calls than a process of version 2 may have.
 #[tactic(auto, using(crate::proofs::Short::short_lists))]
 fn are_short(lists: &[Vec<Placed>]) -> bool
     ensures { IsTrue result → All (λ (list : List Finished). length list ≤ 65535) (lists_of lists.now) }

@@ -1,4 +1,4 @@
-//! Lines are played: the turns of each are made, one after the other, and a listener hears what they tell.
+//! Playing lines: the turns of each line are made, one after the other, and a listener observes what they report.
 ghost use Rattle.std.specs.Prelude.{◌≡◌, ◌+◌, ◌-◌, ◌*◌, ◌^◌, ◌<◌, ◌≤◌, ℕ, IfErr, IfOk, OnOk, length};
 ghost use Rattle.course.specs.Courses.{Follows};
 ghost use Rattle.course.specs.Listening.{Comes, InItsRun, LeavesRoom, Plays, PlaysLine, PlaysLines, StopsAmid, StopsLine, StopsLines, TakesRoom, room_wanted};
@@ -15,14 +15,14 @@ use scenario::progress::{LinePlace, Onlooker};
 use scenario::{Fault, Line, Scenario};
 
 impl Course {
-    /// Plays the lines of a scenario, one after the other, to the end or up to an event, and returns the line that made the
+    /// Plays the lines of a scenario, one after the other, to the end or up to an event. Returns the line that made the
     /// newest event, or `None` if no event was made. Before each line it reports to the onlooker the line's number in the file
-    /// and how many events the listener has counted, also where the line makes no turn any more.
+    /// and how many events the listener has counted, even if the line makes no further turn.
     ///
     /// # Errors
     ///
-    /// Returns [`Fault::Memory`] if a turn finds no memory, and otherwise the listener's fault. The listener has then
-    /// heard a front of the lines.
+    /// Returns [`Fault::Memory`] if a turn runs out of memory, and otherwise the listener's fault. The listener has then
+    /// observed a prefix of the lines.
     pub fn play_all<L: Listener, O: Onlooker>(
         &mut self,
         scenario: &Scenario,
@@ -47,7 +47,7 @@ impl Course {
         )
     }
 
-    /// Plays lines that have these numbers in a file; `play_all` does so with those of a scenario.
+    /// Plays lines that have these numbers in a file; [`Course::play_all`] calls it with those of a scenario.
     fn play_lines<L: Listener, O: Onlooker>(
         &mut self,
         lines: &[Line],
@@ -82,8 +82,11 @@ impl Course {
         Ok(newest)
     }
 
-    /// Makes the turns of a line, each of which is heard before the next is made. A course finds no memory only before a
-    /// turn.
+    /// Makes the turns of a line. The listener observes each turn before the next is made.
+    ///
+    /// # Errors
+    ///
+    /// Returns [`Fault::Memory`] if there is no memory for a turn, which is then not made, and otherwise the listener's fault.
     pub fn play<L: Listener>(&mut self, line: &Line, listener: &mut L) -> Result<(), Fault>
         requires { L.HasRoom listener.old (2 ^ 32) }
         ensures ok { OnOk result
@@ -96,7 +99,7 @@ impl Course {
         Ok(())
     }
 
-    /// Makes the first turns of a line, as many as it may make events, and returns how many events they made. A turn that
+    /// Makes the first turns of a line, until they have made `most` events, and returns how many events they made. A turn that
     /// makes no event is the last of its line, so these are the first events of the line.
     fn play_part<L: Listener>(
         &mut self,
@@ -137,7 +140,7 @@ impl Course {
         Ok(made)
     }
 
-    /// Does nothing. Its contract says that the course shows a run.
+    /// Does nothing. Its contract states that the course shows a run.
     #[inline(always)]
     fn shows_a_run(&self)
         ensures { (run : Run) × Follows self.now run }
@@ -145,9 +148,9 @@ impl Course {
         self.world.shown();
     }
 
-    /// Makes the turns of a line up to the one that is told, which is not heard yet, while more than `floor` turns are left.
-    /// Returns `None` at the floor, or once the line has ended. `before` receives how many turns were left before the turn
-    /// that is told or ends the line, or the floor.
+    /// Makes the turns of a line up to one that is reported, while more than `floor` turns are left. The listener has not yet
+    /// observed the reported turn. Returns `None` at the floor, or once the line has ended. `before` receives how many turns
+    /// were left before the turn that is reported or ends the line, or the floor.
     #[inline]
     fn next<L: Listener>(
         &mut self,
@@ -187,7 +190,7 @@ fn floor_below(left: u32, most: u64) -> u32
     u64::from(left).saturating_sub(most) as u32
 }
 
-/// Whether a line makes Steps.
+/// Returns whether a line makes Steps.
 #[inline]
 fn makes_steps(line: &Line) -> bool
     ensures { result ≡ has_steps line.now }

@@ -1,5 +1,5 @@
-//! The lines that make Steps. A Step without a mark leaves every process where it is, so that only after one with
-//! marks a line has to look again who is where.
+//! The lines that make Steps. A Step without a mark leaves every process in its stage, so a line has to look at the stages
+//! again only after a Step with marks.
 ghost use Rattle.std.specs.Prelude.{◌≡◌, ◌+◌, ◌-◌, ◌^◌, ◌<◌, ◌≤◌, ℕ, length, slice_index, IfErr, IfOk, IfSome, None, Ok};
 ghost use Rattle.record.specs.{stage};
 ghost use Rattle.record.specs.declared.Event.TheVariants.{Step};
@@ -19,8 +19,8 @@ use smallvec::SmallVec;
 use world::Divisor;
 
 impl Course {
-    /// Makes Steps of this process, while more than `floor` turns are left, up to the first that is told; one that is
-    /// refused ends the line. `before` receives how many turns were left before the Step that is told, or the floor.
+    /// Makes Steps of this process, while more than `floor` turns are left, up to the first that is reported; a Step that is
+    /// refused ends the line. `before` receives how many turns were left before the reported Step, or the floor.
     #[inline(never)]
     pub(super) fn run_alone<L: Listener>(
         &mut self,
@@ -76,7 +76,7 @@ impl Course {
     }
 
     /// Makes the turns of `go` while more than `floor` turns are left: Steps, unless the process is at its target, or has
-    /// made all its Steps. `before` receives how many turns were left before the turn that is told, or the floor.
+    /// made all its Steps. `before` receives how many turns were left before the turn that is reported, or the floor.
     pub(super) fn run_to<L: Listener>(
         &mut self,
         process: u8,
@@ -119,13 +119,13 @@ impl Course {
     }
 
     /// Makes the turns of `wander` while more than `floor` turns are left: Steps of picked processes, if there is one to pick.
-    /// `before` receives how many turns were left before the Step that is told, or the floor. Where one process alone can
-    /// step, and the flicks are constant, it makes them as `run_alone` does, many at once: each pick can only find that
+    /// `before` receives how many turns were left before the reported Step, or the floor. If only one process can make a
+    /// Step, and the flicks are constant, it makes them as `run_alone` does, in groups. Each pick can then only find that
     /// process, so the words of the picks are skipped at the end. Otherwise the process of the next Step is drawn before this
-    /// Step is made: how far a picked process is in its access cannot be predicted, so a processor that has mispredicted it
+    /// Step is made. How far a picked process is in its access cannot be predicted, and a processor that has mispredicted it
     /// begins what follows anew, except for that draw. For the same reason a process is asked once how many of its next Steps
     /// are within its register access, and these are counted down: most Steps ask nothing. The turns are counted down to 0
-    /// after the Step, so that one instruction counts a turn and says whether it is the last.
+    /// after the Step, so that one instruction counts a turn and finds whether it is the last.
     pub(super) fn run_random<L: Listener>(
         &mut self,
         floor: u32,
@@ -190,7 +190,7 @@ impl Course {
         }
     }
 
-    /// The processes with a Step to make, ascending. They take no memory.
+    /// Returns the processes with a Step to make, ascending. They use no allocated memory.
     fn movers(&self) -> SmallVec<u8, 16>
         ensures movers { InItsRun self.now (λ run.
             result.items ≡ movers self.now.world.setup (past_in self.now.world.setup run)) }
@@ -205,7 +205,7 @@ impl Course {
         movers
     }
 
-    /// Whether a process runs, or its memory unit settles.
+    /// Returns whether a process runs, or its memory unit settles.
     fn has_step(&self, process: u8) -> bool
         ensures { InItsRun self.now (λ run. process < self.now.world.setup.processes →
             result ≡ has_step (stage process (past_in self.now.world.setup run))) }
@@ -217,14 +217,14 @@ impl Course {
     }
 }
 
-/// Whether a process in this stage runs, or its memory unit settles.
+/// Returns whether a process in this stage runs, or its memory unit settles.
 fn has_step_in(stage: Stage) -> bool
     ensures { result ≡ has_step stage }
 {
     !matches!(stage, Stage::Idle | Stage::Down)
 }
 
-/// Whether a process in this stage is where it is to go.
+/// Returns whether a process in this stage has reached the target.
 fn is_there(target: Target, stage: Stage) -> bool
     ensures { result ≡ is_target target stage }
 {
@@ -236,7 +236,7 @@ fn is_there(target: Target, stage: Stage) -> bool
     }
 }
 
-/// How many turns a Step that tells leaves of so many: one that is refused ends a line of one process.
+/// Returns the turns left after a reported Step, of `left`: a refused Step ends a line of one process.
 fn left_after(outcome: &Result<Option<Told>, Fault>, left: u32) -> u32
     ensures told { IfOk outcome.now (λ told. IfSome told (λ told. result ≡ left_told told left)) }
     ensures fault { IfErr outcome.now (λ fault. result ≡ left) }
@@ -248,7 +248,7 @@ fn left_after(outcome: &Result<Option<Told>, Fault>, left: u32) -> u32
     }
 }
 
-/// Returns how many turns were left before the newest turn if it told something or failed, and otherwise how many are left.
+/// Returns how many turns were left before the newest turn if it made a report or failed, and otherwise how many are left.
 fn left_before(outcome: &Result<Option<Told>, Fault>, left: u32) -> u32
     requires { left < 2 ^ 32 - 1 }
     ensures none { outcome.now ≡ Ok None → result ≡ left }

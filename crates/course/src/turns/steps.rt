@@ -1,4 +1,4 @@
-//! Steps of a run: they pass a listener by, are heard by it, or are told.
+//! Steps of a run: they are passed to the listener in groups, observed one by one, or reported.
 ghost use Rattle.std.specs.Prelude.{◌≡◌, ◌+◌, ◌<◌, ◌≤◌, IfErr, IfOk, IfSome, None, Ok, OnOk, false, is_some, true};
 ghost use Rattle.record.specs.declared.Event.TheVariants.{Step};
 ghost use Rattle.world.specs.flicks.{after_flick, flick_of};
@@ -17,7 +17,7 @@ use scenario::Fault;
 use world::{AccessMade, Effect, Flicks, StepTold, World};
 
 /// Makes the Steps of a process that are within a register access, so that none has a mark, while more than `floor` turns
-/// are left. They pass by the listener, unless it hears each Step.
+/// are left. They are passed to the listener as one group, unless it observes each Step.
 #[inline]
 pub(super) fn pass_by<L: Listener>(
     world: &mut World,
@@ -54,9 +54,10 @@ pub(super) fn pass_by<L: Listener>(
     listener.pass(process, within, made.newest.how, made.overlapped);
 }
 
-/// A turn's Step, by the flick that is next: whether it is made within a number access, where it has no mark, and is heard or
-/// passed by; if not, `outcome` has what it tells, or the fault. One less than `known` of the process's next Steps are known to
-/// be within one. (An outcome by value would be cleared at each Step.)
+/// Makes a turn's Step, by the next flick. Returns whether it is made within a register access, where it has no mark, and the
+/// listener observes it without a fault. Otherwise `outcome` receives what the Step reports, if anything, or the fault. At
+/// least `known - 1` of the process's next Steps are known to be within a register access. (An outcome by value would be
+/// cleared at each Step.)
 #[inline(always)]
 pub(super) fn turn_step<L: Listener>(
     world: &mut World,
@@ -104,7 +105,7 @@ pub(super) fn turn_step<L: Listener>(
     false
 }
 
-/// Whether nothing has been told, and there was no fault.
+/// Returns whether nothing has been reported, and no fault occurred.
 #[inline]
 pub(super) fn goes_on(outcome: &Result<Option<Told>, Fault>) -> bool
     ensures none { result ≡ true → outcome.now ≡ Ok None }
@@ -132,7 +133,8 @@ pub(super) fn is_quiet(world: &World, known: &mut u32, process: u8) -> bool
     true
 }
 
-/// A Step by this flick, wherever its process is: it is heard, if it has no mark, and else what it tells is answered.
+/// Makes a Step by this flick, wherever its process is. The listener observes it if it has no mark; otherwise what it reports
+/// is returned.
 #[inline(never)]
 pub(super) fn any_step<L: Listener>(
     world: &mut World,
@@ -166,7 +168,7 @@ pub(super) fn any_step<L: Listener>(
     Ok(None)
 }
 
-/// The access of a Step that was made, if it has no mark.
+/// Returns the access of a Step that was made, if the Step has no mark.
 #[inline]
 fn unmarked(stepped: &Result<AccessMade, Refusal>, leads: &StepTold) -> Option<AccessMade>
     ensures some { IfSome result (λ made. (stepped.now ≡ Ok made) × (leads.now ≡ Nothing)) }
@@ -182,7 +184,7 @@ fn unmarked(stepped: &Result<AccessMade, Refusal>, leads: &StepTold) -> Option<A
     }
 }
 
-/// What a Step tells, made or refused.
+/// Returns the report of a Step, made or refused.
 #[inline(never)]
 fn told_of(
     process: u8,

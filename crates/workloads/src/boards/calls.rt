@@ -6,13 +6,13 @@ use flicks::Flicks;
 use plain_store::Command;
 use record::Refusal;
 
-/// The most word steps of a call that waits for nobody, and some more.
+/// An upper bound on the word steps of a call that waits for no process.
 const STEPS: u64 = 65_536;
 
-/// How many turns a port on a thread is given at a time.
+/// The number of turns that a port on a thread is given at a time.
 const TURNS: u32 = 100;
 
-/// How many word steps a call of this port takes, which meets nobody. Each such call takes as many.
+/// Returns how many word steps a call of this port takes while no other port works. Each such call takes as many.
 pub fn steps_of_a_call(board: &Board, port: &mut Port, command: &Command) -> Option<u64>
     requires { IsOf board.now port.old }
     ensures { IsOf board.now port.new }
@@ -31,7 +31,7 @@ pub fn steps_of_a_call(board: &Board, port: &mut Port, command: &Command) -> Opt
     None
 }
 
-/// So many calls of a port, one after another, each of which takes just so many word steps. Whether they do.
+/// Makes `calls` calls of a port, one after another, and returns whether each of them takes exactly `steps` word steps.
 pub fn calls_alone(
     board: &Board,
     port: &mut Port,
@@ -57,8 +57,8 @@ pub fn calls_alone(
     true
 }
 
-/// So many times some turns of a port, which calls again and again. Answers how many word steps were made at least: of
-/// the turns in which a call is answered one is counted.
+/// Gives turns to a port `times` times; the port calls again and again. Returns a lower bound on the word steps made, where the
+/// turns in which a call is answered count as one step.
 pub fn calls_again(board: &Board, mut port: Port, command: &Command, times: u32) -> u64
     requires { IsOf board.now port }
 {

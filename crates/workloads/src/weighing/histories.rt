@@ -8,19 +8,24 @@ use plain_store::{Answer, Caller, Command, NestedTypes, Reply, Setup, Store, Val
 use record::Placed;
 use std::alloc::{AllocError, Global};
 
-/// What the processes of a setup call in turn. The counter opens at 0 in version 2; in version 1 there is none, and the first call
-/// of all writes 1.
+/// The commands that the processes of a setup call in turn. The counter opens at 0 in version 2; in version 1 it is absent, and
+/// the first call of all writes 1.
 #[derive(Drop)]
 pub struct History {
     pub name: &'static str,
     pub version: u8,
-    /// Whether a process adds 1 to the counter in the first round, the third and so on, and in the others; else it reads it.
+    /// Whether each process adds 1 to the counter in the odd rounds (first, third and so on), and in the even rounds. In the
+    /// others it reads the counter.
     pub adds: [bool; 2],
     /// Whether the last call of all has a reply that no store gives.
     pub is_spoiled: bool,
 }
 
-/// The finished calls of each process, so many, and the image after them.
+/// Returns the finished calls of each process, `rounds` of them, and the image after them.
+///
+/// # Errors
+///
+/// Returns [`AllocError`] if memory runs out.
 pub fn called_in_turn(
     alloc: Global,
     setup: &Setup,
@@ -41,7 +46,7 @@ pub fn called_in_turn(
     Ok((lists, image))
 }
 
-/// A list for each process, with room for so many calls.
+/// Returns a list for each process, with room for `calls` calls.
 fn empty_lists(alloc: Global, processes: u8, calls: u32) -> Result<Vec<Vec<Placed>>, AllocError> {
     let _nested: NestedTypes = None;
     let mut lists = Vec::new(alloc);
@@ -51,7 +56,7 @@ fn empty_lists(alloc: Global, processes: u8, calls: u32) -> Result<Vec<Vec<Place
     Ok(lists)
 }
 
-/// Makes the calls.
+/// Makes the calls of all rounds.
 fn call_all(
     history: &History,
     rounds: u32,
@@ -80,7 +85,7 @@ fn call_all(
     Ok(())
 }
 
-/// A call that is carried out on the image, behind so many changes.
+/// Carries out a call on the image, after `changes` changes, and returns it as finished.
 fn finished(
     image: &mut Image,
     command: Command,

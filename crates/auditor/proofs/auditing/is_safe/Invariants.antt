@@ -2,7 +2,7 @@ use Rattle.std.proofs.Common.{◌≡◌, reverse, take}
 use Rattle.read_law.specs.{HasHeard}
 use Rattle.auditor.proofs.auditing.is_safe.Given as goal
 
--- the entries before the present one are heard
+-- the entries before the present one were observed
 abbrev pub invariant-loop-earlier : goal.invariant-loop-earlier
 invariant-loop-earlier l = record {
   setup : l.watch.setup ≡ l.setup;

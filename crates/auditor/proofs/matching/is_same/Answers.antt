@@ -19,7 +19,7 @@ both : (a b : Bool) → (a && b) ≡ true → (a ≡ true) × (b ≡ true)
 both true b h = (refl, h)
 both false b h = absurd (true≢false (sym h))
 
--- What is found equal is the same.
+-- Marks that compare as equal are equal.
 
 same_name : (n m : Name) → names.ghosts.eq n m ≡ true → n ≡ m
 same_name n m h = search (rules, tests)

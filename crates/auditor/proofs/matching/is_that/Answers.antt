@@ -3,7 +3,7 @@ use Rattle.record.specs.{Access}
 use Rattle.record.specs.contracts.access.AccessPartialEq.TheImpl as impl
 use Rattle.auditor.proofs.matching.is_that.Goals as goal
 
--- accesses that are found equal
+-- accesses that compare as equal are equal
 same : (a b : Access) → impl.ghosts.eq a b ≡ true → a ≡ b
 same a b h = search (rules, tests)
 

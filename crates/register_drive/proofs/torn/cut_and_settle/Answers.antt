@@ -6,7 +6,7 @@ use Rattle.safe_number.proofs.IntervalSteps.{cut-between, settling-start, torn-i
 use Rattle.safe_number.proofs.WrittenSteps.{writing-start}
 use Rattle.register_drive.proofs.torn.cut_and_settle.Goals as goal
 
--- a new write, as its cursor is told
+-- a new write, with its cursor at the start
 begun : (row : List (List Cell)) (old : ℕ → Bool) (value : List ℕ) (width : ℕ) (w : NumberWrite) → w ≡ new_write width → IsRow row width → IsWritten row old → IsWriting row old value w
 begun row old value width w e shape written = let P : NumberWrite → Type 0 = λ x. IsWriting row old value x in subst P (sym e) (writing-start row old value width shape written)
 

@@ -26,7 +26,7 @@ before c = record { core = c.self.inside.core; taken = c.self.inside.taken }
 abbrev entry : After-is_alike → Entry
 entry c = record { process = c.args.process; access = c.args.access.now; marks = c.args.marks.now }
 
--- the step that its process may make
+-- the step that the process of the entry may make
 next : (c : After-is_alike) (past : Past) → HasHeard c.args.self.now past → StepMade (before c) past (entry c) c.in-Ok.next c.in-Ok.told
 next c past h = record {
   heard = subst (λ (x : AuditorState). HasHeard x past) (sym c.self.view_is) h;

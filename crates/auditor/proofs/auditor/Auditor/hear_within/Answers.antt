@@ -11,14 +11,14 @@ use Rattle.auditor.proofs.auditor.Auditor.hear_within.Goals.{After-is_that, Afte
 abbrev before : After-is_that → AuditorState
 before c = record { core = c.self.inside.core; taken = c.self.inside.taken }
 
--- its next access
+-- the next access of the process
 next : (c : After-is_that) → IsNextWithin c.self.inside.core c.args.process (flick_in (Some c.args.told)) c.next_access.result
 next c = record {
   within = subst (λ (a : AuditorState). 0 < left_in a.core.seats c.args.process) (sym c.self.view_is) c.requires;
   adds = subst (λ (f : Bool). CoreAddsQuietly c.self.inside.core c.args.process f c.next_access.result) c.flick_of-flick.ensures c.next_access.ensures;
 }
 
--- its step
+-- the step of the process
 made : (c : After-run-made) → MadeWithin c.self.inside.core c.args.process (flick_in (Some c.args.told)) c.run-made.result.newest (nat_lt 0 c.run-made.result.overlapped) c.run-made.new.self
 made c = λ taken.
     let step = c.run-made in

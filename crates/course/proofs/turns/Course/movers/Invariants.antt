@@ -4,7 +4,7 @@ use Rattle.record.specs.{stage}
 use Rattle.course.specs.{Follows, Run, has_step, past_in}
 use Rattle.course.proofs.turns.Course.movers.Given as goal
 
--- those below the present process that have a Step to make; there is room for all 16
+-- the processes below the present one that have a Step to make; there is room for all 16
 abbrev pub invariant-loop-process : goal.invariant-loop-process
 invariant-loop-process l = record {
   so_far : (run : Run) → Follows l.self run → l.movers.items ≡ filter (λ p. has_step (stage p (past_in l.self.world.setup run))) (range_with_len 0 l.process);

@@ -3,7 +3,7 @@ use Rattle.course.specs.{Follows, Run}
 use Rattle.course.proofs.Fronts.{PlayedTo}
 use Rattle.course.proofs.turns.Course.play_lines.Given as goal
 
--- what has happened of the lines so far was heard and its events counted
+-- all that has happened in the lines so far was observed, and its events were counted
 abbrev pub invariant-loop-index : goal.invariant-loop-index
 invariant-loop-index g l = record {
   played : (run : Run) → Follows l.fn.self run → PlayedTo g.L.Listener.Hears l.fn.self.world.setup l.lines l.fn.until l.index run l.self l.fn.listener l.listener l.made l.newest;

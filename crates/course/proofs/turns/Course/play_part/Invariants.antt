@@ -3,7 +3,7 @@ use Rattle.course.specs.{Follows, Run, turns_in}
 use Rattle.course.proofs.Played.{Played}
 use Rattle.course.proofs.turns.Course.play_part.Given as goal
 
--- what has happened of the line was heard and its events counted, and what is left of it follows
+-- all that has happened in the line was observed, its events were counted, and the rest of the line follows
 abbrev pub invariant-turns : goal.invariant-turns
 invariant-turns g l = record {
   played : (run : Run) → Follows l.fn.self run → Played g.L.Listener.Hears l.fn.self.world.setup l.line l.floor run l.fn.listener l.self l.made l.listener;

@@ -4,7 +4,7 @@ use Rattle.world.specs.{left_in}
 use Rattle.course.specs.{ComesOn, Follows, IsAlone, KeepsCourse, Run, course}
 use Rattle.course.proofs.turns.Course.run_alone.Given as goal
 
--- so far each Step was made without a mark, and was heard
+-- so far each Step was made without a mark, and was observed
 abbrev pub invariant-steps : goal.invariant-steps
 invariant-steps g l = record {
   on : (line : Line) (run : Run) → Follows l.fn.self run → IsAlone l.process l.floor l.fn.self.world.setup line run →

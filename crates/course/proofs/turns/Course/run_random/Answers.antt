@@ -29,7 +29,7 @@ returns-then-is_empty-clause-ok g c = λ steps run follows.
           (subst family c.self.view_is (wander_ends i.world i.flicks i.left steps ps (none_left ps (sym c.is_empty.ensures ∙ c.if-is_empty.true))) run follows (c.as_slice-among.ensures ∙ c.movers-movers.ensures.movers run follows)),
     ))
 
--- where one process alone has a Step to make
+-- only one process has a Step to make
 pub returns-then-is_constant-clause-ok : goal.returns-then-is_constant-clause-ok
 returns-then-is_constant-clause-ok g c = λ steps run follows.
     let i = c.self.inside in

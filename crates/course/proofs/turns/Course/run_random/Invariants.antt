@@ -5,8 +5,8 @@ use Rattle.course.specs.{ComesOn, Follows, IsCounted, KeepsCourse, Run, course}
 use Rattle.course.proofs.Wanders.{ArePicked, drawn_to}
 use Rattle.course.proofs.turns.Course.run_random.Given as goal
 
--- so far each Step was made without a mark and was heard, and the same processes may be picked; what comes next is drawn already; what is known of how far
--- each process is within its register access is so
+-- so far each Step was made without a mark and was observed; the processes that may be picked are unchanged, and the next pick is already drawn.
+-- The lower bounds on the Steps of each process within its register access hold
 abbrev pub invariant-steps : goal.invariant-steps
 invariant-steps g l = record {
   on : (steps : ℕ) (run : Run) → Follows l.fn.self run →
