@@ -1,4 +1,4 @@
--- What is printed bit by bit is what the safe rule says.
+-- The text that is printed from the bit is the text by the safe rule.
 use Rattle.std.proofs.Common.{◌≡◌, Bool, true, false, not, if◌then◌else◌, List, [], ◌∷◌, ◌++◌, codes, refl, ap, sym, ◌∙◌, arith}
 use Rattle.std.proofs.lemmas.Bool.Decides.{nat_tests}
 use Rattle.safe_bit.specs.Cell.{Cell, new_cell}
@@ -10,7 +10,7 @@ use Rattle.scenario.specs.declared.bit_files.BitLine.TheVariants.{Write, End, Se
 use Rattle.engines.specs.{can_take, made, made_text, cell_text_from}
 use Rattle.engines.specs.Bits.{BitRun, run_at_start, is_in_turn, answer_of, called, call_text, run_after, line_text, bits_text_from, bits_printed}
 
--- the bit is what was done on it
+-- the bit is in the state after its moves
 record Agree (run : BitRun) (bit : Cell) : Type 0 where
   shows : Shows false run.moves bit
   reading : bit.reading ≡ run.reading
@@ -49,6 +49,6 @@ texts_agree run bit (line ∷ lines) is = by (can_take bit line) refl (λ turn. 
         ap (λ t. codes "refused\n" ++ t) others
         ∙ ap (λ b. (if b then call_text run line else codes "refused\n") ++ bits_text_from (if b then called run line else run) lines) (sym turn ∙ turn_agrees run bit line is)
 
--- The lines of a file print what the safe rule says.
+-- The text of the lines of a file is the text by the safe rule.
 pub printed_by_rule : (lines : List BitLine) → cell_text_from (new_cell false) lines ≡ bits_printed lines
 printed_by_rule lines = texts_agree run_at_start (new_cell false) lines (record { shows = shows_none false; reading = refl })

@@ -1,4 +1,4 @@
--- A run tries few events, and what it calls are commands.
+-- The number of events that a run tries is limited, and their commands are well formed.
 use Rattle.std.proofs.Common.{◌≡◌, ℕ, zero, suc, ◌+◌, ◌*◌, ◌≤◌, nat_le, nat_lt, Bool, true, false, List, [], ◌∷◌, length, Option, None, Some, refl, arith}
 use Rattle.std.proofs.lemmas.Bool.{and_from, and_parts}
 use Rattle.std.proofs.lemmas.Bool.Decides.{nat_tests}
@@ -14,7 +14,7 @@ use Rattle.course.specs.{Lacks, Run, Tires, accepted, after_pick_in, go_limit, g
 abbrev pub tries : Run → List Event
 tries run = tried run.happened
 
--- at most so many events, whose commands are commands
+-- at most this number of events, whose commands are well formed
 pub record AreFew (most : ℕ) (events : List Event) : Type 0 where
   pub few : length events ≤ most
   pub given : list_all is_event events ≡ true
@@ -61,7 +61,7 @@ wanders_few s (suc k) n run are = by (movers s (past_in s run)) (λ ps. wanders_
 at_most : (k : ℕ) → nat_le k 100000 ≡ true → k ≤ 100000
 at_most k few = grind (arith, nat_tests)
 
--- a line tries at most 100,000
+-- a line tries at most 100,000 events
 line_few : (s : Setup) (version n : ℕ) (l : Line) (run : Run) → is_line l ≡ true → is_line_of version l ≡ true → AreFew n (tries run) → AreFew (n + 100000) (tries (run_after s l run))
 line_few s version n (line.Call p command) run good allowed are =
     more (n + 1) (n + 100000) (event.Call p command ∷ tries run) (omega arith) (one_more n (event.Call p command) (tries run) (and_parts (nat_lt p 256) (is_command command) good).1 are)
@@ -78,7 +78,7 @@ line_few s version n (line.Flick flick) run good allowed are = more n (n + 10000
 line_few s version n (line.Wander k) run good allowed are = more (n + k) (n + 100000) (tries (wanders s k run)) (let few = at_most k allowed in omega (arith, few)) (wanders_few s k n run are)
 line_few s version n line.Show run good allowed are = more n (n + 100000) (tries run) (omega arith) are
 
--- so do lines
+-- lines try at most 100,000 events each
 pub lines_few : (s : Setup) (version n : ℕ) (ls : List Line) (run : Run) → list_all is_line ls ≡ true → list_all (is_line_of version) ls ≡ true → AreFew n (tries run) → AreFew (n + 100000 * length ls) (tries (runs s ls run))
 lines_few s version n [] run good allowed are = more n (n + 100000 * 0) (tries run) (omega arith) are
 lines_few s version n (l ∷ ls) run good allowed are =
@@ -87,7 +87,7 @@ lines_few s version n (l ∷ ls) run good allowed are =
     more (n + 100000 + 100000 * length ls) (n + 100000 * suc (length ls)) (tries (runs s ls (run_after s l run))) (omega arith)
     (lines_few s version (n + 100000) ls (run_after s l run) goods.1 may.1 (line_few s version n l run goods.0 may.0 are))
 
--- those that are accepted are among them
+-- the accepted events are among them
 pub accepted_few : (s : Setup) (n : ℕ) (events : List Event) → AreFew n events → AreFew n (accepted s events)
 accepted_few s n [] are = are
 accepted_few s n (what ∷ events) are = by (refused s (past_of s events) what) (accepted_few s (length events) events (record { few = omega arith; given = parts.1 }))

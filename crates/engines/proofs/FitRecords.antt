@@ -1,4 +1,4 @@
--- The record of events has entries that fit their lines, and so it is read again.
+-- The entries of the record of a list of events fit their lines, so the record is read again.
 use Rattle.std.proofs.Common.{◌≡◌, ◌<◌, ◌≤◌, ◌^◌, true, List, [], ◌∷◌, ◌++◌, length, reverse, Option, Some, None, Ok, refl, sym, ap, subst, ◌∙◌, arith}
 use Rattle.std.proofs.lemmas.Bool.{and_from, and_parts}
 use Rattle.std.proofs.lemmas.List.{length-reverse, reverse-append, reverse-reverse}
@@ -12,7 +12,7 @@ use Rattle.judge.proofs.record_file.RecordsAgain.{record_again}
 use Rattle.judge.proofs.record_file.ShortWords.{short_fits}
 use Rattle.engines.proofs.SoundEntries.{entry_fits, few_taken}
 
--- Lists turned round.
+-- Reversed lists.
 
 all_with : (P : Entry → Type 0) (xs : List Entry) (x : Entry) → AllByRecursion P xs → P x → AllByRecursion P (xs ++ x ∷ [])
 all_with P [] x all is = (is, tt)
@@ -52,7 +52,7 @@ records_fit s h events given few =
 pub records_again : RecordsAreReadAgain
 records_again s is events given few = record_again s (record_of s events) is (records_fit s is.good events given few)
 
--- and where the setup is given with its opening, it is a file's
+-- for events in range, the entries of the record fit their lines, and the record is read again
 pub given_again : (s : Setup) → checked s ≡ Ok tt → (events : List Event) → AreGiven s (reverse events) → length events < 2 ^ 64 → (made : List Entry) → made ≡ record_of s events →
     FitLines made × (reader.record_of (record_text s made) ≡ Ok (record { setup = s; entries = made }))
 given_again s h events given few made is = subst (λ (l : List Entry). FitLines l × (reader.record_of (record_text s l) ≡ Ok (record { setup = s; entries = l }))) (sym is) (records_fit s h events commands few, records_again s setup events commands few)

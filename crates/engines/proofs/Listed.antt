@@ -9,11 +9,11 @@ use Rattle.engines.specs.{event_told}
 use Rattle.course.specs.declared.told.Told.TheVariants as told
 use Rattle.course.proofs.Refusals.{not_refused}
 
--- a list with one more in front, the other way round
+-- the reverse of a list with one more item at the start
 pub reverse-front : {X : Type 0} (x : X) (xs : List X) → reverse (x ∷ xs) ≡ reverse xs ++ x ∷ []
 reverse-front x xs = reverse-append (x ∷ []) xs
 
--- what is told lists what happens
+-- the events listed after a turn are those before it, and its own if it has one
 pub listed_more : (s : Setup) (before : List Happening) (this : Happening) (answer : Told) → TellsOf s (past_after s before) this answer → listed s before ++ event_told answer ≡ listed s (this ∷ before)
 listed_more s before (Tries event) (told.Accepted made) tells =
     ap (λ (m : Event). listed s before ++ m ∷ []) tells.0 ∙ sym (reverse-front event (accepted s (tried before)))
@@ -25,7 +25,7 @@ listed_more s before (Tires p) (told.Tired q) tells = append-nil (listed s befor
 listed_more s before Looks (told.Shown store) tells = append-nil (listed s before)
 listed_more s before this answer tells = absurd tells
 
--- so it lists what is heard
+-- a list to which the event of each turn is added is that of the run
 pub told_listed : (s : Setup) (before : List Happening) (this : Happening) (told : Told) (events events' : List Event) → Happens s before this told → events' ≡ events ++ event_told told → events ≡ listed s before → events' ≡ listed s (this ∷ before)
 told_listed s before this told events events' h more are = more ∙ ap (λ l. l ++ event_told told) are ∙ listed_more s before this told h.tells
 

@@ -1,4 +1,4 @@
--- Lists from a place on, and a run after one more line.
+-- The lines from an index on, and a run after one more line.
 use Rattle.std.proofs.Common.{◌≡◌, ℕ, ◌+◌, ◌<◌, ◌≤◌, Bool, true, false, nat_lt, if◌then◌else◌, List, ◌++◌, length, drop, get_or, Option, None, Some, Result, Ok, Err, IfSome, IsErrAnd, ap, subst, sym, ◌∙◌, arith, refl, append_assoc, codes}
 use Rattle.std.proofs.lemmas.List.{length-set}
 use Rattle.std.specs.Fmt.{decimal}
@@ -12,16 +12,16 @@ use Rattle.scenario.specs.files.declared.faults.Fault.TheVariants.{Memory}
 use Rattle.course.proofs.Written.{front_none}
 use Rattle.engines.specs.Plain.{Run, reply_line, text_from, line_text, run_after, applied}
 
--- the text from a line on
+-- the text of the lines from an index on
 pub text_step : (setup : Setup) (run : Run) (lines : List Line) (k : ℕ) (here : Line) → k < length lines → here ≡ get_or lines k here → text_from setup run (drop k lines) ≡ line_text setup run here ++ text_from setup (run_after setup run here) (drop (k + 1) lines)
 text_step setup run lines k here within is =
     ap (text_from setup run) (drop_in lines k here within is)
 
--- a text and what is printed from a line on, one line later
+-- a text and that of the lines from an index on, one line later
 pub text_more : (told : List ℕ) (setup : Setup) (run : Run) (lines : List Line) (k : ℕ) (here : Line) → k < length lines → here ≡ get_or lines k here → (told ++ line_text setup run here) ++ text_from setup (run_after setup run here) (drop (k + 1) lines) ≡ told ++ text_from setup run (drop k lines)
 text_more told setup run lines k here within is = append_assoc told _ _ ∙ ap (λ more. told ++ more) (sym (text_step setup run lines k here within is))
 
--- each process keeps its count
+-- the number of counts stays the number of processes
 pub counts_kept : (setup : Setup) (run : Run) (here : Line) → length (run_after setup run here).counts ≡ length run.counts
 counts_kept setup run (line.Call p command) = by (nat_lt p setup.processes)
   where
@@ -43,7 +43,7 @@ place_next setup run other = omega arith
 pub reply_line_is : (place p : ℕ) (reply : List ℕ) → decimal place ++ (codes " " ++ (decimal p ++ (codes " " ++ (reply ++ codes "\n")))) ≡ reply_line place p reply
 reply_line_is place p reply = simp append_assoc
 
--- where memory is wanting before a byte is written
+-- an allocation failed before a byte was written
 pub unwritten : (text_of : List ℕ → Result (List ℕ) LineFault) (r : Result (Unit {0}) Fault) (old new : Streams) → IsErrAnd r (λ e. e ≡ Memory) → new.taken ≡ old.taken → Ran text_of r old new
 unwritten text_of (Ok done) old new is same = absurd is
 unwritten text_of (Err e) old new is same = subst (λ e. Ran text_of (Err e) old new) (sym is) (by old.to_come)

@@ -24,7 +24,7 @@ pub events_more : (events : List Event) (k : ℕ) (event : Event) → k < length
 events_more events k event within is =
     ap reverse (take_more events k event within) ∙ reverse-append (take k events) (get_or events k event ∷ []) ∙ ap (λ e. e ∷ reverse (take k events)) (sym is)
 
--- behind the last event: all are given, and the entries are their record
+-- after the last event all events are in range, and the entries are their record
 pub all_recorded : (s : Setup) (events : List Event) (k : ℕ) (world : WorldState) (entries : List Entry) → length events ≤ k → Shows world (reverse (take k events)) → world.setup ≡ s → entries ≡ reverse (past_of s (reverse (take k events))) →
     AreGiven s (reverse events) × (entries ≡ reverse (past_of s (reverse events)))
 all_recorded s events k world entries past shows setup are =

@@ -15,9 +15,9 @@ use Rattle.course.proofs.Listeners.{run_past}
 use Rattle.course.proofs.Refusals.{past_kept}
 use Rattle.course.proofs.Written.{all_written, appends_both, front_after, front_longer, part_written}
 
--- What is told.
+-- Turns.
 
--- what is told is the line of the entry that is added
+-- the line of a turn is that of the entry that it adds
 entry_is : (s : Setup) (before : List Happening) (this : Happening) (answer : Told) → TellsOf s (past_after s before) this answer → entries_text s (this ∷ before) ≡ entries_text s before ++ entry_told answer
 entry_is s before (Tries event) (told.Accepted made) tells =
     ap (λ (o : Option Entry). flat_map entry_line (reverse (elim o as (λ _. Past) [ None ↦ past_after s before | Some e ↦ e ∷ past_after s before ]))) tells.1
@@ -28,11 +28,11 @@ entry_is s before (Tires p) (told.Tired q) tells = sym (append-nil (entries_text
 entry_is s before Looks (told.Shown store) tells = sym (append-nil (entries_text s before))
 entry_is s before this answer tells = absurd tells
 
--- a Step without a mark too
+-- the line of a Step without a mark is that of its entry
 step_is : (s : Setup) (before : List Happening) (made : Stepped) → StepsOn s before made → entries_text s (Tries (Step made.process made.flick) ∷ before) ≡ entries_text s before ++ entry_line (step_entry made.process made.access)
 step_is s before made on = entry_is s before (Tries (Step made.process made.flick)) (told_unmarked made) (refl, on.adds, on.overlapped)
 
--- what is written of what is told
+-- the line of a turn was written
 pub entry_copied : (s : Setup) (before : List Happening) (this : Happening) (told : Told) (a b : Option (List ℕ)) → Happens s before this told → Appends a b (entry_told told) → Writes (entries_text s before) (entries_text s (this ∷ before)) a b
 entry_copied s before this told a b h wrote = record { text = entry_told told; is = entry_is s before this told h.tells; taken = wrote }
 
@@ -54,18 +54,18 @@ head_text s = flat_map printed_line (head_words s)
 whole_record : (said : Script) → recorded said ≡ head_text said.setup ++ entries_text said.setup (happenings said)
 whole_record said = ap (λ l. head_text said.setup ++ flat_map entry_line l) (sym (reverse-reverse (run_record said)) ∙ ap reverse (run_past said))
 
--- all of it was written
+-- the whole text was written
 pub record_written : (said : Script) (a b c : Option (List ℕ)) → Appends a b (head_text said.setup) → Writes [] (entries_text said.setup (happenings said)) b c → Appends a c (recorded said)
 record_written said a b c head w =
     let text : List ℕ = entries_text said.setup (happenings said) in
     subst (λ l. Appends a c l) (sym (whole_record said)) (appends_both a b c (head_text said.setup) text head (all_written text b c w))
 
--- cut short among the entries
+-- a prefix of the text was written, which ends among the entries
 pub record_cut : (said : Script) (a b c : Option (List ℕ)) → Appends a b (head_text said.setup) → WritesPart [] (entries_text said.setup (happenings said)) b c → WritesFront a c (recorded said)
 record_cut said a b c head part =
     let text : List ℕ = entries_text said.setup (happenings said) in
     subst (λ l. WritesFront a c l) (sym (whole_record said)) (front_after a b c (head_text said.setup) text head (part_written text b c part))
 
--- cut short in the head
+-- a prefix of the text was written, which ends in the head
 pub head_cut : (said : Script) (a b : Option (List ℕ)) → WritesFront a b (head_text said.setup) → WritesFront a b (recorded said)
 head_cut said a b front = front_longer a b (head_text said.setup) (flat_map entry_line (run_record said)) front

@@ -1,4 +1,4 @@
--- What is written of what is told, and of a whole replay.
+-- The text of a turn, and of a whole replay.
 use Rattle.std.proofs.Common.{◌≡◌, ℕ, List, [], ◌∷◌, ◌++◌, Option, ap, subst}
 use Rattle.std.specs.Io.KnownBytes.{Appends}
 use Rattle.plain_store.specs.{Setup}
@@ -9,20 +9,20 @@ use Rattle.course.specs.Writing.{Counts, Writes, WritesPart}
 use Rattle.course.proofs.Counting.{text_heard}
 use Rattle.course.proofs.Written.{all_written, appends_both, front_after, front_longer, part_written}
 
--- its text
+-- the text of a turn was written, or a prefix of it
 pub told_written : (s : Setup) (before : List Happening) (this : Happening) (told : Told) (had : Summary) (a b : Option (List ℕ)) → Happens s before this told → Appends a b (told_text had.events told) → Counts s before had → Writes (text_of s before) (text_of s (this ∷ before)) a b
 told_written s before this told had a b h wrote counts = record { text = told_text had.events told; is = text_heard s before this told had h counts; taken = wrote }
 
 pub told_cut : (s : Setup) (before : List Happening) (this : Happening) (told : Told) (had : Summary) (a b : Option (List ℕ)) → Happens s before this told → WritesFront a b (told_text had.events told) → Counts s before had → WritesPart (text_of s before) (text_of s (this ∷ before)) a b
 told_cut s before this told had a b h front counts = record { text = told_text had.events told; is = text_heard s before this told had h counts; front = front }
 
--- a count that has just begun
+-- the counts before the first event
 pub counts_none : (s : Setup) (summary : Summary) → summary ≡ record { events = 0; taken = 0; refused = 0 } → Counts s [] summary
 counts_none s summary none = record { events = ap (λ (n : Summary). n.events) none; refused = ap (λ (n : Summary). n.refused) none }
 
 -- The whole text.
 
--- once its last line is written, or a front of that line
+-- the whole text was written with its last line, or a prefix with a prefix of that line
 pub replay_written : (said : Script) (a b c : Option (List ℕ)) (last : Summary) → Writes [] (text_of said.setup (happenings said)) a b → last ≡ summary_of said.setup (happenings said) → Appends b c (end_line last) → Appends a c (replayed said)
 replay_written said a b c last w numbers ends =
     let text : List ℕ = text_of said.setup (happenings said) in
@@ -33,7 +33,7 @@ replay_end_cut said a b c last w numbers ends =
     let text : List ℕ = text_of said.setup (happenings said) in
     subst (λ n. WritesFront a c (text ++ end_line n)) numbers (front_after a b c text (end_line last) (all_written text a b w) ends)
 
--- cut short before it
+-- a prefix of the text was written, which ends before the last line
 pub replay_cut : (said : Script) (a b : Option (List ℕ)) → WritesPart [] (text_of said.setup (happenings said)) a b → WritesFront a b (replayed said)
 replay_cut said a b part =
     let text : List ℕ = text_of said.setup (happenings said) in

@@ -20,7 +20,7 @@ chosen_few said is =
     accepted_few said.setup (0 + 100000 * length said.lines) (tries (runs said.setup said.lines run_at_start))
     (lines_few said.setup said.setup.version 0 said.lines run_at_start is.lines is.allowed (record { few = omega arith; given = refl }))
 
--- the setup of a scenario may stand in a record file
+-- the setup of a scenario may be that of a record file
 setup_of_file : (said : Script) → IsScenario said → IsSetupOfFile said.setup
 setup_of_file said is = record { good = is.good; pairs = is.pairs; differ = is.differ; few = omega arith; lines = refl; allowed = refl }
 
@@ -32,7 +32,7 @@ run_again said is =
     let same : length (accepted_events said) ≡ length (chosen said) = length-reverse (chosen said) in
     records_again said.setup (setup_of_file said is) (accepted_events said) (events_reversed (chosen said) are.given) (omega (arith, few, lines, same))
 
--- So is what was written of a scenario that was read.
+-- The text that was written for a scenario that was read is read again.
 pub written_again : {A E : Type 0} (result : Result A E) (bytes : List ℕ) (said : Script) (old new : Option (List ℕ)) → scenario_of bytes ≡ Ok said → OnOk result (Appends old new (recorded said)) → OnOk result (WritesRecord said old new)
 written_again (Ok done) bytes said old new good written = record { text = recorded said; written = written; read = run_again said (script_said bytes said good).scenario }
 written_again (Err e) bytes said old new good written = tt

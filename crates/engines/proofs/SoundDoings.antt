@@ -1,4 +1,4 @@
--- What a process is doing holds replies and answers that fit, whatever its entries are.
+-- The replies and answers in the state of a process fit, after any entries.
 use Rattle.std.proofs.Common.{◌≡◌, ℕ, ◌≤◌, ◌==◌, Bool, true, false, cond, [], ◌∷◌, Option, Some, None, refl}
 use Rattle.course.specs.«record».{Access, Closing, Entry, Mark, Past, Place, Settles, closing_after, is_over, last_call, own, place_after, start_in, value_of, value_written}
 use Rattle.plain_store.specs.{Command, Setup}
@@ -37,7 +37,7 @@ sound_does_after s p mine e (Some Withdrew) d few sound = refl
 sound_does_after s p mine e (Some Failed) d few sound = sound_failing (last_call s p mine) mine
 sound_does_after s p mine e (Some m) d few sound = sound_goes_on s p e e.access d few sound
 
--- what is done fits
+-- the state of a process fits
 pub doing_sound : (s : Setup) (p : ℕ) (past : Past) → s.processes ≤ 256 → is_sound_doing (doing s p past) ≡ true
 doing_sound s p [] few = refl
 doing_sound s p (e ∷ past) few = by (e.process == p) (doing_sound s p past few)

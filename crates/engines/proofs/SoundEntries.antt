@@ -1,4 +1,4 @@
--- The entries of every record fit: their parts are in range, and their marks are few.
+-- The entries of every record fit: their parts are in range, and the number of their marks is limited.
 use Rattle.std.proofs.Common.{◌≡◌, ℕ, suc, ◌+◌, ◌<◌, ◌≤◌, ◌^◌, ◌==◌, ◌&&◌, nat_lt, if◌then◌else◌, Bool, true, false, List, [], ◌∷◌, ◌++◌, length, Option, Some, None, Ok, is_some, true≢false, refl, sym, ap, subst, ◌∙◌, arith}
 use Rattle.std.proofs.Math.Pow.{pow_mono}
 use Rattle.std.proofs.lemmas.Bool.{and_from}
@@ -43,7 +43,7 @@ few_bits s h = by (s.version == 1) (good-checked s h).ticket_bits
     by true fits = grind (arith, nat_tests)
     by false fits = grind (arith, nat_tests)
 
--- a ticket that is held has as many bits as tickets have
+-- a ticket that is held fits the ticket bits
 ticket_fits : (s : Setup) → s.ticket_bits ≤ 32 → (p now : ℕ) (n : Notes) (m : Wires) (command : Command) (number : ℕ) (at : Place) → Own s p now (Runs command number at) n m → TicketFits at.part
 ticket_fits s few p now n m command number at mine = by at.part (is_fresh at.run) mine.stands.1
   where
@@ -57,11 +57,11 @@ ticket_fits s few p now n m command number at mine = by at.part (is_fresh at.run
 
 -- One entry.
 
--- a mark alone
+-- an entry with a mark alone
 marked_good : (p : ℕ) (m : Mark) (e : Entry) → Some (record { process = p; access = None; marks = m ∷ [] }) ≡ Some e → AreGood (m ∷ []) → AreGood e.marks
 marked_good p m e is good = let same : record { process = p; access = None; marks = m ∷ [] } ≡ e = cc in subst (λ (x : Entry). AreGood x.marks) same good
 
--- a step
+-- the entry of a step
 stepped_good : (s : Setup) → checked s ≡ Ok tt → (events : List Event) (p : ℕ) (flick : Bool) (e : Entry) → nat_lt (length (history s (past_of s events))) (2 ^ 64) ≡ true →
     stepped s (past_of s events) p flick ≡ Some e → Accepted s (past_of s events) (event.Step p flick) e → AreGood e.marks
 stepped_good s h events p flick e few is step = go step.happens
@@ -164,7 +164,7 @@ access_good s h (Some a) there =
     and_from (nat_lt a.owner 256) (nat_lt a.bit 65536 && nat_lt a.reader 256) (grind (arith, nat_tests))
     (and_from (nat_lt a.bit 65536) (nat_lt a.reader 256) (grind (arith, nat_tests)) (grind (arith, nat_tests)))
 
--- An entry that an event adds, where fewer commands were taken than 64 bits count.
+-- The facts about an entry that an event adds, if fewer than 2^64 commands were taken.
 pub record EntryFits (e : Entry) : Type 0 where
   pub sound : is_entry e ≡ true
   pub few : AreFew e.marks

@@ -1,4 +1,4 @@
--- The calls of a run, and the sweep that goes along it.
+-- The calls of a run, and the sweep along it.
 use Rattle.std.proofs.Common.{◌≡◌, ℕ, zero, suc, Bool, List, [], ◌∷◌, ◌++◌, reverse, Option, None, Some, refl, ap, subst, sym, ◌∙◌, append-nil}
 use Rattle.std.proofs.lemmas.Grind.{flat_map-append}
 use Rattle.std.proofs.lemmas.List.{reverse-append}
@@ -12,14 +12,14 @@ use Rattle.course.specs.declared.told.Accepted.{Accepted as Made}
 use Rattle.course.specs.declared.told.Told.TheVariants.{Accepted, Refused, Shown, Tired}
 use Rattle.course.specs.{Happening, Happens, PassWithin, Told, Tries, accepted, listed, tried}
 
--- what is told adds its call, if it is one
+-- a turn adds its call, if it is one
 pub told_calls : (s : Setup) (before : List Happening) (this : Happening) (told : Told) (calls calls' : List (ℕ × Command)) → Happens s before this told →
     calls' ≡ calls ++ calls_in (event_told told) → calls ≡ calls_in (listed s before) → calls' ≡ calls_in (listed s (this ∷ before))
 told_calls s before this told calls calls' h more are =
     more ∙ ap (λ l. l ++ calls_in (event_told told)) are
     ∙ sym (flat_map-append call_of (listed s before) (event_told told)) ∙ ap calls_in (listed_more s before this told h.tells)
 
--- a Step is none, made or refused
+-- a Step is not a call, whether it is made or refused
 pub calls_same : (s : Setup) (before : List Happening) (p : ℕ) (flick : Bool) → calls_in (listed s (Tries (Step p flick) ∷ before)) ≡ calls_in (listed s before)
 calls_same s before p flick = by (refused s (past_of s (tried before)) (Step p flick))
   where
@@ -29,12 +29,12 @@ calls_same s before p flick = by (refused s (past_of s (tried before)) (Step p f
         ∙ flat_map-append call_of (listed s before) (Step p flick ∷ []) ∙ append-nil (calls_in (listed s before))
     by (Some r) = refl
 
--- nor are many
+-- many Steps are not calls either
 pub calls_passed : (s : Setup) (p n : ℕ) (before after : List Happening) → PassWithin s p n before after → calls_in (listed s after) ≡ calls_in (listed s before)
 calls_passed s p zero before after same = ap (λ l. calls_in (listed s l)) same
 calls_passed s p (suc n) before after (flick, within, more) = calls_passed s p n (Tries (Step p flick) ∷ before) after more ∙ calls_same s before p flick
 
--- a sweeper goes along by an event that is listed
+-- a sweeper goes on by an event that is listed
 pub swept_on : (s : Setup) (calls : List (ℕ × Command)) (before : List Happening) (this : Happening) (event : Event) (given given' : List (ℕ × Command)) (old new : Sweeper) → listed s before ++ event ∷ [] ≡ listed s (this ∷ before) → given' ≡ given →
     SweepsOn given event old new → SweepsRun s calls before given old → SweepsRun s calls (this ∷ before) given' new
 swept_on s calls before this event given given' old new more same on swept = record {
@@ -42,14 +42,14 @@ swept_on s calls before this event given given' old new more same on swept = rec
   swept = subst (λ l. SweptBy s calls (reverse l) new) more (subst (λ l. SweptBy s calls l new) (sym (reverse-append (listed s before) (event ∷ []))) (subst (λ g. SweepsOn g event old new) swept.given_are on s (reverse (listed s before)) swept.swept));
 }
 
--- what is told that is no event leaves all as it was
+-- a turn without an event changes nothing
 pub swept_same : (s : Setup) (calls : List (ℕ × Command)) (before : List Happening) (this : Happening) (given : List (ℕ × Command)) (sweeper : Sweeper) → listed s before ++ [] ≡ listed s (this ∷ before) → SweepsRun s calls before given sweeper → SweepsRun s calls (this ∷ before) given sweeper
 swept_same s calls before this given sweeper same swept = record {
   given_are = swept.given_are;
   swept = subst (λ l. SweptBy s calls (reverse l) sweeper) (sym (append-nil (listed s before)) ∙ same) swept.swept;
 }
 
--- what is told is an event, or none
+-- the event of a turn, if it has one
 pub told_event : (s : Setup) (before : List Happening) (this : Happening) (told : Told) (made : Made) → told ≡ Accepted made → Happens s before this told → listed s before ++ made.event ∷ [] ≡ listed s (this ∷ before)
 told_event s before this told made is h = subst (λ t. listed s before ++ event_told t ≡ listed s (this ∷ before)) is (listed_more s before this told h.tells)
 

@@ -1,4 +1,4 @@
--- What an audit of a scenario's run answers and writes.
+-- The verdict, the text and the status of an audit of a scenario's run.
 use Rattle.std.specs.Prelude.{◌≡◌, ℕ, List, length, Option, IfSome, Result, Ok}
 use Rattle.std.specs.Io.KnownBytes.{Appends}
 use Rattle.judge.specs.auditor.{IsVerdict, Law, Verdict}
@@ -9,7 +9,7 @@ use Rattle.scenario.specs.files.{LineFault, text_by}
 use Rattle.scenario.specs.{Script, scenario_of}
 use Rattle.course.specs.{run_record}
 
--- how many entries the record of a scenario's run has
+-- the number of entries in the record of a scenario's run
 abbrev pub run_length : Script → ℕ
 run_length said = length (run_record said)
 
@@ -25,13 +25,13 @@ audit_text = text_by scenario_of audited
 abbrev pub IsRunVerdict : Script → Verdict Law → Type 0
 IsRunVerdict said = IsVerdict said.setup (run_record said)
 
--- the verdict on the record of a scenario's run: its status is answered, and its line is written
+-- the status is that of the verdict on the record of a scenario's run, and the line of the verdict was written
 pub record TellsVerdict (said : Script) (status : ℕ) (old new : Option (List ℕ)) : Type 0 where
   pub verdict : Verdict Law
   pub is : IsRunVerdict said verdict
   pub answer : status ≡ status_of_verdict verdict
   pub line : Appends old new (verdict_line law_text (run_length said) verdict)
 
--- that of the whole input
+-- this holds of the scenario of the whole input
 abbrev pub InputTellsVerdict : Option (List ℕ) → ℕ → Option (List ℕ) → Option (List ℕ) → Type 0
 InputTellsVerdict to_come status old new = IfSome to_come (λ input. (said : Script) × (scenario_of input ≡ Ok said) × TellsVerdict said status old new)

@@ -1,4 +1,4 @@
--- What the lines of a bits file do to a bit, and print, one after another.
+-- The effect of the lines of a bits file on a bit, and their text, one after another.
 use Rattle.std.specs.Prelude.{ℕ, Bool, not, if◌then◌else◌, List, [], ◌∷◌, ◌++◌, codes}
 use Rattle.safe_bit.specs.Cell.{Cell, cell_after, without_read, read_answer}
 use Rattle.safe_bit.specs.declared.moves.Move.TheVariants as move
@@ -23,7 +23,7 @@ made bit Read = cell_after bit move.BeginRead
 made bit (Value flick) = cell_after bit (move.EndRead (read_answer bit flick))
 made bit Drop = without_read bit
 
--- what a call that is made prints: the end of a read its answer
+-- the text of a call that is made: for the end of a read, its value
 abbrev pub made_text : Cell → BitLine → List ℕ
 made_text bit (Value flick) = if read_answer bit flick then codes "1\n" else codes "0\n"
 made_text bit other = []
@@ -32,11 +32,11 @@ made_text bit other = []
 abbrev pub bit_after : Cell → BitLine → Cell
 bit_after bit line = if can_take bit line then made bit line else bit
 
--- what a line prints
+-- the text of a line
 abbrev pub bit_line_text : Cell → BitLine → List ℕ
 bit_line_text bit line = if can_take bit line then made_text bit line else codes "refused\n"
 
--- what lines print, each on the bit after those before it
+-- the text of lines, each applied to the bit after those before it
 abbrev pub cell_text_from : Cell → List BitLine → List ℕ
 cell_text_from bit [] = []
 cell_text_from bit (line ∷ lines) = bit_line_text bit line ++ cell_text_from (bit_after bit line) lines

@@ -1,4 +1,4 @@
--- What `bits` prints for a file, by the safe rule alone.
+-- The text of `bits` for a file, by the safe rule alone.
 use Rattle.std.specs.Prelude.{ℕ, Bool, true, false, not, if◌then◌else◌, List, [], ◌∷◌, ◌++◌, codes, Result}
 use Rattle.safe_bit.specs.{Move, is_write_open, read_value}
 use Rattle.safe_bit.specs.declared.moves.Move.TheVariants.{BeginWrite, EndWrite, BeginRead, EndRead}
@@ -7,12 +7,12 @@ use Rattle.scenario.specs.{BitLine, bits_of}
 use Rattle.scenario.specs.files.{LineFault, text_by}
 use Rattle.scenario.specs.declared.bit_files.BitLine.TheVariants.{Write, End, Settle, Read, Value, Drop}
 
--- what was done on the bit: its moves, the newest first, and whether a read is open
+-- the accesses made on the bit: its moves, the newest first, and whether a read is open
 pub record BitRun : Type 0 where
   pub moves : List Move
   pub reading : Bool
 
--- nothing yet
+-- no access yet
 abbrev pub run_at_start : BitRun
 run_at_start = record { moves = []; reading = false }
 
@@ -25,11 +25,11 @@ is_in_turn run Read = not run.reading
 is_in_turn run (Value flick) = run.reading
 is_in_turn run Drop = run.reading
 
--- what the open read gives by the safe rule: the bit opened at 0
+-- the value of the open read by the safe rule; the bit is initially 0
 abbrev pub answer_of : BitRun → Bool → Bool
 answer_of run flick = read_value false run.moves flick
 
--- the run after a call that is made; to drop a read is no move
+-- the run after a call that is made; dropping a read adds no move
 abbrev pub called : BitRun → BitLine → BitRun
 called run (Write v) = record run { moves = BeginWrite v ∷ run.moves }
 called run End = record run { moves = EndWrite ∷ run.moves }
@@ -38,7 +38,7 @@ called run Read = record { moves = BeginRead ∷ run.moves; reading = true }
 called run (Value flick) = record { moves = EndRead (answer_of run flick) ∷ run.moves; reading = false }
 called run Drop = record run { reading = false }
 
--- what a call that is made prints: the end of a read its answer
+-- the text of a call that is made: for the end of a read, its value
 abbrev pub call_text : BitRun → BitLine → List ℕ
 call_text run (Value flick) = if answer_of run flick then codes "1\n" else codes "0\n"
 call_text run other = []
@@ -47,16 +47,16 @@ call_text run other = []
 abbrev pub run_after : BitRun → BitLine → BitRun
 run_after run line = if is_in_turn run line then called run line else run
 
--- what a line prints
+-- the text of a line
 abbrev pub line_text : BitRun → BitLine → List ℕ
 line_text run line = if is_in_turn run line then call_text run line else codes "refused\n"
 
--- what lines print, each after those before it
+-- the text of lines, each after those before it
 abbrev pub bits_text_from : BitRun → List BitLine → List ℕ
 bits_text_from run [] = []
 bits_text_from run (line ∷ lines) = line_text run line ++ bits_text_from (run_after run line) lines
 
--- what the lines of a file print
+-- the text of the lines of a file
 abbrev pub bits_printed : List BitLine → List ℕ
 bits_printed = bits_text_from run_at_start
 

@@ -1,4 +1,4 @@
--- The accepted events of a run, and what an event adds to a record.
+-- The accepted events of a run, and the record after one more event.
 use Rattle.std.specs.Prelude.{◌≡◌, List, [], ◌∷◌, reverse}
 use Rattle.std.specs.Global.{Vec}
 use Rattle.course.specs.«record».{Entry, Event, past_of}
@@ -6,19 +6,19 @@ use Rattle.course.specs.world.Shows.{Shows, WorldState}
 use Rattle.course.specs.{Told}
 use Rattle.course.specs.declared.told.Told.TheVariants as told
 
--- the event that is told, if one is
+-- the event of a turn, if one was accepted
 abbrev pub event_told : Told → List Event
 event_told (told.Accepted made) = made.event ∷ []
 event_told (told.Refused p refusal) = []
 event_told (told.Tired p) = []
 event_told (told.Shown store) = []
 
--- the world goes on by an event, and the record by its entry, if it adds one
+-- the world shows these events, with the old setup, and the entries are the record of the events
 pub record Records (old new : WorldState) (events : List Event) (entries : List Entry) : Type 0 where
   pub shows : Shows new events
   pub setup : new.setup ≡ old.setup
   pub entries_are : entries ≡ reverse (past_of old.setup events)
 
--- whatever the world shows
+-- an event is made and recorded, for all events that the world shows
 abbrev pub RecordsEvent : Event → WorldState → WorldState → Vec Entry → Vec Entry → Type 0
 RecordsEvent event old new had has = (events : List Event) → Shows old events → had.items ≡ reverse (past_of old.setup events) → Records old new (event ∷ events) has.items

@@ -1,4 +1,4 @@
--- What `plain` prints for a file.
+-- The text of `plain` for a file.
 use Rattle.std.specs.Prelude.{ℕ, ◌+◌, ◌==◌, nat_lt, if◌then◌else◌, List, [], ◌∷◌, ◌++◌, codes, replicate, slice_set, Result}
 use Rattle.std.specs.Fmt.{decimal}
 use Rattle.plain_store.specs.{Caller, Command, Contents, Setup, after, number_of, opening_store, reply_text, reply_to, show_text}
@@ -8,17 +8,17 @@ use Rattle.scenario.specs.{Line, Script, scenario_of}
 use Rattle.scenario.specs.files.{LineFault, text_by}
 use Rattle.scenario.specs.declared.lines.Line.TheVariants as line
 
--- The store, how many calls were applied, and how many of each process.
+-- The store, the number of calls applied, and the number of them of each process.
 pub record Run : Type 0 where
   pub store : Contents
   pub place : ℕ
   pub counts : List ℕ
 
--- who calls: in version 1 calls have no numbers
+-- the caller of the next call of a process; in version 1 calls have no numbers
 abbrev pub caller_of : Setup → Run → ℕ → Caller
 caller_of setup run p = record { process = p; number = if setup.version == 1 then 0 else number_of run.counts p + 1 }
 
--- what is printed for a call that is applied, and for one of a process that is not there
+-- the line of a reply, the text for an applied call, and the text for any call, which is refused if its process does not exist
 abbrev pub reply_line : ℕ → ℕ → List ℕ → List ℕ
 reply_line place p reply = decimal place ++ codes " " ++ decimal p ++ codes " " ++ reply ++ codes "\n"
 
@@ -28,7 +28,7 @@ applied_text setup run p command = reply_line run.place p (reply_text (reply_to 
 abbrev pub call_text : Setup → Run → ℕ → Command → List ℕ
 call_text setup run p command = if nat_lt p setup.processes then applied_text setup run p command else refusal_line p NoProcess
 
--- what is printed for a line
+-- the text for a line
 abbrev pub line_text : Setup → Run → Line → List ℕ
 line_text setup run (line.Call p command) = call_text setup run p command
 line_text setup run line.Show = show_text run.store.pairs
@@ -51,7 +51,7 @@ abbrev pub run_after : Setup → Run → Line → Run
 run_after setup run (line.Call p command) = called setup run p command
 run_after setup run other = run
 
--- what is printed for lines
+-- the text for lines
 abbrev pub text_from : Setup → Run → List Line → List ℕ
 text_from setup run [] = []
 text_from setup run (line ∷ lines) = line_text setup run line ++ text_from setup (run_after setup run line) lines
@@ -60,7 +60,7 @@ text_from setup run (line ∷ lines) = line_text setup run line ++ text_from set
 abbrev pub run_at_start : Setup → Run
 run_at_start setup = record { store = opening_store setup; place = 0; counts = replicate setup.processes 0 }
 
--- what is printed for a scenario
+-- the text for a scenario
 abbrev pub printed : Script → List ℕ
 printed script = text_from script.setup (run_at_start script.setup) script.lines
 

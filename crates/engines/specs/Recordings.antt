@@ -1,4 +1,4 @@
--- The record of a scenario's run as text, and what is written of it as the run goes on.
+-- The record of a scenario's run as text, and the part of it that is written during the run.
 use Rattle.std.specs.Prelude.{◌≡◌, ℕ, List, [], ◌∷◌, ◌++◌, flat_map, reverse, Option, None, Some, Result}
 use Rattle.std.proofs.Common.{ap, sym, ◌∙◌, append-nil, append_assoc}
 use Rattle.std.proofs.lemmas.Grind.{flat_map-append}
@@ -19,11 +19,11 @@ recorded said = record_text said.setup (run_record said)
 abbrev pub recording_text : List ℕ → Result (List ℕ) LineFault
 recording_text = text_by scenario_of recorded
 
--- the lines of the entries of what has happened, the oldest first
+-- the lines of the entries of the run so far, the oldest first
 abbrev pub entries_text : Setup → List Happening → List ℕ
 entries_text s happened = flat_map entry_line (reverse (past_after s happened))
 
--- the line of the entry that is told, if one is
+-- the line of the entry of a turn, if it has one
 abbrev pub entry_told : Told → List ℕ
 entry_told (told.Accepted made) = entry_line (entry_made made)
 entry_told (told.Refused p refusal) = []
@@ -34,7 +34,7 @@ entry_told (told.Shown store) = []
 abbrev pub step_line : ℕ → Access → List ℕ
 step_line p access = entry_line (step_entry p access)
 
--- the lines of one entry more, and of more that has happened
+-- the lines after one more entry, and after more of the run
 pub lines_more : (e : Entry) (past : Past) → flat_map entry_line (reverse (e ∷ past)) ≡ flat_map entry_line (reverse past) ++ entry_line e
 lines_more e past =
     ap (flat_map entry_line) (reverse-append (e ∷ []) past) ∙ flat_map-append entry_line (reverse past) (e ∷ [])

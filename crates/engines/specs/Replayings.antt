@@ -1,4 +1,4 @@
--- What a replay writes and counts as its run goes on.
+-- The text and the counts of a replay during its run.
 use Rattle.std.specs.Prelude.{◌≡◌, ℕ, List, flat_map}
 use Rattle.course.specs.«record».{Mark}
 use Rattle.course.specs.{Summary, Told, happenings, mark_line, summary_of, told_text}
@@ -8,10 +8,10 @@ use Rattle.scenario.specs.{Script}
 abbrev pub mark_lines : ℕ → ℕ → List Mark → List ℕ
 mark_lines number p = flat_map (mark_line number p)
 
--- the text of what is told after so many events
+-- the text of a turn, after the events that the summary counts
 abbrev pub text_next : Summary → Told → List ℕ
 text_next summary told = told_text summary.events told
 
--- the numbers of a scenario's run
+-- a summary has the counts of a scenario's run
 abbrev pub IsRunSummary : Script → Summary → Type 0
 IsRunSummary said summary = summary ≡ summary_of said.setup (happenings said)

@@ -1,4 +1,4 @@
--- What a sink took of a text, by the bytes that are told of it.
+-- The bytes that a sink took of a text.
 use Rattle.std.specs.Prelude.{ℕ, List, Option, Result, IfOk, OnOk}
 use Rattle.std.specs.Global.{Vec}
 use Rattle.std.specs.Io.KnownBytes.{Appends}
@@ -7,15 +7,15 @@ use Rattle.std.specs.declared.string.String.{String}
 use Rattle.scenario.specs.files.{WritesFront}
 
 module _ {W : Type 0} (taken : W → Option (List ℕ)) where
-  -- all of it, if the call is done
+  -- the whole text, if the call succeeds
   abbrev pub Wrote : {A E : Type 0} → Result A E → W → W → List ℕ → Type 0
   Wrote result old new text = OnOk result (Appends (taken old) (taken new) text)
 
-  -- a front of it
+  -- a prefix of the text
   abbrev pub WroteFront : W → W → List ℕ → Type 0
   WroteFront old new text = WritesFront (taken old) (taken new) text
 
-  -- the same of a line, and of bytes, for which there was memory
+  -- these facts about a line, and about bytes, unless an allocation failed for them
   abbrev pub WroteLine : {A E Z F : Type 0} → Result A E → W → W → Result (String Z) F → Type 0
   WroteLine result old new line = OnOk result (IfOk line (λ text. Appends (taken old) (taken new) (string_bytes text)))
 

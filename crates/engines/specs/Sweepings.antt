@@ -1,4 +1,4 @@
--- What a sweep over a scenario's run answers and writes.
+-- The findings, the text and the status of a sweep over a scenario's run.
 use Rattle.std.specs.Prelude.{◌≡◌, ℕ, List, [], ◌∷◌, ◌++◌, codes, flat_map, reverse, Option, None, Some, IfSome, Result, Ok}
 use Rattle.std.specs.Io.KnownBytes.{Appends}
 use Rattle.plain_store.specs.{Command, Setup}
@@ -28,20 +28,20 @@ calls_in events = flat_map call_of events
 abbrev pub accepted_calls : Script → List (ℕ × Command)
 accepted_calls said = calls_in (accepted_events said)
 
--- a sweeper has gone along the accepted events of what has happened, and these calls ended each of its runs
+-- a sweeper has swept along the accepted events of the run so far, and these calls ended each of its runs
 pub record SweepsRun (s : Setup) (calls : List (ℕ × Command)) (happened : List Happening) (given : List (ℕ × Command)) (sweeper : Sweeper) : Type 0 where
   pub given_are : given ≡ calls
   pub swept : SweptBy s calls (reverse (listed s happened)) sweeper
 
--- what a sweep over a scenario's run finds: it goes along the accepted events, and the accepted calls follow in each run
+-- the findings of a sweep over a scenario's run: it goes along the accepted events, and the accepted calls follow in each run
 abbrev pub IsRunSwept : Script → Swept → Type 0
 IsRunSwept said found = IsSwept said.setup (accepted_events said) (accepted_calls said) found
 
--- every run is good, so that this is what it finds
+-- the findings of that sweep, because every run is good
 abbrev pub run_swept : Script → Swept
 run_swept said = all_good (cuts said.setup (accepted_calls said) (reverse (accepted_events said)))
 
--- the lines of what a sweep finds
+-- the lines of the findings of a sweep
 abbrev pub swept_lines : Swept → List ℕ
 swept_lines found = swept_text found ++ codes "\n"
 
@@ -58,17 +58,17 @@ abbrev pub first_verdict : Option BadRun → Verdict Law
 first_verdict None = Good
 first_verdict (Some bad) = Bad bad.entry bad.law
 
--- the exit status of what a sweep finds: that of its first bad verdict
+-- the exit status of the findings of a sweep: that of its first bad verdict
 abbrev pub status_of_swept : Swept → ℕ
 status_of_swept found = status_of_verdict (first_verdict found.first_bad)
 
--- what a sweep over a scenario's run finds: its status is answered, and its lines are written
+-- the status is that of the findings of a sweep over a scenario's run, and their lines were written
 pub record TellsSweep (said : Script) (status : ℕ) (old new : Option (List ℕ)) : Type 0 where
   pub found : Swept
   pub is : IsRunSwept said found
   pub answer : status ≡ status_of_swept found
   pub lines : Appends old new (swept_lines found)
 
--- that of the whole input
+-- this holds of the scenario of the whole input
 abbrev pub InputTellsSweep : Option (List ℕ) → ℕ → Option (List ℕ) → Option (List ℕ) → Type 0
 InputTellsSweep to_come status old new = IfSome to_come (λ input. (said : Script) × (scenario_of input ≡ Ok said) × TellsSweep said status old new)

@@ -18,9 +18,14 @@ use std::alloc::{AllocError, Global};
 use sweeper::progress::Onlooker;
 
 /// Reads a whole file, makes its run, while an auditor observes each entry, and then writes the verdict on its
-/// record, on one line. Returns the exit status. However it ends, at most `INPUT_LIMIT` bytes are taken from the
-/// front of the input.
+/// record, on one line. Returns the exit status. However it ends, it takes at most `INPUT_LIMIT` bytes from the
+/// start of the input.
 /// `onlooker` receives the progress; [`Nobody`] ignores it.
+///
+/// # Errors
+///
+/// Returns the fault of a line, [`Fault::Read`], [`Fault::Memory`] or [`Fault::Write`]. Only after [`Fault::Memory`] or
+/// [`Fault::Write`] may the start of the text have been written.
 pub fn run_audit<R: Source, W: Sink, L: Onlooker>(
     alloc: Global,
     input: &mut R,

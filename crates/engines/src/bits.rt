@@ -22,7 +22,7 @@ fn may_make(bit: &SafeBit, line: BitLine) -> bool
     }
 }
 
-/// Makes the line's call, and returns what is printed.
+/// Makes the line's call, and returns the text that is printed.
 fn make(bit: &mut SafeBit, line: BitLine) -> &'static str
     requires { can_take bit.old line ≡ true }
     ensures text { result.now ≡ made_text bit.old line }
@@ -39,7 +39,7 @@ fn make(bit: &mut SafeBit, line: BitLine) -> &'static str
     ""
 }
 
-/// Carries out a line, and returns what is printed: a call out of turn is refused.
+/// Carries out a line, and returns the text that is printed: a call out of turn is refused.
 fn do_line(bit: &mut SafeBit, line: BitLine) -> &'static str
     ensures text { result.now ≡ bit_line_text bit.old line }
     ensures after { bit.new ≡ bit_after bit.old line }
@@ -51,7 +51,7 @@ fn do_line(bit: &mut SafeBit, line: BitLine) -> &'static str
     }
 }
 
-/// Returns what the lines of a file print.
+/// Returns the text of the lines of a file.
 #[tactic(auto, using(crate::proofs::BitLists::bits_text_more))]
 fn text_of(alloc: Global, lines: &[BitLine]) -> Result<String, AllocError>
     ensures { IfOk result (λ text. string_bytes text ≡ bits_printed lines.now) }
@@ -65,9 +65,12 @@ fn text_of(alloc: Global, lines: &[BitLine]) -> Result<String, AllocError>
 }
 
 /// Reads a whole bits file, and then writes a line for each read that ended and each call that was refused.
-/// A fault of a line, or of reading, is reported before a byte is written. If writing or an allocation fails,
-/// the start of the text may have been written. However it ends, at most `INPUT_LIMIT` bytes are taken from the
-/// front of the input.
+/// However it ends, it takes at most `INPUT_LIMIT` bytes from the start of the input.
+///
+/// # Errors
+///
+/// Returns the fault of a line, [`Fault::Read`], [`Fault::Memory`] or [`Fault::Write`]. Only after [`Fault::Memory`] or
+/// [`Fault::Write`] may the start of the text have been written.
 pub fn run_bits<R: Source, W: Sink>(
     alloc: Global,
     input: &mut R,

@@ -1,6 +1,6 @@
-//! The engines: each reads a whole file, runs it, and writes what its command prints. `plain` and `bits` make the calls
-//! of a file on one store or on one safe bit; `replay`, `record`, `audit` and `sweep` make the run of a scenario on a world. Two
-//! more calls give a program the accepted events of a run, and the record of a list of events.
+//! The engines: each reads a whole file, runs it, and writes the output of its command. `plain` and `bits` make the calls
+//! of a file on one store or on one safe bit. `replay`, `record`, `audit` and `sweep` make the run of a scenario on a world.
+//! Two more calls give a program the accepted events of a run, and the record of a list of events.
 //!
 //! The crates `course`, `read_law`, `auditor` and `sweeper` belong to it.
 //!

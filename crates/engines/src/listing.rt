@@ -15,7 +15,11 @@ use scenario::{Fault, Scenario};
 use std::alloc::{AllocError, Global};
 use sweeper::progress::Nobody;
 
-/// Returns the accepted events of a scenario's run, in their order. Fails only if an allocation fails.
+/// Returns the accepted events of a scenario's run, in their order.
+///
+/// # Errors
+///
+/// Returns [`AllocError`] if memory runs out.
 pub fn events_of(alloc: Global, scenario: &Scenario) -> Result<Vec<Event>, AllocError>
     ensures { IfOk result (λ events. events.items ≡ accepted_events (script scenario.now)) }
 {
@@ -94,9 +98,13 @@ fn add(event: Event, events: &mut Vec<Event>) -> Result<(), AllocError>
     Ok(events.push(event)?)
 }
 
-/// Returns the record of a list of events, with an entry for each accepted event. Fails only if an allocation fails. Names,
-/// values and counts of the events are what their types allow, and the headline holds of each entry of the record. Each
-/// fits its line in a record file, and reading what is printed for the record gives its setup and that record.
+/// Returns the record of a list of events, with an entry for each accepted event. Names, values and counts of the events are
+/// in range, as their types require, and the main theorem holds of each entry of the record. Each entry fits its line in a
+/// record file, and the text that is printed for the record is read as its setup and that record.
+///
+/// # Errors
+///
+/// Returns [`AllocError`] if memory runs out.
 pub fn record_of(alloc: Global, setup: &Setup, events: &[Event]) -> Result<Record, AllocError>
     requires { checked setup.now ≡ Ok tt }
     ensures entries { IfOk result (λ made. made ≡ record_made setup.now events.now) }

@@ -46,7 +46,7 @@ impl PlainRun {
         })
     }
 
-    /// Carries out a line, and returns what is printed.
+    /// Carries out a line, and returns the text that is printed.
     fn line(&mut self, alloc: Global, setup: &Setup, line: &Line) -> Result<String, AllocError>
         requires known { length self.old.counts ≡ setup.now.processes }
         requires few { self.old.place < 2 ^ 16 - 1 }
@@ -130,7 +130,7 @@ fn reply_line(alloc: Global, place: u64, process: u8, reply: &Reply) -> Result<S
     format!(in alloc; "{place} {process} {reply}\n")
 }
 
-/// Returns what a scenario prints.
+/// Returns the text of a scenario.
 fn text_of(alloc: Global, scenario: &Scenario) -> Result<String, AllocError>
     ensures { GivesText result (printed (script scenario.now)) }
 {
@@ -159,9 +159,12 @@ fn push_lines(
 }
 
 /// Reads a whole scenario file, and then writes a line for each call and each `show`; other lines do nothing.
-/// A fault of a line, or of reading, is reported before a byte is written. If writing or an allocation fails,
-/// the start of the text may have been written. However it ends, at most `INPUT_LIMIT` bytes are taken from the
-/// front of the input.
+/// However it ends, it takes at most `INPUT_LIMIT` bytes from the start of the input.
+///
+/// # Errors
+///
+/// Returns the fault of a line, [`Fault::Read`], [`Fault::Memory`] or [`Fault::Write`]. Only after [`Fault::Memory`] or
+/// [`Fault::Write`] may the start of the text have been written.
 pub fn run_plain<R: Source, W: Sink>(
     alloc: Global,
     input: &mut R,

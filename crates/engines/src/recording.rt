@@ -18,10 +18,15 @@ use std::alloc::{AllocError, Global};
 use sweeper::progress::Onlooker;
 
 /// Reads a whole scenario file, and then writes the record of its run, as it is made: the setup, and a line for each
-/// entry. However it ends, at most `INPUT_LIMIT` bytes are taken from the front of the input. If `judge` reads what is
-/// written, it reads the setup and the record of the run. This holds for the record of any events, as long as each
+/// entry. However it ends, it takes at most `INPUT_LIMIT` bytes from the start of the input. If `judge` reads the text
+/// that is written, it reads the setup and the record of the run. This holds for the record of any events, as long as each
 /// entry fits its line.
 /// `onlooker` receives the progress; [`Nobody`] ignores it.
+///
+/// # Errors
+///
+/// Returns the fault of a line, [`Fault::Read`], [`Fault::Memory`] or [`Fault::Write`]. Only after [`Fault::Memory`] or
+/// [`Fault::Write`] may the start of the text have been written.
 pub fn run_record<R: Source, W: Sink, L: Onlooker>(
     alloc: Global,
     input: &mut R,
@@ -74,7 +79,7 @@ fn record_scenario<W: Sink, L: Onlooker>(
     Ok(())
 }
 
-/// What is stored from one entry to the next: their number, and room for a line.
+/// The state between two entries: the number of events, and room for a line.
 #[derive(Drop)]
 struct Room {
     events: u64,

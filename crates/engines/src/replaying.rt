@@ -16,12 +16,17 @@ use std::alloc::Global;
 use sweeper::progress::Onlooker;
 
 /// Reads a whole file, and then writes the marks of its run, as they are made, and its three numbers. However it
-/// ends, at most `INPUT_LIMIT` bytes are taken from the front of the input.
+/// ends, it takes at most `INPUT_LIMIT` bytes from the start of the input.
 ///
-/// If all of it is written, the headline holds of each entry of the run: no two processes are inside the
-/// critical section together; no process overtakes one whose doorway ended before its own began; every store reply is the
+/// If all of it is written, the main theorem holds of each entry of the run. No two processes are inside the critical
+/// section together. No process overtakes one whose doorway ended before its own began. Every store reply is the
 /// sequential store's at its position in one history that keeps the order of calls that do not overlap.
 /// `onlooker` receives the progress; [`Nobody`] ignores it.
+///
+/// # Errors
+///
+/// Returns the fault of a line, [`Fault::Read`], [`Fault::Memory`] or [`Fault::Write`]. Only after [`Fault::Memory`] or
+/// [`Fault::Write`] may the start of the text have been written.
 pub fn replay<R: Source, W: Sink, L: Onlooker>(
     alloc: Global,
     input: &mut R,

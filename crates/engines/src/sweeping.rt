@@ -20,14 +20,19 @@ use std::alloc::{AllocError, Global};
 use sweeper::progress::{Nobody, Onlooker, Reached};
 use sweeper::{Sweeper, Swept};
 
-/// More calls than any memory can store. A sweep has room for this number of them.
+/// A number of calls that exceeds any memory. A sweep has room for this number of them.
 const MOST_CALLS: usize = 1 << 56;
 
-/// Reads a whole file, makes a sweep over its run, and then writes its findings: the counts on one line, and on a
-/// second one the first bad run, if there is one. The sweep goes along the accepted events of the run, and in each of its
-/// runs the accepted calls of the file follow. Returns the exit status. However it ends, at most `INPUT_LIMIT`
-/// bytes are taken from the front of the input.
+/// Reads a whole file, makes a sweep over its run, and then writes its findings. The counts are on one line, and the first
+/// bad run, if there is one, on a second line. The sweep goes along the accepted events of the run, and in each of its
+/// runs the accepted calls of the file follow. Returns the exit status. However it ends, it takes at most `INPUT_LIMIT`
+/// bytes from the start of the input.
 /// `onlooker` receives the progress; [`Nobody`] ignores it.
+///
+/// # Errors
+///
+/// Returns the fault of a line, [`Fault::Read`], [`Fault::Memory`] or [`Fault::Write`]. Only after [`Fault::Memory`] or
+/// [`Fault::Write`] may the start of the text have been written.
 pub fn run_sweep<R: Source, W: Sink, L: Onlooker>(
     alloc: Global,
     input: &mut R,
@@ -203,7 +208,7 @@ fn keep_told(told: &Told, calls: &mut Vec<(u8, Command)>) -> Result<(), AllocErr
     Ok(())
 }
 
-/// A sweep that goes along a run as it is made, and tells an onlooker how many of its events it has passed.
+/// A sweep that goes along a run as it is made, and reports to an onlooker the number of its events that it has passed.
 #[derive(Drop)]
 struct Along<'a, L: Onlooker> {
     sweeper: Sweeper,

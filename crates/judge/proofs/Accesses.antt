@@ -37,7 +37,7 @@ first_none : {R : Type 0} (b : Bool) (r : R) (tests : List (Bool × R)) → b �
 first_none true r tests h rest = absurd (true≢false h)
 first_none false r tests h rest = rest
 
--- what an access has that is not refused
+-- the facts about an access that is not refused
 record Allowed (s : Setup) (p : ℕ) (k : Standing) (a : Access) : Type 0 where
   pub process : p < s.processes
   pub there : IsThere s a
@@ -85,7 +85,7 @@ unrefused s p k a h = λ i. first_that (
     one_only true f = refl
     one_only false f = ap is_some f
 
--- What is open.
+-- Open accesses.
 
 -- an access that fits, fits with the value that was read
 fits_ended : (o : Option Begun) (v : Bool) (x : Access) → Fits o x → Fits o (ended_with v x)
@@ -102,7 +102,7 @@ fits_ended o v x fits = go x.how o fits
     go (EndRead u) (Some b) fits = fits
     go (Settle u) o fits = fits
 
--- At a place.
+-- Accesses at a place.
 
 -- none of its moves settles
 place_settles : (c : Call) (part : Part) (run : Run) (v : Bool) → settles (ended_with v (access_at c part run)).how ≡ false
@@ -146,7 +146,7 @@ module _ (s : Setup) (past : Past) (p : ℕ) (a : Access) (process : p < s.proce
         off_torn = ap (λ o. begins_write a.how && is_of_bit o a) none ∙ and_false (begins_write a.how);
       }
 
--- In a closing.
+-- Accesses in a closing.
 
 -- an access of a write does not settle
 written_settles : (bits : List Bool) (w : NumberWrite) → settles (copies.next_write (bit_written bits w)).how ≡ false
@@ -168,7 +168,7 @@ settling_moves m h = ap (λ b. settles m || false || (true && not b)) (not_readi
     go true = refl
     go false = refl
 
--- what the tests of torn bits say
+-- the tests of torn bits find nothing
 record OfTorn (st : Stage) (torn : Option Begun) (a : Access) : Type 0 where
   pub settling : (settles a.how && not (is_settling st)) ≡ false
   pub of_torn : (settles a.how && not (is_of_bit torn a)) ≡ false
@@ -196,7 +196,7 @@ settles_torn s p f bit t v torn at below = go t.begun (copies.is_open_at t.made 
         ap (λ o. is_of_bit o (x false true)) is
         ∙ (λ i. eq-eqb b.access.bit bit its i && eq-eqb b.access.reader t.reader same i && eq-eqb b.access.owner p owner i && eq-eqb (field_number b.access.field) (field_number f) (ap field_number field) i)
 
-    -- another is not
+    -- a copy that was not open is not torn
     not_torn : (o : Option Begun) → TornBy s.processes p f bit t o → t.made ≢ 2 * t.reader + 1 → is_of_bit o (x false false) ≡ false
     not_torn o (settled none all) other = ap (λ o. is_of_bit o (x false false)) none
     not_torn o (comes b is owner field its low high made) other =
@@ -236,7 +236,7 @@ closing_moves c Quit flick n next writes = cc
 closing_moves c Ended flick n next writes = cc
 closing_moves c _ flick n next writes = settling_moves n.access.how writes
 
--- An entry.
+-- Entries.
 
 no_access : (s : Setup) (past : Past) (e : Entry) → e.access ≡ None → e.process < s.processes → refusal_of_access s past e ≡ None
 no_access s past e none process =

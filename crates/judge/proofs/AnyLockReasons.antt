@@ -7,7 +7,7 @@ use Rattle.any_lock.specs.declared.reasons.Reasons.{Reasons}
 use Rattle.judge.specs.{AreAnyLockReasons, GivesReasons, any_reason_lines}
 use Rattle.judge.proofs.Splits.{one_place}
 
--- what is written of what the judge has looked up
+-- the lines of the reasons that the judge has looked up
 pub gives_written : (j : JudgeState) (n : ℕ) (e : Entry) (lines : List ℕ) (told : Option Reasons) → ((s : Setup) (entries : List Entry) → HasJudged j s entries → AreReasonsOf s entries (verdict_of s entries) told) → ((r : Reasons) → told ≡ Some r → lines ≡ any_reason_lines n e r) →
     GivesReasons HasJudged (λ (j : JudgeState). j.verdict) AreAnyLockReasons j n e lines
 gives_written j n e lines told reasons written s entries past k l judged bad at few =

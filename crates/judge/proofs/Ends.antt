@@ -1,4 +1,4 @@
--- What is read of a whole file, line by line.
+-- Reading a whole file, line by line.
 use Rattle.std.proofs.Common.{◌≡◌, ℕ, ◌+◌, ◌≤◌, Bool, true, false, List, [], ◌∷◌, ◌++◌, length, Option, Some, None, Result, Ok, Err, IfErr, IfSome, IsErrAnd, refl, ap, sym, subst, ◌∙◌, append_assoc, append-nil, arith}
 use Rattle.std.proofs.lemmas.List.{length-append}
 use Rattle.std.specs.Io.KnownBytes.{IsAtEnd, prepend_known}
@@ -22,11 +22,11 @@ line_then n text line rest before now entries takes read =
     ∙ ap (λ r. (at_line n r >>= λ now. lines_read (n + 1) (lines rest) (cleared now) (entries ++ entry_in now)) >>= said_by (n + length (line ∷ lines rest))) read
     ∙ ap (λ m. lines_read (n + 1) (lines rest) (cleared now) (entries ++ entry_in now) >>= said_by m) {y = n + 1 + length (lines rest)} (omega arith)
 
--- so are the numbers
+-- the numbers of the line and of the rest
 number_then : (n : ℕ) (text line rest numbers : List ℕ) → TakesLine text line rest → numbers ++ numbers_from n (lines text) ≡ (numbers ++ number_in n line) ++ numbers_from (n + 1) (lines rest)
 number_then n text line rest numbers takes = ap (λ ls. numbers ++ numbers_from n ls) takes ∙ sym (append_assoc numbers (number_in n line) (numbers_from (n + 1) (lines rest)))
 
--- or it has a fault
+-- the line has a fault
 pub line_fault : (n : ℕ) (text line : List ℕ) (others : List (List ℕ)) (before : Option Progress) (entries : List Entry) (kind : FaultKind) → lines text ≡ line ∷ others → line_read line before ≡ Err kind → rest_read n text before entries ≡ Err (record { line = n; kind = kind })
 line_fault n text line others before entries kind is fault =
     ap (λ ls. lines_read n ls before entries >>= said_by (n + length ls)) is
@@ -34,34 +34,34 @@ line_fault n text line others before entries kind is fault =
 
 -- All lines so far.
 
--- reading what is left, behind so many lines, gives what reading all gives, and its lines have the numbers that are left
+-- after this number of lines, reading the rest gives what reading the whole text gives, and its lines have the remaining numbers
 pub record GoesOnTo (before : Option Progress) (entries : List Entry) (numbers : List ℕ) (taken : ℕ) (text left : List ℕ) : Type 0 where
   pub reads : rest_read (taken + 1) left before entries ≡ record_of text
   pub counts : numbers ++ numbers_from (taken + 1) (lines left) ≡ numbers_of text
 
--- what is told of three moments
+-- facts about three moments, from those about two pairs of them
 pub told_on : (a b c : Option (List ℕ)) (P Q R : List ℕ → List ℕ → Type 0) → ((x y z : List ℕ) → P x y → Q y z → R x z) → Told a b P → Told b c Q → Told a c R
 told_on None b c P Q R then first next = tt
 told_on (Some x) None c P Q R then first next = absurd first
 told_on (Some x) (Some y) None P Q R then first next = absurd next
 told_on (Some x) (Some y) (Some z) P Q R then first next = then x y z first next
 
--- a fact of the whole input, by what is left of it
+-- a fact about the whole input, from one about its rest
 pub of_input : (to_come rest : Option (List ℕ)) (P : List ℕ → List ℕ → Type 0) (Q R : List ℕ → Type 0) → ((x y : List ℕ) → P x y → Q y → R x) → Told to_come rest P → IfSome rest Q → IfSome to_come R
 of_input None rest P Q R then told is = tt
 of_input (Some x) None P Q R then told is = absurd told
 of_input (Some x) (Some y) P Q R then told is = then x y told is
 
--- nothing is left
+-- no bytes remain
 pub at_end : (mid : Option (List ℕ)) → IsAtEnd mid → IfSome mid (λ y. y ≡ [])
 at_end None is = tt
 at_end (Some y) is = is
 
--- and no end was told
+-- the end was not reported
 pub none_told : (ahead : Given) (to_come : Option (List ℕ)) → ahead.ended ≡ false → EndHolds ahead to_come
 none_told ahead to_come open_yet told = let both : false ≡ true = sym open_yet ∙ told in absurd (cc)
 
--- a line more
+-- one more line
 pub goes_on : (before now : Option Progress) (entries : List Entry) (numbers : List ℕ) (taken taken' : ℕ) (line x y z : List ℕ) → taken' ≡ taken + 1 → line_read line before ≡ Ok now → GoesOnTo before entries numbers taken x y → TakesLine y line z →
     GoesOnTo (cleared now) (entries ++ entry_in now) (numbers ++ number_in taken' line) taken' x z
 goes_on before now entries numbers taken taken' line x y z one says so_far takes =
@@ -75,14 +75,14 @@ pub goes_on_at_first : (to_come : Option (List ℕ)) (taken : ℕ) → taken ≡
 goes_on_at_first None taken none = tt
 goes_on_at_first (Some text) taken none = subst (λ n. GoesOnTo None [] [] n text text) (sym none) (record { reads = refl; counts = refl })
 
--- no line is left
+-- no line remains
 ended : (before : Option Progress) (entries : List Entry) (numbers : List ℕ) (taken : ℕ) (x y : List ℕ) → GoesOnTo before entries numbers taken x y → y ≡ [] → (rest_read (taken + 1) [] before entries ≡ record_of x) × (numbers ≡ numbers_of x)
 ended before entries numbers taken x y so_far none =
     let to : GoesOnTo before entries numbers taken x [] = subst (λ y. GoesOnTo before entries numbers taken x y) none so_far in
     (to.reads, sym (append-nil numbers) ∙ to.counts)
 
 module _ {H : Type 0} (HasHeard : H → Setup → List Entry → List ℕ → Type 0) where
-  -- what was read and heard, and that reading the rest gives what reading all gives
+  -- the state after some lines; reading the rest gives what reading the whole text gives
   pub record Onwards (to_come rest : Option (List ℕ)) (taken : ℕ) (reader : Option Progress) (hearer : Option H) : Type 0 where
     pub before : Option Progress
     pub entries : List Entry
@@ -91,7 +91,7 @@ module _ {H : Type 0} (HasHeard : H → Setup → List Entry → List ℕ → Ty
     pub few : length entries ≤ taken
     pub goes_on : Told to_come rest (GoesOnTo before entries numbers taken)
 
-  -- as many entries were heard as were said
+  -- the number of entries observed is that of the entries read
   heard_count : (count : H → ℕ) → ((h : H) (s : Setup) (entries : List Entry) (numbers : List ℕ) → HasHeard h s entries numbers → count h ≡ length entries) → (j : Option H) (before : Option Progress) (entries : List Entry) (numbers : List ℕ) → HearsAt HasHeard j before entries numbers → count_in count j ≡ length entries
   heard_count count counts None before entries numbers heard = sym (ap length heard.0)
   heard_count count counts (Some j) None entries numbers heard = absurd heard
@@ -101,14 +101,14 @@ module _ {H : Type 0} (HasHeard : H → Setup → List Entry → List ℕ → Ty
   onwards_few count counts to_come rest taken reader j u =
       let few : length u.entries ≤ taken = u.few in let same = heard_count count counts j u.before u.entries u.numbers u.stands.heard in omega (arith, few, same)
 
-  -- before the first line, where no bytes have come yet
+  -- before the first line no bytes have come
   pub onwards_start : (to_come : Option (List ℕ)) (ahead : Given) (taken : ℕ) (reader : Option Progress) (j : Option H) → ahead.bytes ≡ [] → ahead.ended ≡ false → taken ≡ 0 → Stands HasHeard reader j None [] [] → Onwards to_come (coming ahead to_come) taken reader j
   onwards_start to_come ahead taken reader j fresh open_yet none stands =
       subst (λ (l : List ℕ). Onwards to_come (prepend_known l (unless_ended ahead.ended to_come)) taken reader j) (sym fresh)
       (subst (λ (b : Bool). Onwards to_come (prepend_known [] (unless_ended b to_come)) taken reader j) (sym open_yet)
       (record { before = None; entries = []; numbers = []; stands = stands; few = omega arith; goes_on = goes_on_at_first to_come taken none }))
 
-  -- a line more
+  -- one more line
   abbrev pub onwards_on : (to_come mid rest : Option (List ℕ)) (l l' : LineState) (reader reader' : Option Progress) (j j' : Option H) (u : Onwards to_come mid l.taken reader j) → TakesNext l l' mid rest → GoesOn HasHeard l'.taken l'.line u.before reader' j' u.entries u.numbers → Onwards to_come rest l'.taken reader' j'
   onwards_on to_come mid rest l l' reader reader' j j' u takes on = record {
     before = cleared on.now;
@@ -140,7 +140,7 @@ module _ {H : Type 0} (HasHeard : H → Setup → List Entry → List ℕ → Ty
   onwards_long to_come mid taken reader j u long =
       of_input to_come mid (GoesOnTo u.before u.entries u.numbers taken) IsTooLong (λ text. record_of text ≡ Err (record { line = taken + 1; kind = TooLong })) (λ x y so_far is. sym so_far.reads ∙ line_fault (taken + 1) y is.line is.others u.before u.entries TooLong is.is (long_read is.line u.before is.long)) u.goes_on long
 
-  -- no line more, for a fault
+  -- no further line is read, because of a fault
   pub next_fault : (to_come mid rest : Option (List ℕ)) (l l' : LineState) (reader : Option Progress) (j : Option H) (f : Fault) (u : Onwards to_come mid l.taken reader j) → GoesToNext (Err f) l l' mid rest → IsInputFault f to_come
   next_fault to_come mid rest l l' reader j (fault.Line f) u goes = subst (λ (f : LineFault). IsInputFault (fault.Line f) to_come) (sym goes.0) (onwards_long to_come mid l.taken reader j u goes.1)
   next_fault to_come mid rest l l' reader j fault.Read u goes = tt
@@ -153,7 +153,7 @@ module _ {H : Type 0} (HasHeard : H → Setup → List Entry → List ℕ → Ty
       of_input to_come mid (GoesOnTo u.before u.entries u.numbers taken) (λ y. y ≡ []) (λ text. record_of text ≡ Err (record { line = taken + 1; kind = NotFirst }))
       (λ x y so_far is. sym (ended u.before u.entries u.numbers taken x y so_far is).0 ∙ ap (λ b. rest_read (taken + 1) [] b u.entries) none ∙ ap (λ n. Err (record { line = n; kind = NotFirst })) {y = taken + 1} (omega arith)) u.goes_on (at_end mid end)
 
-  -- what holds of all that the text says
+  -- a fact about all entries of the text
   pub onwards_all : (P : Setup → List Entry → List ℕ → Type 0) (to_come mid : Option (List ℕ)) (taken : ℕ) (reader : Option Progress) (j : Option H) (u : Onwards to_come mid taken reader j) (p : Progress) → u.before ≡ Some p → P p.head.setup u.entries u.numbers → IsAtEnd mid → IfSome to_come (IsOfRecord P)
   onwards_all P to_come mid taken reader j u p read holds end =
       of_input to_come mid (GoesOnTo u.before u.entries u.numbers taken) (λ y. y ≡ []) (IsOfRecord P) (λ x y so_far is.
@@ -163,7 +163,7 @@ module _ {H : Type 0} (HasHeard : H → Setup → List Entry → List ℕ → Ty
         holds = subst (λ (l : List ℕ). P p.head.setup u.entries l) to.1 holds;
       }) u.goes_on (at_end mid end)
 
--- a fact of the fault that is answered
+-- a fact about the fault that is returned
 pub if_err : {A : Type 0} (r : Result A Fault) (f : Fault) (P : Fault → Type 0) → IsErrAnd r (λ e. e ≡ f) → P f → IfErr r P
 if_err (Ok x) f P is holds = tt
 if_err (Err e) f P is holds = subst P (sym is) holds

@@ -9,7 +9,7 @@ use Rattle.files.specs.declared.faults.Fault.TheVariants as fault
 use Rattle.record.specs.{Entry}
 use Rattle.judge.specs.Ends.{IsInputFault, IsOfRecord, TellsAll, TellsFront, TrialEnds}
 
--- what follows of the whole input, where it is told
+-- a consequence about the whole input, if it is known
 if_some : (o : Option (List ℕ)) (P Q : List ℕ → Type 0) → ((x : List ℕ) → P x → Q x) → IfSome o P → IfSome o Q
 if_some None P Q then is = tt
 if_some (Some x) P Q then is = then x is
@@ -18,11 +18,11 @@ if_some (Some x) P Q then is = then x is
 keeps : (old new : Option (List ℕ)) → new ≡ old → Keeps old new
 keeps old new same = subst (λ n. Keeps old n) (sym same) (kept old)
 
--- what a call that writes answers where it failed
+-- the result of a failed write
 abbrev pub cut_by : Fault → Result (Unit {0}) Fault
 cut_by f = Err f
 
--- what is told of the record that was heard
+-- a report on the record that was observed
 abbrev pub Telling : {H : Type 0} → (H → Setup → List Entry → List ℕ → Type 0) → (Setup → List Entry → List ℕ → List ℕ → ℕ → Type 0) → H → List ℕ → ℕ → Type 0
 Telling HasHeard Tells h told status = (s : Setup) (entries : List Entry) (numbers : List ℕ) → HasHeard h s entries numbers → Tells s entries numbers told status
 
@@ -38,7 +38,7 @@ module _ {H : Type 0} (HasHeard : H → Setup → List Entry → List ℕ → Ty
       by fault.Memory why failures = keeps old.taken new.taken same
       by fault.Write why failures = absurd why
 
-  -- what is told was written
+  -- the whole report was written
   pub trial_told : (h : H) (told : List ℕ) (status : ℕ) (old new : Streams) → IfSome old.to_come (IsOfRecord (HasHeard h)) → Telling HasHeard Tells h told status → IsAtEnd new.to_come → Appends old.taken new.taken told → TrialEnds Tells (Ok status) old new
   trial_told h told status old new heard telling end written = (
     if_some old.to_come (IsOfRecord (HasHeard h)) (λ text. TellsAll Tells text status old.taken new.taken) (λ text is. record {
@@ -49,7 +49,7 @@ module _ {H : Type 0} (HasHeard : H → Setup → List Entry → List ℕ → Ty
     end,
   )
 
-  -- a front of it was, before a call failed
+  -- a prefix of the report was written before a call failed
   pub trial_cut : (r : Result ℕ Fault) (f : Fault) (h : H) (told : List ℕ) (status : ℕ) (old new : Streams) → IsErrAnd r (λ e. e ≡ f) → cut_by f ≡ cut_by fault.Write → IfSome old.to_come (IsOfRecord (HasHeard h)) → Telling HasHeard Tells h told status → new.write_failures ≡ old.write_failures + 1 →
       WritesFront old.taken new.taken told → TrialEnds Tells r old new
   trial_cut (Ok s) f h told status old new is write heard telling failed front = absurd is

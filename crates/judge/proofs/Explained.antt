@@ -1,4 +1,4 @@
--- The reasons behind a verdict, as entries are heard, whoever judges.
+-- The reasons of a verdict, entry by entry, for any judge.
 use Rattle.std.proofs.Common.{◌≡◌, ◌<◌, ◌^◌, ℕ, true, false, List, [], ◌∷◌, ◌++◌, length, reverse, refl, sym, ap, subst, ◌∙◌, true≢false}
 use Rattle.std.proofs.lemmas.List.{length-reverse}
 use Rattle.plain_store.specs.{Setup}
@@ -39,7 +39,7 @@ module _ {J L : Type 0} (HasJudged : J → Setup → List Entry → Type 0) (ver
             (one s (entries ++ e ∷ []) (Bad k l) (verdict j') (stays s entries e k l was) (finds j' s (entries ++ e ∷ []) judged))
             (lines_stay (AreReasons l) s entries numbers n e k lines at)
 
-    -- it stays good
+    -- the verdict stays good
     pub still_good : is_good (verdict j) ≡ true → is_good (verdict j') ≡ true → HasExplained HasJudged verdict AreReasons j' lines s (entries ++ e ∷ []) (numbers ++ n ∷ [])
     still_good good then = record {
       judged = judged;
@@ -47,7 +47,7 @@ module _ {J L : Type 0} (HasJudged : J → Setup → List Entry → Type 0) (ver
       are = subst (λ (v : Verdict L). AreLinesOf AreReasons s (entries ++ e ∷ []) (numbers ++ n ∷ []) v lines) (sym (good_is (verdict j') then)) (no_lines s entries numbers (verdict j) lines (good_is (verdict j) good) had.are);
     }
 
-    -- it gets bad
+    -- the verdict becomes bad
     pub gets_bad : (lines' : List ℕ) → length entries < 2 ^ 64 → is_good (verdict j) ≡ true → is_good (verdict j') ≡ false → GivesReasons HasJudged verdict AreReasons j' n e lines' → HasExplained HasJudged verdict AreReasons j' lines' s (entries ++ e ∷ []) (numbers ++ n ∷ [])
     gets_bad lines' few good bad gives = record { judged = judged; counted = counted_on entries numbers n e had.counted; are = by (verdict j') refl bad }
       where

@@ -1,4 +1,4 @@
--- The first entries of a record are heard, and the others are passed by.
+-- The first entries of a record are observed, and the others are passed over.
 use Rattle.std.proofs.Common.{◌≡◌, ℕ, ◌+◌, ◌<◌, ◌≤◌, true, false, List, [], ◌∷◌, ◌++◌, length, take, IsSome, Option, Some, None, Result, Ok, Err, refl, ap, sym, subst, ◌∙◌, arith, inl, inr}
 use Rattle.std.specs.Prelude.{IfSome, is_some}
 use Rattle.std.specs.Option.{option_to_list}
@@ -36,7 +36,7 @@ enough n xs full = elim (cases_lt (length xs) n) [
 pub more_counted : (entries : List Entry) (numbers : List ℕ) (e : Entry) (m : ℕ) → length numbers ≡ length entries → length (numbers ++ m ∷ []) ≡ length (entries ++ e ∷ [])
 more_counted entries numbers e m same = length-append numbers (m ∷ []) ∙ ap (λ k. k + 1) same ∙ sym (length-append entries (e ∷ []))
 
--- a line has a number exactly if it says an entry
+-- a line has a number exactly if it is an entry
 as_many : (n : ℕ) (line : List ℕ) (before now : Option Progress) → line_read line before ≡ Ok now → cleared before ≡ before → length (number_in n line) ≡ length (entry_in now)
 as_many n line before now says clear = elim (cases_lt 128 (length line)) [
   | inl long ↦ let no : Err TooLong ≡ Ok now = sym (long_read line before long) ∙ says in absurd (cc)
@@ -52,7 +52,7 @@ as_many n line before now says clear = elim (cases_lt 128 (length line)) [
     by (Some p) read = of_entry p p.entry refl read
 
 module _ {H : Type 0} (HasHeard : H → Setup → List Entry → List ℕ → Type 0) where
-  -- of no entries the first ones were heard
+  -- the observer of no entries has observed the first ones of none
   firsts_of_none : (limit : Option ℕ) (h : H) (s : Setup) → HasHeard h s [] [] → HasHeardFirsts limit HasHeard h s [] []
   firsts_of_none None h s heard = heard
   firsts_of_none (Some n) h s heard = (refl, none (take n []) (take n []) (take-nil n) (take-nil n))
@@ -60,7 +60,7 @@ module _ {H : Type 0} (HasHeard : H → Setup → List Entry → List ℕ → Ty
       none : (entries : List Entry) (numbers : List ℕ) → entries ≡ [] → numbers ≡ [] → HasHeard h s entries numbers
       none entries numbers empty unnumbered = subst (λ (l : List Entry). HasHeard h s l numbers) (sym empty) (subst (λ (l : List ℕ). HasHeard h s [] l) (sym unnumbered) heard)
 
-  -- who was begun at the end has heard the first ones of no entries
+  -- an observer that was created at the end has observed the first ones of no entries
   pub begun_at_end : (limit : Option ℕ) (h : H) (p : Progress) (before : Option Progress) (entries : List Entry) (numbers : List ℕ) → before ≡ Some p → (entries ≡ []) × (numbers ≡ []) → HasHeard h p.head.setup [] [] → IsHeard (HasHeardFirsts limit HasHeard) (Some h) before entries numbers
   begun_at_end limit h p before entries numbers read none heard = (
     p,
@@ -69,7 +69,7 @@ module _ {H : Type 0} (HasHeard : H → Setup → List Entry → List ℕ → Ty
   )
 
   module _ (count : H → ℕ) (counts : (h : H) (s : Setup) (entries : List Entry) (numbers : List ℕ) → HasHeard h s entries numbers → count h ≡ length entries) (n : ℕ) where
-    -- Enough were heard, so one more changes nothing.
+    -- n entries were observed, so one more changes nothing.
     pub firsts_stay : (h : H) (s : Setup) (entries : List Entry) (numbers : List ℕ) (e : Entry) (m : ℕ) → n ≤ count h → HasHeardFirsts (Some n) HasHeard h s entries numbers → HasHeardFirsts (Some n) HasHeard h s (entries ++ e ∷ []) (numbers ++ m ∷ [])
     firsts_stay h s entries numbers e m full heard =
         let counted = counts h s (take n entries) (take n numbers) heard.1 in
@@ -80,7 +80,7 @@ module _ {H : Type 0} (HasHeard : H → Setup → List Entry → List ℕ → Ty
           subst (λ (l : List Entry). HasHeard h s l (take n (numbers ++ m ∷ []))) (sym first) (subst (λ (l : List ℕ). HasHeard h s (take n entries) l) (sym second) heard.1),
         )
 
-    -- the same where there is who hears, or where there was nobody, and one was begun
+    -- passing over an entry, if an observer exists or is created for it
     pub passes_by : (j : Option H) (s : Setup) (entries : List Entry) (numbers : List ℕ) (e : Entry) (m : ℕ) → n ≤ count_in count j → is_some j ≡ true → Hears (HasHeardFirsts (Some n) HasHeard) j s entries numbers → Hears (HasHeardFirsts (Some n) HasHeard) j s (entries ++ e ∷ []) (numbers ++ m ∷ [])
     passes_by None s entries numbers e m full some heard = absurd (cc)
     passes_by (Some h) s entries numbers e m full some heard = firsts_stay h s entries numbers e m full heard
@@ -94,7 +94,7 @@ module _ {H : Type 0} (HasHeard : H → Setup → List Entry → List ℕ → Ty
         let at_zero : HasHeardFirsts (Some 0) HasHeard h s (entries ++ e ∷ []) (numbers ++ m ∷ []) = (more_counted entries numbers e m (ap length heard.1 ∙ sym (ap length heard.0)), begun) in
         subst (λ k. HasHeardFirsts (Some k) HasHeard h s (entries ++ e ∷ []) (numbers ++ m ∷ [])) (sym zero) at_zero
 
-    -- a line as it is printed for a step, which is passed by
+    -- a line as it is printed for a Step, which is passed over
     pub steps_by : (m : ℕ) (line : List ℕ) (reader : Option Progress) (j : Option H) (step : Option (ℕ × Access)) (before : Option Progress) (entries : List Entry) (numbers : List ℕ) → length line ≤ 128 → n ≤ count_in count j → is_some j ≡ true → is_some step ≡ true →
         IfSome step (λ (r : ℕ × Access). line ≡ spaced (entry_words (step_entry r.0 r.1))) → IfSome step (λ (r : ℕ × Access). is_entry (step_entry r.0 r.1) ≡ true) → Stands (HasHeardFirsts (Some n) HasHeard) reader j before entries numbers → GoesOn (HasHeardFirsts (Some n) HasHeard) m line before reader j entries numbers
     steps_by m line reader None step before entries numbers short full some is printed sound stands = absurd (cc)
@@ -102,7 +102,7 @@ module _ {H : Type 0} (HasHeard : H → Setup → List Entry → List ℕ → Ty
     steps_by m line reader (Some h) (Some r) before entries numbers short full some is printed sound stands =
         ends_stepped (HasHeardFirsts (Some n) HasHeard) m line reader h h r.0 r.1 before entries numbers short printed sound (λ s es ns heard. firsts_stay h s es ns (step_entry r.0 r.1) m full heard) stands
 
-    -- Fewer were heard, so all were.
+    -- Fewer than n entries were observed, so all were.
     all_heard : (j : Option H) (before : Option Progress) (entries : List Entry) (numbers : List ℕ) → count_in count j < n → HearsAt (HasHeardFirsts (Some n) HasHeard) j before entries numbers → (length entries < n) × (length numbers ≡ length entries) × HearsAt HasHeard j before entries numbers
     all_heard None before entries numbers few heard = let none = ap length heard.0 in (omega (arith, few, none), ap length heard.1 ∙ sym none, heard)
     all_heard (Some h) None entries numbers few heard = absurd heard
@@ -116,7 +116,7 @@ module _ {H : Type 0} (HasHeard : H → Setup → List Entry → List ℕ → Ty
           (heard.0, subst (λ (l : List Entry). HasHeard h p.head.setup l numbers) first (subst (λ (l : List ℕ). HasHeard h p.head.setup (take n entries) l) second heard.1.1)),
         )
 
-    -- so are they with one more line
+    -- at most n observed entries are the first n
     then_firsts : (j : Option H) (before : Option Progress) (entries : List Entry) (numbers : List ℕ) → length entries ≤ n → length numbers ≡ length entries → HearsAt HasHeard j before entries numbers → HearsAt (HasHeardFirsts (Some n) HasHeard) j before entries numbers
     then_firsts None before entries numbers few counted heard = heard
     then_firsts (Some h) None entries numbers few counted heard = absurd heard
@@ -127,11 +127,11 @@ module _ {H : Type 0} (HasHeard : H → Setup → List Entry → List ℕ → Ty
           (counted, subst (λ (l : List Entry). HasHeard h p.head.setup l (take n numbers)) (sym first) (subst (λ (l : List ℕ). HasHeard h p.head.setup entries l) (sym second) heard.1)),
         )
 
-    -- what was read and heard, where fewer than n were heard
+    -- the state of reading, if fewer than n entries were observed
     pub stands_all : (reader : Option Progress) (j : Option H) (before : Option Progress) (entries : List Entry) (numbers : List ℕ) → count_in count j < n → Stands (HasHeardFirsts (Some n) HasHeard) reader j before entries numbers → Stands HasHeard reader j before entries numbers
     stands_all reader j before entries numbers few stands = record { read = stands.read; clear = stands.clear; heard = (all_heard j before entries numbers few stands.heard).2 }
 
-    -- a line that was read and heard then
+    -- a line that was read and observed in this state
     pub ends_all : (result : Result (Unit {0}) FaultKind) (m : ℕ) (line : List ℕ) (before reader reader' : Option Progress) (j j' : Option H) (entries : List Entry) (numbers : List ℕ) → count_in count j < n → Stands (HasHeardFirsts (Some n) HasHeard) reader j before entries numbers →
         LineEnds HasHeard result m line before reader' j' entries numbers → LineEnds (HasHeardFirsts (Some n) HasHeard) result m line before reader' j' entries numbers
     ends_all (Err kind) m line before reader reader' j j' entries numbers few stands ends = ends
@@ -150,12 +150,12 @@ module _ {H : Type 0} (HasHeard : H → Setup → List Entry → List ℕ → Ty
           };
         }
 
--- before the first line nobody hears
+-- before the first line there is no observer
 pub at_first : {H : Type 0} (HasHeard : H → Setup → List Entry → List ℕ → Type 0) (limit : Option ℕ) (reader : Option Progress) (j : Option H) → Stands HasHeard reader j None [] [] → Stands (HasHeardFirsts limit HasHeard) reader j None [] []
 at_first HasHeard limit reader None stands = record { read = stands.read; clear = stands.clear; heard = stands.heard }
 at_first HasHeard limit reader (Some h) stands = absurd stands.heard
 
--- no more entries were heard than lines were read
+-- the number of entries observed is at most that of lines read
 pub few_heard : {H : Type 0} (HasHeard : H → Setup → List Entry → List ℕ → Type 0) (count : H → ℕ) (counts : (h : H) (s : Setup) (entries : List Entry) (numbers : List ℕ) → HasHeard h s entries numbers → count h ≡ length entries) (limit : Option ℕ)
     (to_come rest : Option (List ℕ)) (taken : ℕ) (reader : Option Progress) (j : Option H) → Onwards (HasHeardFirsts limit HasHeard) to_come rest taken reader j → count_in count j ≤ taken
 few_heard {H} HasHeard count counts limit to_come rest taken reader j u = by limit j u.before u.entries u.numbers u.few u.stands.heard
@@ -172,7 +172,7 @@ few_heard {H} HasHeard count counts limit to_come rest taken reader j u = by lim
         ] in
         omega (arith, all, fewer, few)
 
--- what is told of what was heard is told of the first entries
+-- a report on the observed entries is a report on the first entries
 pub tells_firsts : {H : Type 0} (HasHeard : H → Setup → List Entry → List ℕ → Type 0) (Tells : Setup → List Entry → List ℕ → List ℕ → ℕ → Type 0) (limit : Option ℕ) (h : H) (told : List ℕ) (status : ℕ) → ((s : Setup) (entries : List Entry) (numbers : List ℕ) → HasHeard h s entries numbers → Tells s entries numbers told status) →
     (s : Setup) (entries : List Entry) (numbers : List ℕ) → HasHeardFirsts limit HasHeard h s entries numbers → TellsFirsts limit Tells s entries numbers told status
 tells_firsts HasHeard Tells None h told status tells s entries numbers heard = tells s entries numbers heard

@@ -1,4 +1,4 @@
--- What is good for this project's lock is good for any lock.
+-- A record that is good for this project's lock is good for any lock.
 use Rattle.std.proofs.Common.{◌≡◌, ◌≢◌, ℕ, zero, suc, ◌==◌, not, ◌&&◌, Bool, true, false, List, [], ◌∷◌, Contains, length, refl, ap, ◌∙◌, subst, arith, ◌⊎◌, inl, inr}
 use Rattle.std.proofs.lemmas.Bool.Decides.{nat_tests}
 use Rattle.std.specs.List.{list_all}

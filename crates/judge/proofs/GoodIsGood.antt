@@ -1,4 +1,4 @@
--- The verdict of any lock's judge on what is good for this project's lock.
+-- The verdict of any lock's judge on a record that is good for this project's lock.
 use Rattle.std.proofs.Common.{◌≡◌, true, false, List, [], ◌∷◌, Some, None, Ok, length, reverse, refl, sym, ap, subst, ◌∙◌, true≢false}
 use Rattle.std.specs.Prelude.{if◌then◌else◌}
 use Rattle.plain_store.specs.{Setup, checked}
@@ -50,7 +50,7 @@ all_keep : (s : Setup) → checked s ≡ Ok tt → (past : Past) → own.AllKeep
 all_keep s good [] all = tt
 all_keep s good (e ∷ past) all = let before : AllKeep s past = all_keep s good past all.1 in (entry_keeps s good past e all.0 all.1 before, before)
 
--- so it breaks none
+-- the entry breaks no law of any lock
 breaks_none : (s : Setup) (past : Past) (e : Entry) → breaks_safe s past e ≡ false → Keeps s past e → first_broken s past e ≡ None
 breaks_none s past e safe kept =
     ap (λ b. if b then Some any.Safe else broken_later s past e) safe ∙ at_inside s past e kept.access kept.marks ∙ inside_is s past e false false false kept.together kept.overtaken kept.history

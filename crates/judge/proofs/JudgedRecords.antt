@@ -13,7 +13,7 @@ use Rattle.judge.specs.{AreReasons, BothHeard, GivesReasons, HasAudited, HasJudg
 use Rattle.judge.specs.ThisLockVerdicts.{newest_first, newest_is_bad, stays_bad}
 use Rattle.judge.proofs.Splits.{at_before, at_newest, one_place}
 
--- an entry behind a good record that breaks a law first
+-- an entry after a good record that breaks a law first
 first_bad : (s : Setup) (entries : List Entry) (e : Entry) (l : Law) → AllKeep s (reverse entries) → BreaksFirst l s (reverse entries) e → IsBadAt s (entries ++ e ∷ []) (length entries) l
 first_bad s entries e l kept breaks = record {
   entry = e;
@@ -23,20 +23,20 @@ first_bad s entries e l kept breaks = record {
   breaks = breaks;
 }
 
--- one more entry behind a good record, by what a watch and an auditor say of it
+-- one more entry after a good record, by the findings of a watch and an auditor
 pub found_is : (s : Setup) (entries : List Entry) (e : Entry) (is_safe : Bool) (heard : Option Law) (then : AuditorState) → AllKeep s (reverse entries) →
     MatchBool is_safe (KeepsSafe s (reverse entries) e) (KeepsSafe s (reverse entries) e → ⊥) → IsHeard s (reverse entries) e then heard → IsVerdict s (entries ++ e ∷ []) (found (length entries) is_safe heard)
 found_is s entries e false heard then kept safe is = first_bad s entries e law.Safe kept (breaks_safe s (reverse entries) e false refl safe)
 found_is s entries e true (Some l) then kept safe is = first_bad s entries e l kept (breaks_then s (reverse entries) e l true refl safe is)
 found_is s entries e true None then kept safe is = subst (AllKeep s) (sym (newest_first entries e)) (is.0, kept)
 
--- it is good only if the auditor found no law broken
+-- the verdict is good only if the auditor found no law broken
 pub found_good : (k : ℕ) (is_safe : Bool) (heard : Option Law) → found k is_safe heard ≡ Good → heard ≡ None
 found_good k false heard is = absurd (cc)
 found_good k true (Some l) is = absurd (cc)
 found_good k true None is = refl
 
--- what a watch and an auditor make of one more entry
+-- the findings of a watch and an auditor on one more entry
 pub record AreTold (j : JudgeState) (e : Entry) (is_safe : Bool) (w : WatchState) (heard : Option Law) (a : AuditorState) : Type 0 where
   pub watched : w.setup ≡ j.watch.setup
   pub watch : (past : Past) → HasWatched j.watch past → HasWatched w (e ∷ past)
@@ -45,7 +45,7 @@ pub record AreTold (j : JudgeState) (e : Entry) (is_safe : Bool) (w : WatchState
   pub auditor : (past : Past) → HasHeard j.auditor past → IsHeard j.auditor.core.setup past e a heard
   pub stayed : (l : Law) → heard ≡ Some l → a ≡ j.auditor
 
--- behind a good record this is the verdict
+-- after a good record this is the verdict
 pub told_verdict : (j : JudgeState) (e : Entry) (is_safe : Bool) (w : WatchState) (heard : Option Law) (a : AuditorState) → AreTold j e is_safe w heard a → (s : Setup) (entries : List Entry) → j.verdict ≡ Good → HasJudged j s entries →
     IsVerdict s (entries ++ e ∷ []) (found j.entries is_safe heard)
 told_verdict j e is_safe w heard a told s entries good judged =
@@ -57,7 +57,7 @@ told_verdict j e is_safe w heard a told s entries good judged =
     let is = subst (λ (t : Setup). IsHeard t past e a heard) both.audited (told.auditor past both.auditor) in
     subst (λ n. IsVerdict s (entries ++ e ∷ []) (found n is_safe heard)) (sym judged.count) (found_is s entries e is_safe heard a kept safe is)
 
--- and if it is good both go on
+-- if the verdict is good, both have observed the entry
 pub told_goes_on : (j : JudgeState) (e : Entry) (is_safe : Bool) (w : WatchState) (heard : Option Law) (a : AuditorState) → AreTold j e is_safe w heard a → (s : Setup) (entries : List Entry) → j.verdict ≡ Good → HasJudged j s entries → found j.entries is_safe heard ≡ Good →
     BothHeard (record { watch = w; auditor = a; verdict = j.verdict; entries = j.entries }) s (reverse (entries ++ e ∷ []))
 told_goes_on j e is_safe w heard a told s entries good judged is =
@@ -72,12 +72,12 @@ told_goes_on j e is_safe w heard a told s entries good judged is =
       auditor = next.1;
     })
 
--- an auditor that finds no law broken has heard an entry that keeps them all, and so the law `Safe`
+-- an auditor that finds no law broken has observed an entry that keeps them all, and so the law `Safe`
 found_none : (k : ℕ) (is_safe : Bool) (s : Setup) (past : Past) (e : Entry) (a : AuditorState) → MatchBool is_safe (KeepsSafe s past e) (KeepsSafe s past e → ⊥) → IsHeard s past e a None → found k is_safe None ≡ Good
 found_none k true s past e a safe heard = refl
 found_none k false s past e a safe heard = absurd (safe (heard.0 law.Safe))
 
--- and if it is bad the auditor has stayed
+-- if the verdict is bad, the auditor is unchanged
 pub told_stays : (j : JudgeState) (e : Entry) (is_safe : Bool) (w : WatchState) (heard : Option Law) (a : AuditorState) → AreTold j e is_safe w heard a → (s : Setup) (entries : List Entry) → j.verdict ≡ Good → HasJudged j s entries → (found j.entries is_safe heard ≡ Good → ⊥) → a ≡ j.auditor
 told_stays j e is_safe w (Some l) a told s entries good judged bad = told.stayed l refl
 told_stays j e is_safe w None a told s entries good judged bad =
@@ -88,16 +88,16 @@ told_stays j e is_safe w None a told s entries good judged bad =
     let is = subst (λ (t : Setup). IsHeard t past e a None) both.audited (told.auditor past both.auditor) in
     absurd (bad (found_none j.entries is_safe s past e a safe is))
 
--- What a judge keeps.
+-- The state of a judge.
 
--- one more entry was heard, and is to be counted
+-- one more entry was observed, and is to be counted
 abbrev pub HearsOn : JudgeState → Entry → JudgeState → Type 0
 HearsOn old e j = (s : Setup) (entries : List Entry) → HasJudged old s entries → HasJudged (record j { entries = j.entries + 1 }) s (entries ++ e ∷ [])
 
 one_more : (n : ℕ) (entries : List Entry) (e : Entry) → n ≡ length entries → n + 1 ≡ length (entries ++ e ∷ [])
 one_more n entries e count = omega (arith, count, length-append entries (e ∷ []))
 
--- with the verdict on it, behind a good record,
+-- one more entry after a good record, with the verdict on it
 pub hears_good : (old now : JudgeState) (e : Entry) (v : Verdict Law) → old.verdict ≡ Good → now.entries ≡ old.entries → ((s : Setup) (entries : List Entry) → old.verdict ≡ Good → HasJudged old s entries → IsVerdict s (entries ++ e ∷ []) v) →
     ((s : Setup) (entries : List Entry) → old.verdict ≡ Good → HasJudged old s entries → v ≡ Good → BothHeard now s (reverse (entries ++ e ∷ []))) →
     ((s : Setup) (entries : List Entry) → old.verdict ≡ Good → HasJudged old s entries → (v ≡ Good → ⊥) → now.auditor ≡ old.auditor) → HearsOn old e (record now { verdict = v })
@@ -117,7 +117,7 @@ hears_good old now e v good same verdict goes_on stays s entries judged = record
       (subst (λ (a : AuditorState). HasAudited a s (reverse entries)) (sym stayed) (record { setup = both.audited; heard = both.auditor }));
 }
 
--- and behind a bad one
+-- one more entry after a bad record
 pub hears_bad : (old : JudgeState) (e : Entry) → (old.verdict ≡ Good → ⊥) → HearsOn old e old
 hears_bad old e bad s entries judged = record {
   good = judged.good;
@@ -144,7 +144,7 @@ judges_none j s good count verdict both = record {
   stays = λ k l e past bad at. let no : Bad k l ≡ Good = sym bad ∙ verdict in cc;
 }
 
--- the lines that are written of a bad entry are those of its reasons
+-- the lines that are written for a bad entry are those of its reasons
 pub gives_reasons : (j : JudgeState) (n : ℕ) (e : Entry) (lines : List ℕ) → Writes j.auditor (λ s past. reason_lines s past n e) [] lines → GivesReasons HasJudged (λ (j : JudgeState). j.verdict) AreReasons j n e lines
 gives_reasons j n e lines writes s entries past k l judged bad at few =
     let audited : HasAudited j.auditor s past = judged.stays k l e past bad at in

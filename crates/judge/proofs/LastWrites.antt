@@ -20,7 +20,7 @@ use Rattle.judge.proofs.Opened.{open_by}
 abbrev pub Unended : Option Access → Access → Type 0
 Unended last a = (last ≡ Some a) × (is_begin a.how ≡ true)
 
--- a write that is open is of this process, on a copy that there is, and the last one
+-- an open write is of this process, on a copy that exists, and its last write
 pub record IsLast (s : Setup) (p : ℕ) (last : Option Access) (b : Begun) : Type 0 where
   pub last_is : last ≡ Some b.access
   pub begins : is_begin b.access.how ≡ true
@@ -30,7 +30,7 @@ pub record IsLast (s : Setup) (p : ℕ) (last : Option Access) (b : Begun) : Typ
 abbrev pub OpenIsLast : Setup → ℕ → Option Begun → Option Access → Type 0
 OpenIsLast s p o last = (b : Begun) → write_of o ≡ Some b → IsLast s p last b
 
--- and the last one is open, if it is a begin
+-- the last write is open, if it is a begin
 abbrev pub LastIsOpen : Option Begun → Option Access → Type 0
 LastIsOpen o last = (a : Access) → Unended last a → write_of o ≡ None → ⊥
 
@@ -39,14 +39,14 @@ LastIsOpenIn o last (Runs command number at) = LastIsOpen o last
 LastIsOpenIn o last (Closes command number (Withdraws w)) = LastIsOpen o last
 LastIsOpenIn o last _ = Unit {0}
 
--- where no bit is left unfinished the last one is no begin
+-- if no bit is left unfinished, the last access is not a begin
 pub finished : (n : ℕ) (last : Option Access) (o : Option Begun) → unfinished n last ≡ None → LastIsOpen o last
 finished n last o none a unended closed =
     let left_is : unfinished n last ≡ cond (not (is_begin a.how) && (a.reader + 1 == n)) None (Some a) = ap (unfinished n) unended.0 in
     let begun : cond (not (is_begin a.how) && (a.reader + 1 == n)) None (Some a) ≡ Some a = ap (λ b. cond {A = Option Access} (not b && (a.reader + 1 == n)) None (Some a)) unended.1 in
     let f : None ≡ Some a = sym none ∙ left_is ∙ begun in cc
 
--- what of an access is an open write
+-- an access, if it is a write that is open
 abbrev of_write : Begun → Move → Option Begun
 of_write b m = cond (begins m) (elim m as (λ _. Option Begun) [ BeginWrite v ↦ Some b | EndWrite ↦ None | BeginRead ↦ None | EndRead v ↦ None | Settle v ↦ None ]) None
 
@@ -97,7 +97,7 @@ access_last s past e a acc plain by below b is_open =
       reader = subst (λ (x : Access). x.reader < s.processes) (sym one.0) below;
     }
 
--- one that only marks
+-- an entry with a mark alone
 pub marked_last : (s : Setup) (past : Past) (e : Entry) (m : Mark) → e.access ≡ None → e.marks ≡ m ∷ [] → OpenIsLast s e.process (opened e.process past) (last_write (own e.process past)) →
     OpenIsLast s e.process (opened e.process (e ∷ past)) (last_write (own e.process (e ∷ past)))
 marked_last s past e m none marks before b is_open =

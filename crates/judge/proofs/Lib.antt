@@ -21,14 +21,14 @@ pub mod JudgedRecords
 pub mod Explained
 pub mod AnyLockReasons
 pub mod Mays
--- What a process has open, and what of it is torn
+-- The open accesses and torn bits of a process
 pub mod StepMarks
 pub mod Opened
 pub mod OpenDoings
 pub mod LastWrites
 pub mod Torn
 pub mod TornDoings
--- What is good for this project's lock is good for any lock
+-- A record that is good for this project's lock is good for any lock
 pub mod NoneBelow
 pub mod SameReply
 pub mod OneDoorway

@@ -1,4 +1,4 @@
--- What a line of a record file says of what was read before it.
+-- The progress of reading after one more line of a record file.
 use Rattle.std.proofs.Common.{◌≡◌, ℕ, ◌==◌, ◌<◌, ◌≤◌, ◌||◌, not, nat_lt, Bool, true, false, if◌then◌else◌, List, [], ◌∷◌, length, codes, cond, IsSome, Option, Some, None, Result, Ok, Err, refl, ap, sym, subst, ◌∙◌, arith}
 use Rattle.std.proofs.lemmas.Bool.Decides.{nat_tests}
 use Rattle.std.proofs.lemmas.Slice.Eq.{bytes_eq-Decides}
@@ -14,12 +14,12 @@ use Rattle.record_file.specs.scenario.declared.keywords.Opener.TheVariants as op
 use Rattle.record_file.specs.declared.line_kinds.LineKind.TheVariants as kind
 use Rattle.judge.specs.{number_in, say_entry}
 
--- What a later line leaves: it says no entry, and what has ended stays; or it says one, and the head stays.
+-- The state after a later line. Without an entry, an ended head stays as it was; with an entry, the head has ended and stays as it was.
 abbrev pub Left : Bool → Progress → Progress → Type 0
 Left false p now = (now.entry ≡ p.entry) × (p.ended ≡ true → (now.ended ≡ true) × (now.head ≡ p.head))
 Left true p now = IsSome now.entry × (now.ended ≡ true) × (now.head ≡ p.head)
 
--- what was read is one thing
+-- the value of a successful reading is unique
 ok_same : {A : Type 0} (x y : A) → (let r : Result A FaultKind = Ok x in r) ≡ Ok y → x ≡ y
 ok_same x y is = cc
 
@@ -38,12 +38,12 @@ head_left p now r is = by p.ended refl is
         let same : (let q : Progress = record p { head = a.value } in q) ≡ now = ok_same (record p { head = a.value }) now a.next in
         (ap (λ (p : Progress). p.entry) (sym same), λ over. let no : true ≡ false = sym over ∙ ended in absurd (cc))
 
--- a line says an entry by the meaning of its first word
+-- the meaning of the first word decides whether a line is an entry
 abbrev pub is_entry_kind : LineKind → Bool
 is_entry_kind kind.Entry = true
 is_entry_kind _ = false
 
--- a line behind the first, by what its first word means
+-- a line after the first, by the meaning of its first word
 said_left : (kind : LineKind) (first : List ℕ) (words : List (List ℕ)) (p now : Progress) → line_said kind first words p ≡ Ok now → Left (is_entry_kind kind) p now
 unfolding head_read pair_read
 said_left kind.Record first words p now is = absurd (cc)
@@ -80,12 +80,12 @@ kind_is first what is = by (begins_with_digit first) is
     by true is = let same : kind.Entry ≡ what = cc in ap is_entry_kind (sym same)
     by false is = other (bytes_eq first (codes "record")) is
 
--- a line whose first word begins with # says none
+-- a line whose first word begins with # is not an entry
 skipped : (first : List ℕ) → begins_with 35 first ≡ true → begins_with_digit first ≡ false
 skipped [] is = refl
 skipped (b ∷ bs) is = grind (arith, nat_tests)
 
--- a line behind the first
+-- a line after the first
 pub later_left : (words : List (List ℕ)) (p : Progress) (now : Option Progress) → words_read record_grammar words (Some p) ≡ Ok now → (next : Progress) × (now ≡ Some next) × Left (say_entry words) p next
 later_left [] p now is = (p, sym (ok_same (Some p) now is), same_left p)
 later_left (first ∷ words) p now is = by (begins_with 35 first) refl is
@@ -100,7 +100,7 @@ later_left (first ∷ words) p now is = by (begins_with 35 first) refl is
     by true begins is = (p, sym (ok_same (Some p) now is), subst (λ b. Left b p p) (sym (skipped first begins)) (same_left p))
     by false begins is = kinds (kind_of first) refl is
 
--- the first line says no entry
+-- the first line is not an entry
 first_says_none : (first : List ℕ) (words : List (List ℕ)) (p : Progress) → first_read first words ≡ Ok p → (p.entry ≡ None) × (begins_with_digit first ≡ false)
 unfolding first_read
 first_says_none first words p is =
@@ -130,13 +130,13 @@ short_read line before short =
     let test : nat_lt 128 (length line) ≡ false = grind (arith, nat_tests) in
     ap (λ t. if t then Err TooLong else words_read record_grammar (words_of line) before) test
 
--- and one that is too long is not
+-- a line that is too long is refused
 pub long_read : (line : List ℕ) (before : Option Progress) → 128 < length line → line_read line before ≡ Err TooLong
 long_read line before long =
     let test : nat_lt 128 (length line) ≡ true = grind (arith, nat_tests) in
     ap (λ t. if t then Err TooLong else words_read record_grammar (words_of line) before) test
 
--- what was taken stays taken
+-- taking the entry twice changes nothing more
 pub clear_twice : (now : Option Progress) → cleared (cleared now) ≡ cleared now
 clear_twice None = refl
 clear_twice (Some p) = refl
@@ -145,7 +145,7 @@ clear_twice (Some p) = refl
 pub quiet_is_cleared : (now : Progress) → now.entry ≡ None → Some now ≡ cleared (Some now)
 quiet_is_cleared now none = ap (λ (o : Option Entry). Some (record now { entry = o })) none
 
--- a line says one entry at most
+-- a line has one entry at most
 pub few_in : (now : Option Progress) → length (entry_in now) ≤ 1
 few_in None = omega arith
 few_in (Some p) = by p.entry
@@ -154,11 +154,11 @@ few_in (Some p) = by p.entry
     by None = omega arith
     by (Some e) = omega arith
 
--- what was read before a line, and was taken, says no entry
+-- after the entry of the earlier lines was taken, there is none
 pub empty : (p : Progress) → cleared (Some p) ≡ Some p → p.entry ≡ None
 empty p clear = ap (λ (o : Option Progress). elim o as (λ _. Option Entry) [ None ↦ None | Some q ↦ q.entry ]) (sym clear)
 
--- a line that says no entry has no number among those that do
+-- a line that is not an entry has no number among those that are
 pub number_of_none : (n : ℕ) (line : List ℕ) (before now : Option Progress) → words_read record_grammar (words_of line) before ≡ Ok now → cleared before ≡ before → entry_in now ≡ [] → number_in n line ≡ []
 number_of_none n line None now read clear none = ap (λ b. cond b (n ∷ []) []) (first_left (words_of line) now read).1
 number_of_none n line (Some p) now read clear none = by (say_entry (words_of line)) (later_left (words_of line) p now read)
@@ -171,7 +171,7 @@ number_of_none n line (Some p) now read clear none = by (say_entry (words_of lin
     by false left = refl
     by true left = absurd (nothing left.0.entry (sym (ap entry_in left.1) ∙ none) left.2.0)
 
--- and one that says one has
+-- a line that is an entry has one
 pub number_of_some : (n : ℕ) (line : List ℕ) (before : Option Progress) (now : Progress) (e : Entry) → words_read record_grammar (words_of line) before ≡ Ok (Some now) → cleared before ≡ before → now.entry ≡ Some e → number_in n line ≡ n ∷ []
 number_of_some n line None now e read clear says =
     let none : option_to_list now.entry ≡ [] = (first_left (words_of line) (Some now) read).0 in

@@ -1,11 +1,11 @@
--- The lines of reasons, as entries are heard.
+-- The lines of reasons, entry by entry.
 use Rattle.std.proofs.Common.{◌≡◌, ℕ, zero, suc, List, [], ◌∷◌, ◌++◌, length, reverse, Result, Ok, Err, OnOk, Some, slice_get, refl, ap, subst, ◌∙◌, arith}
 use Rattle.std.proofs.lemmas.List.{length-append, length-reverse, reverse-append}
 use Rattle.plain_store.specs.{Setup}
 use Rattle.record.specs.{Entry, Past}
 use Rattle.judge.specs.{AreLinesAt}
 
--- the number at the end
+-- the last number
 last_number : (ns : List ℕ) (n k : ℕ) → length ns ≡ k → slice_get (ns ++ n ∷ []) k ≡ Some n
 last_number ns n k long = subst (λ k. slice_get (ns ++ n ∷ []) k ≡ Some n) long (at ns)
   where
@@ -13,7 +13,7 @@ last_number ns n k long = subst (λ k. slice_get (ns ++ n ∷ []) k ≡ Some n) 
     at [] = refl
     at (m ∷ ns) = at ns
 
--- and one before it
+-- an earlier number
 number_before : (ns : List ℕ) (n k m : ℕ) → slice_get ns k ≡ Some m → slice_get (ns ++ n ∷ []) k ≡ Some m
 number_before [] n k m is = absurd (cc)
 number_before (x ∷ ns) n zero m is = is
@@ -24,7 +24,7 @@ pub counted_on : (entries : List Entry) (numbers : List ℕ) (n : ℕ) (e : Entr
 counted_on entries numbers n e counted = omega (arith, counted, length-append numbers (n ∷ []), length-append entries (e ∷ []))
 
 module _ (Are : Setup → Past → ℕ → Entry → List ℕ → Type 0) (s : Setup) (entries : List Entry) (numbers : List ℕ) (n : ℕ) (e : Entry) where
-  -- one more entry behind the bad one
+  -- one more entry after the bad one
   pub lines_stay : (k : ℕ) (lines : List ℕ) → AreLinesAt Are s entries numbers k lines → AreLinesAt Are s (entries ++ e ∷ []) (numbers ++ n ∷ []) k lines
   lines_stay k lines at = record {
     entry = at.entry;
@@ -50,7 +50,7 @@ module _ (Are : Setup → Past → ℕ → Entry → List ℕ → Type 0) (s : S
     are = are;
   }
 
--- what follows, where there was memory
+-- a consequence, unless memory ran out
 pub ok_then : {A E : Type 0} (r : Result A E) {P Q : Type 0} → (P → Q) → OnOk r P → OnOk r Q
 ok_then (Ok a) then p = then p
 ok_then (Err e) then p = tt

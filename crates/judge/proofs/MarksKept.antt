@@ -35,7 +35,7 @@ use Rattle.judge.proofs.Torn.{TornIn}
 use Rattle.judge.proofs.TornDoings.{torn_is}
 use Rattle.judge.proofs.Withdrawals.{WithdrawnIn, answers_withdrawn, never_withdrawn, withdrawn_is}
 
--- An entry that only marks.
+-- Entries with a mark alone.
 
 alone_fine : (s : Setup) (past : Past) (e : Entry) (m : Mark) → e.access ≡ None → e.marks ≡ m ∷ [] → mark_refusal (standing s e.process past) m ≡ None → refusal_of_marks s past e ≡ None
 alone_fine s past e m none marks allowed =
@@ -43,7 +43,7 @@ alone_fine s past e m none marks allowed =
     ap (refusal_of_marks s past) is ∙ refused s e.process past None (m ∷ []) refl (and_false (stands_alone m || false))
     ∙ ap (λ r. elim r as (λ _. Option MarkRefusal) [ Some r ↦ Some r | None ↦ None ]) allowed
 
--- a call that is accepted is not one too many
+-- an accepted call is not refused because of the number of calls
 not_full : (s : Setup) (past : Past) (what : Event) (e : Entry) → entry_of s past what ≡ Some e → calls_full s past what ≡ false
 not_full s past what e is = go (nat_lt (process_of what) s.processes) (refused_at what (stage (process_of what) past)) (calls_full s past what) is
   where
@@ -54,7 +54,7 @@ not_full s past what e is = go (nat_lt (process_of what) s.processes) (refused_a
     go true None true h = cc
     go true None false h = refl
 
--- the entry of a call is that of a call
+-- an event whose entry has the mark of a call is a call
 is_a_call : (s : Setup) → IsGood s → (events : List Event) (what : Event) (e : Entry) (command : Command) → entry_of s (past_of s events) what ≡ Some e → e.marks ≡ mark.Called command ∷ [] → is_call what ≡ true
 is_a_call s g events what e command is marks = go what is (entry-accepted s (past_of s events) what e is).2
   where
@@ -77,7 +77,7 @@ few_calls version calls h = go (version == 2) h
     go true h = h
     go false h = refl
 
--- the stages where a process may fail
+-- the stages at which a process may fail
 part_calm : (x : Part) (fresh : Bool) → (is_settling (stage_of x fresh) || is_down (stage_of x fresh)) ≡ false
 part_calm (Clears a) true = refl
 part_calm (Clears a) false = refl
@@ -89,7 +89,7 @@ fails_at (Runs command number at) may = part_calm at.part (is_fresh at.run)
 fails_at (Closes command number (Withdraws w)) may = refl
 fails_at _ may = absurd (true≢false (sym may))
 
--- An entry with an access.
+-- Entries with an access.
 
 stepped_fine : (s : Setup) (past : Past) (e : Entry) (a : Access) (place : ℕ) (ms : List Mark) → e.access ≡ Some a → e.marks ≡ map (placed place) ms → ArePlain e.marks →
     Fine s (length past) place (accessed (length past) (standing s e.process past) a) ms → refusal_of_marks s past e ≡ None
@@ -98,7 +98,7 @@ stepped_fine s past e a place ms acc marks plain fine =
     ap (refusal_of_marks s past) is ∙ refused s e.process past (Some a) e.marks refl (ap (λ b. b && not (has_one_mark (with_marks e.process (Some a) e.marks))) plain)
     ∙ ap (refusal_on s (length past) (accessed (length past) (standing s e.process past) a)) marks ∙ fine
 
--- what is done after the last access of what is over
+-- the process rests or is down
 abbrev is_resting : Doing → Bool
 is_resting Rests = true
 is_resting Lies = true
@@ -117,19 +117,19 @@ done_after command number Quit h = refl
 done_after command number Ended h = refl
 done_after command number _ h = absurd (true≢false (sym h))
 
--- at rest nothing is open
+-- a process that rests or is down has no open access
 rest_closed : (s : Setup) (p : ℕ) (o : Option Begun) (d : Doing) → is_resting d ≡ true → FitsNext o (next_of s p d false) → o ≡ None
 rest_closed s p o Rests h fits = fits
 rest_closed s p o Lies h fits = fits
 rest_closed s p o (Runs command number at) h fits = absurd (true≢false (sym h))
 rest_closed s p o (Closes command number at) h fits = absurd (true≢false (sym h))
 
--- and without a unit that settles nothing is torn
+-- without a unit that settles, no bit is torn
 settler_torn : (s : Setup) (p : ℕ) (torn : Option Begun) (command : Command) (number : ℕ) (at : Closing) → is_settler at ≡ false → TornIn s p torn (closes command number at) → torn ≡ None
 settler_torn s p torn command number (Settles f bit begun taken is r) h t = absurd (true≢false h)
 settler_torn s p torn command number _ h t = t
 
--- No mark of the entry of an event is refused, where its call has taken what it has told before.
+-- No mark of the entry of an event is refused, if the reply that the look-back finds in its call is the one with which its command was taken.
 pub keeps_marks : (s : Setup) → IsGood s → (events : List Event) (what : Event) (e : Entry) → entry_of s (past_of s events) what ≡ Some e → CallTakes e.process (past_of s events) → refusal_of_marks s (past_of s events) e ≡ None
 keeps_marks s g events what e is takes = go acc.happens
   where
@@ -166,7 +166,7 @@ keeps_marks s g events what e is takes = go acc.happens
     withdrew : (d : Doing) → doing s p past ≡ d → WithdrawnIn k.withdrawn d
     withdrew d h = subst (WithdrawnIn k.withdrawn) h (withdrawn_is s g events p)
 
-    -- what is open and torn with the entry
+    -- the open access and the torn bit after the entry
     closed : (d : Doing) → doing s p (e ∷ past) ≡ d → is_resting d ≡ true → opened p (e ∷ past) ≡ None
     closed d h rests = rest_closed s p (opened p (e ∷ past)) d rests (subst (λ d. FitsNext (opened p (e ∷ past)) (next_of s p d false)) h (subst (λ l. FitsNext (opened p l) (next_of s p (doing s p l) false)) after (opens s g (what ∷ events) p false)))
 

@@ -1,4 +1,4 @@
--- Which entries may stand behind a good record.
+-- The entries that may follow a good record.
 use Rattle.std.proofs.Common.{◌≡◌, Bool, Some, ap, subst}
 use Rattle.record.specs.{Entry, Event, added, entry_made, entry_of}
 use Rattle.record.specs.declared.events.Event.TheVariants as event

@@ -1,4 +1,4 @@
--- None is the lowest where there is none.
+-- There is no lowest number if the test holds of no number.
 use Rattle.std.proofs.Common.{◌≡◌, ℕ, zero, suc, Bool, false, None, refl, sym, ap, ◌∙◌, add-one}
 use Rattle.any_lock.specs.{lowest_below}
 use Rattle.any_lock.proofs.lock_stages.Lowest.{lowest_none}

@@ -1,4 +1,4 @@
--- Nobody is overtaken: of a process that runs its call, the doorway of any lock is that of this project's lock.
+-- No process is overtaken: the doorway of a process that runs its call is one for any lock and for this project's lock.
 use Rattle.std.proofs.Common.{◌≡◌, ◌≢◌, ℕ, ◌==◌, not, ◌&&◌, Bool, true, false, cond, List, [], ◌∷◌, Option, Some, None, length, refl, sym, ap, subst, ◌∙◌, ne_eqb, true≢false}
 use Rattle.std.specs.List.{list_any}
 use Rattle.std.specs.Option.{is_some}
@@ -24,18 +24,18 @@ pub record OneDoorway (past : Past) (p : ℕ) (fresh : Bool) : Type 0 where
   pub same : number_in_call p has_access past ≡ doorway_begin p past
   pub begun : number_in_call p has_access past ≡ None → fresh ≡ true
 
--- of a process that runs its call, or withdrew
+-- the doorway of a process that runs its call, or withdrew
 abbrev pub DoorwayOf : Past → ℕ → Doing → Type 0
 DoorwayOf past p (Runs command number at) = OneDoorway past p (is_raising at.part && is_fresh at.run)
 DoorwayOf past p (Closes command number (Withdraws w)) = OneDoorway past p false
 DoorwayOf past p _ = Unit {0}
 
--- a call is withdrawn
+-- a closing withdraws its call
 abbrev was_withdrawal : Closing → Bool
 was_withdrawal (Withdraws w) = true
 was_withdrawal _ = false
 
--- an entry more of its call
+-- the doorway after one more entry of the call
 goes_on : (past : Past) (e : Entry) (was then : Bool) → has is_called e ≡ false → (has_access e ≡ false → (begins_doorway e ≡ false) × (was ≡ true → then ≡ true)) → (has_access e ≡ true → begins_doorway e ≡ was) →
     OneDoorway past e.process was → OneDoorway (e ∷ past) e.process then
 goes_on past e was then plain without with_one before = go (has_access e) refl (begins_doorway e) refl
@@ -46,7 +46,7 @@ goes_on past e was then plain without with_one before = go (has_access e) refl (
     n : Option ℕ
     n = number_in_call p has_access past
 
-    -- what both numbers are then
+    -- the two numbers after the entry
     are : (b c : Bool) → has_access e ≡ b → begins_doorway e ≡ c → first_of n (if_there b (length past)) ≡ first_of n (if_there c (length past)) → (first_of n (if_there b (length past)) ≡ None → then ≡ true) → OneDoorway (e ∷ past) p then
     are b c h k same begun =
         let any : number_in_call p has_access (e ∷ past) ≡ first_of n (if_there b (length past)) = number-mine p has_access e past refl plain b h in
@@ -73,7 +73,7 @@ goes_on past e was then plain without with_one before = go (has_access e) refl (
     go false h true k = absurd (true≢false (sym k ∙ (without h).0))
     go false h false k = are false false h k refl (λ none. (without h).1 (before.begun (nothing n none)))
 
--- what a closing leads to
+-- the doorway after an access of a closing
 closes_doorway : (past : Past) (p : ℕ) (c : Call) (command : Command) (number : ℕ) (at : Closing) (flick : Bool) → (was_withdrawal at ≡ true → OneDoorway past p false) → DoorwayOf past p (closes command number (closing_after c at flick))
 closes_doorway past p c command number (Withdraws w) flick h = go (is_last_written c (no_ticket c) w)
   where
@@ -98,7 +98,7 @@ closes_doorway past p c command number (Lowers w) flick h = go (is_last_written 
 closes_doorway past p c command number Quit flick h = tt
 closes_doorway past p c command number Ended flick h = tt
 
--- and a failure
+-- the doorway after a failure
 fails_doorway : (past : Past) (p : ℕ) (c : Call) (command : Command) (number : ℕ) (mine : Past) (o : Option Access) → DoorwayOf past p (Closes command number (settling_from c mine o))
 fails_doorway past p c command number mine None = tt
 fails_doorway past p c command number mine (Some a) = tt
@@ -110,7 +110,7 @@ runs_doorway past p command number at h = go (is_over at.part)
     go true = tt
     go false = h
 
--- what each entry makes of it, by what it is for its process
+-- the doorway after each kind of entry
 module _ (s : Setup) (past : Past) (e : Entry) (d d' : Doing) (begins : begins_doorway e ≡ begins_with e.access d) (uncalled : is_resting d ≡ false → has is_called e ≡ false) where
   abbrev p : ℕ
   p = e.process
@@ -143,7 +143,7 @@ module _ (s : Setup) (past : Past) (e : Entry) (d d' : Doing) (begins : begins_d
       withdraws Quit i h there was = absurd (true≢false (sym was))
       withdraws Ended i h there was = absurd (true≢false (sym was))
 
--- In the record of every list of events: of a process that runs its call, or withdrew, both doorways are one.
+-- In the record of every list of events, both doorways of a process that runs its call, or withdrew, are one.
 pub doorways : (s : Setup) → IsGood s → (events : List Event) (p : ℕ) → DoorwayOf (past_of s events) p (doing s p (past_of s events))
 doorways s g = own-induction s (λ (past : Past) (p : ℕ). DoorwayOf past p (doing s p past)) (λ p. tt) others
     (λ events event e is h.
@@ -165,12 +165,12 @@ doorways s g = own-induction s (λ (past : Past) (p : ℕ). DoorwayOf past p (do
     others : (past : Past) (e : Entry) (p : ℕ) → e.process ≢ p → DoorwayOf past p (doing s p past) → DoorwayOf (e ∷ past) p (doing s p (e ∷ past))
     others past e p apart h = subst (DoorwayOf (e ∷ past) p) (sym (doing-other s p e past apart)) (each past e p (doing s p past) (ne_eqb e.process p apart) h)
 
--- Who gets inside.
+-- Entering.
 
 of_entering : IsOfLock is_entered
 of_entering = record { taken = λ k r. refl; left = refl; settled = λ v. refl; down = refl; withdrawn = refl }
 
--- runs its call
+-- a process that enters runs its call
 entering_runs : (s : Setup) (past : Past) (p : ℕ) (e : Entry) (d d' : Doing) → Happens s past p e d d' → has is_entered e ≡ true → DoorwayOf past p d → number_in_call p has_access past ≡ doorway_begin p past
 entering_runs s past p e d d' (a_call command number i none m k) enters h = absurd (true≢false (sym enters ∙ ap (list_any is_entered) m))
 entering_runs s past p e d d' (a_withdrawal command number t w ws run i none m k) enters h = absurd (true≢false (sym enters ∙ ap (list_any is_entered) m))
@@ -180,7 +180,7 @@ entering_runs s past p e d d' (a_step command number at a flick i over acc made 
 entering_runs s past p e d d' (a_closing command number at flick n i next acc same m k) enters h =
     absurd (true≢false (sym enters ∙ ap (list_any is_entered) m ∙ any-placed is_entered of_entering (length (history s past)) n.marks ∙ any-closing is_entered of_entering (call s p command number) at flick n next))
 
--- Who gets inside overtakes nobody by the law of any lock either.
+-- A process that enters overtakes no process by the law of any lock either.
 pub keeps_overtaken : (s : Setup) → IsGood s → (events : List Event) (event : Event) (e : Entry) → entry_of s (past_of s events) event ≡ Some e → OvertakesNobody (past_of s events) e → breaks_overtaken s (past_of s events) e ≡ false
 keeps_overtaken s g events event e is kept = by (has is_entered e) refl
   where

@@ -1,4 +1,4 @@
--- What a process has open fits what it does next.
+-- The open access of a process fits its next access.
 use Rattle.std.proofs.Common.{◌≡◌, ◌≢◌, ℕ, ◌<◌, ◌+◌, ◌==◌, ◌&&◌, ◌||◌, Bool, true, false, cond, List, [], ◌∷◌, Option, Some, None, length, refl, sym, ap, subst, ◌∙◌, arith, true≢false, eqb-true, ne_eqb}
 use Rattle.std.proofs.lemmas.Bool.{and_parts}
 use Rattle.std.specs.Prelude.{fold}
@@ -26,9 +26,9 @@ use Rattle.any_lock.proofs.Steps.{opened-mine, standing-other}
 use Rattle.judge.proofs.Opened.{Fits, FitsNext, LeadsOn, open_by, same_copy, write_leads}
 use Rattle.judge.proofs.StepMarks.{plain_closing, plain_step}
 
--- At a place.
+-- Accesses at a place.
 
--- nothing of a number access is made: its first access is no end
+-- no access of the register was made: the first one does not end another
 new_fits : (c : Call) (part : Part) → Fits None (access_at c part (new_run c part))
 new_fits c part = go (is_read part)
   where
@@ -36,7 +36,7 @@ new_fits c part = go (is_read part)
     go true = refl
     go false = refl
 
--- a part to which a call comes, with nothing open
+-- a call enters a part with no open access
 enter_fits : (s : Setup) (p : ℕ) (command : Command) (number : ℕ) (part : Part) (o : Option Begun) (flick : Bool) → o ≡ None →
     FitsNext o (next_of s p (runs command number (enter (call s p command number) part)) flick)
 enter_fits s p command number part o flick none = subst (λ (x : Option Begun). FitsNext x (next_of s p (runs command number (enter (call s p command number) part)) flick)) (sym none) (go (is_over part))
@@ -45,13 +45,13 @@ enter_fits s p command number part o flick none = subst (λ (x : Option Begun). 
     go true = refl
     go false = new_fits (call s p command number) part
 
--- a number access that goes on
+-- a register access continues
 still_fits : (s : Setup) (p : ℕ) (command : Command) (number : ℕ) (part : Part) (run : Run) (o : Option Begun) (flick : Bool) → is_over part ≡ false → Fits o (access_at (call s p command number) part run) →
     FitsNext o (next_of s p (runs command number (record { part = part; run = run })) flick)
 still_fits s p command number part run o flick over fits =
     subst (λ b. FitsNext o (next_of s p (cond b Rests (Runs command number (record { part = part; run = run }))) flick)) (sym over) fits
 
--- with the access at a place
+-- the next access after the one at a place
 place_fits : (s : Setup) (p : ℕ) (command : Command) (number : ℕ) (part : Part) (run : Run) (torn : Option Access) (entry : ℕ) (u v flick : Bool) → is_over part ≡ false → LeftRun (call s p command number) torn part run →
     FitsNext (open_by entry (ended_with u (access_at (call s p command number) part run))) (next_of s p (runs command number (place_after (call s p command number) (record { part = part; run = run }) v)) flick)
 place_fits s p command number part (Writing w) torn entry u v flick over l = go (is_last c part (Writing w)) refl
@@ -82,7 +82,7 @@ place_fits s p command number part (Reading bits true) torn entry u v flick over
     go true = enter_fits s p command number (part_after c part (bits_with (Reading bits true) v)) None flick refl
     go false = still_fits s p command number part (run_after c part (Reading bits true) v) None flick over refl
 
--- In a closing.
+-- Accesses in a closing.
 
 -- a settling that has begun no access of its next copy
 settle_fits : (p : ℕ) (f : Field) (bit made reader : ℕ) (value : Option Bool) (v : Bool) → Fits None (access_of p f (bit, copies.next_settle (record { made = made; reader = reader; begun = false; value = value }) v))
@@ -92,12 +92,12 @@ settle_fits p f bit made reader value v = go (copies.is_open_at made reader)
     go true = refl
     go false = refl
 
--- a unit at its begin
+-- a unit that begins
 unit_fits : (s : Setup) (p : ℕ) (command : Command) (number : ℕ) (mine : Past) (o : Option Access) (flick : Bool) → FitsNext None (next_of s p (Closes command number (settling_from (call s p command number) mine o)) flick)
 unit_fits s p command number mine None flick = refl
 unit_fits s p command number mine (Some a) flick = settle_fits p a.field a.bit (made_with a) 0 None flick
 
--- with an access of a closing
+-- the next access after one of a closing
 closing_fits : (s : Setup) (p : ℕ) (command : Command) (number : ℕ) (at : Closing) (flick : Bool) (n : Next) (torn : Option Access) (entry : ℕ) (u now : Bool) → closing_next (call s p command number) at flick ≡ Some n →
     LeftClosing (call s p command number) torn at → ended_with u n.access ≡ n.access → n.access.reader < s.processes →
     FitsNext (open_by entry n.access) (next_of s p (closes command number (closing_after (call s p command number) at flick)) now)
@@ -167,9 +167,9 @@ closing_fits s p command number at flick n torn entry u now next l same below =
     go Quit h l below = cc
     go Ended h l below = cc
 
--- An entry.
+-- Entries.
 
--- plain marks leave what is open
+-- plain marks do not change the open access
 open_plain : (o : Option Begun) (ms : List Mark) → ArePlain ms → fold left_open o ms ≡ o
 open_plain o [] h = refl
 open_plain o (mark.Called c ∷ ms) h = absurd (true≢false h)
@@ -178,21 +178,21 @@ open_plain o (mark.Withdrew ∷ ms) h = absurd (true≢false h)
 open_plain o (mark.Restarted ∷ ms) h = absurd (true≢false h)
 open_plain o (_ ∷ ms) h = open_plain o ms h
 
--- what is open after the entry of an access is that access, if it begins
+-- the access of an entry is open after it, if it begins
 pub opened_access : (past : Past) (e : Entry) (a : Access) → e.access ≡ Some a → ArePlain e.marks → opened e.process (e ∷ past) ≡ open_by (length past) a
 opened_access past e a acc plain =
     opened-mine e.process e past refl ∙ open_plain (begun_by (length past) e.access (opened e.process past)) e.marks plain ∙ ap (λ o. begun_by (length past) o (opened e.process past)) acc
 
--- after one that only marks
+-- the open access after an entry with a mark alone
 pub opened_marked : (past : Past) (e : Entry) (m : Mark) → e.access ≡ None → e.marks ≡ m ∷ [] → opened e.process (e ∷ past) ≡ left_open (opened e.process past) m
 opened_marked past e m none marks =
     opened-mine e.process e past refl ∙ (λ i. fold left_open (begun_by (length past) (none i) (opened e.process past)) (marks i))
 
--- what a process has open, and does
+-- the open access of a process fits its next one
 abbrev pub Opens : Setup → Past → ℕ → Type 0
 Opens s past p = (flick : Bool) → FitsNext (opened p past) (next_of s p (doing s p past) flick)
 
--- who waits has no write open
+-- a waiting process has no open write
 read_only : (s : Setup) (p : ℕ) (command : Command) (number t : ℕ) (w : Wait) (ws : List Wait) (run : Run) (torn : Option Access) (o : Option Begun) →
     LeftRun (call s p command number) torn (Waits t w ws) run → Fits o (access_at (call s p command number) (Waits t w ws) run) → write_of o ≡ None
 read_only s p command number t w ws (Writing n) torn o l fits = absurd (true≢false l.0)
@@ -240,7 +240,7 @@ opens_by s past e torn d' (a_closing command number at now n i next acc same m k
     (sym (opened_access past e n.access acc (plain_closing c at now n next (length (history s past)) e.marks m)))
     (closing_fits s e.process command number at now n torn (length past) (read_value (opening_bit s n.access) (moves_of n.access past) now) flick next (subst (LeftIn s e.process torn) i l) same (there n.access acc).reader))
 
--- In the record of every list of events, what each process has open fits what it does next.
+-- In the record of every list of events, the open access of each process fits its next one.
 pub opens : (s : Setup) → IsGood s → (events : List Event) (p : ℕ) → Opens s (past_of s events) p
 opens s g = own-induction s (Opens s) (λ p flick. refl) others
     (λ events event e is before. opens_by s (past_of s events) e (left s (own e.process (past_of s events))) (doing s e.process (e ∷ past_of s events)) (accepted s g events event e is).happens (left-is s g events e.process)

@@ -1,4 +1,4 @@
--- What a process has open, as any lock's look-back finds it, is the begin of its next access, if that is an end; and else nothing is open.
+-- The open access of a process, as any lock's look-back finds it, is the begin of its next access, if that is an end; otherwise no access is open.
 use Rattle.std.proofs.Common.{◌≡◌, ◌≢◌, ℕ, ◌+◌, ◌*◌, ◌/◌, ◌%◌, ◌<◌, ◌==◌, ◌&&◌, Bool, true, false, cond, List, Option, Some, None, refl, sym, ap, arith, true≢false, eqb-true, eq-eqb, ne_eqb}
 use Rattle.std.proofs.lemmas.Bool.{eqb-false}
 use Rattle.record.specs.reader_copies.Runs as copies
@@ -8,16 +8,16 @@ use Rattle.record.specs.safe_number.{NumberWrite, write_on}
 use Rattle.record.specs.{Access, Field, access_of, bit_written, ended_with, field_number, next_written, same_bit, write_moved}
 use Rattle.any_lock.specs.{Begun, begun_by, ends, is_end_of}
 
--- what is open fits an access that comes next
+-- the open access fits the next one
 abbrev pub Fits : Option Begun → Access → Type 0
 Fits o a = elim (ends a.how) as (λ _. Type 0) [ true ↦ is_end_of o a ≡ true | false ↦ o ≡ None ]
 
--- or nothing is open, where none comes
+-- the open access fits the next one, if there is one; otherwise no access is open
 abbrev pub FitsNext : Option Begun → Option Access → Type 0
 FitsNext o None = o ≡ None
 FitsNext o (Some a) = Fits o a
 
--- what entry n has open with its access
+-- the access that is open after the access of entry n
 abbrev pub open_by : ℕ → Access → Option Begun
 open_by n x = begun_by n (Some x) None
 
@@ -30,9 +30,9 @@ pub same_copy : (p : ℕ) (f : Field) (k r q : ℕ) (how then : Move) → r ≡ 
     same_bit (record { owner = p; field = f; bit = k; reader = r; how = how }) (record { owner = p; field = f; bit = k; reader = q; how = then }) ≡ true
 same_copy p f k r q how then h = λ i. alike k i && eq-eqb r q h i && alike p i && alike (field_number f) i
 
--- Of a write.
+-- Open writes.
 
--- where the access of a write leads on: within the write it fits, and where that is done nothing is open
+-- the state after an access of a write: within the write the open access fits the next one, and after it no access is open
 pub record LeadsOn (p : ℕ) (f : Field) (bits : List Bool) (o : Option Begun) (width : ℕ) (to : NumberWrite) : Type 0 where
   pub going : (to.bit == width) ≡ false → Fits o (access_of p f (next_written bits to))
   pub done : (to.bit == width) ≡ true → o ≡ None

@@ -17,9 +17,9 @@ use Rattle.any_lock.proofs.Took.{Takes}
 use Rattle.judge.proofs.PlainMarks.{Fine, MayAnswer, answers, fine_entered, fine_more, fine_one, fits_answer, leaves, lies_down, no_reply, settles, takes, waits}
 use Rattle.judge.proofs.Withdrawals.{WithdrawnIn, answers_withdrawn}
 
--- At a place.
+-- Marks at a place.
 
--- where a process stands once the access at a place is made, before the marks; last: it is the last one of its part
+-- the state of a process after the access of a part, before the marks; last: it is the last one of its part
 pub record AtPart (k : Standing) (ts : List (ℕ × Reply)) (c : Call) (x : Part) (fresh last : Bool) (bits : List Bool) : Type 0 where
   pub at_stage : k.stage ≡ stage_of x fresh
   pub inside : k.passage.inside ≡ is_inside_at x fresh
@@ -85,20 +85,20 @@ module _ (s : Setup) (n place : ℕ) where
   part_fine k ts c (Clears a) fresh last bits at = clears_fine k ts c a fresh last bits at
   part_fine k ts c _ fresh last bits at = only_last (Fine s n place k) fresh last [] refl (λ _. refl)
 
--- In a closing.
+-- Marks in a closing.
 
--- the closing has come to its end
+-- the closing has ended
 abbrev pub is_done : Closing → Bool
 is_done Quit = true
 is_done Ended = true
 is_done _ = false
 
--- a bit is settled
+-- the closing settles a bit
 abbrev pub is_settler : Closing → Bool
 is_settler (Settles f bit begun taken is t) = true
 is_settler _ = false
 
--- where a process stands once the access of a closing is made, before the marks
+-- the state of a process after the access of a closing, before the marks
 pub record AtClosing (s : Setup) (p : ℕ) (k : Standing) (ts : List (ℕ × Reply)) (command : Command) (number : ℕ) (x : Closing) (flick : Bool) : Type 0 where
   pub at_stage : k.stage ≡ closing_stage x
   pub inside : k.passage.inside ≡ is_inside_closing x

@@ -1,4 +1,4 @@
--- Marks that any lock's tables do not refuse where a process stands so.
+-- Marks that any lock's tables do not refuse in a given state of a process.
 use Rattle.std.proofs.Common.{◌≡◌, ℕ, ◌&&◌, ◌||◌, not, Bool, true, false, List, [], ◌∷◌, Option, Some, None, map, refl, sym, ap, ◌∙◌}
 use Rattle.std.specs.Option.{is_none, is_some}
 use Rattle.plain_store.specs.{Answer, Reply, Setup}
@@ -31,7 +31,7 @@ settles k v st none = λ i. first_that ((not (is_settling (st i)), refusal.NotSe
 pub lies_down : (k : Standing) → k.stage ≡ stages.Settling → k.passage.inside ≡ false → k.opened ≡ None → k.torn ≡ None → mark_refusal k Down ≡ None
 lies_down k st out closed whole = λ i. first_that ((not (is_settling (st i)), refusal.NotSettling) ∷ (out i, refusal.StillInside) ∷ (is_some (closed i), refusal.AccessOpen) ∷ (is_some (whole i), refusal.Torn) ∷ [])
 
--- what an answer has that is not refused
+-- the facts about an answer that is not refused
 pub record MayAnswer (k : Standing) (a : Answer) : Type 0 where
   pub at_stage : (is_in_doorway k.stage || is_leaving k.stage) ≡ true
   pub withdrawn : (k.withdrawn && not (is_withdrawn a)) ≡ false
@@ -50,7 +50,7 @@ answers k a h = λ i. first_that (
     ∷ (is_some (h.closed i), refusal.AccessOpen)
     ∷ [])
 
--- What was taken.
+-- The replies with which commands were taken.
 
 pub no_reply : (o : Option Reply) (ts : List (ℕ × Reply)) → Takes o ts → ts ≡ [] → o ≡ None
 no_reply None ts h none = refl
@@ -63,7 +63,7 @@ one_reply (Some q) ts k r h one =
     let pair : ◌≡◌ {A = ℕ × Reply} (h.0, q) (k, r) = cc in
     ap (λ (t : ℕ × Reply). Some t.1) pair
 
--- an answer that is the reply with which the call has taken its command, or else one that tells of none
+-- an answer is the reply with which the call has taken its command, or contains no reply
 pub fits_answer : (a : Answer) (o : Option Reply) (ts : List (ℕ × Reply)) → Takes o ts → IsAnswerTo a ts → (has_other_reply o a ≡ false) × ((is_none o && is_reply a) ≡ false)
 fits_answer (answer.Reply r) o ts h is =
     let one : o ≡ Some r = one_reply o ts is.0 r h is.1 in
@@ -74,7 +74,7 @@ fits_answer answer.Withdrawn o ts h is = let none : o ≡ None = no_reply o ts h
 
 -- Marks one after the other.
 
--- with this place in what they take
+-- marks that get this position are not refused
 abbrev pub Fine : Setup → ℕ → ℕ → Standing → List Mark → Type 0
 Fine s n place k ms = refusal_on s n k (map (placed place) ms) ≡ None
 
@@ -85,7 +85,7 @@ fine_more s n place k m ms h rest =
 pub fine_one : (s : Setup) (n place : ℕ) (k : Standing) (m : Mark) → mark_refusal k (placed place m) ≡ None → Fine s n place k (m ∷ [])
 fine_one s n place k m h = fine_more s n place k m [] h refl
 
--- who waits for nobody gets inside
+-- a process that waits for no other enters
 pub fine_entered : (s : Setup) (n place : ℕ) (k : Standing) (ws : List Wait) → k.stage ≡ stages.Waiting → Fine s n place k (entered_if_none ws)
 fine_entered s n place k [] st = fine_one s n place k Entered (enters k st)
 fine_entered s n place k (w ∷ ws) st = refl

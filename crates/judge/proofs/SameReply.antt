@@ -1,4 +1,4 @@
--- A reply is the same as itself.
+-- A reply equals itself.
 use Rattle.std.proofs.Common.{◌≡◌, true, refl, arith}
 use Rattle.std.proofs.lemmas.Bool.Decides.{nat_tests}
 use Rattle.plain_store.specs.{Reply}

@@ -1,4 +1,4 @@
--- The marks of a step need not stand alone.
+-- No mark of a step must be alone.
 use Rattle.std.specs.Prelude.{◌&&◌}
 use Rattle.std.proofs.Common.{◌≡◌, ℕ, Bool, true, false, cond, List, [], ◌∷◌, Some, map, refl, ap, ◌∙◌}
 use Rattle.std.specs.List.{list_any}
@@ -32,12 +32,12 @@ last_plain c (Waits t w ws) bits = waited_plain (lets_by c t w bits) ws
 last_plain c (AsksImage vs) bits = taken_plain (changes (store_read c bits) c.command) (reply c (store_read c bits))
 last_plain c _ bits = refl
 
--- at a place
+-- the marks at a place
 pub plain_step : (c : Call) (at : Place) (v : Bool) (place : ℕ) (ms : List Mark) → ms ≡ map (placed place) (marks_of c at v) → ArePlain ms
 plain_step c at v place ms is =
     ap (list_any stands_alone) is ∙ any-placed stands_alone of_plain place (marks_of c at v) ∙ any-marks stands_alone refl c at v
     ∙ ap (λ b. is_last c at.part at.run && b) (last_plain c at.part (bits_with at.run v)) ∙ and_false (is_last c at.part at.run)
 
--- in a closing
+-- the marks in a closing
 pub plain_closing : (c : Call) (at : Closing) (flick : Bool) (n : Next) → closing_next c at flick ≡ Some n → (place : ℕ) (ms : List Mark) → ms ≡ map (placed place) n.marks → ArePlain ms
 plain_closing c at flick n next place ms is = ap (list_any stands_alone) is ∙ any-placed stands_alone of_plain place n.marks ∙ any-closing stands_alone of_plain c at flick n next

@@ -1,7 +1,7 @@
--- Texts behind one another.
+-- Texts one after another.
 use Rattle.std.proofs.Common.{◌≡◌, ℕ, List, [], ◌++◌, sym, ◌∙◌, append_assoc, append-nil}
 
--- nothing more
+-- a text with nothing appended
 pub none : (t : List ℕ) → t ≡ t ++ []
 none t = sym (append-nil t)
 

@@ -1,4 +1,4 @@
--- The torn bit of a process, as any lock's look-back finds it, is the copy that its memory unit comes to and settles; without a unit that settles there is none.
+-- The torn bit of a process, as any lock's look-back finds it, is the copy that its memory unit reaches and settles. Without a unit that settles there is none.
 use Rattle.std.proofs.Common.{◌≡◌, ◌≢◌, ℕ, ◌<◌, ◌≤◌, ◌+◌, ◌*◌, ◌==◌, ◌||◌, Bool, true, false, cond, [], ◌∷◌, Option, Some, None, refl, sym, ap, subst, ◌∙◌, arith, true≢false, eqb-true}
 use Rattle.std.proofs.lemmas.Bool.{eqb-false}
 use Rattle.record.specs.reader_copies.Runs as copies
@@ -11,14 +11,14 @@ use Rattle.record.proofs.PlaceTurns.{access_in}
 use Rattle.any_lock.specs.read_law.laws.{Doing, Rests, Runs, Closes, call, closes, runs}
 use Rattle.any_lock.specs.{Begun, settles, torn, torn_after}
 
--- What is torn.
+-- Torn bits.
 
--- the copies that its unit settles still
+-- the torn bit is a copy that the unit still has to settle, or no bit is torn and no such copy is open
 pub data TornBy (n p : ℕ) (f : Field) (bit : ℕ) (t : copies.Settling) (torn : Option Begun) : Type 0 where
   settled : torn ≡ None → ((r : ℕ) → t.reader ≤ r → r < n → t.made ≢ 2 * r + 1) → TornBy n p f bit t torn
   comes : (b : Begun) → torn ≡ Some b → b.access.owner ≡ p → b.access.field ≡ f → b.access.bit ≡ bit → t.reader ≤ b.access.reader → b.access.reader < n → t.made ≡ 2 * b.access.reader + 1 → TornBy n p f bit t torn
 
--- one of them was begun to be settled that was not open
+-- and if the unit has begun an access of a copy, that copy was not open
 pub record TornAt (n p : ℕ) (f : Field) (bit : ℕ) (t : copies.Settling) (torn : Option Begun) : Type 0 where
   pub by : TornBy n p f bit t torn
   pub apart : t.begun ≡ true → t.made ≢ 2 * t.reader + 1
@@ -27,7 +27,7 @@ abbrev pub TornIn : Setup → ℕ → Option Begun → Doing → Type 0
 TornIn s p torn (Closes command number (Settles f bit begun by is t)) = TornAt s.processes p f bit t torn
 TornIn s p torn _ = torn ≡ None
 
--- What is torn then.
+-- The torn bit after an access.
 
 pub runs_none : (s : Setup) (p : ℕ) (torn : Option Begun) (command : Command) (number : ℕ) (at : Place) → torn ≡ None → TornIn s p torn (runs command number at)
 runs_none s p torn command number at h = go (is_over at.part)
@@ -36,7 +36,7 @@ runs_none s p torn command number at h = go (is_over at.part)
     go true = h
     go false = h
 
--- with an access that settles a copy, or another of a unit that settles
+-- after an access that settles a copy, or another one of a unit that settles
 settles_on : (s : Setup) (p : ℕ) (command : Command) (number : ℕ) (f : Field) (bit : ℕ) (begun : Bool) (taken : Option Reply) (is : Bool) (t : copies.Settling) (flick : Bool) (torn : Option Begun) → TornAt s.processes p f bit t torn → t.reader < s.processes →
     TornIn s p (torn_after (Some (access_in (closing_next (call s p command number) (Settles f bit begun taken is t) flick))) torn) (closes command number (closing_after (call s p command number) (Settles f bit begun taken is t) flick))
 settles_on s p command number f bit begun taken is t flick torn at below = go t.begun refl (copies.is_open_at t.made t.reader) refl
@@ -56,7 +56,7 @@ settles_on s p command number f bit begun taken is t flick torn at below = go t.
     then : Bool → Bool → Doing
     then last b = closes command number (cond last (freeing c is) (Settles f bit begun taken is (to b)))
 
-    -- on to the next copy, where this one is not torn
+    -- the next copy, if this one is not torn
     past_it : (o : Option Begun) → TornBy s.processes p f bit t o → t.made ≢ 2 * t.reader + 1 → (last : Bool) → (t.reader + 1 == s.processes) ≡ last → TornIn s p o (then last true)
     past_it o (settled none all) other true h = none
     past_it o (settled none all) other false h = record { by = settled none (λ r low. all r (omega (arith, low))); apart = λ b. absurd (true≢false (sym b)) }
@@ -67,12 +67,12 @@ settles_on s p command number f bit begun taken is t flick torn at below = go t.
         let more : t.reader ≢ b.access.reader = λ same. other (omega (arith, made, same)) in
         record { by = comes b torn_is owner field its (omega (arith, low, more)) high made; apart = λ q. absurd (true≢false (sym q)) }
 
-    -- on to the next copy, where this one was settled
+    -- the next copy, after this one was settled
     behind_it : t.made ≡ 2 * t.reader + 1 → (last : Bool) → TornIn s p None (then last true)
     behind_it was true = refl
     behind_it was false = record { by = settled refl (λ r low high same. omega (arith, was, low, same)); apart = λ b. absurd (true≢false (sym b)) }
 
-    -- on with this copy
+    -- this copy again
     on_it : (o : Option Begun) → TornBy s.processes p f bit t o → t.made ≢ 2 * t.reader + 1 → (last : Bool) → (t.reader == s.processes) ≡ last → TornIn s p o (then last false)
     on_it o by other true h = let all : t.reader ≡ s.processes = eqb-true t.reader s.processes h in absurd (omega (arith, below, all))
     on_it o (settled none all) other false h = record { by = settled none all; apart = λ _. other }
@@ -91,7 +91,7 @@ never_torn (Some a) = go (settles a.how)
     go true = refl
     go false = refl
 
--- with any access of a closing
+-- after any access of a closing
 pub closing_torn : (s : Setup) (p : ℕ) (command : Command) (number : ℕ) (at : Closing) (flick : Bool) (n : Next) (torn : Option Begun) → closing_next (call s p command number) at flick ≡ Some n → TornIn s p torn (Closes command number at) → n.access.reader < s.processes →
     TornIn s p (torn_after (Some n.access) torn) (closes command number (closing_after (call s p command number) at flick))
 closing_torn s p command number at flick n torn next h below =

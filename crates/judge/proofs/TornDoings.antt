@@ -1,4 +1,4 @@
--- What of each process is torn, and its last write, in the record of every list of events.
+-- The torn bit of each process, and its last write, in the record of every list of events.
 use Rattle.std.proofs.Common.{◌≡◌, ◌≢◌, ℕ, ◌+◌, ◌*◌, ◌==◌, ◌&&◌, not, Bool, true, false, cond, List, ◌∷◌, Option, Some, None, length, refl, sym, ap, subst, ◌∙◌, arith, true≢false, ne_eqb}
 use Rattle.std.specs.List.{list_any}
 use Rattle.record.specs.{Access, Call, Closing, Entry, Event, Part, Past, Place, Reading, Run, Wait, Waits, Withdraws, Writing, access_at, closing_after, failing, has, history, is_begin, is_failed, is_finished, is_over, last_write, made_with, moves_of, opening_bit, own, past_of, place_after, settling_from, unfinished, value_of, written_at}
@@ -25,7 +25,7 @@ use Rattle.judge.proofs.OpenDoings.{opened_access}
 use Rattle.judge.proofs.StepMarks.{plain_closing, plain_step}
 use Rattle.judge.proofs.Torn.{TornIn, closing_torn, comes, never_torn, runs_none, settled}
 
--- what is known of a process
+-- the last write and the torn bit of a process
 pub record IsTorn (s : Setup) (past : Past) (p : ℕ) (d : Doing) : Type 0 where
   pub open_last : OpenIsLast s p (opened p past) (last_write (own p past))
   pub last_open : LastIsOpenIn (opened p past) (last_write (own p past)) d
@@ -47,12 +47,12 @@ fails_torn s p command number mine o last open_last last_open = go last refl
     T : Option Access → Type 0
     T torn = TornIn s p (write_of o) (Closes command number (settling_from c mine torn))
 
-    -- with no write
+    -- the process made no write
     nothing : last ≡ None → (w : Option Begun) → write_of o ≡ w → write_of o ≡ None
     nothing is None h = h
     nothing is (Some b) h = let f : None ≡ Some b.access = sym is ∙ (open_last b h).last_is in cc
 
-    -- with one that is finished
+    -- its last write is finished
     ended : (a : Access) → last ≡ Some a → is_finished n a ≡ true → (w : Option Begun) → write_of o ≡ w → write_of o ≡ None
     ended a is fin None h = h
     ended a is fin (Some b) h =
@@ -62,7 +62,7 @@ fails_torn s p command number mine o last open_last last_open = go last refl
         let begins : is_begin a.how ≡ true = ap (λ (x : Access). is_begin x.how) same ∙ its.begins in
         absurd (true≢false (sym fin ∙ ap (λ b. not b && (a.reader + 1 == n)) begins))
 
-    -- with one that is not
+    -- its last write is not finished
     cut : (a : Access) → last ≡ Some a → (w : Option Begun) → write_of o ≡ w → T (Some a)
     cut a is None h = by (is_begin a.how) refl
       where
@@ -87,7 +87,7 @@ fails_torn s p command number mine o last open_last last_open = go last refl
         by true fin = ended a is fin (write_of o) refl
         by false fin = cut a is (write_of o) refl
 
--- where a process may fail, its last write is open, if it is a begin
+-- if a process may fail, its last write is open, if it is a begin
 may_cut : (s : Setup) (p : ℕ) (mine : Past) (o : Option Begun) (d : Doing) → may_fail d ≡ true → LeftIn s p (left s mine) d → LastIsOpenIn o (last_write mine) d → LastIsOpen o (last_write mine)
 may_cut s p mine o Rests may l h = finished s.processes (last_write mine) o l
 may_cut s p mine o (Runs command number at) may l h = h
@@ -111,7 +111,7 @@ closes_last : (o : Option Begun) (last : Option Access) (command : Command) (num
 closes_last o last command number (Withdraws w) h = h
 closes_last o last command number _ h = tt
 
--- with an access of a write
+-- after an access of a write
 written_last : (past : Past) (e : Entry) (a : Access) → e.access ≡ Some a → ArePlain e.marks → is_write a.how ≡ true → LastIsOpen (opened e.process (e ∷ past)) (last_write (own e.process (e ∷ past)))
 written_last past e a acc plain writes x unended closed =
     let last : last_write (own e.process (e ∷ past)) ≡ Some a = ap last_write (own-own e.process e past refl) ∙ last-made e (own e.process past) a acc ∙ ap (λ b. cond b (Some a) (last_write (own e.process past))) writes in
@@ -119,11 +119,11 @@ written_last past e a acc plain writes x unended closed =
     let same : a ≡ x = cc in
     begun_open (length past) a (ap (λ (y : Access). is_begin y.how) same ∙ unended.1) (sym (ap write_of (opened_access past e a acc plain)) ∙ closed)
 
--- with one of a read, or none, where nothing is unfinished
+-- after an access of a read, or none, if no bit is left unfinished
 still_last : (s : Setup) (past : Past) (e : Entry) (o : Option Begun) → last_write (e ∷ own e.process past) ≡ last_write (own e.process past) → left s (own e.process past) ≡ None → LastIsOpen o (last_write (own e.process (e ∷ past)))
 still_last s past e o same none = finished s.processes (last_write (own e.process (e ∷ past))) o (ap (λ l. unfinished s.processes (last_write l)) (own-own e.process e past refl) ∙ ap (unfinished s.processes) same ∙ none)
 
--- with the access at a place
+-- after the access at a place
 place_last : (s : Setup) (past : Past) (e : Entry) (command : Command) (number : ℕ) (part : Part) (run : Run) (a : Access) (v : Bool) → e.access ≡ Some a → ArePlain e.marks → is_write a.how ≡ is_write (access_at (call s e.process command number) part run).how →
     LeftRun (call s e.process command number) (left s (own e.process past)) part run → LastIsOpen (opened e.process (e ∷ past)) (last_write (own e.process (e ∷ past)))
 place_last s past e command number part (Writing w) a v acc plain same l = written_last past e a acc plain (same ∙ written-writes e.process (written_at (call s e.process command number) part).0 (written_at (call s e.process command number) part).1 w)
@@ -134,7 +134,7 @@ place_last s past e command number part (Reading bits begun) a v acc plain same 
     read true = refl
     read false = refl
 
--- who waits has nothing unfinished
+-- a waiting process has no unfinished write
 waits_left : (c : Call) (torn : Option Access) (t : ℕ) (w : Wait) (ws : List Wait) (run : Run) → LeftRun c torn (Waits t w ws) run → torn ≡ None
 waits_left c torn t w ws (Writing n) l = absurd (true≢false l.0)
 waits_left c torn t w ws (Reading bits begun) l = l.1
@@ -143,7 +143,7 @@ pub made_by : (p : ℕ) (e : Entry) (a : Access) → e.access ≡ Some a → Ent
 made_by p e a acc (marks_only none) = let f : None ≡ Some a = sym none ∙ acc in cc
 made_by p e a acc (makes x is by) = let f : Some x ≡ Some a = sym is ∙ acc in let same : x ≡ a = cc in subst (ByProcess p) same by
 
--- An entry.
+-- Entries.
 
 module _ (s : Setup) (past : Past) (e : Entry) (d d' : Doing) (is : doing s e.process past ≡ d) where
   abbrev p : ℕ
@@ -152,7 +152,7 @@ module _ (s : Setup) (past : Past) (e : Entry) (d d' : Doing) (is : doing s e.pr
   abbrev mine : Past
   mine = own p past
 
-  -- what is torn, where the process does not fail
+  -- the torn bit after an entry in which the process does not fail
   torn_on : (o : Option Access) → e.access ≡ o → has is_failed e ≡ false → torn p (e ∷ past) ≡ torn_after o (torn p past)
   torn_on o acc unfailed = torn-mine p e past refl false unfailed ∙ ap (λ o. torn_after o (torn p past)) acc
 
@@ -202,7 +202,7 @@ module _ (s : Setup) (past : Past) (e : Entry) (d d' : Doing) (is : doing s e.pr
             (closing_torn s p command number at flick n (torn p past) next (subst (TornIn s p (torn p past)) i before.torn_in) (there n.access acc).reader);
       })
 
--- In the record of every list of events.
+-- The facts hold in the record of every list of events.
 pub torn_is : (s : Setup) → IsGood s → (events : List Event) (p : ℕ) → IsTorn s (past_of s events) p (doing s p (past_of s events))
 torn_is s g = own-induction s (λ (past : Past) (p : ℕ). IsTorn s past p (doing s p past)) (λ p. record { open_last = λ b h. cc; last_open = tt; torn_in = refl }) others
     (λ events event e is before.

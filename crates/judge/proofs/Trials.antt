@@ -1,4 +1,4 @@
--- What a line of a record file leaves of what was heard before it.
+-- The state of observing a record file after one more line.
 use Rattle.std.proofs.Common.{◌≡◌, ℕ, ◌≤◌, Bool, true, false, List, [], ◌∷◌, ◌++◌, length, IsSome, Option, Some, None, Ok, refl, ap, sym, subst, ◌∙◌, append-nil, arith}
 use Rattle.std.specs.Option.{option_to_list}
 use Rattle.plain_store.specs.{Setup}
@@ -12,23 +12,23 @@ use Rattle.judge.specs.{number_in, say_entry}
 use Rattle.judge.specs.Trials.{GoesOn, Hears, HearsAt, Stands}
 use Rattle.judge.proofs.Lines.{Left, clear_twice, empty, first_left, later_left, number_of_none, number_of_some, short_read}
 
--- what follows from a fact that is known unless memory ran out
+-- a consequence of a fact that is known unless memory ran out
 pub unless_then : (kind : FaultKind) {P Q : Type 0} → (P → Q) → UnlessMemory kind P → UnlessMemory kind Q
 unless_then Memory leads p = p
 unless_then _ leads p = leads p
 
 module _ {H : Type 0} (HasHeard : H → Setup → List Entry → List ℕ → Type 0) where
-  -- who hears does so by the setup that was read
+  -- a fact about an observer, for an equal setup
   heard_at : (s t : Setup) (h : H) (entries : List Entry) (numbers : List ℕ) → s ≡ t → HasHeard h s entries numbers → HasHeard h t entries numbers
   heard_at s t h entries numbers same heard = subst (λ s. HasHeard h s entries numbers) same heard
 
-  -- with nothing more
+  -- no entry and no number is added
   with_none : (h : Option H) (before : Option Progress) (entries : List Entry) (more : List Entry) (numbers : List ℕ) (at : List ℕ) → more ≡ [] → at ≡ [] → HearsAt HasHeard h before entries numbers → HearsAt HasHeard h before (entries ++ more) (numbers ++ at)
   with_none h before entries more numbers at none zero heard =
       subst (λ (l : List Entry). HearsAt HasHeard h before l (numbers ++ at)) (sym (ap (λ l. entries ++ l) none ∙ append-nil entries))
       (subst (λ (l : List ℕ). HearsAt HasHeard h before entries l) (sym (ap (λ l. numbers ++ l) zero ∙ append-nil numbers)) heard)
 
-  -- behind a line that says no entry
+  -- after a line that is not an entry
   still_at : (words : List (List ℕ)) (before now : Option Progress) (j : Option H) (entries : List Entry) (numbers : List ℕ) → words_read record_grammar words before ≡ Ok now → HearsAt HasHeard j before entries numbers → HearsAt HasHeard j (cleared now) entries numbers
   still_at words before now None entries numbers read heard = heard
   still_at words None now (Some j) entries numbers read heard = absurd heard
@@ -49,7 +49,7 @@ module _ {H : Type 0} (HasHeard : H → Setup → List Entry → List ℕ → Ty
   heard_still n line before now j entries numbers read clear none heard =
       with_none j (cleared now) entries (entry_in now) numbers (number_in n line) none (number_of_none n line before now read clear none) (still_at (words_of line) before now j entries numbers read heard)
 
-  -- behind one that says an entry, which was heard
+  -- after a line whose entry was observed
   more_at : (words : List (List ℕ)) (before : Option Progress) (now : Progress) (e : Entry) (n : ℕ) (j j' : Option H) (entries : List Entry) (numbers : List ℕ) → words_read record_grammar words before ≡ Ok (Some now) → cleared before ≡ before → now.entry ≡ Some e →
       IsSome j' → (Hears HasHeard j now.head.setup entries numbers → Hears HasHeard j' now.head.setup (entries ++ e ∷ []) (numbers ++ n ∷ [])) → HearsAt HasHeard j before entries numbers → HearsAt HasHeard j' (cleared (Some now)) (entries ++ e ∷ []) (numbers ++ n ∷ [])
   more_at words None now e n j j' entries numbers read clear says some hears heard =
@@ -73,13 +73,13 @@ module _ {H : Type 0} (HasHeard : H → Setup → List Entry → List ℕ → Ty
           let both = ends b next.0 same next.2 in
           (both.0, hears (before_it j heard both.1))
 
-  -- what its words say, by what was read before it
+  -- the words of a line are read in the state before it
   read_at : (line : List ℕ) (reader : Option Progress) (j : Option H) (before : Option Progress) (entries : List Entry) (numbers : List ℕ) → Stands HasHeard reader j before entries numbers → words_read record_grammar (words_of line) reader ≡ words_read record_grammar (words_of line) before
   read_at line reader j before entries numbers stands = ap (λ (o : Option Progress). words_read record_grammar (words_of line) o) stands.read
 
   -- How a line ends.
 
-  -- well, with what was read and what was heard
+  -- the line was read, and its entry, if any, was observed
   ends_well : (n : ℕ) (line : List ℕ) (reader reader' now : Option Progress) (j j' : Option H) (before : Option Progress) (entries : List Entry) (numbers : List ℕ) → length line ≤ 128 → Stands HasHeard reader j before entries numbers → words_read record_grammar (words_of line) reader ≡ Ok now → reader' ≡ cleared now →
       HearsAt HasHeard j' (cleared now) (entries ++ entry_in now) (numbers ++ number_in n line) → GoesOn HasHeard n line before reader' j' entries numbers
   ends_well n line reader reader' now j j' before entries numbers short stands read same heard = record {
@@ -88,14 +88,14 @@ module _ {H : Type 0} (HasHeard : H → Setup → List Entry → List ℕ → Ty
     stands = record { read = same; clear = clear_twice now; heard = heard };
   }
 
-  -- it says no entry
+  -- the line is not an entry
   pub ends_quiet : (n : ℕ) (line : List ℕ) (reader reader' now : Option Progress) (j : Option H) (before : Option Progress) (entries : List Entry) (numbers : List ℕ) → length line ≤ 128 → Stands HasHeard reader j before entries numbers → words_read record_grammar (words_of line) reader ≡ Ok now → reader' ≡ cleared now →
       entry_in now ≡ [] → GoesOn HasHeard n line before reader' j entries numbers
   ends_quiet n line reader reader' now j before entries numbers short stands read same none =
       ends_well n line reader reader' now j j before entries numbers short stands read same
       (heard_still n line before now j entries numbers (sym (read_at line reader j before entries numbers stands) ∙ read) stands.clear none stands.heard)
 
-  -- it says one, which was heard
+  -- the line is an entry, which was observed
   pub ends_heard : (n : ℕ) (line : List ℕ) (reader reader' : Option Progress) (now : Progress) (e : Entry) (j j' : Option H) (before : Option Progress) (entries : List Entry) (numbers : List ℕ) → length line ≤ 128 → Stands HasHeard reader j before entries numbers → words_read record_grammar (words_of line) reader ≡ Ok (Some now) → now.entry ≡ Some e →
       reader' ≡ cleared (Some now) → IsSome j' → ((entries : List Entry) (numbers : List ℕ) → Hears HasHeard j now.head.setup entries numbers → Hears HasHeard j' now.head.setup (entries ++ e ∷ []) (numbers ++ n ∷ [])) → GoesOn HasHeard n line before reader' j' entries numbers
   ends_heard n line reader reader' now e j j' before entries numbers short stands read says same some hears =
@@ -105,7 +105,7 @@ module _ {H : Type 0} (HasHeard : H → Setup → List Entry → List ℕ → Ty
       (subst (λ (l : List ℕ). HearsAt HasHeard j' (cleared (Some now)) (entries ++ e ∷ []) (numbers ++ l)) (sym (number_of_some n line before now e read' stands.clear says))
       (more_at (words_of line) before now e n j j' entries numbers read' stands.clear says some (hears entries numbers) stands.heard)))
 
-  -- it is as it is printed for a Step, which was heard behind an entry
+  -- the line is printed as a Step, and was observed after an entry
   pub ends_stepped : (n : ℕ) (line : List ℕ) (reader : Option Progress) (h h' : H) (process : ℕ) (access : Access) (before : Option Progress) (entries : List Entry) (numbers : List ℕ) → length line ≤ 128 → line ≡ spaced (entry_words (step_entry process access)) → is_entry (step_entry process access) ≡ true →
       ((s : Setup) (entries : List Entry) (numbers : List ℕ) → HasHeard h s entries numbers → HasHeard h' s (entries ++ step_entry process access ∷ []) (numbers ++ n ∷ [])) → Stands HasHeard reader (Some h) before entries numbers → GoesOn HasHeard n line before reader (Some h') entries numbers
   ends_stepped n line reader h h' process access before entries numbers short printed sound hears stands =

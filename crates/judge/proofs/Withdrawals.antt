@@ -1,4 +1,4 @@
--- Who withdrew, and who answers that.
+-- Calls that were withdrawn, and calls that return `withdrawn`.
 use Rattle.std.proofs.Common.{◌≡◌, ℕ, ◌+◌, ◌==◌, ◌||◌, Bool, true, false, cond, List, [], ◌∷◌, length, Option, Some, None, refl, sym, ap, subst, ◌∙◌, ne_eqb}
 use Rattle.std.specs.List.{list_any}
 use Rattle.record.specs.{Access, Asks, AsksImage, AsksStamp, Call, Clears, Entry, Event, Part, Past, Place, Raises, Refuses, TakesTicket, Version, Wait, Waits, WritesImage, bits_with, enter, first_full, greatest, has, history, is_called, is_last, is_over, last_write, lets_by, max_of, newest_stamp, others, own, part_after, past_of, place_after, processes, reply, run_after, since, store_read, to_b, to_c, to_d, to_e, unfinished, value_of, waits_of, write_moved}
@@ -18,9 +18,9 @@ use Rattle.any_lock.proofs.Markings.{withdrawn-plain}
 use Rattle.any_lock.proofs.Steps.{own-mine, standing-other}
 use Rattle.judge.proofs.StepMarks.{plain_closing, plain_step}
 
--- A call that was not withdrawn is not answered so.
+-- A call that was not withdrawn does not return `withdrawn`.
 
--- a part after which that is answered
+-- a part after which a call returns `withdrawn`
 abbrev pub answers_withdrawn : Part → Bool
 answers_withdrawn (Clears answer.Withdrawn) = true
 answers_withdrawn _ = false
@@ -94,7 +94,7 @@ unit_withdrawn : (was : Bool) (command : Command) (number : ℕ) (c : Call) (min
 unit_withdrawn was command number c mine None = tt
 unit_withdrawn was command number c mine (Some a) = tt
 
--- only a withdrawal goes on with one
+-- only a withdrawal continues as a withdrawal
 closes_withdrawn : (was now : Bool) (c : Call) (command : Command) (number : ℕ) (at : Closing) (flick : Bool) → now ≡ was → WithdrawnIn was (Closes command number at) → WithdrawnIn now (closes command number (closing_after c at flick))
 closes_withdrawn was now c command number (Withdraws w) flick same h = go (is_last_written c (no_ticket c) w)
   where

@@ -1,4 +1,4 @@
--- The lines of reasons, as they are written one behind another.
+-- The lines of reasons, as they are written one after another.
 use Rattle.std.proofs.Common.{◌≡◌, ℕ, Bool, true, false, List, ◌++◌, Option, cond, codes, ap, ◌∙◌, append_assoc}
 use Rattle.plain_store.specs.{Setup}
 use Rattle.record.specs.{Entry, Event, Refusal, Stage, refused}
@@ -8,7 +8,7 @@ use Rattle.judge.specs.Reasons.{Writes, event_or_step, is_crowded, may_lines, re
 use Rattle.judge.specs.ReasonLines.{bad_lines, stage_line, word_line}
 use Rattle.judge.proofs.Texts.{three}
 
--- the mark of its event is in company
+-- the mark of its event is not alone
 pub writes_crowded : (a : AuditorState) (e : Entry) (p : ℕ) (stage : Option Stage) (old new : List ℕ) → p ≡ e.process → OfHeard a (λ s past. stage ≡ stage_in s past p) → true ≡ is_crowded stage e →
     new ≡ old ++ word_line (codes "refused") (codes "not-alone") → Writes a (λ s past. refused_line s past e) old new
 writes_crowded a e p stage old new of at crowded written = λ past heard few.
@@ -16,7 +16,7 @@ writes_crowded a e p stage old new of at crowded written = λ past heard few.
     let here : stage ≡ stage_in s past e.process = at past heard ∙ ap (stage_in s past) of in
     written ∙ ap (λ (b : Bool). old ++ cond b (word_line (codes "refused") (codes "not-alone")) (refusal_line (refused s past (event_or_step e)))) (crowded ∙ ap (λ (stage : Option Stage). is_crowded stage e) here)
 
--- it is not
+-- otherwise the refusal is that of its event
 pub writes_refusal : (a : AuditorState) (e : Entry) (p : ℕ) (stage : Option Stage) (event : Event) (refusal : Option Refusal) (old new : List ℕ) → p ≡ e.process → OfHeard a (λ s past. stage ≡ stage_in s past p) → false ≡ is_crowded stage e →
     event ≡ event_or_step e → OfHeard a (λ s past. refusal ≡ refused s past event) → new ≡ old ++ refusal_line refusal → Writes a (λ s past. refused_line s past e) old new
 writes_refusal a e p stage event refusal old new of at alone told is written = λ past heard few.
@@ -26,7 +26,7 @@ writes_refusal a e p stage event refusal old new of at alone told is written = �
     written ∙ ap (λ (r : Option Refusal). old ++ refusal_line r) why
     ∙ ap (λ (b : Bool). old ++ cond b (word_line (codes "refused") (codes "not-alone")) (refusal_line (refused s past (event_or_step e)))) (alone ∙ ap (λ (stage : Option Stage). is_crowded stage e) here)
 
--- all of them
+-- all lines
 pub writes_reasons : (a : AuditorState) (n : ℕ) (e : Entry) (p : ℕ) (stage : Option Stage) (old bad may why new : List ℕ) → p ≡ e.process → bad ≡ old ++ bad_lines n e → Writes a (λ s past. may_lines s past p) bad may → Writes a (λ s past. refused_line s past e) may why →
     OfHeard a (λ s past. stage ≡ stage_in s past p) → new ≡ why ++ stage_line stage → Writes a (λ s past. reason_lines s past n e) old new
 writes_reasons a n e p stage old bad may why new of is_bad is_may is_why at is_stage = λ past heard few.

@@ -8,19 +8,19 @@ use Rattle.any_lock.specs.read_law.declared.verdicts.Verdict.TheVariants.{Good, 
 use Rattle.any_lock.proofs.Told.{verdict_bad, verdict_good}
 use Rattle.std.specs.Prelude.{reverse}
 
--- a record has one
+-- a record has one verdict
 pub one_verdict : (s : Setup) (entries : List Entry) (v w : Verdict AnyLockLaw) → IsVerdict s entries v → IsVerdict s entries w → v ≡ w
 one_verdict s entries v w first second = first ∙ sym second
 
--- no entry is bad where there is none
+-- the verdict on an empty record is good
 pub none_is_bad : (s : Setup) → IsVerdict s [] Good
 none_is_bad s = refl
 
--- behind a bad entry it stays
+-- a bad verdict stays with one more entry
 pub stays_bad : (s : Setup) (entries : List Entry) (e : Entry) (k : ℕ) (l : AnyLockLaw) → IsVerdict s entries (Bad k l) → IsVerdict s (entries ++ e ∷ []) (Bad k l)
 stays_bad s entries e k l is = sym (verdict_bad s entries e k l (sym is))
 
--- the bad entry behind a good record is the newest one
+-- after a good record the bad entry is the newest one
 pub newest_is_bad : (s : Setup) (entries : List Entry) (e : Entry) (k : ℕ) (l : AnyLockLaw) → IsVerdict s entries Good → IsVerdict s (entries ++ e ∷ []) (Bad k l) → k ≡ length entries
 newest_is_bad s entries e k l good is = by (first_broken s (reverse entries) e) (is ∙ verdict_good s entries e (sym good))
   where

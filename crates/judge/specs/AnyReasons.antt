@@ -28,30 +28,30 @@ entry_if word (Some k) = number_line word k
 abbrev pub pair_line : List ℕ → ℕ → ℕ → List ℕ
 pair_line word q k = word ++ (codes " " ++ (decimal q ++ (codes " " ++ (decimal k ++ codes "\n"))))
 
--- who is inside, and since which entry
+-- the process that is inside, and the entry since which it is inside
 abbrev pub inside_line : Option (ℕ × ℕ) → List ℕ
 inside_line None = []
 inside_line (Some pair) = pair_line (codes "inside") pair.0 pair.1
 
--- who waits ahead, and since which entry
+-- a process that is ahead, and the entry since which it waits
 abbrev pub wait_line : ℕ → Option ℕ → List ℕ
 wait_line q None = []
 wait_line q (Some k) = pair_line (codes "waits") q k
 
--- of all processes from q on
+-- the processes from q on that are ahead
 abbrev pub waits_from : ℕ → List (Option ℕ) → List ℕ
 waits_from q [] = []
 waits_from q (wait ∷ waits) = wait_line q wait ++ waits_from (q + 1) waits
 
--- what stands behind the refusal
+-- the stage of the process, and the entries with its open access and its torn bit
 abbrev pub standing_lines : Reasons → List ℕ
 standing_lines r = stage_line r.stage ++ (entry_if (codes "open") r.opened ++ entry_if (codes "torn") r.torn)
 
--- and behind that
+-- the processes that are inside or ahead, and the begin of the doorway
 abbrev pub others_lines : Reasons → List ℕ
 others_lines r = inside_line r.inside ++ (waits_from 0 r.waits ++ entry_if (codes "doorway") r.doorway)
 
--- The lines of the reasons of an entry that stands in line n.
+-- The lines of the reasons of an entry in line n.
 abbrev pub any_reason_lines : ℕ → Entry → Reasons → List ℕ
 any_reason_lines n e r = bad_lines n e ++ (any_may_line e r.may ++ (any_refused_line r.refused ++ (standing_lines r ++ others_lines r)))
 

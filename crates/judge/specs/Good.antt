@@ -1,4 +1,4 @@
--- What is good for this project's lock is good for any lock.
+-- A record that is good for this project's lock is good for any lock.
 use Rattle.std.specs.Prelude.{◌≡◌, ℕ, List, ◌∷◌, false, true, Ok}
 use Rattle.plain_store.specs.{Setup, checked}
 use Rattle.record.specs.{Entry, Past, doorway_begin, is_running, number_in_call, stage}
@@ -12,14 +12,14 @@ pub record KeepsOfAny (s : Setup) (past : Past) (e : Entry) : Type 0 where
   pub together : breaks_together s past e ≡ false
   pub history : breaks_history s past e ≡ false
 
--- Where each entry keeps all laws of this project's lock, it keeps these laws of any lock.
+-- If all entries keep all laws of this project's lock, the newest one keeps these laws of any lock.
 abbrev pub GoodKeepsOfAny : Type 0
 GoodKeepsOfAny = (s : Setup) (past : Past) (e : Entry) → AllKeep s (e ∷ past) → KeepsOfAny s past e
 
--- Good is good: where this project's lock is what a record is judged by, and the verdict is good, it is good by what any lock keeps.
+-- Good is good: if a record with a checked setup is good by the laws of this project's lock, it is good by the laws of any lock.
 abbrev pub GoodIsGood : Type 0
 GoodIsGood = (s : Setup) → checked s ≡ Ok tt → (entries : List Entry) → IsVerdict s entries Good → verdict_of s entries ≡ Good
 
--- There the doorway of a process that runs its call began, by what any lock keeps, where it begins for this project's lock.
+-- The doorway of a process that runs its call begins with the same entry by the definition of any lock and by that of this project's lock.
 abbrev pub DoorwaysAreOne : Type 0
 DoorwaysAreOne = (s : Setup) → checked s ≡ Ok tt → (past : Past) → AllKeep s past → (p : ℕ) → is_running (stage p past) ≡ true → number_in_call p has_access past ≡ doorway_begin p past

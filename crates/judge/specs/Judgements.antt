@@ -1,4 +1,4 @@
--- What the engine `judge` answers and writes, whoever judges.
+-- The text and the status of the engine `judge`, for any judge.
 use Rattle.std.specs.Prelude.{◌≡◌, ℕ, Bool, true, false, List, ◌++◌, codes, length, Result}
 use Rattle.plain_store.specs.{Setup}
 use Rattle.record.specs.{Entry, Past}
@@ -9,7 +9,7 @@ use Rattle.files.specs.Engines.{Streams}
 use Rattle.files.specs.{Fault}
 use Rattle.judge.specs.Explanations.{AreLinesOf}
 
--- the line of a verdict on so many entries, by the names of the laws
+-- the line of a verdict on a number of entries, by the names of the laws
 abbrev pub verdict_line : {L : Type 0} → (L → List ℕ) → ℕ → Verdict L → List ℕ
 verdict_line name entries verdict = verdict_text name entries verdict ++ codes "\n"
 
@@ -25,7 +25,7 @@ pub record TellsVerdict {L : Type 0} (name : L → List ℕ) (IsVerdict : Setup 
   pub answer : status ≡ status_of_verdict verdict
   pub line : told ≡ verdict_line name (length entries) verdict
 
--- the line of the verdict, behind it the lines of its reasons, and its status
+-- the line of the verdict, followed by the lines of its reasons, and its status
 pub record TellsReasons {L : Type 0} (name : L → List ℕ) (IsVerdict : Setup → List Entry → Verdict L → Type 0) (AreReasons : L → Setup → Past → ℕ → Entry → List ℕ → Type 0) (s : Setup) (entries : List Entry) (numbers told : List ℕ) (status : ℕ) : Type 0 where
   pub verdict : Verdict L
   pub is : IsVerdict s entries verdict
@@ -34,7 +34,7 @@ pub record TellsReasons {L : Type 0} (name : L → List ℕ) (IsVerdict : Setup 
   pub are : AreLinesOf AreReasons s entries numbers verdict lines
   pub text : told ≡ verdict_line name (length entries) verdict ++ lines
 
--- How judging ends: with the verdict on what the whole input says, and with lines of reasons if they are asked for; or with its fault. Each fault has its cause, and nothing was written unless the verdict is known.
+-- How judging ends: with the verdict on the record of the whole input, and with lines of reasons if they are asked for; or with its fault. Each fault has its cause, and nothing was written unless the verdict is known.
 abbrev pub JudgeEnds : {L : Type 0} → (L → List ℕ) → (Setup → List Entry → Verdict L → Type 0) → (L → Setup → Past → ℕ → Entry → List ℕ → Type 0) → Bool → Result ℕ Fault → Streams → Streams → Type 0
 JudgeEnds name IsVerdict AreReasons false = TrialEnds (TellsVerdict name IsVerdict)
 JudgeEnds name IsVerdict AreReasons true = TrialEnds (TellsReasons name IsVerdict AreReasons)

@@ -9,7 +9,7 @@ pub mod Trials
 pub mod Ends
 pub mod Firsts
 pub mod ReasonLines
--- What is told of a record, whoever judges
+-- Reports on a record, by any judge
 pub mod Explanations
 pub mod Judgements
 pub mod KeepingLaws

@@ -21,12 +21,12 @@ named_entry name e = name ++ (codes " " ++ entry_line e)
 abbrev pub bad_lines : ℕ → Entry → List ℕ
 bad_lines n e = number_line (codes "line") n ++ named_entry (codes "is") e
 
--- the stage of its process, if that is there
+-- the stage of its process, if that exists
 abbrev pub stage_line : Option Stage → List ℕ
 stage_line None = []
 stage_line (Some stage) = word_line (codes "stage") (stage_word stage)
 
--- these are the lines of the reasons of the bad entry of a record: entry k, which stands in the line with its number; what they are is told by the entries before it
+-- these are the lines of the reasons of the bad entry of a record: entry k, in the line with its number, after the entries before it
 pub record AreLinesAt (Are : Setup → Past → ℕ → Entry → List ℕ → Type 0) (s : Setup) (entries : List Entry) (numbers : List ℕ) (k : ℕ) (lines : List ℕ) : Type 0 where
   pub entry : Entry
   pub past : Past

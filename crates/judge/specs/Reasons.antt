@@ -18,7 +18,7 @@ may_line (Some e) = named_entry (codes "may") e
 abbrev pub without_twin : List ℕ → List ℕ → List ℕ
 without_twin line other = line ++ cond (bytes_eq line other) [] other
 
--- what a Step of a process adds: with flick 0, and with flick 1 if that is another entry
+-- the entry that a Step of a process adds: with flick 0, and with flick 1 if that is another entry
 abbrev pub may_lines : Setup → Past → ℕ → List ℕ
 may_lines s past p = without_twin (may_line (entry_of s past (Step p false))) (may_line (entry_of s past (Step p true)))
 
@@ -27,11 +27,11 @@ abbrev pub refusal_line : Option Refusal → List ℕ
 refusal_line None = []
 refusal_line (Some r) = word_line (codes "refused") (refusal_text r)
 
--- the event that an entry tells, or else a Step
+-- the event of an entry: that of its mark, or otherwise a Step
 abbrev pub event_or_step : Entry → Event
 event_or_step e = elim (event_in e) as (λ _. Event) [ None ↦ Step e.process false | Some event ↦ event ]
 
--- its process is there, and the mark of an event that is no Step is in company
+-- its process exists, and the mark of an event other than a Step is not alone
 abbrev pub is_crowded : Option Stage → Entry → Bool
 is_crowded stage e = is_some stage && is_none (event_in e) && has tells_event e
 
@@ -39,14 +39,14 @@ is_crowded stage e = is_some stage && is_none (event_in e) && has tells_event e
 abbrev pub refused_line : Setup → Past → Entry → List ℕ
 refused_line s past e = cond (is_crowded (stage_in s past e.process) e) (word_line (codes "refused") (codes "not-alone")) (refusal_line (refused s past (event_or_step e)))
 
--- The lines of the reasons of an entry that stands in line n: that line and the entry, what may stand there, why it is refused, and the stage of its process.
+-- The lines of the reasons of an entry in line n: that line and the entry, and then the entries that a Step would add there. They end with the reason why the entry is refused and the stage of its process.
 abbrev pub reason_lines : Setup → Past → ℕ → Entry → List ℕ
 reason_lines s past n e = bad_lines n e ++ (may_lines s past e.process ++ (refused_line s past e ++ stage_line (stage_in s past e.process)))
 
--- these are they, whatever the law
+-- these are the lines of the reasons, for every law
 abbrev pub AreReasons : Law → Setup → Past → ℕ → Entry → List ℕ → Type 0
 AreReasons l s past n e lines = lines ≡ reason_lines s past n e
 
--- these lines on the past that an auditor has heard were written behind a text
+-- these lines, which depend on the past that an auditor has observed, were appended to a text
 abbrev pub Writes : AuditorState → (Setup → Past → List ℕ) → (old new : List ℕ) → Type 0
 Writes a lines old new = OfHeard a (λ s past. length past < 2 ^ 64 → new ≡ old ++ lines s past)

@@ -11,11 +11,11 @@ use Rattle.auditor.specs.read_law.declared.verdicts.Verdict.TheVariants.{Good, B
 pub newest_first : (entries : List Entry) (e : Entry) → reverse (entries ++ e ∷ []) ≡ e ∷ reverse entries
 newest_first entries e = reverse-append entries (e ∷ [])
 
--- no entry is bad where there is none
+-- the verdict on an empty record is good
 pub none_is_bad : (s : Setup) → IsVerdict s [] Good
 none_is_bad s = tt
 
--- behind a bad entry it stays
+-- a bad verdict stays with one more entry
 pub stays_bad : (s : Setup) (entries : List Entry) (e : Entry) (k : ℕ) (l : Law) → IsVerdict s entries (Bad k l) → IsVerdict s (entries ++ e ∷ []) (Bad k l)
 stays_bad s entries e k l is = record {
   entry = is.entry;
@@ -25,12 +25,12 @@ stays_bad s entries e k l is = record {
   breaks = is.breaks;
 }
 
--- where each entry keeps all laws, one of them does
+-- if each entry keeps all laws, one of them does
 one_keeps : (s : Setup) (later past : Past) (e : Entry) → AllKeep s (later ++ e ∷ past) → KeepsAll s past e
 one_keeps s [] past e all = all.0
 one_keeps s (x ∷ later) past e all = one_keeps s later past e all.1
 
--- the bad entry behind a good record is the newest one
+-- after a good record the bad entry is the newest one
 newest_bad : (s : Setup) (past : Past) (e y : Entry) (later ys : Past) → AllKeep s past → e ∷ past ≡ later ++ y ∷ ys → (KeepsAll s ys y → ⊥) → past ≡ ys
 newest_bad s past e y [] ys all splits bad = cc
 newest_bad s past e y (z ∷ later) ys all splits bad = let rest : past ≡ later ++ y ∷ ys = cc in absurd (bad (one_keeps s later ys y (subst (AllKeep s) rest all)))

@@ -18,9 +18,14 @@ use files::{Fault, Sink, Source};
 use std::alloc::Global;
 
 /// Reads a whole record file, line by line, and then writes the verdict on its record by the laws of this project's lock, on
-/// one line, and after a bad one its reasons, if they are asked for. Returns the exit status. It stores a line, a block and
-/// the reasons, however long the file is. A file of 2^64 - 1 lines or more, whose numbers need more than 64 bits, ends with
-/// `Memory`.
+/// one line. If reasons are asked for, they follow a bad verdict. Returns the exit status. It stores a line, a block and
+/// the reasons, however long the file is.
+///
+/// # Errors
+///
+/// Returns the first fault of the file, with its line, or [`Fault::Read`], [`Fault::Memory`] or [`Fault::Write`]. Only after
+/// [`Fault::Write`] may a part of the text be written. A file of 2^64 - 1 lines or more, whose numbers need more than 64 bits,
+/// ends with [`Fault::Memory`].
 pub fn run_judge<R: Source, W: Sink>(
     alloc: Global,
     input: &mut R,
@@ -36,7 +41,11 @@ pub fn run_judge<R: Source, W: Sink>(
     run_judged::<ThisLockJudge, R, W>(alloc, input, output, asked)
 }
 
-/// Does the same by the laws of any lock on safe bits.
+/// Judges a record file as [`run_judge`] does, by the laws of any lock on safe bits.
+///
+/// # Errors
+///
+/// Returns the faults of [`run_judge`].
 pub fn judge_any_lock<R: Source, W: Sink>(
     alloc: Global,
     input: &mut R,
@@ -52,7 +61,7 @@ pub fn judge_any_lock<R: Source, W: Sink>(
     run_judged::<Judge, R, W>(alloc, input, output, asked)
 }
 
-/// Does the same by the laws of a judge.
+/// Judges a record file as [`run_judge`] does, by the laws of a judge.
 fn run_judged<J: RecordJudge, R: Source, W: Sink>(
     alloc: Global,
     input: &mut R,

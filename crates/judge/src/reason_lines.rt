@@ -34,6 +34,10 @@ pub fn entry_of_parts(
 }
 
 /// Writes the line of a word and a number.
+///
+/// # Errors
+///
+/// Returns [`AllocError`] if memory runs out.
 pub fn push_number(
     alloc: Global,
     word: &str,
@@ -53,6 +57,10 @@ fn number_text(alloc: Global, word: &str, number: u64) -> Result<String, AllocEr
 }
 
 /// Writes the line of two words.
+///
+/// # Errors
+///
+/// Returns [`AllocError`] if memory runs out.
 pub fn push_word(
     alloc: Global,
     name: &str,
@@ -72,6 +80,10 @@ fn word_text(alloc: Global, name: &str, word: &str) -> Result<String, AllocError
 }
 
 /// Writes the line of a word and an entry.
+///
+/// # Errors
+///
+/// Returns [`AllocError`] if memory runs out.
 #[tactic(auto, using(crate::proofs::Texts::three))]
 pub fn push_entry(
     alloc: Global,
@@ -88,6 +100,10 @@ pub fn push_entry(
 }
 
 /// Writes the number of the line of a bad entry, and that entry.
+///
+/// # Errors
+///
+/// Returns [`AllocError`] if memory runs out.
 #[tactic(auto, using(crate::proofs::Texts::two))]
 pub fn push_bad(
     alloc: Global,
@@ -103,6 +119,10 @@ pub fn push_bad(
 }
 
 /// Writes the stage of its process, if that exists.
+///
+/// # Errors
+///
+/// Returns [`AllocError`] if memory runs out.
 #[tactic(auto, using(crate::proofs::Texts::none))]
 pub fn push_stage(alloc: Global, stage: Option<Stage>, text: &mut Vec<u8>) -> Result<(), AllocError>
     ensures { OnOk result (text.new.items ≡ text.old.items ++ stage_line stage) }

@@ -80,7 +80,7 @@ fn push_both(line: &[u8], other: &[u8], lines: &mut Vec<u8>) -> Result<(), Alloc
 }
 
 /// Writes why an entry is refused, if it is: by the event of its mark, or otherwise by a Step. If the mark of such an event
-/// has an access or another mark beside it, the refusal is that it is not alone.
+/// has an access or another mark next to it, the refusal is that it is not alone.
 fn push_refused(
     alloc: Global,
     entry: &Entry,

@@ -34,6 +34,10 @@ impl<H: Hearer> Trial<H> {
     }
 
     /// Reads one more line, with its number, which is not too long.
+    ///
+    /// # Errors
+    ///
+    /// Returns the fault of the line, or [`FaultKind::Memory`] if memory runs out.
     pub fn line(&mut self, number: u64, line: &[u8]) -> Result<(), FaultKind>
         requires short { length line.now ≤ 128 }
         requires few { count_in H.count self.old.hearer < 2 ^ 64 - 1 }
@@ -136,7 +140,11 @@ impl<H: Hearer> Trial<H> {
         Ok(())
     }
 
-    /// Returns the observer of the entries so far, unless all lines were skipped. Fails only if an allocation fails.
+    /// Returns the observer of the entries so far, unless all lines were skipped.
+    ///
+    /// # Errors
+    ///
+    /// Returns [`AllocError`] if memory runs out.
     pub fn into_hearer(self) -> Result<Option<H>, AllocError>
         ensures { IfOk result (λ heard. (limit : Option ℕ) (before : Option Progress) (entries : List Noted) (numbers : List ℕ) →
             Stands (HasHeardFirsts limit H.HasHeard) self.reader self.hearer before entries numbers →

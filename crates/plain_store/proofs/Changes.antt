@@ -1,4 +1,4 @@
--- What writing a value at a name does to the pairs.
+-- The pairs after a value is written at a name.
 use Rattle.std.specs.Prelude.{◌≡◌, ◌≢◌, ◌↔◌, IsTrue, ℕ, Bool, true, false, not, cond, List, [], ◌∷◌, Option, Some, None, refl}
 use Rattle.std.proofs.Common.{ap, sym, ◌∙◌, rules, if◌then◌else◌}
 use Rattle.std.proofs.lemmas.Bool.Decides.{Decides-int_eq}
@@ -9,7 +9,7 @@ use Rattle.plain_store.specs.{Command, Contents, Pair, Value, changes, is_new, n
 use Rattle.plain_store.specs.declared.commands.Command.TheVariants.{Read, Write, Add, Cas, Ask}
 use Rattle.plain_store.specs.declared.commands.Value.TheVariants.{Count, Text}
 
--- the value that was written is found
+-- the name has the value that was written
 pub value_at-put : (pairs : List Pair) (name : List ℕ) (x : Value) → value_at (put pairs name x) name ≡ Some x
 value_at-put [] name x = ap (λ b. cond b (Some x) None) ((bytes_eq-Decides name name).1 refl)
 value_at-put (e ∷ es) name x = by (value_at-put es name x) (bytes_eq name e.0) refl
@@ -18,7 +18,7 @@ value_at-put (e ∷ es) name x = by (value_at-put es name x) (bytes_eq name e.0)
     by more true same = ap (λ c. cond c (Some x) (value_at es name)) same
     by more false same = ap (λ c. cond c (Some e.1) (value_at (put es name x) name)) same ∙ more
 
--- writing the value that is there changes nothing
+-- writing the value that the name has changes nothing
 pub put-same : (pairs : List Pair) (name : List ℕ) (x : Value) → value_at pairs name ≡ Some x → put pairs name x ≡ pairs
 put-same [] name x there = cc
 put-same (e ∷ es) name x there = by (put-same es name x) (bytes_eq name e.0) there
@@ -43,7 +43,7 @@ is_new-Decides (Some v) x = by (same_value v x) (same_value-Decides v x)
     by true same = ((λ new. cc), λ differs. absurd (differs (ap Some (same.0 refl))))
     by false same = ((λ new equal. let bad : false ≡ true = same.1 (cc) in cc), λ differs. refl)
 
--- what is written at a name changes the pairs exactly if it is new
+-- a value that is written at a name changes the pairs exactly if it is new
 pub written_differs : (pairs : List Pair) (name : Option (List ℕ)) (written : Option Value) → (name ≡ None → written ≡ None) → (is_new (value_for pairs name) written ≡ true → with_written pairs name written ≢ pairs) × (with_written pairs name written ≢ pairs → is_new (value_for pairs name) written ≡ true)
 written_differs pairs None None own = ((λ new. cc), λ differs. absurd (differs refl))
 written_differs pairs (Some name) None own = ((λ new. cc), λ differs. absurd (differs refl))
@@ -53,7 +53,7 @@ written_differs pairs (Some name) (Some x) own = (
   λ differs. (is_new-Decides (value_at pairs name) x).1 (λ there. differs (put-same pairs name x there)),
 )
 
--- only a command that is about a name writes
+-- only a command with a name writes
 nameless : (s : Contents) (command : Command) → name_of command ≡ None → (outcome_in s command 0).written ≡ None
 nameless s (Read n) none = cc
 nameless s (Write n x) none = cc
@@ -61,6 +61,6 @@ nameless s (Add n d) none = cc
 nameless s (Cas n x y) none = cc
 nameless s Ask none = refl
 
--- a command changes the pairs exactly if other pairs stand after it
+-- a command changes the pairs exactly if the pairs after it differ from those before
 pub changes_differs : (s : Contents) (command : Command) → IsTrue (changes s command) ↔ (pairs_after s command ≢ s.pairs)
 changes_differs s command = search (rules, written_differs s.pairs (name_of command) (outcome_in s command 0).written (nameless s command))

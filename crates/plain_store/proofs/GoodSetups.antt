@@ -1,17 +1,17 @@
--- What a setup keeps that passes all tests.
+-- The facts about a setup that passes all tests.
 use Rattle.std.proofs.Common.{◌≡◌, ◌≤◌, Bool, true, false, List, [], ◌∷◌, nat_le, length, Ok, refl, arith, if◌then◌else◌, ◌==◌}
 use Rattle.std.proofs.lemmas.Bool.Decides.{nat_tests}
 use Rattle.std.specs.Int.{is_in_range}
 use Rattle.std.specs.List.{list_all}
 use Rattle.plain_store.specs.{BadSetup, Setup, checked, checks, first_fault, is_good_opening, most_bits, most_processes}
 
--- where there is no fault, all tests pass
+-- if there is no fault, all tests pass
 pub all_pass : (cs : List (Bool × BadSetup)) → first_fault cs ≡ Ok tt → list_all (λ c. c.0) cs ≡ true
 all_pass [] good = refl
 all_pass ((true, f) ∷ cs) good = all_pass cs good
 all_pass ((false, f) ∷ cs) good = absurd (cc)
 
--- and the other way round
+-- if all tests pass, there is no fault
 pub no_fault : (cs : List (Bool × BadSetup)) → list_all (λ c. c.0) cs ≡ true → first_fault cs ≡ Ok tt
 no_fault [] all = refl
 no_fault ((true, f) ∷ cs) all = no_fault cs all

@@ -11,23 +11,23 @@ use Rattle.std.specs.Str.{bytes_eq}
 use Rattle.plain_store.specs.{Contents, Pair, Value, after, is_new, names_differ, number_of, outcome, put, value_at, with_written}
 use Rattle.plain_store.specs.declared.commands.Command.TheVariants.{Write}
 
--- something is found at each place within
+-- each index below the length has an item
 pub some_within : {X : Type 0} (xs : List X) (k : ℕ) → k < length xs → IsSome (slice_get xs k)
 some_within [] k within = absurd (omega arith)
 some_within (y ∷ ys) zero within = refl
 some_within (y ∷ ys) (suc k) within = some_within ys k (omega arith)
 
--- what is found at a place comes next
+-- the item at an index comes next
 pub take-next : {X : Type 0} (xs : List X) (k : ℕ) (x : X) → slice_get xs k ≡ Some x → take (k + 1) xs ≡ take k xs ++ x ∷ []
 take-next [] k x at = cc
 take-next (y ∷ ys) zero x at = let same : y ≡ x = cc in ap (λ z. z ∷ []) same
 take-next (y ∷ ys) (suc k) x at = rw add-one (ap (λ more. y ∷ more) (rw add-one at (take-next ys k x at)))
 
--- what is found at a place comes first from there on
+-- the item at an index is the first of the rest from there on
 pub drop-next : {X : Type 0} (xs : List X) (k : ℕ) (x : X) → slice_get xs k ≡ Some x → drop k xs ≡ x ∷ drop (k + 1) xs
 drop-next xs k x at = drop_more xs k x (slice_get_within xs k x at) ∙ ap (λ y. y ∷ drop (k + 1) xs) (get_or_from_slice_get xs k x x at)
 
--- of all items before a place, and the next
+-- a test of all items before an index, and of the next one
 pub next_at : {X : Type 0} (p : X → Bool) (xs : List X) (k : ℕ) (x : X) → slice_get xs k ≡ Some x → list_all p (take k xs) ≡ true → p x ≡ true → list_all p (take (k + 1) xs) ≡ true
 next_at p xs k x at all this =
     list_all_more p xs k x (slice_get_within xs k x at) ∙ and_from (list_all p (take k xs)) (p (get_or xs k x)) all (ap p (get_or_from_slice_get xs k x x at) ∙ this)
@@ -40,7 +40,7 @@ other_way a b differ = by (bytes_eq b a) refl
     by true same = let turned : bytes_eq a b ≡ true = (bytes_eq-Decides a b).1 (sym ((bytes_eq-Decides b a).0 same)) in absurd (cc)
     by false same = same
 
--- a name that has no value is the name of no pair
+-- a name that has no value differs from the name of each pair
 other-name : (pairs : List Pair) (name : List ℕ) (k : ℕ) (p : Pair) → is_none (value_at pairs name) ≡ true → slice_get pairs k ≡ Some p → bytes_eq name p.0 ≡ false
 other-name [] name k p absent at = cc
 other-name (q ∷ qs) name k p absent at = by (other-name qs name) (bytes_eq name q.0) refl absent k at
@@ -50,7 +50,7 @@ other-name (q ∷ qs) name k p absent at = by (other-name qs name) (bytes_eq nam
     by more false is none zero at = let same : q ≡ p = cc in ap (λ (r : Pair). bytes_eq name r.0) (sym same) ∙ is
     by more false is none (suc j) at = more j p none at
 
--- a name that has no value has none when a pair of another name comes last
+-- a name that has no value has none after a pair of another name is added at the end
 absent-more : (pairs : List Pair) (name : List ℕ) (p : Pair) → is_none (value_at pairs name) ≡ true → bytes_eq name p.0 ≡ false → is_none (value_at (pairs ++ p ∷ []) name) ≡ true
 absent-more [] name p absent other = ap (λ b. is_none (cond b (Some p.1) None)) other
 absent-more (q ∷ qs) name p absent other = by (λ none. absent-more qs name p none other) (bytes_eq name q.0) absent
@@ -59,7 +59,7 @@ absent-more (q ∷ qs) name p absent other = by (λ none. absent-more qs name p 
     by more true none = cc
     by more false none = more none
 
--- names differ when a pair of a new name comes last
+-- names differ after a pair of a new name is added at the end
 pub differ-more : (pairs : List Pair) (p : Pair) → names_differ pairs ≡ true → is_some (value_at pairs p.0) ≡ false → names_differ (pairs ++ p ∷ []) ≡ true
 differ-more [] p differ new = refl
 differ-more (q ∷ qs) p differ new =
@@ -90,19 +90,19 @@ put-absent (q ∷ qs) name x absent = by (put-absent qs name x) (bytes_eq name q
     by more true none = cc
     by more false none = ap (λ rest. q ∷ rest) (more none)
 
--- nobody's number is set to 0
+-- setting a number of 0 to 0 changes nothing
 set-zero : (n k : ℕ) → set {A = ℕ} (replicate n 0) k 0 ≡ replicate n 0
 set-zero zero k = refl
 set-zero (suc n) zero = refl
 set-zero (suc n) (suc k) = ap (λ more. 0 ∷ more) (set-zero n k)
 
--- what a write makes of a store, by the value that its name had and by whether there is room
+-- the store after a write, by the value that its name had and by whether there is room
 written : Contents → List ℕ → Value → Option Value → Bool → Contents
 written s name x before room =
     let done = outcome before room (number_of s.numbers 0) (Write name x) in
     record { pairs = with_written s.pairs (Some name) done.written; slots = s.slots; numbers = if is_new before done.written then slice_set s.numbers 0 0 else s.numbers }
 
--- a write of a new name where there is room
+-- a write of a new name if there is room
 write-absent : (s : Contents) (name : List ℕ) (x : Value) (n : ℕ) → s.numbers ≡ replicate n 0 → value_at s.pairs name ≡ None → nat_lt (length s.pairs) s.slots ≡ true → after s (Write name x) (record { process = 0; number = 0 }) ≡ record { pairs = s.pairs ++ (name, x) ∷ []; slots = s.slots; numbers = replicate n 0 }
 unfolding written
 write-absent s name x n zeros absent room =
@@ -112,7 +112,7 @@ write-absent s name x n zeros absent room =
     let made : written s name x None true ≡ record { pairs = s.pairs ++ (name, x) ∷ []; slots = s.slots; numbers = replicate n 0 } = λ i. record { pairs = pairs i; slots = s.slots; numbers = numbers i } in
     fits ∙ made
 
--- the opening pairs up to a place, and the one that is written next
+-- the opening pairs before an index, and the one that is written next
 pub opened_more : (slots n : ℕ) (pairs : List Pair) (k : ℕ) (p : Pair) → names_differ pairs ≡ true → length pairs ≤ slots → slice_get pairs k ≡ Some p →
     after (record { pairs = take k pairs; slots = slots; numbers = replicate n 0 }) (Write p.0 p.1) (record { process = 0; number = 0 }) ≡ record { pairs = take (k + 1) pairs; slots = slots; numbers = replicate n 0 }
 opened_more slots n pairs k p differ few at =

@@ -4,12 +4,12 @@ use Rattle.std.proofs.Math.Seq.{set-append_seam}
 use Rattle.std.proofs.lemmas.List.{map-append, length-map}
 use Rattle.plain_store.specs.{Pair, placed, pairs_in}
 
--- places with nothing hold no pairs
+-- empty places contain no pairs
 nothing : (n : ℕ) → pairs_in (replicate n None) ≡ []
 nothing zero = refl
 nothing (suc n) = nothing n
 
--- what was placed is found
+-- pairs that were placed are the pairs in the places
 pub pairs_in-placed : (pairs : List Pair) (n : ℕ) → pairs_in (map Some pairs ++ replicate n None) ≡ pairs
 pairs_in-placed [] n = nothing n
 pairs_in-placed (p ∷ pairs) n = ap (λ more. p ∷ more) (pairs_in-placed pairs n)
@@ -27,7 +27,7 @@ placed_more pairs p n same small =
     ∙ ap (λ front. front ++ replicate (7 - n) None) (sym (map-append Some pairs (p ∷ [])))
     ∙ ap (λ k. map Some (pairs ++ p ∷ []) ++ replicate k None) free
 
--- the places after one more pair, and the pairs that stand in them
+-- the places after one more pair, and the pairs in them
 pub record IsOneMore (pairs : List Pair) (p : Pair) (places : List (Option Pair)) : Type 0 where
   pub found : pairs_in places ≡ pairs ++ p ∷ []
   pub packed : places ≡ placed (pairs_in places)

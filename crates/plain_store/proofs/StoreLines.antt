@@ -9,23 +9,23 @@ pub no_pairs : (pairs : List Pair) → slice_get pairs 0 ≡ None → codes "emp
 no_pairs [] none = refl
 no_pairs (pair ∷ pairs) none = absurd (cc)
 
--- the first pair, and those behind it
+-- the first pair, and those after it
 pub first_pair : (pairs : List Pair) (pair : Pair) → slice_get pairs 0 ≡ Some pair → pair_text pair ++ flat_map next_pair (drop 1 pairs) ≡ store_words pairs
 first_pair [] pair at = absurd (cc)
 first_pair (first ∷ pairs) pair at = let same : pair ≡ first = cc in ap (λ p. pair_text p ++ flat_map next_pair pairs) same
 
--- a text and the pairs from a place on, one pair later
+-- a text and the pairs from an index on, one pair later
 pub pairs_more : (told : List ℕ) (pairs : List Pair) (k : ℕ) (p : Pair) → slice_get pairs k ≡ Some p → (told ++ next_pair p) ++ flat_map next_pair (drop (k + 1) pairs) ≡ told ++ flat_map next_pair (drop k pairs)
 pairs_more told pairs k p at = append_assoc told _ _ ∙ ap (λ ps. told ++ flat_map next_pair ps) (sym (drop-next pairs k p at))
 
--- a text behind which no pair is left
+-- a text after which no pair remains
 pub all_told : (told : List ℕ) (pairs : List Pair) (k : ℕ) → length pairs ≤ k → told ++ flat_map next_pair (drop k pairs) ≡ told
 all_told told pairs k past = rw (drop_all k pairs past) (append-nil told)
 
--- a pair's text, as `format!` puts it together
+-- the text of a pair, as `format!` puts it together
 pub pair_text_is : (name : List ℕ) (value : Value) → name ++ (codes "=" ++ value_text value) ≡ pair_text (name, value)
 pair_text_is name value = simp append_assoc
 
--- a pair behind others, as it is added
+-- a pair after others, as it is added
 pub pair_added : (told : List ℕ) (p : Pair) → (told ++ codes " ") ++ pair_text p ≡ told ++ next_pair p
 pair_added told p = append_assoc told (codes " ") (pair_text p)

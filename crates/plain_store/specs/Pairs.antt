@@ -14,10 +14,10 @@ Pair = List ℕ × Value
 abbrev pub is_pair : Pair → Bool
 is_pair p = is_name p.0 && is_value p.1
 
--- the pairs in the first places, and nothing behind them
+-- the pairs in the first places, and nothing in the places after them
 abbrev pub placed : List Pair → List (Option Pair)
 placed pairs = map Some pairs ++ replicate (8 - length pairs) None
 
--- what stands in the places
+-- the pairs in the places
 abbrev pub pairs_in : List (Option Pair) → List Pair
 pairs_in = flat_map option_to_list

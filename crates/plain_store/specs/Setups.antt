@@ -1,4 +1,4 @@
--- Which setups are good, and the store that one opens with.
+-- Good setups, and the opening store of a setup.
 use Rattle.std.specs.Prelude.{ℕ, Bool, ◌==◌, nat_le, if◌then◌else◌, List, [], ◌∷◌, length, replicate, Result, Ok, Err}
 use Rattle.std.specs.Int.{is_in_range}
 use Rattle.plain_store.specs.Pairs.{Pair}
@@ -43,7 +43,7 @@ version_one processes ticket_bits stamp_bits slots = record { version = 1; proce
 abbrev pub checked : Setup → Result (Unit {0}) BadSetup
 checked s = first_fault (checks s)
 
--- how many callers a store tells apart: in version 1 none
+-- the number of callers that a store distinguishes: in version 1 none
 abbrev pub callers_of : Setup → ℕ
 callers_of s = if s.version == 1 then 0 else s.processes
 

@@ -15,7 +15,7 @@ abbrev pub value_text : Value → List ℕ
 value_text (Count n) = codes "c:" ++ signed_decimal n
 value_text (Text bytes) = codes "t:" ++ bytes
 
--- a command as a file has it behind `call` and the process
+-- a command as a file has it after `call` and the process
 abbrev pub command_text : Command → List ℕ
 command_text (command.Read n) = codes "read " ++ n
 command_text (command.Write n x) = codes "write " ++ n ++ codes " " ++ value_text x

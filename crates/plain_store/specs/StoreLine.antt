@@ -1,4 +1,4 @@
--- How a store is shown.
+-- The text of a store.
 use Rattle.std.specs.Prelude.{ℕ, List, [], ◌∷◌, ◌++◌, codes, flat_map}
 use Rattle.plain_store.specs.Pairs.{Pair}
 use Rattle.plain_store.specs.Shown.{value_text}
@@ -7,7 +7,7 @@ use Rattle.plain_store.specs.Shown.{value_text}
 abbrev pub pair_text : Pair → List ℕ
 pair_text pair = pair.0 ++ codes "=" ++ value_text pair.1
 
--- the same behind another
+-- a pair after another one
 abbrev pub next_pair : Pair → List ℕ
 next_pair pair = codes " " ++ pair_text pair
 

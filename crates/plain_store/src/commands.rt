@@ -1,11 +1,11 @@
-//! Commands, who gives them, and what is answered to them. All of it is this project's own profile.
+//! Commands, callers, replies and answers. All of them are this project's own profile.
 ghost use Rattle.std.specs.Prelude.{◌≡◌};
 ghost use Rattle.plain_store.specs.Commands.{name_of};
 
 use crate::names::Name;
 use crate::texts::Text;
 
-/// What a name stands for: a count of 64 bits with a sign, or a text. Values are equal if they are of one
+/// The value of a name: a count of 64 bits with a sign, or a text. Values are equal if they are of one
 /// kind and equal.
 #[derive(Clone, Copy, PartialEq, Eq)]
 pub enum Value {
@@ -13,24 +13,24 @@ pub enum Value {
     Text(Text),
 }
 
-/// What is asked of a store.
+/// A command to a store.
 #[derive(Clone, Copy, PartialEq, Eq)]
 pub enum Command {
-    /// The value of the name.
+    /// Reads the value of the name.
     Read(Name),
     /// Sets the name to the value; a new name takes a slot.
     Write(Name, Value),
     /// Adds to the name's count.
     Add(Name, i64),
-    /// Compare and swap: sets the name to the second value where its value is the first.
+    /// Compare and swap: sets the name to the second value if its value is the first.
     Cas(Name, Value, Value),
-    /// The number of the caller's last call that changed the pairs, by which a restarted process learns
-    /// whether its cut call was taken. Scenario files have it in version 2 alone.
+    /// Returns the number of the caller's last call that changed the pairs. A restarted process learns from it
+    /// whether its interrupted call was taken. Only scenario files of version 2 have it.
     Ask,
 }
 
 impl Command {
-    /// The name that the command is about; `Ask` has none.
+    /// Returns the name of the command; `Ask` has none.
     pub fn name(&self) -> Option<Name>
         ensures { result ≡ name_of self.now }
     {
@@ -44,7 +44,7 @@ impl Command {
     }
 }
 
-/// Who calls, and the number of the call.
+/// The calling process, and the number of the call.
 #[derive(Clone, Copy)]
 pub struct Caller {
     /// The calling process, from 0.
@@ -53,7 +53,7 @@ pub struct Caller {
     pub number: u16,
 }
 
-/// What a store replies to a command.
+/// A store's reply to a command.
 #[derive(Clone, Copy, PartialEq, Eq)]
 pub enum Reply {
     /// To `Read`: the value of the name.
@@ -83,7 +83,7 @@ pub enum Reply {
 pub enum Answer {
     /// The store's reply.
     Reply(Reply),
-    /// No greater ticket fits the ticket bits; the lowest process that was read with the greatest one.
+    /// No greater ticket fits the ticket bits. `process` is the lowest one that was read with the greatest ticket.
     TicketsFull { process: u8 },
     /// The command would change the store, and no greater stamp fits the stamp bits.
     StampsFull,

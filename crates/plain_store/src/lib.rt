@@ -1,5 +1,5 @@
-//! The one-thread store: named counters and texts, its commands and replies, and the setup of a world. What it answers is
-//! the measure of every other engine here. The store is this project's own profile.
+//! The sequential specification of the store: named counters and texts, its commands and replies, and the setup of a world.
+//! Every other engine here is measured by its results. The store is this project's own profile.
 //!
 //! ```rust
 //! let counter = Name::new(b"a")?;

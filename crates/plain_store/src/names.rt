@@ -36,13 +36,17 @@ impl Model for Name {
     ghost inverse_ok = { λ n h j. record { len = padded_again 8 n.len n.bytes h.1 h.2 j; bytes = sym h.2 j } };
 }
 
-/// The bytes are no name.
+/// The bytes are not a name.
 #[derive(Clone, Copy, Debug, Error)]
 #[error("a name has 1 to 8 bytes, each a to z, 0 to 9 or _")]
 pub struct BadName;
 
 impl Name {
-    /// The name with these bytes, or `BadName` exactly if they are none.
+    /// Creates the name with these bytes.
+    ///
+    /// # Errors
+    ///
+    /// Returns [`BadName`] exactly if the bytes are not a name.
     pub fn new(bytes: &[u8]) -> Result<Name, BadName>
         ensures accepts { IsOk result ↔ IsTrue (is_name bytes.now) }
         ensures value { IfOk result (λ name. name ≡ bytes.now) }
@@ -62,7 +66,7 @@ impl Name {
         !bytes.is_empty() && bytes.len() <= 8 && all_name_bytes(bytes)
     }
 
-    /// The bytes of the name, 1 to 8.
+    /// Returns the bytes of the name, 1 to 8.
     pub fn bytes(&self) -> &[u8]
         ensures value { result.now ≡ self.now }
         ensures valid { IsTrue (is_name result.now) }
@@ -70,7 +74,7 @@ impl Name {
         &self.bytes[..self.len as usize]
     }
 
-    /// The name as text.
+    /// Returns the name as a string.
     #[tactic(auto, using(crate::proofs::Ascii::name_is_utf8))]
     pub fn as_str(&self) -> &str
         ensures { result.now ≡ self.now }

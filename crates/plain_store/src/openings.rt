@@ -8,7 +8,7 @@ use crate::names::Name;
 use std::marker::Model;
 use thiserror::Error;
 
-/// Why a pair can't be added to an opening.
+/// The reason why a pair cannot be added to an opening.
 #[derive(Clone, Copy, Debug, Error)]
 pub enum OpenFault {
     #[error("the name has an opening pair")]
@@ -44,7 +44,7 @@ impl Model for Opening {
 impl Opening {
     ghost use Rattle.plain_store.specs.Openings.{answer_to_add};
 
-    /// No pairs.
+    /// Creates an opening without pairs.
     pub fn empty() -> Opening
         ensures { result ≡ [] }
     {
@@ -54,7 +54,7 @@ impl Opening {
         }
     }
 
-    /// How many pairs there are: 0 to 8, with names that differ.
+    /// Returns the number of pairs: 0 to 8, with names that differ.
     pub fn len(&self) -> usize
         ensures pairs { result ≡ length self.now }
         ensures few { result ≤ 8 }
@@ -63,7 +63,7 @@ impl Opening {
         usize::from(self.len)
     }
 
-    /// The pair at a place from 0, in the order added.
+    /// Returns the pair at an index from 0, in the order added.
     pub fn entry(&self, place: usize) -> Option<(Name, Value)>
         ensures { result ≡ slice_get self.now place }
     {
@@ -74,8 +74,12 @@ impl Opening {
         }
     }
 
-    /// Adds a pair at the end: `Double` where the name is there, else `Full` where 8 pairs are.
-    /// After an `Err` nothing has changed.
+    /// Adds a pair at the end.
+    ///
+    /// # Errors
+    ///
+    /// Returns [`OpenFault::Double`] if the name has a pair, and otherwise [`OpenFault::Full`] if there are 8 pairs. The
+    /// opening is then unchanged.
     pub fn add(&mut self, name: Name, value: Value) -> Result<(), OpenFault>
         ensures ok { OnOk result (self.new ≡ self.old ++ (name, value) ∷ []) }
         ensures answer { result ≡ answer_to_add self.old name }
@@ -93,7 +97,7 @@ impl Opening {
     }
 }
 
-/// Whether a pair with the name stands in the places.
+/// Returns whether the places contain a pair with the name.
 fn is_among(places: &[Option<(Name, Value)>], name: &Name) -> bool
     ensures { result ≡ is_some (value_at (pairs_in places.now) name.now) }
 {

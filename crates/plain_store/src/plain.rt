@@ -10,7 +10,7 @@ use indexmap::IndexMap;
 use std::alloc::{AllocError, Global};
 use std::marker::Model;
 
-/// The one-thread store in memory that grows: pairs in order of first write, a hash table over the names.
+/// A store for one thread, in memory that grows: pairs in order of first write, a hash table over the names.
 /// Contracts see its contents.
 #[derive(Drop)]
 pub struct PlainStore {
@@ -32,8 +32,8 @@ impl Model for PlainStore {
 }
 
 impl PlainStore {
-    /// An empty store with room for `slots` names and a number for each of `callers` processes
-    /// (0 in version 1, in version 2 as many as there are processes). It takes no memory; `apply` grows.
+    /// Creates an empty store with room for `slots` names and a number for each of `callers` processes
+    /// (0 in version 1, all processes in version 2). It does not allocate; `apply` does.
     pub fn new(alloc: Global, slots: u8, callers: u8) -> PlainStore
         requires { callers ≤ 16 }
         ensures { result ≡ empty_store slots callers }

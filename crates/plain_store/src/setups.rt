@@ -1,4 +1,4 @@
-//! How a world is set up. Versions and ranges are this project's own profile.
+//! The setup of a world. Versions and ranges are this project's own profile.
 ghost use Rattle.std.specs.Prelude.{◌≡◌};
 ghost use Rattle.std.specs.Int.{is_in_range};
 
@@ -10,13 +10,13 @@ use thiserror::Error;
 pub struct Setup {
     /// 1, or 2 with larger ranges, opening pairs and call numbers.
     pub version: u8,
-    /// How many processes there are: 1 to 8, in version 2 1 to 16. They are numbered from 0.
+    /// The number of processes: 1 to 8, in version 2 1 to 16. They are numbered from 0.
     pub processes: u8,
-    /// Bits of a ticket: 1 to 16, in version 2 1 to 32.
+    /// The bits of a ticket: 1 to 16, in version 2 1 to 32.
     pub ticket_bits: u8,
-    /// Bits of a stamp: 1 to 16, in version 2 1 to 32.
+    /// The bits of a stamp: 1 to 16, in version 2 1 to 32.
     pub stamp_bits: u8,
-    /// How many names the store has room for: 1 to 8.
+    /// The number of names for which the store has room: 1 to 8.
     pub slots: u8,
     /// The pairs with which the store opens: none in version 1, in version 2 at most `slots`.
     pub opening: Opening,
@@ -42,7 +42,7 @@ pub enum BadSetup {
 impl Setup {
     ghost use Rattle.plain_store.specs.Setups.{checked, callers_of, version_one};
 
-    /// A setup of version 1, whose store opens empty. It may be out of range: `check` tells.
+    /// Creates a setup of version 1, whose store opens empty. It may be out of range; `check` finds that out.
     pub fn one(processes: u8, ticket_bits: u8, stamp_bits: u8, slots: u8) -> Setup
         ensures { result ≡ version_one processes ticket_bits stamp_bits slots }
     {
@@ -56,14 +56,18 @@ impl Setup {
         }
     }
 
-    /// How many processes a store of this setup has a number for: none in version 1, else all.
+    /// Returns the number of processes that have a number in a store of this setup: none in version 1, otherwise all.
     pub fn callers(&self) -> u8
         ensures { result ≡ callers_of self.now }
     {
         if self.version == 1 { 0 } else { self.processes }
     }
 
-    /// The first field that is out of its range, in the order of the fields.
+    /// Checks that each field is in its range.
+    ///
+    /// # Errors
+    ///
+    /// Returns the first field that is out of its range, in the order of the fields.
     pub fn check(&self) -> Result<(), BadSetup>
         ensures { result ≡ checked self.now }
     {
@@ -95,7 +99,7 @@ impl Setup {
     }
 }
 
-/// Whether a number is from 1 to `most`.
+/// Returns whether a number is from 1 to `most`.
 fn is_within(n: u8, most: u8) -> bool
     ensures { result ≡ is_in_range 1 most n }
 {

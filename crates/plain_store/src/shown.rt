@@ -1,4 +1,4 @@
-//! How names, values, commands and answers are printed: in files, in replays and by every engine alike.
+//! The text of names, values, commands and answers, which is the same in files, in replays and for every engine.
 ghost use Rattle.std.specs.Prelude.{Some};
 ghost use Rattle.plain_store.specs.Shown.{value_text, command_text, reply_text, answer_text};
 

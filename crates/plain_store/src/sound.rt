@@ -1,5 +1,5 @@
-//! What the types of operands say of them, for callers whose contracts cite it. The calls do nothing: only
-//! code that holds a value can cite what its type keeps of it.
+//! Facts about the types of operands, for callers whose contracts cite them. The calls do nothing: only
+//! code that holds a value can cite the invariant of its type.
 ghost use Rattle.std.specs.Prelude.{◌≡◌, true};
 ghost use Rattle.plain_store.specs.Commands.{is_command};
 ghost use Rattle.plain_store.specs.Store.{are_pairs};
@@ -10,8 +10,8 @@ use crate::names::Name;
 use crate::openings::Opening;
 
 impl Command {
-    /// Does nothing. Its contract says that the operands are names, values and counts of 64 bits, which
-    /// every command's are: for a caller that promises something of all such commands.
+    /// Does nothing. Its contract states that the operands are names, values and counts of 64 bits, as those of
+    /// every command are. A caller that promises something of all such commands needs it.
     pub fn operands_are_sound(&self)
         ensures { is_command self.now ≡ true }
     {
@@ -31,8 +31,8 @@ impl Command {
 }
 
 impl Opening {
-    /// Does nothing. Its contract says that the pairs are names with values, and that the names differ, as
-    /// in every opening: for a caller that promises something of all such lists.
+    /// Does nothing. Its contract states that the pairs are names with values, and that the names differ, as in
+    /// every opening. A caller that promises something of all such lists needs it.
     pub fn pairs_are_sound(&self)
         ensures { are_pairs self.now ≡ true }
     {

@@ -1,4 +1,4 @@
-//! A store in words, and on one line.
+//! The text of a store, in words and on one line.
 ghost use Rattle.std.specs.Prelude.{◌≡◌, ◌++◌, IfOk, OnOk};
 ghost use Rattle.std.specs.String.{string_bytes};
 ghost use Rattle.plain_store.specs.StoreLine.{next_pair, pair_text, show_text, store_words as words_of};
@@ -6,7 +6,11 @@ ghost use Rattle.plain_store.specs.StoreLine.{next_pair, pair_text, show_text, s
 use crate::{Name, Store, Value};
 use std::alloc::{AllocError, Global};
 
-/// The pairs of a store in order of first write, as `a=c:5 b=t:x`, or `empty`.
+/// Returns the pairs of a store in order of first write, as `a=c:5 b=t:x`, or `empty`.
+///
+/// # Errors
+///
+/// Returns [`AllocError`] if memory runs out.
 pub fn store_words<S: Store>(alloc: Global, store: &S) -> Result<String, AllocError>
     ensures { IfOk result (λ words. string_bytes words ≡ words_of (S.contents store.now).pairs) }
 {
@@ -21,7 +25,7 @@ pub fn store_words<S: Store>(alloc: Global, store: &S) -> Result<String, AllocEr
     Ok(words)
 }
 
-/// Adds a pair behind others.
+/// Adds a pair after others.
 #[tactic(auto, using(crate::proofs::StoreLines::pair_added))]
 fn push_pair(
     alloc: Global,
@@ -36,7 +40,11 @@ fn push_pair(
     words.push_str(pair.as_str())
 }
 
-/// The same as a line, as `show a=c:5 b=t:x`.
+/// Returns the pairs of a store as a line, as `show a=c:5 b=t:x`.
+///
+/// # Errors
+///
+/// Returns [`AllocError`] if memory runs out.
 pub fn show_line<S: Store>(alloc: Global, store: &S) -> Result<String, AllocError>
     ensures { IfOk result (λ line. string_bytes line ≡ show_text (S.contents store.now).pairs) }
 {
@@ -44,7 +52,11 @@ pub fn show_line<S: Store>(alloc: Global, store: &S) -> Result<String, AllocErro
     format!(in alloc; "show {words}\n")
 }
 
-/// A pair, as `a=c:5`.
+/// Returns the text of a pair, as `a=c:5`.
+///
+/// # Errors
+///
+/// Returns [`AllocError`] if memory runs out.
 #[tactic(auto, using(crate::proofs::StoreLines::pair_text_is))]
 pub fn pair_words(alloc: Global, name: &Name, value: &Value) -> Result<String, AllocError>
     ensures { IfOk result (λ words. string_bytes words ≡ pair_text (name.now, value.now)) }

@@ -36,13 +36,17 @@ impl Model for Text {
     ghost inverse_ok = { λ n h j. record { len = padded_again 12 n.len n.bytes h.1 h.2 j; bytes = sym h.2 j } };
 }
 
-/// The bytes are no text.
+/// The bytes are not a text.
 #[derive(Clone, Copy, Debug, Error)]
 #[error("a text has at most 12 bytes, each printable ASCII and no space")]
 pub struct BadText;
 
 impl Text {
-    /// The text with these bytes, or `BadText` exactly if they are none.
+    /// Creates the text with these bytes.
+    ///
+    /// # Errors
+    ///
+    /// Returns [`BadText`] exactly if the bytes are not a text.
     pub fn new(bytes: &[u8]) -> Result<Text, BadText>
         ensures accepts { IsOk result ↔ IsTrue (is_text bytes.now) }
         ensures value { IfOk result (λ text. text ≡ bytes.now) }
@@ -62,7 +66,7 @@ impl Text {
         bytes.len() <= 12 && all_text_bytes(bytes)
     }
 
-    /// The bytes of the text, 0 to 12.
+    /// Returns the bytes of the text, 0 to 12.
     pub fn bytes(&self) -> &[u8]
         ensures value { result.now ≡ self.now }
         ensures valid { IsTrue (is_text result.now) }
@@ -70,7 +74,7 @@ impl Text {
         &self.bytes[..self.len as usize]
     }
 
-    /// The text as text.
+    /// Returns the text as a string.
     #[tactic(auto, using(crate::proofs::Ascii::text_is_utf8))]
     pub fn as_str(&self) -> &str
         ensures { result.now ≡ self.now }

@@ -1,4 +1,4 @@
--- A call that is driven: it goes on, or it is answered.
+-- A call of a port that is driven: it goes on, or it is answered.
 use Rattle.std.proofs.Common.{◌≡◌, ◌⊎◌, ℕ, zero, suc, Bool, true, false, cond, List, [], ◌∷◌, ◌++◌, inl, inr, refl, sym, ap, ◌∙◌, subst, Option, Some, None}
 use Rattle.std.specs.Prelude.{fold, option_map}
 use Rattle.plain_store.specs.{Answer, Command, Reply, Setup, changes}
@@ -20,7 +20,7 @@ use Rattle.std.specs.Result.{is_err}
 use Rattle.race.specs.declared.workers.CallReached.TheVariants as reached
 use Rattle.race.specs.{CallGoesOn, ComesTo, HasCalled, IsAnswered, IsCalling, is_uncut}
 
--- What is not cut stays so, and is not down.
+-- A process that is neither failed nor withdrawn stays so, and is not down.
 
 over_uncut : (b : Bool) (d : Doing) → is_uncut d ≡ true → is_uncut (cond b Rests d) ≡ true
 over_uncut true d h = refl
@@ -43,7 +43,7 @@ uncut_up Lies h is = cc
 uncut_up (Runs command number at) h is = part_up at.part (is_fresh at.run) is
 uncut_up (Closes command number at) h is = cc
 
--- who has a next access is not idle
+-- a process that has a next access is not idle
 goes_busy : (st : Stage) → goes_at st ≡ true → st ≡ stage.Idle → ⊥
 goes_busy st h is = let f : false ≡ true = sym (ap goes_at is) ∙ h in cc
 
@@ -69,7 +69,7 @@ taken_on before calls place k r h = (
   ap (λ (t : Calls). calls_after place t (mark.Taken k r)) h.1 ∙ ap (λ (now : Option Placed). record before { now = now }) (placed_twice h.0 (Some place) before.now),
 )
 
--- it goes on, or these marks lead to the stage of one that rests
+-- the call goes on, or these marks lead to the stage of a process at rest
 abbrev Ends : Calls → Calls → ℕ → Stage → List Mark → Type 0
 Ends before calls place st marks = CallGoesOn before (fold (calls_after place) calls marks) ⊎ (fold stage_after st marks ≡ stage.Idle)
 
@@ -141,7 +141,7 @@ step_on s flick v w before (inl load) h on go =
     makes_on s v.seen flick _ load.1.begun w.own before load.1.ends (makes_uncut s v.seen flick false v.own load.1.begun load.1.begins h) (subst (CallGoesOn before) (sym (begun_calls s flick v load.0 w load.1)) on) go
 step_on s flick v w before (inr store) h on go = makes_on s v.seen flick false v.own w.own before store.makes h on go
 
--- Several.
+-- Several word steps.
 
 walk_uncut : (s : Setup) (flicks : FlickState) (v : ViewState) (n : ℕ) (w : ViewState) → Walks s flicks v n w → is_uncut v.own.doing ≡ true → is_uncut w.own.doing ≡ true
 walk_uncut s flicks v zero w walk h = ap (λ (x : ViewState). is_uncut x.own.doing) walk ∙ h
@@ -151,7 +151,7 @@ walk_on : (s : Setup) (flicks : FlickState) (v : ViewState) (n : ℕ) (w : ViewS
 walk_on s flicks v zero w walk h go = subst (λ (x : ViewState). CallGoesOn v.own.calls x.own.calls) (sym walk) (goes_from v.own.calls)
 walk_on s flicks v (suc n) w walk h go = step_on s (flick_of (flicks_after n flicks)) walk.0 w v.own.calls walk.3 (walk_uncut s flicks v n walk.0 walk.1 h) (walk_on s flicks v n walk.0 walk.1 h walk.2) go
 
--- the open call of these is answered
+-- the open call of these calls is answered
 answered_on : (before calls : Calls) (answer : Answer) → CallGoesOn before calls → IsAnswered before (calls_after 0 calls (mark.Answered answer))
 answered_on before calls answer on = (on.0, answer, ap (λ (t : Calls). calls_after 0 t (mark.Answered answer)) on.1 ∙ ap (λ (now : Option Placed). record { done = and_then before.done now; now = None }) (by before.now))
   where
@@ -159,7 +159,7 @@ answered_on before calls answer on = (on.0, answer, ap (λ (t : Calls). calls_af
     by None = refl
     by (Some one) = refl
 
--- what driving leads to: with all turns made the call goes on, and else it is answered
+-- the result of driving: after all turns the call goes on; otherwise it is answered
 abbrev LeadsOn : Setup → Driven → ViewState → ViewState → Type 0
 LeadsOn s driven.Turns v w = ComesTo s (Some reached.Section) v w
 LeadsOn s _ v w = ComesTo s (Some reached.Answer) v w
@@ -178,7 +178,7 @@ ends_lead s flicks v turns driven.Idle n w h c = absurd (goes_busy (stage_in s v
 drives_lead : (s : Setup) (v : ViewState) (turns : ℕ) (flicks : FlickState) (end : Driven) (w : ViewState) (then : FlickState) → Drives s v turns flicks end w then → IsCalling s v.own → LeadsOn s end v w
 drives_lead s v turns flicks end w then d c = ends_lead s flicks v turns end d.made w d.ends c
 
--- Several things in a row.
+-- Several stretches of driving in a row.
 
 goes_trans : (a b c : Calls) → CallGoesOn a b → CallGoesOn b c → CallGoesOn a c
 goes_trans a b c h k = (
@@ -258,7 +258,7 @@ begun_is port event answer h ok = by (refusal_in port.setup port.view.own event)
     by None e = refl
     by (Some refusal) e = cc
 
--- a result that is no error
+-- a result that is not an error
 pub was_ok : {E : Type 0} (r : Result (Unit {0}) E) → false ≡ is_err r → r ≡ Ok tt
 was_ok (Ok x) is = refl
 was_ok (Err x) is = cc
@@ -267,7 +267,7 @@ pub where_ok : {A E : Type 0} {P : Type 0} (r : Result A E) → OnOk r P → fal
 where_ok (Ok x) h is = h
 where_ok (Err x) h is = cc
 
--- its port makes it
+-- a call of the port begins
 pub record Begins (old new : PortState) (command : Command) : Type 0 where
   pub calling : IsCalling new.setup new.view.own
   pub calls : new.view.own.calls ≡ record old.view.own.calls { now = Some (called command) }
@@ -276,7 +276,7 @@ pub begins : (old new : PortState) (command : Command) (answer : Result (Unit {0
 begins old new command answer h ok is =
     subst (λ (port : PortState). Begins old port command) (sym (is ∙ begun_is old (event.Call old.view.own.process command) answer h ok)) (record { calling = record { goes = refl; uncut = refl }; calls = refl })
 
--- and comes to its answer
+-- a call that began was answered
 pub has_called : (old begun new : PortState) (command : Command) → Begins old begun command → begun.setup ≡ old.setup → ComesTo begun.setup (Some reached.Answer) begun.view new.view → HasCalled old.setup command old.view new.view
 has_called old begun new command b same c =
     let place = c.0.0 in let answer = c.0.1 in

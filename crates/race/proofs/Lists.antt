@@ -8,28 +8,28 @@ there [] k h = absurd (omega arith)
 there (x ∷ xs) zero h = (x, refl)
 there (x ∷ xs) (suc k) h = there xs k (omega arith)
 
--- the first of what is left stands at the index of those gone through
+-- the first remaining item has the index that is the number of earlier ones
 pub at_drop : {A : Type 0} (xs : List A) (n : ℕ) (x : A) (rest : List A) → drop n xs ≡ x ∷ rest → slice_get xs n ≡ Some x
 at_drop [] zero x rest h = cc
 at_drop [] (suc n) x rest h = cc
 at_drop (y ∷ xs) zero x rest h = cc
 at_drop (y ∷ xs) (suc n) x rest h = at_drop xs n x rest h
 
--- and what is left then is what is left after one more
+-- the rest after it remains after one more step
 pub drop_more : {A : Type 0} (xs : List A) (n : ℕ) (x : A) (rest : List A) → drop n xs ≡ x ∷ rest → drop (suc n) xs ≡ rest
 drop_more [] zero x rest h = cc
 drop_more [] (suc n) x rest h = cc
 drop_more (y ∷ xs) zero x rest h = cc
 drop_more (y ∷ xs) (suc n) x rest h = drop_more xs n x rest h
 
--- one more is gone through
+-- the items before the next index
 pub take_more : {A : Type 0} (xs : List A) (n : ℕ) (x : A) → slice_get xs n ≡ Some x → take (suc n) xs ≡ take n xs ++ x ∷ []
 take_more [] zero x h = cc
 take_more [] (suc n) x h = cc
 take_more (y ∷ xs) zero x h = let same : y ≡ x = cc in ap (λ z. z ∷ []) same
 take_more (y ∷ xs) (suc n) x h = ap (λ zs. y ∷ zs) (take_more xs n x h)
 
--- what stands in a list stands in the list of what each item gives
+-- an item of a list, mapped, is an item of the mapped list
 pub at_mapped : {A B : Type 0} (f : A → B) (xs : List A) (k : ℕ) (x : A) → slice_get xs k ≡ Some x → slice_get (map f xs) k ≡ Some (f x)
 at_mapped f [] zero x h = cc
 at_mapped f [] (suc k) x h = cc

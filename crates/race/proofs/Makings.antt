@@ -9,7 +9,7 @@ use Rattle.board.proofs.PortLists.{all_push}
 use Rattle.race.specs.{AreMade, HasCalled, HasMade}
 use Rattle.race.proofs.Calling.{is_of_then}
 
--- of nothing
+-- an empty plan is made
 pub made_none : (board : BoardState) (p : ℕ) (port : PortState) → IsOf board port → port.view.own ≡ new_own p → HasMade board p [] port
 made_none board p port is new = record {
   of_board = is;
@@ -18,7 +18,7 @@ made_none board p port is new = record {
   calls = subst (λ (done : List Placed). AreMade [] done) (sym (ap (λ (o : OwnView). o.calls.done) new)) (record { commands = refl; answered = λ k call at. cc });
 }
 
--- and of one call more
+-- a plan with one more call is made
 made_more : (plan : List Command) (calls : List Placed) (call : Placed) → AreMade plan calls → (answer : Answer) × (call.answer ≡ Some answer) → AreMade (plan ++ call.command ∷ []) (calls ++ call ∷ [])
 made_more plan calls call h answered = record {
   commands = map-append (λ (c : Placed). c.command) calls (call ∷ []) ∙ ap (λ (xs : List Command). xs ++ call.command ∷ []) h.commands;

@@ -1,4 +1,4 @@
--- Lists and texts that are put together part by part.
+-- Lists and texts that consist of parts.
 use Rattle.std.proofs.Common.{◌≡◌, ℕ, suc, ◌+◌, ◌<◌, ◌≤◌, List, [], ◌∷◌, ◌++◌, None, Some, Result, Ok, Err, IsOkAnd, String, codes, flat_map, get_or, length, length-take-le, take, ap, sym, ◌∙◌, append-nil, append_assoc, arith}
 use Rattle.std.proofs.lemmas.Grind.{flat_map-append}
 use Rattle.std.proofs.lemmas.List.{length-map, map-append, take_all, take_more}
@@ -19,7 +19,7 @@ items_more f xs k x within is =
 pub items_all : {X A : Type 0} (f : X → List A) (xs : List X) (k : ℕ) → length xs ≤ k → flat_map f (take k xs) ≡ flat_map f xs
 items_all f xs k past = ap (flat_map f) (take_all k xs past)
 
--- lines, as `format!` puts them together
+-- the lines, as `format!` puts them together
 pub placed_line_is : (p place : ℕ) (answer : Answer) → decimal p ++ (codes " " ++ (decimal place ++ (codes " " ++ (answer_text answer ++ codes "\n")))) ≡ answer_line p (Some place) answer
 placed_line_is p place answer = simp append_assoc
 
@@ -41,7 +41,7 @@ answers_more vecs i v within at =
     ∙ ap (answers_from 0) (map-append (λ (w : Vec Placed). w.items) (take i vecs) (v ∷ []))
     ∙ answers_snoc 0 i (lists_of (take i vecs)) v.items (omega (arith, size, lists))
 
--- a text that was made, put behind another one
+-- a text appended to another one
 pub pushed : {Z E : Type 0} (more : Result (String Z) E) (old new told : List ℕ) → IsOkAnd more (λ text. new ≡ old ++ string_bytes text) → GivesText more told → new ≡ old ++ told
 pushed (Ok text) old new told is gives = is ∙ ap (λ bytes. old ++ bytes) gives
 pushed (Err e) old new told is gives = absurd is

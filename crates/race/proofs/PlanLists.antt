@@ -1,4 +1,4 @@
--- Plans, and how long they are.
+-- Plans and their lengths.
 use Rattle.std.proofs.Common.{◌≡◌, ℕ, ◌+◌, ◌<◌, ◌≤◌, All, Bool, true, false, if◌then◌else◌, ◌==◌, List, [], ◌∷◌, ◌++◌, get_or, length, map, ap, sym, ◌∙◌, arith, length-append, subst}
 use Rattle.std.proofs.lemmas.List.{length-map, map-append}
 use Rattle.std.proofs.lemmas.List.FromFn.{length-map-range_with_len, map-range_with_len_more}
@@ -18,7 +18,7 @@ pub plans_more : (had : List (Vec Command)) (plan : Vec Command) (lines : List L
 plans_more had plan lines p are is =
     map-append (λ (v : Vec Command). v.items) had (plan ∷ []) ∙ (λ i. are i ++ is i ∷ []) ∙ sym (map-range_with_len_more (plan_in lines) 0 p p (omega arith))
 
--- there is one for each process
+-- each process has one plan
 pub plans_each : (vecs : List (Vec Command)) (said : Script) → plans_of vecs ≡ plans_in said → length vecs ≡ said.setup.processes
 plans_each vecs said are =
     sym (length-map vecs (λ (v : Vec Command). v.items)) ∙ ap length are ∙ length-map-range_with_len (plan_in said.lines) 0 said.setup.processes
@@ -32,7 +32,7 @@ called_once p (line.Call q command) = by (q == p)
     by false = omega arith
 called_once p other = omega arith
 
--- so a plan is no longer than the file
+-- a plan is not longer than the file
 pub plan_few : (p : ℕ) (lines : List Line) → length (plan_in lines p) ≤ length lines
 plan_few p [] = omega arith
 plan_few p (here ∷ lines) =
@@ -42,7 +42,7 @@ plan_few p (here ∷ lines) =
     let all : length (plan_in (here ∷ lines) p) ≡ length (called_of p here) + length (plan_in lines p) = both in
     omega (arith, own, rest, all)
 
--- few enough of a plan's commands for every race
+-- the number of a plan's commands is small enough for every race
 abbrev IsShort : {X : Type 0} → List X → Type 0
 IsShort xs = length xs ≤ 4000
 
@@ -60,7 +60,7 @@ raced_plans_short vecs said are few =
     let P : List Command → Type 0 = λ plan. length plan ≤ 65535 in
     All-same P (plans_of vecs) (plans_in said) are (All-weaker IsShort P (λ plan short. omega (arith, short)) (plans_in said) (plans_short said few))
 
--- and so of each list that a race leaves, which has the commands of its plan
+-- each list at the end of a race is as short as its plan
 list_short : (said : Script) (lists : List (List Placed)) (image : Contents) → length said.lines ≤ 4000 → IsRaced said.setup (plans_in said) lists image → (p : ℕ) → p < length lists → length (get_or lists p []) ≤ 65535
 list_short said lists image few raced p within =
     let plans : List (List Command) = plans_in said in

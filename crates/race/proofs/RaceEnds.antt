@@ -12,7 +12,7 @@ use Rattle.call_check.specs.{Weighed}
 use Rattle.race.specs.{IsFaultOfRacing, OfInput, RanRace, RunFault, TellsRace, WritesRace, WritesRaceFront, status_of_race}
 use Rattle.race.specs.declared.faults.RunFault.TheVariants.{File, Race}
 
--- what holds of the scenario that was read holds of that of the whole input
+-- a fact about the scenario that was read, as one about that of the whole input
 of_input : (P : Script → Type 0) (bytes : List ℕ) (said : Script) (old new : Option (List ℕ)) → ReadsInput old new bytes → scenario_of bytes ≡ Ok said → P said → OfInput old P
 of_input P bytes said None new read good is = tt
 of_input P bytes said (Some input) new read good is =
@@ -37,7 +37,7 @@ ran_to_no_text (Err e) fault bytes said old new is cause read good kept = subst 
     by (File Write) cause = absurd cause
     by (Race found) cause = ((of_input (λ said. Unit {0}) bytes said old.to_come new.to_come read good tt, read_to_end scenario_of (λ said. []) scenario_tells_at_limit old.to_come new.to_come bytes said read good), kept)
 
--- writing ended with a fault, and which one
+-- the result of a failed write, and its fault
 abbrev pub cut_by : Fault → Result (Unit {0}) Fault
 cut_by fault = Err fault
 
@@ -45,7 +45,7 @@ told_fault : Result (Unit {0}) Fault → Fault
 told_fault (Ok done) = Write
 told_fault (Err fault) = fault
 
--- writing was cut short
+-- a prefix of the text was written
 pub ran_to_cut : (result : Result ℕ RunFault) (fault : Fault) (verdict : Weighed) (text : List ℕ) (bytes : List ℕ) (said : Script) (old new : Streams) → IsErrAnd result (λ told. told ≡ File fault) → cut_by fault ≡ cut_by Write → ReadsInput old.to_come new.to_come bytes → scenario_of bytes ≡ Ok said →
     TellsRace said verdict text → WritesFront old.taken new.taken text → new.write_failures ≡ old.write_failures + 1 → RanRace result old new
 unfolding told_fault

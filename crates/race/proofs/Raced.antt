@@ -1,4 +1,4 @@
--- What a race leaves, from what its ports have made and what closing leaves.
+-- The end of a race, from the plans that its ports have made and from the closing of the board.
 use Rattle.std.proofs.Common.{◌≡◌, ◌<◌, ◌≤◌, ℕ, List, inl, length, Some, refl, sym, ap, subst, ◌∙◌, arith}
 use Rattle.std.specs.Prelude.{Ok, slice_get}
 use Rattle.std.proofs.lemmas.List.{length-map}
@@ -11,7 +11,7 @@ use Rattle.board.specs.{AreInOrder, AreListsOf, AreMadeWith, AreOfAll, ArePortsO
 use Rattle.race.proofs.Lists.{there}
 use Rattle.race.specs.{AllHaveMade, AreMade, AreNew, IsRaced, plans_of}
 
--- the port that leaves a list
+-- the port to which a list belongs
 answer_at : (ports : List PortState) (answers : List (List Placed)) → AreListsOf ports answers → AreInOrder ports → (k : ℕ) (calls : List Placed) → slice_get answers k ≡ Some calls →
     (port : PortState) × (slice_get ports k ≡ Some port) × (port.view.own.calls.done ≡ calls)
 answer_at ports answers lists order k calls h =
@@ -19,7 +19,7 @@ answer_at ports answers lists order k calls h =
     let same : Some port.0.view.own.calls.done ≡ Some calls = sym (lists.each k port.0 port.1) ∙ ap (slice_get answers) (order k port.0 port.1) ∙ h in
     (port.0, port.1, cc)
 
--- ports that have made their plans stand in order
+-- ports that have made their plans are in order
 in_order : (board : BoardState) (plans : List (List Command)) (ports : List PortState) → AllHaveMade board plans ports → AreInOrder ports
 in_order board plans ports h k port at = (h.1 k port at).2.process
 
@@ -38,7 +38,7 @@ raced board plans ports answers image h all lists stand leaves = record {
       (changes_of board.setup (past_of board.setup l.events), record { events = l.events; given = l.given; headline = l.headline; are = refl }, subst (λ (xs : List Placed). StandsIn board.setup 0 xs (changes_of board.setup (past_of board.setup l.events))) a.2 l.stands, l.store);
 }
 
--- So the board can be closed: its ports are all there, and at rest.
+-- The board can be closed: all its ports are present, and at rest.
 
 pub made_with : (board : BoardState) (plans : List (List Command)) (ports : List PortState) → AllHaveMade board plans ports → AreMadeWith board ports
 made_with board plans ports h k port at = (h.1 k port at).2.of_board

@@ -1,4 +1,4 @@
--- What the threads of a race give back, from what each promised.
+-- The results of the threads of a race, from the promise of each.
 use Rattle.std.proofs.Common.{◌≡◌, ◌⊎◌, ◌≤◌, ℕ, suc, List, [], ◌∷◌, ◌++◌, drop, inl, inr, length, Option, None, Some, sym, subst, ◌∙◌, arith}
 use Rattle.std.specs.Prelude.{IfOk, IfErr, IfSome, Result, Ok, Err, slice_get}
 use Rattle.std.specs.Global.{Vec}
@@ -11,7 +11,7 @@ use Rattle.race.proofs.Lists.{at_drop, drop_more, there}
 use Rattle.race.specs.{AllHaveMade, EndsPort, HasMade, IsFaultAmong, IsFaultOf, IsFor, RaceFault, plans_of}
 use Rattle.race.specs.declared.faults.RaceFault.TheVariants.{Spawn, Held, Memory}
 
--- what follows of two facts on what a result holds
+-- a consequence of two facts about the value of a result
 pub if_both : {X E : Type 0} (r : Result X E) (P Q R : X → Type 0) → IfOk r P → IfOk r Q → ((x : X) → P x → Q x → R x) → IfOk r R
 if_both (Ok x) P Q R p q h = h x p q
 if_both (Err e) P Q R p q h = tt
@@ -19,7 +19,7 @@ if_both (Err e) P Q R p q h = tt
 same_item : {A : Type 0} (x y : A) → Some x ≡ Some y → x ≡ y
 same_item x y h = cc
 
--- what each thread promised of its port, with one port more
+-- the promises about the ports so far, with one more port
 pub made_one_more : {T : Type 0} (Made : T → PortState → Type 0) (threads : List T) (ports : List PortState) (thread : T) (rest : List T) (port : PortState) → drop (length ports) threads ≡ thread ∷ rest → Made thread port →
     ((k : ℕ) (t : T) (p : PortState) → slice_get threads k ≡ Some t → slice_get ports k ≡ Some p → Made t p) →
     (k : ℕ) (t : T) (p : PortState) → slice_get threads k ≡ Some t → slice_get (ports ++ port ∷ []) k ≡ Some p → Made t p
@@ -42,11 +42,11 @@ all_made board plans threads its number plan ports many all are made = (
       (plan t.0, f.makes_plan, subst (λ (b : BoardState). HasMade b p (plan t.0) port) f.on_board (subst (λ (n : ℕ). HasMade (its t.0) n (plan t.0) port) f.for_process (made p t.0 port t.1 at))),
 )
 
--- the threads that are left, behind one more
+-- the remaining threads after one more
 pub left_more : {T : Type 0} (threads items : List T) (thread : T) (rest : List T) → ((at : ℕ) × (items ≡ drop at threads)) → items ≡ thread ∷ rest → (at : ℕ) × (rest ≡ drop at threads)
 left_more threads items thread rest left is = (suc left.0, sym (drop_more threads left.0 thread rest (sym left.1 ∙ is)))
 
--- a fault that a thread has found, or that was told before
+-- a fault that a thread has found, or that was found before
 pub told_more : {T : Type 0} (threads : List T) (number : T → ℕ) (items : List T) (thread : T) (rest : List T) (found result : RaceFault) (other : Option RaceFault) → ((at : ℕ) × (items ≡ drop at threads)) → items ≡ thread ∷ rest → IsFaultOf (number thread) found →
     IfSome other (λ fault. (k : ℕ) × (t : T) × (slice_get threads k ≡ Some t) × IsFaultOf (number t) fault) → (result ≡ found) ⊎ (other ≡ Some result) → (k : ℕ) × (t : T) × (slice_get threads k ≡ Some t) × IsFaultOf (number t) result
 told_more threads number items thread rest found result other left is its told (inl same) = (left.0, thread, at_drop threads left.0 thread rest (sym left.1 ∙ is), subst (λ (f : RaceFault). IsFaultOf (number thread) f) (sym same) its)
@@ -67,14 +67,14 @@ among board plans threads its number plan (Held p) few are one =
     let which : number one.1 ≡ one.0 = (are one.0 one.1 one.2).for_process in
     omega (arith, within, same, which, few)
 
--- the same of what may have ended by such a fault
+-- the fault with which joining ends is one of a race of as many processes
 pub ends_among : {X T : Type 0} (r : Result X RaceFault) (board : BoardState) (plans : List (Vec Command)) (threads : List T) (its : T → BoardState) (number : T → ℕ) (plan : T → List Command) → length threads ≤ length plans →
     ((k : ℕ) (t : T) → slice_get threads k ≡ Some t → IsFor board (plans_of plans) k (its t) (number t) (plan t)) →
     IfErr r (λ fault. (k : ℕ) × (t : T) × (slice_get threads k ≡ Some t) × IsFaultOf (number t) fault) → IfErr r (IsFaultAmong (length plans))
 ends_among (Ok x) board plans threads its number plan few are one = tt
 ends_among (Err fault) board plans threads its number plan few are one = among board plans threads its number plan fault few are one
 
--- what ends a port is a fault of it
+-- a fault that ends a port is one of its faults
 pub ended_by : (p : ℕ) (s : Setup) (own : OwnView) (fault : RaceFault) → EndsPort p s own fault → IsFaultOf p fault
 ended_by p s own Spawn h = h
 ended_by p s own (Held q) h = h.0

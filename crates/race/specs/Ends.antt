@@ -1,4 +1,4 @@
--- What `race` answers and writes. Which race it was the threads decide: the text is that of one that keeps what every race keeps.
+-- The text and the status of `race`. The threads decide which race it was: the text is that of some race that keeps the laws of every race.
 use Rattle.std.specs.Prelude.{◌≡◌, ℕ, ◌<◌, List, [], Option, IfSome, Result, Ok, Err}
 use Rattle.std.specs.String.{string_bytes}
 use Rattle.std.specs.Io.KnownBytes.{Appends, IsAtEnd, Keeps}
@@ -16,7 +16,7 @@ use Rattle.race.specs.Texts.{plans_in, race_text}
 use Rattle.race.specs.declared.faults.RunFault.{RunFault}
 use Rattle.race.specs.declared.faults.RunFault.TheVariants.{File, Race}
 
--- a race of a scenario: its plans were raced, and this is the verdict on what that left
+-- a race of a scenario: its plans were raced, and this is the verdict on the lists and the image at its end
 pub record Raced (said : Script) : Type 0 where
   pub lists : List (List Placed)
   pub image : Contents
@@ -24,17 +24,17 @@ pub record Raced (said : Script) : Type 0 where
   pub raced : IsRaced said.setup (plans_in said) lists image
   pub weighed : IsWeighed said.setup lists image verdict
 
--- its text
+-- the text of a race
 abbrev pub text_of : (said : Script) → Raced said → List ℕ
 text_of said race = race_text said race.lists race.image race.verdict
 
--- this is the text of a race of the scenario, of which weighing gives this verdict
+-- this is the text of a race of the scenario, and weighing its lists and image gives this verdict
 pub record TellsRace (said : Script) (verdict : Weighed) (text : List ℕ) : Type 0 where
   pub race : Raced said
   pub is_verdict : verdict ≡ race.verdict
   pub is_text : text ≡ text_of said race
 
--- the same, as it is reported
+-- a report contains the text and the verdict of a race
 abbrev pub TellsReport : Script → Report → Type 0
 TellsReport said report = TellsRace said report.verdict (string_bytes report.text)
 
@@ -42,23 +42,23 @@ TellsReport said report = TellsRace said report.verdict (string_bytes report.tex
 abbrev pub WritesRace : Script → ℕ → Option (List ℕ) → Option (List ℕ) → Type 0
 WritesRace said status old new = (race : Raced said) × (status ≡ status_of_race (Ok race.verdict)) × Appends old new (text_of said race)
 
--- a front of it was written
+-- a prefix of the text of a race was written
 abbrev pub WritesRaceFront : Script → Option (List ℕ) → Option (List ℕ) → Type 0
 WritesRaceFront said old new = (race : Raced said) × WritesFront old new (text_of said race)
 
--- this holds of the scenario that the whole input says
+-- P holds of the scenario of the whole input
 abbrev pub OfInput : Option (List ℕ) → (Script → Type 0) → Type 0
 OfInput to_come P = IfSome to_come (λ input. (said : Script) × (scenario_of input ≡ Ok said) × P said)
 
--- the text of a file of which nothing is printed, or its fault
+-- the empty text for a scenario file, or the fault of the file
 abbrev pub no_text : List ℕ → Result (List ℕ) LineFault
 no_text = text_by scenario_of (λ said. [])
 
--- the whole input was read, and it says a scenario
+-- the whole input was read, and it is a scenario
 abbrev pub ReadsScenario : Option (List ℕ) → Option (List ℕ) → Type 0
 ReadsScenario old new = OfInput old (λ said. Unit {0}) × IsAtEnd new
 
--- How `race` ends: nothing is written before the race has ended, so that a fault of a line, of reading or of the race, and want of memory, leave what was written.
+-- How `race` ends. Nothing is written before the race has ended, so a fault of a line, of reading or of the race, and an allocation failure, write nothing.
 abbrev pub RanRace : Result ℕ RunFault → Streams → Streams → Type 0
 RanRace (Ok status) old new = OfInput old.to_come (λ said. WritesRace said status old.taken new.taken) × IsAtEnd new.to_come
 RanRace (Err (File (Line fault))) old new = Ran no_text (Err (Line fault)) old new
@@ -67,7 +67,7 @@ RanRace (Err (File Write)) old new = (old.write_failures < new.write_failures) �
 RanRace (Err (File Memory)) old new = Keeps old.taken new.taken
 RanRace (Err (Race fault)) old new = ReadsScenario old.to_come new.to_come × Keeps old.taken new.taken
 
--- what may end it between reading and writing
+-- the faults that may end it between reading and writing
 abbrev pub IsFaultOfRacing : RunFault → Type 0
 IsFaultOfRacing (File Memory) = Unit {0}
 IsFaultOfRacing (File (Line fault)) = ⊥

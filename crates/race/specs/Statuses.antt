@@ -8,7 +8,7 @@ use Rattle.call_check.specs.declared.verdicts.Weighed.TheVariants.{Good, Bad, Ba
 use Rattle.race.specs.declared.faults.RunFault.{RunFault}
 use Rattle.race.specs.declared.faults.RunFault.TheVariants.{File, Race}
 
--- 0 for a good verdict, 3 for any other, and for a port that was held; 4 where memory or a thread was wanting
+-- 0 for a good verdict, 3 for any other one and for a port that was held, 4 if an allocation failed or a thread did not start
 abbrev pub status_of_race : Result Weighed RaceFault → ℕ
 status_of_race (Ok Good) = 0
 status_of_race (Ok (Bad port call)) = 3
@@ -17,7 +17,7 @@ status_of_race (Err Spawn) = 4
 status_of_race (Err (Held port)) = 3
 status_of_race (Err Memory) = 4
 
--- that of a fault
+-- the status of a fault
 abbrev pub status_of_run_fault : RunFault → ℕ
 status_of_run_fault (File fault) = status_of_fault fault
 status_of_run_fault (Race fault) = status_of_race (Err fault)

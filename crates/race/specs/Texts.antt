@@ -1,4 +1,4 @@
--- What `race` takes of a file, and the text of a race.
+-- The plans that `race` takes from a file, and the text of a race.
 use Rattle.std.specs.Prelude.{ℕ, suc, ◌==◌, nat_lt, if◌then◌else◌, List, [], ◌∷◌, ◌++◌, codes, flat_map, map, Option, None, Some}
 use Rattle.std.specs.Fmt.{decimal}
 use Rattle.std.specs.List.{range_with_len}
@@ -10,7 +10,7 @@ use Rattle.record.specs.declared.refusals.Refusal.TheVariants.{NoProcess}
 use Rattle.call_check.specs.{Weighed, verdict_text}
 use Rattle.std.specs.Global.{Vec}
 
--- the command that a line calls of process p, if it does
+-- the command of a line, if the line is a call of process p
 abbrev pub called_of : ℕ → Line → List Command
 called_of p (line.Call q command) = if q == p then command ∷ [] else []
 called_of p other = []
@@ -23,7 +23,7 @@ plan_in lines p = flat_map (called_of p) lines
 abbrev pub plans_in : Script → List (List Command)
 plans_in said = map (plan_in said.lines) (range_with_len 0 said.setup.processes)
 
--- what is printed for a line: a call of a process that is not there is refused
+-- the text for a line: a call of a process that does not exist is refused
 abbrev pub refused_text : Setup → Line → List ℕ
 refused_text setup (line.Call p command) = if nat_lt p setup.processes then [] else refusal_line p NoProcess
 refused_text setup other = []
@@ -32,7 +32,7 @@ refused_text setup other = []
 abbrev pub refused_lines : Setup → List Line → List ℕ
 refused_lines setup lines = flat_map (refused_text setup) lines
 
--- a place, or `-` where there is none
+-- a position, or `-` if there is none
 abbrev pub place_text : Option ℕ → List ℕ
 place_text None = codes "-"
 place_text (Some place) = decimal place
@@ -41,12 +41,12 @@ place_text (Some place) = decimal place
 abbrev pub answer_line : ℕ → Option ℕ → Answer → List ℕ
 answer_line p place answer = decimal p ++ codes " " ++ place_text place ++ codes " " ++ answer_text answer ++ codes "\n"
 
--- the same, if there is one
+-- the line of an answer to process p, if there is one
 abbrev pub answer_if_any : ℕ → Option ℕ → Option Answer → List ℕ
 answer_if_any p place None = []
 answer_if_any p place (Some answer) = answer_line p place answer
 
--- what is printed for a call of process p
+-- the text for a call of process p
 abbrev pub call_text : ℕ → Placed → List ℕ
 call_text p call = answer_if_any p call.place call.answer
 
@@ -67,6 +67,6 @@ verdict_line verdict = verdict_text verdict ++ codes "\n"
 abbrev pub race_text : Script → List (List Placed) → Contents → Weighed → List ℕ
 race_text said lists image verdict = refused_lines said.setup said.lines ++ answers_from 0 lists ++ show_text image.pairs ++ verdict_line verdict
 
--- the same, of the lists of a board that is closed
+-- the text of a race, with the lists of a closing
 abbrev pub raced_text : Script → List (Vec Placed) → Contents → Weighed → List ℕ
 raced_text said vecs image verdict = race_text said (lists_of vecs) image verdict

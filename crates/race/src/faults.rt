@@ -8,7 +8,7 @@ use scenario::{DONE, Fault, LineFault, fault_status};
 use std::alloc::AllocError;
 use thiserror::Error;
 
-/// Why a race has no closing. Of several faults the least is told, in this order.
+/// Why a race has no closing. If there are several faults, the first in this order is reported.
 #[derive(Clone, Copy, Debug, PartialEq, Eq, PartialOrd, Ord, Error)]
 pub enum RaceFault {
     /// A thread could not be started.
@@ -17,7 +17,7 @@ pub enum RaceFault {
     /// The gate held this port.
     #[error("held {0}")]
     Held(u8),
-    /// A growth was refused.
+    /// An allocation failed.
     #[error("out of memory")]
     Memory,
 }
@@ -33,7 +33,7 @@ impl From<AllocError> for RaceFault {
 }
 
 impl RaceFault {
-    /// Its place in the order in which the faults of a race are told.
+    /// Returns its position in the order in which the faults of a race are reported.
     fn rank(self) -> u16
         ensures { result ≡ rank_of self }
     {
@@ -44,7 +44,7 @@ impl RaceFault {
         }
     }
 
-    /// The fault that is told where this one was found beside another one.
+    /// Returns the fault that is reported if this one and `other` were found.
     pub(crate) fn or_lower(self, other: Option<RaceFault>) -> RaceFault
         ensures one { (result ≡ self) ⊎ (other ≡ Some result) }
         ensures least { rank_of result ≤ rank_of self }
@@ -64,7 +64,7 @@ impl RaceFault {
 /// Why the engine ended early.
 #[derive(Clone, Copy, Debug, Error)]
 pub enum RunFault {
-    /// A file was at fault, or memory was wanting outside the race.
+    /// A file was at fault, or an allocation failed outside the race.
     #[error(transparent)]
     File(Fault),
     /// The race has no closing.
@@ -114,8 +114,8 @@ impl From<RaceFault> for RunFault {
     }
 }
 
-/// The exit status that a race stands for: 0 for a good verdict, 3 for any other one and for a port that was held, 4
-/// where memory or a thread was wanting.
+/// Returns the exit status of a race: 0 for a good verdict, and 3 for any other one and for a port that was held. It is 4
+/// if an allocation failed or a thread could not be started.
 pub fn race_status(raced: &Result<Weighed, RaceFault>) -> u8
     ensures { result ≡ status_of_race raced.now }
 {
@@ -126,7 +126,7 @@ pub fn race_status(raced: &Result<Weighed, RaceFault>) -> u8
     }
 }
 
-/// The exit status where the engine ended early.
+/// Returns the exit status of an engine that ended early.
 pub fn run_fault_status(fault: &RunFault) -> u8
     ensures { result ≡ status_of_run_fault fault.now }
 {

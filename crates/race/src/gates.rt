@@ -1,12 +1,12 @@
 //! Gates, which may hold the ports of a race.
 use std::thread;
 
-/// Where a port stands at a gate.
+/// A moment at which a port asks the gate.
 #[derive(Clone, Copy, PartialEq, Eq)]
 pub enum Moment {
-    /// A call of it was accepted, and no access of the call is made.
+    /// Its call was accepted, and it has made no access of the call.
     Begun,
-    /// It has come inside, and no access of the section is made.
+    /// It has come inside, and it has made no access of the section.
     Inside,
 }
 
@@ -15,17 +15,17 @@ pub enum Moment {
 pub enum Pass {
     /// It goes on.
     On,
-    /// It asks anew.
+    /// It asks again.
     Again,
 }
 
-/// What each port of a race asks after each accepted begin, and each time that it comes inside.
+/// Decides how far ports may go. Each port of a race asks it after each accepted begin, and each time that it comes inside.
 pub trait Gate {
-    /// Whether a port may go on at this moment, or has to ask anew.
+    /// Returns whether a port may go on at this moment, or has to ask again.
     fn at(&self, port: u8, moment: Moment) -> Pass;
 }
 
-/// The gate that holds nobody.
+/// The gate that holds no port.
 #[derive(Clone, Copy)]
 pub struct AlwaysOn;
 
@@ -35,13 +35,13 @@ impl Gate for AlwaysOn {
     }
 }
 
-/// How often a gate is asked for one moment, before its port is held.
+/// The number of times that a port asks a gate at one moment before the gate holds it.
 const ASKS: u32 = 10_000_000;
 
-/// After so many of them the processor is left to another thread, for which the gate may wait.
+/// After this number of them the thread yields its processor to another one, for which the gate may wait.
 const ASKS_IN_A_ROW: u32 = 10_000;
 
-/// Whether the gate lets the port pass.
+/// Returns whether the gate lets the port pass.
 pub(crate) fn passes<G: Gate>(gate: &G, port: u8, moment: Moment) -> bool {
     for asked in 1..=ASKS {
         if gate.at(port, moment) == Pass::On {

@@ -1,5 +1,5 @@
 //! Races: the ports of one board on threads of their own, each making the calls of its plan. A gate may hold a port as
-//! it begins a call, and as it comes inside. What a race leaves is the closing of its board, or the fault that ended it.
+//! it begins a call, and as it comes inside. A race ends with the closing of its board, or with a fault.
 //!
 //! With `board` and `call_check`, this crate is what the request calls `runner`.
 //!
@@ -7,8 +7,8 @@
 //! let closing = race(rt, alloc, &scenario.setup, plans.as_slice(), &AlwaysOn)?;
 //! ```
 //!
-//! The engine `race` is here too: the calls of a scenario, each process's by a port on a thread of its own, and then the
-//! answers, the store that is left and the verdict on both.
+//! The engine `race` is here too. It makes the calls of a scenario, those of each process by a port on a thread of its own.
+//! Then it writes the answers, the store at the end and the verdict on both.
 #![tactic(auto)]
 
 mod faults;

@@ -1,4 +1,4 @@
-//! The plans of a race: what each process calls.
+//! The plans of a race: the commands of each process.
 ghost use Rattle.std.specs.Prelude.{◌≡◌, ◌++◌, IfOk, OnOk};
 ghost use Rattle.scenario.specs.{script};
 ghost use Rattle.race.specs.Races.{plans_of as plans_listed};
@@ -8,8 +8,11 @@ use plain_store::{Command, NestedTypes};
 use scenario::{Line, Scenario};
 use std::alloc::{AllocError, Global};
 
-/// For each process the commands of its `call` lines, in order; other lines are passed over. The one fault is want of
-/// memory.
+/// Returns the commands of the `call` lines of each process, in order. Other lines are passed over.
+///
+/// # Errors
+///
+/// Returns [`AllocError`] if memory runs out.
 pub fn plans_of(alloc: Global, scenario: &Scenario) -> Result<Vec<Vec<Command>>, AllocError>
     ensures { IfOk result (λ plans. plans_listed plans.items ≡ plans_in (script scenario.now)) }
 {
@@ -21,7 +24,7 @@ pub fn plans_of(alloc: Global, scenario: &Scenario) -> Result<Vec<Vec<Command>>,
     Ok(plans)
 }
 
-/// The plan of one process.
+/// Returns the plan of one process.
 fn plan_of(alloc: Global, lines: &[Line], process: u8) -> Result<Vec<Command>, AllocError>
     ensures { IfOk result (λ plan. plan.items ≡ plan_in lines.now process) }
 {
@@ -32,7 +35,7 @@ fn plan_of(alloc: Global, lines: &[Line], process: u8) -> Result<Vec<Command>, A
     Ok(plan)
 }
 
-/// One command more, if the line calls one of this process.
+/// Adds the command of a line, if the line is a call of this process.
 fn keep_call(line: &Line, process: u8, plan: &mut Vec<Command>) -> Result<(), AllocError>
     ensures { OnOk result (plan.new.items ≡ plan.old.items ++ called_of process line.now) }
 {

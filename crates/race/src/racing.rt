@@ -16,8 +16,8 @@ use std::snapshot::Snapshot;
 use std::sync::Wait;
 use std::thread::{self, Promise, PromisedHandle, Scope, Threads};
 
-/// What a thread promises: the port of this process makes this plan, on this board; or this port was held, or memory
-/// wanting.
+/// The promise of a thread: the port of this process makes this plan, on this board; or this port was held, or an
+/// allocation failed.
 #[derive(Drop)]
 struct Making {
     board: Snapshot<Board>,
@@ -34,6 +34,11 @@ type Thread = PromisedHandle<Result<Port, RaceFault>, Making>;
 
 /// Runs the plans, list p by process p, each on a thread of its own, and closes the board. A port asks the gate after each
 /// call that was accepted, and each time that it comes inside.
+///
+/// # Errors
+///
+/// Returns the first in order of the faults that occurred: [`RaceFault::Spawn`] if a thread could not be started,
+/// [`RaceFault::Held`] if the gate held a port, [`RaceFault::Memory`] if an allocation failed.
 pub fn race<R: Threads + Wait + Sync, G: Gate + Sync>(
     rt: &R,
     alloc: Global,
@@ -55,7 +60,7 @@ pub fn race<R: Threads + Wait + Sync, G: Gate + Sync>(
     }
 }
 
-/// Runs the ports of all plans, each on a thread of its own, and gives them back in order. The fault is told once all
+/// Runs the ports of all plans, each on a thread of its own, and returns them in order. A fault is returned once all
 /// threads have ended.
 fn run_all<R: Threads + Wait + Sync, G: Gate + Sync>(
     rt: &R,
@@ -86,7 +91,7 @@ fn run_all<R: Threads + Wait + Sync, G: Gate + Sync>(
     )
 }
 
-/// The same in a scope, with room made for the threads and for what they give back.
+/// Runs the ports in a scope, with room for the threads and for the ports that they return.
 fn run_in<'s, E, R: Threads + Wait + Sync, G: Gate + Sync>(
     rt: &'s R,
     scope: &Scope<'s, E>,
@@ -110,7 +115,7 @@ fn run_in<'s, E, R: Threads + Wait + Sync, G: Gate + Sync>(
     if all { made } else { Err(RaceFault::Spawn) }
 }
 
-/// Starts a thread for each port, as long as one can be started.
+/// Starts a thread for each port, until one cannot be started.
 fn start_all<'s, E, R: Threads + Wait + Sync, G: Gate + Sync>(
     rt: &'s R,
     scope: &Scope<'s, E>,
@@ -135,7 +140,7 @@ fn start_all<'s, E, R: Threads + Wait + Sync, G: Gate + Sync>(
     threads
 }
 
-/// Starts the thread of one port. Where none can be started the port is dropped.
+/// Starts the thread of one port. If it cannot be started, the port is dropped.
 fn start<'s, E, R: Threads + Wait + Sync, G: Gate + Sync>(
     rt: &'s R,
     scope: &Scope<'s, E>,
@@ -168,7 +173,7 @@ fn start<'s, E, R: Threads + Wait + Sync, G: Gate + Sync>(
         .ok()
 }
 
-/// What a thread does.
+/// Makes the calls of a plan, on the thread of its port.
 fn work<R: Wait, G: Gate>(
     rt: &R,
     board: &Board,
@@ -192,7 +197,7 @@ fn work<R: Wait, G: Gate>(
     made
 }
 
-/// Waits for all threads, and gives their ports; or, of the faults that they found, the first in the order.
+/// Waits for all threads and returns their ports, or the first fault in order if threads found any.
 fn join_all<R: Threads>(
     rt: &R,
     threads: Vec<Thread>,

@@ -15,17 +15,21 @@ use std::alloc::Global;
 use std::sync::Wait;
 use std::thread::Threads;
 
-/// What there is to tell of a race that has ended.
+/// The report on a race that has ended.
 #[derive(Drop)]
 struct Report {
     text: String,
     verdict: Weighed,
 }
 
-/// Reads a whole scenario file, races its plans, each on a thread of its own, and then writes the calls that are refused,
-/// the answers, the store that is left and the verdict on both; answers the exit status. Nothing is written before the
-/// race has ended, so that after a fault of a line, of reading or of the race, and for want of memory, nothing was. It
-/// may wait for a thread. However it ends, at most `INPUT_LIMIT` bytes are taken from the front of the input.
+/// Reads a whole scenario file and races its plans, each on a thread of its own. Then it writes the refused calls, the
+/// answers, the store at the end and the verdict on both. Returns the exit status. It may wait for a thread. However it
+/// ends, it takes at most `INPUT_LIMIT` bytes from the begin of the input.
+///
+/// # Errors
+///
+/// Returns [`RunFault::File`] for a fault of a line, of reading or of writing, or if an allocation fails, and otherwise
+/// [`RunFault::Race`]. Nothing is written before the race has ended, so only a fault of writing may leave a part of the text.
 pub fn run_race<T: Threads + Wait + Sync, R: Source, W: Sink>(
     rt: &T,
     alloc: Global,

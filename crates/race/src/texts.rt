@@ -13,7 +13,7 @@ use record::{Placed, Refusal, refusal_line};
 use scenario::{Line, Scenario};
 use std::alloc::{AllocError, Global};
 
-/// The text of a race of the scenario that left these lists and this image, with this verdict on them.
+/// Returns the text of a race of the scenario that ended with these lists and this image, with this verdict on them.
 pub(crate) fn race_text(
     alloc: Global,
     scenario: &Scenario,
@@ -30,7 +30,7 @@ pub(crate) fn race_text(
     Ok(text)
 }
 
-/// Puts another text behind this one, if it was made.
+/// Appends another text, if there is one.
 fn push_text(text: &mut String, more: Result<String, AllocError>) -> Result<(), AllocError>
     ensures { OnOk result (IsOkAnd more
         (λ more. string_bytes text.new ≡ string_bytes text.old ++ string_bytes more)) }
@@ -38,7 +38,7 @@ fn push_text(text: &mut String, more: Result<String, AllocError>) -> Result<(), 
     text.push_str(more?.as_str())
 }
 
-/// The calls of processes that are not there.
+/// Returns the lines of the calls of processes that do not exist.
 fn refused_lines(alloc: Global, setup: &Setup, lines: &[Line]) -> Result<String, AllocError>
     ensures { GivesText result (lines_of_refused setup.now lines.now) }
 {
@@ -49,7 +49,7 @@ fn refused_lines(alloc: Global, setup: &Setup, lines: &[Line]) -> Result<String,
     Ok(text)
 }
 
-/// What is printed for a line.
+/// Returns the text for a line.
 fn refused_line(alloc: Global, setup: &Setup, line: &Line) -> Result<String, AllocError>
     ensures { GivesText result (refused_text setup.now line.now) }
 {
@@ -61,7 +61,7 @@ fn refused_line(alloc: Global, setup: &Setup, line: &Line) -> Result<String, All
     }
 }
 
-/// The answers of all lists.
+/// Returns the answers of all lists.
 fn answer_lines(alloc: Global, lists: &[Vec<Placed>]) -> Result<String, AllocError>
     ensures { GivesText result (answers_from 0 (lists_of lists.now)) }
 {
@@ -72,7 +72,7 @@ fn answer_lines(alloc: Global, lists: &[Vec<Placed>]) -> Result<String, AllocErr
     Ok(text)
 }
 
-/// The answers to one process.
+/// Returns the answers to one process.
 fn list_lines(alloc: Global, process: usize, calls: &[Placed]) -> Result<String, AllocError>
     ensures { GivesText result (list_text process calls.now) }
 {
@@ -83,7 +83,7 @@ fn list_lines(alloc: Global, process: usize, calls: &[Placed]) -> Result<String,
     Ok(text)
 }
 
-/// What is printed for a call: nothing, if it was not answered.
+/// Returns the text for a call: it is empty if the call was not answered.
 fn call_line(alloc: Global, process: usize, call: &Placed) -> Result<String, AllocError>
     ensures { GivesText result (call_text process call.now) }
 {
@@ -94,7 +94,7 @@ fn call_line(alloc: Global, process: usize, call: &Placed) -> Result<String, All
     }
 }
 
-/// The line of an answer.
+/// Returns the line of an answer.
 fn answer_line(
     alloc: Global,
     process: usize,
@@ -109,7 +109,7 @@ fn answer_line(
     }
 }
 
-/// That of a call that was taken.
+/// Returns the line of an answer to a call that was taken.
 #[tactic(auto, using(crate::proofs::Parts::placed_line_is))]
 fn placed_line(
     alloc: Global,
@@ -122,7 +122,7 @@ fn placed_line(
     format!(in alloc; "{process} {place} {answer}\n")
 }
 
-/// That of a call that was not.
+/// Returns the line of an answer to a call that was not taken.
 #[tactic(auto, using(crate::proofs::Parts::unplaced_line_is))]
 fn unplaced_line(alloc: Global, process: usize, answer: &Answer) -> Result<String, AllocError>
     ensures { GivesText result (line_of_answer process None answer.now) }
@@ -130,7 +130,7 @@ fn unplaced_line(alloc: Global, process: usize, answer: &Answer) -> Result<Strin
     format!(in alloc; "{process} - {answer}\n")
 }
 
-/// The line of the verdict.
+/// Returns the line of the verdict.
 fn verdict_line(alloc: Global, verdict: &Weighed) -> Result<String, AllocError>
     ensures { GivesText result (line_of_verdict verdict.now) }
 {

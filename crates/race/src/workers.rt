@@ -1,4 +1,4 @@
-//! What each thread of a race does: its port makes the calls of a plan, one after the other.
+//! The work of each thread of a race: its port makes the calls of a plan, one after the other.
 ghost use Rattle.std.specs.Prelude.{◌≡◌, IfErr, IfOk, OnOk, Some};
 ghost use Rattle.board.specs.{IsOf, SamePort, new_own, stage_in};
 ghost use Rattle.race.specs.Calling.{ComesTo, IsCalling, PortHasCalled};
@@ -14,7 +14,7 @@ use record::Stage;
 use std::sync::Wait;
 use std::thread;
 
-/// What a call has come to.
+/// The state that a call has reached.
 #[derive(Clone, Copy)]
 pub(crate) enum CallReached {
     /// Its port is inside.
@@ -23,8 +23,8 @@ pub(crate) enum CallReached {
     Answer,
 }
 
-/// After so many word steps at the door the processor is left to another thread, which may be the one that is waited
-/// for.
+/// After this number of word steps at the door the thread yields its processor to another one, which may be the one that
+/// the port waits for.
 const TURNS_AT_THE_DOOR: u32 = 256;
 
 /// One of the threads of a race.
@@ -37,8 +37,11 @@ pub(crate) struct Worker<'a, G> {
 }
 
 impl<'a, G: Gate> Worker<'a, G> {
-    /// Makes the calls of the plan, in order, and gives the port back. A port that the gate holds is dropped once it is
-    /// down.
+    /// Makes the calls of the plan, in order, and returns the port. A port that the gate holds is dropped once it is down.
+    ///
+    /// # Errors
+    ///
+    /// Returns [`RaceFault::Held`] if the gate holds the port, or [`RaceFault::Memory`] if an allocation fails.
     #[tactic(auto, using(crate::proofs::Threads::ended_by))]
     pub fn run<R: Wait>(&self, rt: &R, mut port: Port, plan: &[Command]) -> Result<Port, RaceFault>
         requires board { IsOf self.now.board.now port }
@@ -53,7 +56,7 @@ impl<'a, G: Gate> Worker<'a, G> {
         Ok(port)
     }
 
-    /// Makes one call. Where the gate holds the port, the port fails and is driven down.
+    /// Makes one call. If the gate holds the port, the port fails and is driven down.
     fn call<R: Wait>(
         &self,
         rt: &R,
@@ -80,7 +83,7 @@ impl<'a, G: Gate> Worker<'a, G> {
         Ok(())
     }
 
-    /// Asks the gate. A port that it holds fails, and is driven down.
+    /// Asks the gate. If the gate holds the port, the port fails and is driven down.
     fn pass<R: Wait>(
         &self,
         rt: &R,
@@ -132,8 +135,8 @@ impl<'a, G: Gate> Worker<'a, G> {
         unreachable!()
     }
 
-    /// The same, by a few word steps at most: None where they do not suffice. The stage is looked at after each of them,
-    /// so that the port makes no access of the section before the gate is asked.
+    /// Drives the port by a few word steps at most. Returns `None` if they do not suffice. The stage is read after each of
+    /// them, so that the port makes no access of the section before the gate is asked.
     fn come_nearer(&self, port: &mut Port, flicks: &mut Flicks) -> Option<CallReached>
         requires board { IsOf self.now.board.now port.old }
         requires calling { IsCalling port.old.setup port.old.view.own }

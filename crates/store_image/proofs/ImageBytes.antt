@@ -1,4 +1,4 @@
--- The bytes of an image: reading gives back the store, and a write over a slot or a number is that of the store.
+-- The bytes of an image: reading returns the store, and a write over a slot or a number is that of the store.
 use Rattle.std.proofs.Common.{◌≡◌, ℕ, zero, suc, ◌+◌, ◌-◌, ◌*◌, ◌<◌, ◌≤◌, true, ◌&&◌, List, [], ◌∷◌, ◌++◌, length, take, drop, set, map, replicate, get_or, slice_get, Option, Some, None, is_none, refl, ap, sym, subst, ◌∙◌, append_assoc, arith, length-append}
 use Rattle.std.specs.List.{flat_map, list_all}
 use Rattle.std.proofs.Math.Seq.{take-append-add, drop-append-add}
@@ -26,7 +26,7 @@ first_new p ps good = (good_parts p ps good).1.0
 pub others_good : (p : Pair) (ps : List Pair) → are_pairs (p ∷ ps) ≡ true → are_pairs ps ≡ true
 others_good p ps good = and_from (list_all is_pair ps) (names_differ ps) (good_parts p ps good).0.1 (good_parts p ps good).1.1
 
--- good pairs of their parts
+-- good pairs from their parts
 pub good_pairs : (p : Pair) (ps : List Pair) → is_pair p ≡ true → is_none (value_at ps p.0) ≡ true → are_pairs ps ≡ true → are_pairs (p ∷ ps) ≡ true
 good_pairs p ps one new rest =
     let parts : (list_all is_pair ps ≡ true) × (names_differ ps ≡ true) = and_parts (list_all is_pair ps) (names_differ ps) rest in
@@ -47,7 +47,7 @@ pub wide_pairs : (pairs : List Pair) → are_pairs pairs ≡ true → AllWide 23
 wide_pairs [] good = tt
 wide_pairs (p ∷ ps) good = (length-slot_of p (first_good p ps good), wide_pairs ps (others_good p ps good))
 
--- all numbers have 2
+-- all numbers have 2 bytes
 pub wide_numbers : (ns : List ℕ) → AllWide 2 number_bytes ns
 wide_numbers [] = tt
 wide_numbers (n ∷ ns) = (length-number_bytes n, wide_numbers ns)
@@ -62,19 +62,19 @@ pub length-image_of : (s : Contents) → IsStore s → length (image_of s) ≡ 2
 unfolding image_of
 length-image_of s store = omega (arith, length-append (flat_map slot_bytes (places s.slots s.pairs)) (flat_map number_bytes s.numbers), length-slots s store, length-rows_flat 2 number_bytes s.numbers (wide_numbers s.numbers))
 
--- what was written in the slots is read
+-- reading the slots of pairs returns the pairs
 pairs_back : (pairs : List Pair) → are_pairs pairs ≡ true → map pair_in (map slot_bytes (map Some pairs)) ≡ pairs
 pairs_back [] good = refl
 pairs_back (p ∷ ps) good = λ j. pair_in-slot_of p (first_good p ps good) j ∷ pairs_back ps (others_good p ps good) j
 
--- and in the numbers
+-- reading the bytes of numbers returns the numbers
 numbers_back : (ns : List ℕ) → list_all is_number ns ≡ true → map number_in (map number_bytes ns) ≡ ns
 numbers_back [] good = refl
 numbers_back (n ∷ ns) good =
     let parts : (is_number n ≡ true) × (list_all is_number ns ≡ true) = and_parts (is_number n) (list_all is_number ns) good in
     λ j. number_in-number_bytes n parts.0 j ∷ numbers_back ns parts.1 j
 
--- used slots, and what stands behind them
+-- used slots, and the bytes after them
 used_first : (pairs : List Pair) (free : List (Option Pair)) (more : List ℕ) → flat_map slot_bytes (map Some pairs ++ free) ++ more ≡ flat_map slot_bytes (map Some pairs) ++ (flat_map slot_bytes free ++ more)
 used_first [] free more = refl
 used_first (p ∷ ps) free more =
@@ -82,7 +82,7 @@ used_first (p ∷ ps) free more =
     ∙ ap (λ rest. slot_of p ++ rest) (used_first ps free more)
     ∙ sym (append_assoc (slot_of p) (flat_map slot_bytes (map Some ps)) (flat_map slot_bytes free ++ more))
 
--- the image of a store stands for the store
+-- the image of a store represents the store
 pub store_read-image_of : (s : Contents) (more : List ℕ) → IsStore s → store_read (length s.pairs) s.slots (length s.numbers) (image_of s ++ more) ≡ s
 unfolding image_of store_read
 store_read-image_of s more store =
@@ -109,13 +109,13 @@ pub record IsImage (s : Contents) (used slots callers : ℕ) (bytes : List ℕ) 
   pub all_callers : callers ≡ length s.numbers
   pub whole : bytes ≡ padded 216 (image_of s)
 
--- they stand for the store
+-- the fields represent the store
 pub store_read-image : (s : Contents) (used slots callers : ℕ) (bytes : List ℕ) → IsStore s → IsImage s used slots callers bytes → store_read used slots callers bytes ≡ s
 store_read-image s used slots callers bytes store image =
     (λ j. store_read (image.used_slots j) (image.all_slots j) (image.all_callers j) (image.whole j))
     ∙ store_read-image_of s (replicate (216 - length (image_of s)) 0) store
 
--- and are kept
+-- the fields keep the invariant
 pub kept_image : (s : Contents) (used slots callers : ℕ) (bytes : List ℕ) → IsStore s → IsImage s used slots callers bytes → IsKept used slots callers bytes
 kept_image s used slots callers bytes store image =
     let same : store_read used slots callers bytes ≡ s = store_read-image s used slots callers bytes store image in
@@ -127,7 +127,7 @@ kept_image s used slots callers bytes store image =
       whole = image.whole ∙ ap (λ t. padded 216 (image_of t)) (sym same);
     }
 
--- what is read from the fields that are kept has a front that is its image
+-- the first bytes of fields with the invariant are the image of the store that they represent
 pub take-kept : (used slots callers : ℕ) (bytes : List ℕ) (n : ℕ) → IsKept used slots callers bytes → n ≡ slots * 23 + callers * 2 → take n bytes ≡ image_of (store_read used slots callers bytes)
 take-kept used slots callers bytes n kept long =
     let s : Contents = store_read used slots callers bytes in
@@ -190,7 +190,7 @@ IsImage-empty_store slots callers bytes some few few_callers zeros =
           ∙ ap (padded 216) (sym (image_of-empty_store slots callers));
     }
 
--- the slot at a place
+-- the slot of a pair, by its index
 pub slot_at : (s : Contents) (more : List ℕ) (k at : ℕ) (d : Pair) → IsStore s → k < length s.pairs → at ≡ 23 * k → take 23 (drop at (image_of s ++ more)) ≡ slot_of (get_or s.pairs k d)
 unfolding image_of
 slot_at s more k at d store small here =
@@ -202,7 +202,7 @@ slot_at s more k at d store small here =
     ∙ row_at 23 slot_bytes (map Some s.pairs) (flat_map slot_bytes free ++ (numbers ++ more)) k at (Some d) (wide_pairs s.pairs store.good_pairs) within here
     ∙ ap slot_bytes (get_or-map Some s.pairs k d)
 
--- zeros behind images of one length
+-- zeros after images of one length
 padded_alike : (xs ys : List ℕ) → length xs ≡ length ys → xs ++ replicate (216 - length ys) 0 ≡ padded 216 xs
 padded_alike xs ys same = ap (λ n. xs ++ replicate (216 - n) 0) (sym same)
 
@@ -242,7 +242,7 @@ number_over s t n k at old new slots pairs written small here =
     ∙ (λ j. (flat_map slot_bytes (places (sym slots j) (sym pairs j)) ++ flat_map number_bytes t.numbers) ++ zeros)
     ∙ padded_alike (image_of t) (image_of s) long
 
--- the number of a process
+-- the number of a process, by its index
 pub number_at : (s : Contents) (more : List ℕ) (k at : ℕ) → IsStore s → k < length s.numbers → at ≡ 23 * s.slots + 2 * k → take 2 (drop at (image_of s ++ more)) ≡ number_bytes (get_or s.numbers k 0)
 unfolding image_of
 number_at s more k at store small here =
@@ -254,7 +254,7 @@ number_at s more k at store small here =
     ∙ ap (take 2) (drop-append-add front (back ++ more) (2 * k))
     ∙ row_at 2 number_bytes s.numbers more k (2 * k) 0 (wide_numbers s.numbers) small refl
 
--- the fields that are kept, of the store that they stand for
+-- fields with the invariant are those of the image of the store that they represent
 pub image_kept : (s : Contents) (used slots callers : ℕ) (bytes : List ℕ) → IsKept used slots callers bytes → store_read used slots callers bytes ≡ s → IsImage s used slots callers bytes
 image_kept s used slots callers bytes kept same = record {
   used_slots = sym (used_read used slots callers bytes) ∙ ap (λ t. length t.pairs) same;
@@ -266,7 +266,7 @@ image_kept s used slots callers bytes kept same = record {
 pub store_kept : (s : Contents) (used slots callers : ℕ) (bytes : List ℕ) → IsKept used slots callers bytes → store_read used slots callers bytes ≡ s → IsStore s
 store_kept s used slots callers bytes kept same = subst IsStore same kept.store
 
--- each of good pairs is one
+-- each pair of good pairs is one
 pub pair_good : (pairs : List Pair) (k : ℕ) (d : Pair) → are_pairs pairs ≡ true → k < length pairs → is_pair (get_or pairs k d) ≡ true
 pair_good [] k d good small = absurd (omega arith)
 pair_good (p ∷ ps) zero d good small = first_good p ps good
@@ -277,7 +277,7 @@ found_pair [] k d small = absurd (omega arith)
 found_pair (p ∷ ps) zero d small = refl
 found_pair (p ∷ ps) (suc k) d small = found_pair ps k d (omega arith)
 
--- the bytes of a slot are those of the pair at its place
+-- the bytes of a slot are those of the pair with its index
 pub record IsSlotAt (s : Contents) (k : ℕ) (slot : List ℕ) : Type 0 where
   pub pair : slice_get s.pairs k ≡ Some (pair_in slot)
   pub used : is_used slot ≡ true
@@ -298,7 +298,7 @@ number_good [] k good small = absurd (omega arith)
 number_good (n ∷ ns) zero good small = (and_parts (is_number n) (list_all is_number ns) good).0
 number_good (n ∷ ns) (suc k) good small = number_good ns k (and_parts (is_number n) (list_all is_number ns) good).1 (omega arith)
 
--- the bytes of a number are those of its process
+-- the bytes of a number are those of the number of its process
 pub number_there : (s : Contents) (k at : ℕ) (bytes : List ℕ) → IsStore s → bytes ≡ padded 216 (image_of s) → k < length s.numbers → at ≡ 23 * s.slots + 2 * k → number_in (padded 2 (take 2 (drop at bytes))) ≡ get_or s.numbers k 0
 number_there s k at bytes store whole small here =
     let n : ℕ = get_or s.numbers k 0 in

@@ -1,4 +1,4 @@
--- What writing a pair at its place does.
+-- The effect of writing a pair at its place.
 use Rattle.std.proofs.Common.{◌≡◌, ℕ, zero, suc, ◌+◌, ◌-◌, ◌*◌, ◌^◌, ◌<◌, ◌≤◌, Bool, true, false, cond, if◌then◌else◌, List, [], ◌∷◌, ◌++◌, length, take, drop, set, map, max, replicate, Option, Some, None, is_none, refl, ap, sym, ◌∙◌, arith, slice_get, option_map, nat_lt, IsSome}
 use Rattle.std.specs.Str.{bytes_eq}
 use Rattle.std.specs.List.{list_all}
@@ -30,7 +30,7 @@ value_at-place_of (e ∷ es) name = by (value_at-place_of es name) (bytes_eq nam
     by more true = refl
     by more false = more
 
--- how many pairs there are then
+-- the number of pairs after the write
 pub length-put : (pairs : List Pair) (name : List ℕ) (x : Value) → length (put pairs name x) ≡ max (length pairs) (suc (place_of pairs name))
 length-put [] name x = refl
 length-put (e ∷ es) name x = by (length-put es name x) (bytes_eq name e.0)
@@ -39,7 +39,7 @@ length-put (e ∷ es) name x = by (length-put es name x) (bytes_eq name e.0)
     by more true = omega arith
     by more false = omega (arith, more)
 
--- the pair stands in the place of its name
+-- the pair is in the place of its name
 pub set_place : (pairs : List Pair) (name : List ℕ) (x : Value) (free left : ℕ) → place_of pairs name < length pairs + free → length (put pairs name x) + left ≡ length pairs + free → set (map Some pairs ++ replicate free None) (place_of pairs name) (Some (name, x)) ≡ map Some (put pairs name x) ++ replicate left None
 set_place [] name x zero left room same = absurd (omega arith)
 set_place [] name x (suc free) left room same =
@@ -53,7 +53,7 @@ set_place (e ∷ es) name x free left room same = by (λ near long. set_place es
         λ j. Some (equal refl j, x) ∷ (map Some es ++ replicate (this j) None)
     by more false equal near long = ap (λ rest. Some e ∷ rest) (more (omega (arith, near)) (omega (arith, long)))
 
--- names that are there after it
+-- a name other than the written one has a value exactly if it had one before
 is_none-put : (pairs : List Pair) (name other : List ℕ) (x : Value) → bytes_eq other name ≡ false → is_none (value_at (put pairs name x) other) ≡ is_none (value_at pairs other)
 is_none-put [] name other x differs = ap (λ b. is_none (cond b (Some x) None)) differs
 is_none-put (e ∷ es) name other x differs = by (is_none-put es name other x differs) (bytes_eq name e.0)
@@ -90,7 +90,7 @@ are_pairs-put (e ∷ es) name x good this = by (are_pairs-put es name x (others_
     by more false same =
         good_pairs e (put es name x) (first_good e es good) (is_none-put es name e.0 x (other_way name e.0 same) ∙ first_new e es good) more
 
--- a search for a name: the places passed, and the place in the rest
+-- a search for a name: the places before k, and the place in the rest
 place_step : (pairs : List Pair) (name : List ℕ) (k : ℕ) (p : Pair) → slice_get pairs k ≡ Some p → place_of (drop k pairs) name ≡ (if bytes_eq name p.0 then 0 else suc (place_of (drop (k + 1) pairs) name))
 place_step pairs name k p here =
     let within : k < length pairs = slice_get_within pairs k p here in
@@ -112,7 +112,7 @@ place_ended pairs name k end passed =
     let none : place_of (drop k pairs) name ≡ 0 = ap (λ ps. place_of ps name) (drop_all k pairs end) in
     omega arith
 
--- the store with a pair written
+-- the store after a pair was written
 abbrev pub with_pair : Contents → List ℕ → Value → Contents
 with_pair s name x = record { pairs = put s.pairs name x; slots = s.slots; numbers = s.numbers }
 
@@ -141,7 +141,7 @@ IsImage-with_pair s name x used slots callers used_then place at n bytes slot st
           ∙ slot_over s (with_pair s name x) (name, x) place at store then_store refl refl (ap (λ k. set (places s.slots s.pairs) k (Some (name, x))) here ∙ in_place) room start;
     }
 
--- the store with a number written
+-- the store after a number was written
 abbrev pub with_number : Contents → ℕ → ℕ → Contents
 with_number s k n = record { pairs = s.pairs; slots = s.slots; numbers = set s.numbers k n }
 
@@ -170,11 +170,11 @@ IsImage-with_number s k n used slots callers at two bytes number store small wit
       ∙ number_over s (with_number s k n) n k at store (IsStore-with_number s k n store small) refl refl refl within start;
 }
 
--- the value that is read at the place of a name
+-- the value in the place of a name
 pub value_at_place : (pairs : List Pair) (name : List ℕ) (place : ℕ) → place ≡ place_of pairs name → option_map (λ (p : Pair). p.1) (slice_get pairs place) ≡ value_at pairs name
 value_at_place pairs name place here = ap (λ k. option_map (λ (p : Pair). p.1) (slice_get pairs k)) here ∙ value_at-place_of pairs name
 
--- a name with a value stands among the pairs
+-- a name with a value is among the pairs
 some_place : (pairs : List Pair) (name : List ℕ) (v : Value) → value_at pairs name ≡ Some v → place_of pairs name < length pairs
 some_place [] name v there = cc
 some_place (e ∷ es) name v there = by (λ here. some_place es name v here) (bytes_eq name e.0) there
@@ -187,7 +187,7 @@ not_some : (written : Option Value) → written ≡ None → IsSome written → 
 not_some None none some = cc
 not_some (Some x) none some = cc
 
--- where nothing is free, only a name with a value is written
+-- if no slot is free, only a name with a value is written
 none_written : (last : ℕ) (command : Command) → (at_absent false last command).written ≡ None
 none_written last (Read n) = refl
 none_written last (Write n x) = refl
@@ -195,7 +195,7 @@ none_written last (Add n d) = refl
 none_written last (Cas n x y) = refl
 none_written last Ask = refl
 
--- what is written has a slot
+-- a name that is written has a slot
 pub written_room : (s : Contents) (command : Command) (last : ℕ) → length s.pairs ≤ s.slots → IsSome (outcome (value_for s.pairs (name_of command)) (nat_lt (length s.pairs) s.slots) last command).written → place_for s.pairs (name_of command) < s.slots
 written_room s command last fits = by (name_of command) (nat_lt (length s.pairs) s.slots) refl
   where

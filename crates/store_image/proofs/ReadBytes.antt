@@ -22,7 +22,7 @@ not_true : (a : Bool) → not a ≡ true → a ≡ false
 not_true false same = refl
 not_true true same = cc
 
--- a new name is written behind all pairs
+-- a new name is written after all pairs
 put-new : (pairs : List Pair) (name : List ℕ) (x : Value) → list_any (λ (q : Pair). bytes_eq name q.0) pairs ≡ false → put pairs name x ≡ pairs ++ (name, x) ∷ []
 put-new [] name x new = refl
 put-new (e ∷ es) name x new =
@@ -35,12 +35,12 @@ pub none_unused : (pairs : List Pair) → list_any is_unused (map slot_bytes (ma
 none_unused [] = refl
 none_unused (p ∷ ps) = ap (λ b. b || list_any is_unused (map slot_bytes (map Some ps))) (is_unused-slot_of p) ∙ none_unused ps
 
--- an unused slot behind them is
+-- an unused slot after them is unused
 some_unused : (pairs : List Pair) (m : ℕ) → list_any is_unused (map slot_bytes (map Some pairs ++ replicate (suc m) None)) ≡ true
 some_unused [] m = ap (λ b. b || list_any is_unused (map slot_bytes (replicate m None))) is_unused-unused_slot
 some_unused (p ∷ ps) m = ap (λ b. b || list_any is_unused (map slot_bytes (map Some ps ++ replicate (suc m) None))) (is_unused-slot_of p) ∙ some_unused ps m
 
--- the names in the slots of pairs
+-- the names in the slots of pairs are those of the pairs
 have_name-pairs : (pairs : List Pair) (name : List ℕ) → are_pairs pairs ≡ true → have_name (map slot_bytes (map Some pairs)) name ≡ list_any (λ (q : Pair). bytes_eq name q.0) pairs
 have_name-pairs [] name good = refl
 have_name-pairs (p ∷ ps) name good = λ j. bytes_eq name (name_in-slot_of p (first_good p ps good) j) || have_name-pairs ps name (others_good p ps good) j
@@ -66,7 +66,7 @@ places_full k pairs full =
     let none : k - length pairs ≡ 0 = omega arith in
     ap (λ n. map Some pairs ++ replicate n None) none ∙ append-nil (map Some pairs)
 
--- where no slot is unused there are as many pairs
+-- if no slot is unused, the pairs fill all slots
 all_used : (k : ℕ) (pairs : List Pair) → length pairs ≤ k → list_any is_unused (map slot_bytes (places k pairs)) ≡ false → length pairs ≡ k
 all_used k pairs fits none = by (k - length pairs) refl
   where
@@ -77,7 +77,7 @@ all_used k pairs fits none = by (k - length pairs) refl
         let bad : true ≡ false = sym some ∙ none in
         cc
 
--- a slot that follows the rules is read
+-- a slot that follows the rules adds a pair or is unused
 read_more : (bytes : List ℕ) (k : ℕ) (pairs : List Pair) → IsReadTo bytes k pairs → follows_rules bytes k ≡ true → (then_pairs : List Pair) × IsReadTo bytes (suc k) then_pairs
 unfolding follows_rules
 read_more bytes k pairs read follows = by (is_unused (slot_in bytes k)) refl follows
@@ -125,14 +125,14 @@ read_more bytes k pairs read follows = by (is_unused (slot_in bytes k)) refl fol
           },
         )
 
--- slots that all follow the rules are read
+-- slots that all follow the rules are those of some pairs
 pub read_all : (bytes : List ℕ) (k : ℕ) → ((j : ℕ) → j < k → follows_rules bytes j ≡ true) → (pairs : List Pair) × IsReadTo bytes k pairs
 read_all bytes zero follow = ([], record { slots = refl; fits = omega arith; good = refl })
 read_all bytes (suc k) follow =
     let before : (pairs : List Pair) × IsReadTo bytes k pairs = read_all bytes k (λ j below. follow j (omega (arith, below))) in
     read_more bytes k before.0 before.1 (follow k (omega arith))
 
--- bytes of two are those of the number that they stand for
+-- two bytes are those of the number that they represent
 row_back : (row : List ℕ) → length row ≡ 2 → ((i : ℕ) → get_or row i 0 < 256) → number_bytes (number_in row) ≡ row
 unfolding number_bytes number_in
 row_back row two bytes = be_bytes_2 row _ two bytes refl

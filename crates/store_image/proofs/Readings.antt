@@ -1,4 +1,4 @@
--- What is read from bytes: a store exactly where all slots follow the rules.
+-- Reading bytes gives a store exactly if all slots follow the rules.
 use Rattle.std.proofs.Common.{◌≡◌, ℕ, zero, suc, ◌+◌, ◌-◌, ◌*◌, ◌<◌, ◌≤◌, ◌⊎◌, inl, inr, Bool, true, false, not, ◌&&◌, ◌||◌, cond, if◌then◌else◌, List, [], ◌∷◌, ◌++◌, length, take, drop, map, replicate, get_or, Option, Some, None, is_none, refl, ap, sym, ◌∙◌, subst, append_assoc, arith}
 use Rattle.std.specs.List.{flat_map, list_all, list_any}
 use Rattle.std.specs.Str.{bytes_eq}
@@ -15,7 +15,7 @@ use Rattle.store_image.specs.{IsImageOf, IsStore, callers_read, follows_rules, h
 use Rattle.plain_store.specs.{Contents, Pair, are_pairs, empty_store, is_pair, padded, value_at}
 use Rattle.plain_store.specs.declared.commands.Value.TheVariants.{Text}
 
--- numbers of two bytes are small
+-- two bytes give a number of 16 bits
 number_small : (bytes : List ℕ) → ((i : ℕ) → get_or bytes i 0 < 256) → is_number (number_in bytes) ≡ true
 unfolding number_in
 number_small bytes small =
@@ -97,7 +97,7 @@ no_name (p ∷ ps) (suc i) d good small =
     ∙ ap (λ b. b || have_name (map slot_bytes (map Some (take i ps))) name) other
     ∙ no_name ps i d (others_good p ps good) (omega arith)
 
--- what stands in the places
+-- the pairs in the first places
 places_take : (pairs : List Pair) (n j : ℕ) → j ≤ length pairs → take j (map Some pairs ++ replicate n None) ≡ map Some (take j pairs)
 places_take pairs n zero small = refl
 places_take [] n (suc j) small = absurd (omega arith)
@@ -153,7 +153,7 @@ image_follows callers bytes s image j small =
     ∙ (λ i. is_good_slot (rows_front 23 slot_bytes (places s.slots s.pairs) more j wide (omega (arith, within)) i) (row_at 23 slot_bytes (places s.slots s.pairs) more j (23 * j) None wide within refl i))
     ∙ good_place s.pairs n j image.store.good_pairs
 
--- how many slots of an image are used
+-- the number of used slots in an image
 used_flat : (pairs : List Pair) (k n : ℕ) (more : List ℕ) → are_pairs pairs ≡ true → length pairs + n ≡ k → used_in k (flat_map slot_bytes (map Some pairs ++ replicate n None) ++ more) ≡ length pairs
 used_flat [] zero n more good all = refl
 used_flat [] (suc k) zero more good all = absurd (omega arith)
@@ -199,7 +199,7 @@ IsImage-read callers slots used bytes s image all counted = record {
   whole = ap (padded 216) image.image;
 }
 
--- the store whose image some bytes are
+-- the store whose image the bytes are
 pub store_in-image : (slots callers : ℕ) (bytes : List ℕ) (s : Contents) → IsImageOf callers bytes s → s.slots ≡ slots → store_in slots callers bytes ≡ s
 unfolding store_in
 store_in-image slots callers bytes s image all =
@@ -216,7 +216,7 @@ store_in-image slots callers bytes s image all =
     ap (λ t. if has_image t bytes then t else empty_store slots callers) read
     ∙ ap (λ b. if b then s else empty_store slots callers) test
 
--- the store that bytes stand for has an image, whatever they are
+-- the bytes are the image of the store that they represent, or that store is empty
 pub store_in_cases : (slots callers : ℕ) (bytes : List ℕ) → 1 ≤ slots → slots ≤ 8 → callers ≤ 16 → IsImageOf callers bytes (store_in slots callers bytes) ⊎ (store_in slots callers bytes ≡ empty_store slots callers)
 unfolding store_in
 store_in_cases slots callers bytes some few few_callers = by (has_image read bytes) refl

@@ -1,4 +1,4 @@
--- Rows of one width, one behind the other.
+-- Rows of one width, one after the other.
 use Rattle.std.proofs.Common.{◌≡◌, ℕ, zero, suc, ◌+◌, ◌*◌, ◌<◌, ◌≤◌, List, [], ◌∷◌, ◌++◌, length, take, drop, set, map, get_or, refl, ap, sym, ◌∙◌, append_assoc, arith, length-append}
 use Rattle.std.proofs.Math.Nat.{mul-suc}
 use Rattle.std.proofs.Math.Seq.{take-append-add, drop-append-add}
@@ -15,7 +15,7 @@ pub length-rows_flat : {X : Type 0} (w : ℕ) (f : X → List ℕ) (xs : List X)
 length-rows_flat w f [] wide = omega arith
 length-rows_flat w f (x ∷ xs) wide = omega (arith, length-append (f x) (flat_map f xs), wide.0, length-rows_flat w f xs wide.1, mul-suc w (length xs))
 
--- reading the rows gives back what was written
+-- reading the rows returns the items that were written
 pub rows-flat : {X : Type 0} (w : ℕ) (f : X → List ℕ) (xs : List X) (more : List ℕ) → AllWide w f xs → rows w (length xs) (flat_map f xs ++ more) ≡ map f xs
 rows-flat w f [] more wide = refl
 rows-flat w f (x ∷ xs) more wide =
@@ -25,11 +25,11 @@ rows-flat w f (x ∷ xs) more wide =
     ∙ ap (λ rest. f x ∷ rows w (length xs) rest) (drop_at (f x) (flat_map f xs ++ more) w wide.0)
     ∙ ap (λ rest. f x ∷ rest) (rows-flat w f xs more wide.1)
 
--- what a step of one row adds to a place
+-- the position after one more row
 further : (w k at : ℕ) → at ≡ w * suc k → at ≡ w + w * k
 further w k at here = omega (arith, mul-suc w k)
 
--- the row at a place
+-- the row with an index
 pub row_at : {X : Type 0} (w : ℕ) (f : X → List ℕ) (xs : List X) (more : List ℕ) (k at : ℕ) (d : X) → AllWide w f xs → k < length xs → at ≡ w * k → take w (drop at (flat_map f xs ++ more)) ≡ f (get_or xs k d)
 row_at w f [] more k at d wide small here = absurd (omega arith)
 row_at w f (x ∷ xs) more zero at d wide small here =
@@ -44,7 +44,7 @@ row_at w f (x ∷ xs) more (suc k) at d wide small here =
     ∙ ap (take w) (drop-append-add (f x) (flat_map f xs ++ more) (w * k))
     ∙ row_at w f xs more k (w * k) d wide.1 (omega arith) refl
 
--- a row is written over the one at a place
+-- a row is written over the one with an index
 pub row_over : {X : Type 0} (w : ℕ) (f : X → List ℕ) (xs : List X) (more : List ℕ) (k at : ℕ) (y : X) → AllWide w f xs → k < length xs → at ≡ w * k → take at (flat_map f xs ++ more) ++ (f y ++ drop w (drop at (flat_map f xs ++ more))) ≡ flat_map f (set xs k y) ++ more
 row_over w f [] more k at y wide small here = absurd (omega arith)
 row_over w f (x ∷ xs) more zero at y wide small here =
@@ -64,7 +64,7 @@ row_over w f (x ∷ xs) more (suc k) at y wide small here =
     ∙ ap (λ back. f x ++ back) (row_over w f xs more k (w * k) y wide.1 (omega arith) refl)
     ∙ sym (append_assoc (f x) (flat_map f (set xs k y)) more)
 
--- one row more
+-- the first k + 1 rows are the first k rows and the next one
 pub rows_more : (w k : ℕ) (bytes : List ℕ) → rows w (suc k) bytes ≡ rows w k bytes ++ take w (drop (w * k) bytes) ∷ []
 rows_more w zero bytes =
     let none : w * 0 ≡ 0 = omega arith in
@@ -75,7 +75,7 @@ rows_more w (suc k) bytes =
     ∙ ap (λ row. take w bytes ∷ (rows w k (drop w bytes) ++ take w row ∷ [])) (drop-drop (w * k) w bytes)
     ∙ ap (λ n. take w bytes ∷ (rows w k (drop w bytes) ++ take w (drop n bytes) ∷ [])) on
 
--- the rows and what stands behind them
+-- the rows and the bytes after them
 pub rows_joined : (w k : ℕ) (bytes : List ℕ) → flat_map (λ row. row) (rows w k bytes) ++ drop (w * k) bytes ≡ bytes
 rows_joined w zero bytes =
     let none : w * 0 ≡ 0 = omega arith in
@@ -88,12 +88,12 @@ rows_joined w (suc k) bytes =
     ∙ ap (λ rest. take w bytes ++ rest) (rows_joined w k (drop w bytes))
     ∙ take-append-drop w bytes
 
--- rows that are the rows of items
+-- the rows of items, joined
 pub flat_rows : {X : Type 0} (f : X → List ℕ) (xs : List X) → flat_map (λ row. row) (map f xs) ≡ flat_map f xs
 flat_rows f [] = refl
 flat_rows f (x ∷ xs) = ap (λ rest. f x ++ rest) (flat_rows f xs)
 
--- the first rows
+-- the first k rows
 pub rows_front : {X : Type 0} (w : ℕ) (f : X → List ℕ) (xs : List X) (more : List ℕ) (k : ℕ) → AllWide w f xs → k ≤ length xs → rows w k (flat_map f xs ++ more) ≡ map f (take k xs)
 rows_front w f xs more zero wide few = refl
 rows_front w f [] more (suc k) wide few = absurd (omega arith)

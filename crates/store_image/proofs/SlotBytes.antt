@@ -1,4 +1,4 @@
--- Reading a slot gives back what was written.
+-- Reading a slot returns the pair that was written.
 use Rattle.std.proofs.Common.{◌≡◌, ℕ, ℤ, pos, negsuc, ◌+◌, ◌-◌, ◌^◌, ◌<◌, ◌≤◌, true, false, List, ◌∷◌, ◌++◌, length, min, take, drop, replicate, refl, ap, sym, ◌∙◌, append_assoc, arith, length-append}
 use Rattle.std.specs.Int.{w64, cast_unsigned, cast_signed}
 use Rattle.std.specs.Str.{bytes_eq}
@@ -34,7 +34,7 @@ pub number_in-number_bytes : (n : ℕ) → is_number n ≡ true → number_in (n
 unfolding number_bytes number_in
 number_in-number_bytes n small = from_be_bytes-to_be_bytes_2 n (grind (arith, nat_tests))
 
--- padded bytes have the size that they were padded to
+-- padded bytes have the length to which they were padded
 pub length-padded : (size : ℕ) (bytes : List ℕ) → length bytes ≤ size → length (padded size bytes) ≡ size
 length-padded size bytes small = omega (arith, length-append bytes (replicate (size - length bytes) 0), length-replicate {A = ℕ} (size - length bytes) 0)
 
@@ -59,14 +59,14 @@ pub length-unused_slot : length unused_slot ≡ 23
 unfolding unused_slot
 length-unused_slot = refl
 
--- what stands behind the name
+-- the bytes after the name
 behind_name : (name : List ℕ) (l : ℕ) (more : List ℕ) → length name ≤ 8 → drop 9 (padded 8 name ++ l ∷ more) ≡ more
 behind_name name l more small =
     let nine : 9 ≡ length (padded 8 name) + 1 = omega (arith, length-padded 8 name small) in
     ap (λ n. drop n (padded 8 name ++ l ∷ more)) nine
     ∙ drop-append-add (padded 8 name) (l ∷ more) 1
 
--- the front of three lists
+-- the first of three lists
 take_front : (xs ys zs : List ℕ) → take (length xs) ((xs ++ ys) ++ zs) ≡ xs
 take_front xs ys zs = ap (take (length xs)) (append_assoc xs ys zs) ∙ take_at xs (ys ++ zs) (length xs) refl
 

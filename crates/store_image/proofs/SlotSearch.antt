@@ -5,7 +5,7 @@ use Rattle.std.specs.Str.{bytes_eq}
 use Rattle.std.proofs.lemmas.List.{drop-drop}
 use Rattle.store_image.specs.{have_name, is_unused, name_in, rows, slot_in, used_in}
 
--- the slots from place k on
+-- the slots from index k on
 abbrev pub rest_in : ℕ → List ℕ → ℕ → List (List ℕ)
 rest_in slots bytes k = rows 23 (slots - k) (drop (23 * k) bytes)
 
@@ -32,7 +32,7 @@ name_passed slots bytes name k below rest here =
     ∙ sym (ap (λ slots_left. have_name slots_left name) (rest_more slots bytes k below))
     ∙ rest
 
--- used slots passed, and those to come
+-- the used slots before the first unused one, from index k on
 abbrev pub used_from : ℕ → List ℕ → ℕ → ℕ
 used_from slots bytes k = used_in (slots - k) (drop (23 * k) bytes)
 
@@ -51,7 +51,7 @@ used_passed slots bytes k below passed here =
     let one : used_from slots bytes k ≡ suc (used_from slots bytes (k + 1)) = used_more slots bytes k below ∙ ap (λ b. if b then 0 else suc (used_from slots bytes (k + 1))) here in
     omega arith
 
--- where no slot is unused all are used
+-- if no slot is unused, all are used
 pub used_full : (k : ℕ) (bytes : List ℕ) → list_any is_unused (rows 23 k bytes) ≡ false → used_in k bytes ≡ k
 used_full zero bytes none = refl
 used_full (suc k) bytes none = by (λ rest. used_full k (drop 23 bytes) rest) (is_unused (take 23 bytes)) none
@@ -60,7 +60,7 @@ used_full (suc k) bytes none = by (λ rest. used_full k (drop 23 bytes) rest) (i
     by more true same = cc
     by more false same = ap suc (more same)
 
--- where one is unused fewer are
+-- if one slot is unused, fewer are used
 pub used_less : (k : ℕ) (bytes : List ℕ) → list_any is_unused (rows 23 k bytes) ≡ true → used_in k bytes < k
 used_less zero bytes some = cc
 used_less (suc k) bytes some = by (λ rest. used_less k (drop 23 bytes) rest) (is_unused (take 23 bytes)) some

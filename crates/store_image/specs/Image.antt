@@ -7,7 +7,7 @@ use Rattle.std.specs.List.{flat_map, list_all}
 use Rattle.plain_store.specs.{Contents, Pair, are_pairs, padded}
 use Rattle.store_image.specs.Slots.{slot_bytes, pair_in}
 
--- the pairs in order of first write, and then nothing, in as many places as there are slots
+-- the pairs in order of first write, each in its place, and then nothing in the other slots
 abbrev pub places : ℕ → List Pair → List (Option Pair)
 places slots pairs = map Some pairs ++ replicate (slots - length pairs) None
 
@@ -37,12 +37,12 @@ abbrev pub rows : ℕ → ℕ → List ℕ → List (List ℕ)
 rows w zero bytes = []
 rows w (suc k) bytes = take w bytes ∷ rows w k (drop w bytes)
 
--- how many rows there are
+-- the number of rows
 pub length-rows : (w k : ℕ) (bytes : List ℕ) → length (rows w k bytes) ≡ k
 length-rows w zero bytes = refl
 length-rows w (suc k) bytes = ap suc (length-rows w k (drop w bytes))
 
--- the call number in 2 bytes
+-- the call number of 2 bytes
 unfoldable pub number_in : List ℕ → ℕ
 number_in bytes = from_be_bytes w16 bytes
 
@@ -51,7 +51,7 @@ unfoldable pub store_read : ℕ → ℕ → ℕ → List ℕ → Contents
 store_read used slots callers bytes =
     record { pairs = map pair_in (rows 23 used bytes); slots = slots; numbers = map number_in (rows 2 callers (drop (23 * slots) bytes)) }
 
--- how many pairs, slots and numbers are read
+-- the numbers of pairs, slots and callers that are read
 pub used_read : (used slots callers : ℕ) (bytes : List ℕ) → length (store_read used slots callers bytes).pairs ≡ used
 unfolding store_read
 used_read used slots callers bytes = length-map {B = Pair} (rows 23 used bytes) pair_in ∙ length-rows 23 used bytes
@@ -64,7 +64,7 @@ pub callers_read : (used slots callers : ℕ) (bytes : List ℕ) → length (sto
 unfolding store_read
 callers_read used slots callers bytes = length-map {B = ℕ} (rows 2 callers (drop (23 * slots) bytes)) number_in ∙ length-rows 2 callers (drop (23 * slots) bytes)
 
--- what the fields of an image keep: its bytes are the image of the store that they stand for
+-- the invariant of the fields of an image: the bytes are the image of the store that they represent
 pub record IsKept (used slots callers : ℕ) (bytes : List ℕ) : Type 0 where
   pub used_slots : used ≤ slots
   pub few_slots : slots ≤ 8

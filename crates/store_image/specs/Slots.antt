@@ -1,4 +1,4 @@
--- How a pair stands in the 23 bytes of a slot.
+-- The layout of a pair in the 23 bytes of a slot.
 use Rattle.std.specs.Prelude.{ℕ, ℤ, ◌==◌, Bool, ◌&&◌, if◌then◌else◌, List, ◌∷◌, ◌++◌, length, min, take, drop, replicate, slice_index, Option, Some, None}
 use Rattle.std.specs.Int.{w64, to_be_bytes, from_be_bytes, cast_unsigned, cast_signed}
 use Rattle.std.specs.Str.{bytes_eq}
@@ -9,7 +9,7 @@ use Rattle.plain_store.specs.declared.commands.Value.TheVariants.{Count, Text}
 unfoldable pub count_bytes : ℤ → List ℕ
 count_bytes c = to_be_bytes w64 (cast_unsigned w64 c)
 
--- the count that 8 bytes stand for
+-- the count that 8 bytes represent
 unfoldable pub count_in : List ℕ → ℤ
 count_in bytes = cast_signed w64 (from_be_bytes w64 bytes)
 
@@ -23,7 +23,7 @@ abbrev pub value_bytes : Value → List ℕ
 value_bytes (Count c) = count_bytes c
 value_bytes (Text t) = t
 
--- a used slot: the kind, the name behind its length, the value behind its length
+-- a used slot: the kind, the name after its length, the value after its length
 abbrev pub slot_of : Pair → List ℕ
 slot_of p = kind_of p.1 ∷ length p.0 ∷ (padded 8 p.0 ++ length (value_bytes p.1) ∷ padded 12 (value_bytes p.1))
 

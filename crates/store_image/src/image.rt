@@ -22,8 +22,8 @@ const NUMBER_BYTES: usize = 2;
 /// The bytes of the longest image: 8 slots, and 16 callers.
 pub const MOST_IMAGE_BYTES: usize = 216;
 
-/// A store of 1 to 8 slots and at most 16 callers, kept as its image: the slots, used ones first, in order
-/// of first write, and then the callers' numbers of 2 bytes. It takes no memory.
+/// A store of 1 to 8 slots and at most 16 callers, in the form of its image. The image is the slots, used ones first, in
+/// order of first write, and then the callers' numbers of 2 bytes. It does not allocate.
 #[derive(Clone, Copy)]
 pub struct Image {
     used: u8,
@@ -32,7 +32,7 @@ pub struct Image {
     bytes: [u8; MOST_IMAGE_BYTES],
 }
 
-/// Why bytes are no image.
+/// The reason why bytes are not an image.
 #[derive(Clone, Copy, Debug, Error)]
 pub enum BadImage {
     /// The length less 2 times the callers is not 23 times 1 to 8.
@@ -61,7 +61,7 @@ impl Model for Image {
 }
 
 impl Image {
-    /// The image of an empty store, whose call numbers are 0.
+    /// Creates the image of an empty store, whose call numbers are 0.
     pub fn empty(slots: u8, callers: u8) -> Image
         requires some_slots { 1 ≤ slots }
         requires few_slots { slots ≤ 8 }
@@ -76,8 +76,12 @@ impl Image {
         }
     }
 
-    /// The store whose image the bytes are. It is refused by its length, else by the lowest slot that is
-    /// not well formed, has the name of an earlier one, or is used behind an unused one.
+    /// Reads the store whose image the bytes are.
+    ///
+    /// # Errors
+    ///
+    /// Returns [`BadImage::Length`] if the length is not that of an image. Otherwise returns [`BadImage::Slot`] with the lowest
+    /// slot that is not well formed, has the name of an earlier one, or is used after an unused one.
     pub fn read(bytes: &[u8], callers: u8) -> Result<Image, BadImage>
         requires { callers ≤ 16 }
         ensures accepts { IsOk result ↔ ((s : Contents) × IsImageOf callers bytes.now s) }
@@ -103,8 +107,8 @@ impl Image {
         })
     }
 
-    /// The store of a setup whose image the bytes are, as many as there are in one. The empty store stands in
-    /// place of bytes that are none.
+    /// Returns the store of a setup whose image the bytes are; they have the length of such an image. Returns the empty store
+    /// if the bytes are not an image.
     pub fn read_or_empty(setup: &Setup, bytes: &[u8]) -> Image
         requires good { checked setup.now ≡ Ok tt }
         requires length { length bytes.now ≡ 23 * setup.now.slots + 2 * callers_of setup.now }
@@ -119,7 +123,7 @@ impl Image {
         }
     }
 
-    /// The bytes of the image.
+    /// Returns the bytes of the image.
     pub fn bytes(&self) -> &[u8]
         ensures image { result.now ≡ image_of self.now }
         ensures store { IsStore self.now }
@@ -147,7 +151,7 @@ impl Image {
         &bytes[at..at + SLOT_BYTES]
     }
 
-    /// The place of the name, or the next free one.
+    /// Returns the place of the name, or the next free one.
     fn place_of(&self, name: &[u8]) -> usize
         ensures { result ≡ place_of self.now.pairs name.now }
     {
@@ -159,7 +163,7 @@ impl Image {
         self.len()
     }
 
-    /// Where the command's name stands, or the next free place; and its value.
+    /// Returns the place of the command's name, or the next free one, and the value of the name.
     #[tactic(auto, using(crate::proofs::Puts::value_at_place))]
     fn find(&self, command: &Command) -> (usize, Option<Value>)
         ensures place { result.0 ≡ place_for self.now.pairs (name_of command.now) }
@@ -235,7 +239,7 @@ impl PartialEq for Image {
 
     ghost laws = { partial_equiv_from_equiv (on_texts_equal image_of) };
 
-    /// Whether the bytes are the same.
+    /// Returns whether the bytes are equal.
     fn eq(&self, other: &Image) -> bool {
         self.bytes() == other.bytes()
     }
@@ -248,7 +252,7 @@ impl Eq for Image {
 impl Store for Image {
     ghost contents = { λ s. s };
 
-    /// Carries out a command. It takes no memory, so it never fails.
+    /// Applies a command. It does not allocate, so it never fails.
     fn apply(&mut self, command: &Command, caller: Caller) -> Result<Reply, AllocError>
         ensures never_fails { IsOk result }
         ensures reply { IfOk result (λ reply. reply ≡ reply_to self.old command.now caller) }

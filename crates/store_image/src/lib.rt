@@ -1,5 +1,5 @@
-//! The one-thread store kept as its image: one byte list for a store of 1 to 8 slots and at most 16 callers,
-//! on which it works in place. The format is this project's own.
+//! A store in the form of its image, one list of bytes for a store of 1 to 8 slots and at most 16 callers.
+//! The store works in place on its image. The format is this project's own.
 #![tactic(auto)]
 
 mod image;

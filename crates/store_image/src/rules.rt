@@ -1,11 +1,11 @@
-//! The rules that the slots of an image follow.
+//! The rules for the slots of an image.
 ghost use Rattle.std.specs.Prelude.{◌≡◌, ◌≤◌, ◌<◌, ◌+◌, ◌*◌, ℕ, length, IfSome, IfNone, true};
 ghost use Rattle.store_image.specs.Image.{rows};
 ghost use Rattle.store_image.specs.Reading.{slots_if_length, slot_in, have_name, follows_rules, IsFirstBad, used_in};
 
 use crate::slots::{self, SLOT_BYTES};
 
-/// How many slots an image of so many bytes has, if there is one.
+/// Returns the number of slots of an image with `length` bytes, if there is such an image.
 pub fn slot_count(length: usize, callers: u8) -> Option<u8>
     ensures { result ≡ slots_if_length callers length }
 {
@@ -28,7 +28,7 @@ fn slot_at(bytes: &[u8], place: usize) -> &[u8]
     &bytes[at..at + SLOT_BYTES]
 }
 
-/// How many slots stand before the first unused one.
+/// Returns the number of slots before the first unused one.
 pub fn used_slots(bytes: &[u8], slots: usize) -> usize
     requires few { slots ≤ 8 }
     requires there { 23 * slots ≤ length bytes.now }
@@ -42,7 +42,7 @@ pub fn used_slots(bytes: &[u8], slots: usize) -> usize
     slots
 }
 
-/// Whether one of the first slots has the name.
+/// Returns whether one of the first slots has the name.
 fn have_name(bytes: &[u8], slots: usize, name: &[u8]) -> bool
     requires few { slots ≤ 8 }
     requires there { 23 * slots ≤ length bytes.now }
@@ -56,7 +56,7 @@ fn have_name(bytes: &[u8], slots: usize, name: &[u8]) -> bool
     false
 }
 
-/// Whether a slot is unused, or that of a pair behind used slots with other names.
+/// Returns whether a slot is unused, or that of a pair after used slots with other names.
 #[tactic(auto, using(crate::proofs::SlotSearch::used_less, crate::proofs::SlotSearch::used_full), unfolding(crate::specs::Reading::follows_rules))]
 fn follows_rules(bytes: &[u8], place: usize) -> bool
     requires few { place < 8 }
@@ -73,7 +73,7 @@ fn follows_rules(bytes: &[u8], place: usize) -> bool
     !have_name(bytes, place, slots::name_in(slot))
 }
 
-/// The lowest slot that breaks a rule.
+/// Returns the lowest slot that breaks a rule.
 pub fn first_bad(bytes: &[u8], slots: usize) -> Option<usize>
     requires few { slots ≤ 8 }
     requires there { 23 * slots ≤ length bytes.now }

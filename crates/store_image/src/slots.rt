@@ -1,4 +1,4 @@
-//! How a pair stands in the 23 bytes of a slot.
+//! The layout of a pair in the 23 bytes of a slot.
 ghost use Rattle.std.specs.Prelude.{◌≡◌, length, IsTrue, Some, None, if◌then◌else◌};
 ghost use Rattle.std.specs.Str.{bytes_eq};
 ghost use Rattle.plain_store.specs.{fits_i64, is_name, is_pair, is_text, is_value, padded};
@@ -9,8 +9,8 @@ use plain_store::{Name, Text, Value, pad};
 /// The bytes of a slot.
 pub const SLOT_BYTES: usize = 23;
 
-/// The slot of a pair: the kind (1 a counter, 2 a text), the name's length, the name and zeros up to 8
-/// bytes, the value's length, the value and zeros up to 12 bytes.
+/// Returns the slot of a pair: the kind (1 a counter, 2 a text), the name's length, the name and zeros up to 8
+/// bytes. The value's length follows, and then the value and zeros up to 12 bytes.
 pub fn slot_of(name: &Name, value: &Value) -> [u8; SLOT_BYTES]
     ensures bytes { result ≡ slot_of (name.now, value.now) }
     ensures valid { IsTrue (is_pair (name.now, value.now)) }
@@ -41,7 +41,7 @@ fn kind_of(value: &Value) -> u8
     }
 }
 
-/// The length of a value and its padded bytes. A count is in two's complement, the highest byte first.
+/// Returns the length of a value and its padded bytes. A count is in two's complement, the highest byte first.
 fn value_part(value: &Value) -> (u8, [u8; 12])
     ensures length { result.0 ≡ length (value_bytes value.now) }
     ensures bytes { result.1 ≡ padded 12 (value_bytes value.now) }
@@ -69,7 +69,7 @@ fn count_in(bytes: [u8; 8]) -> i64
     i64::from_be_bytes(bytes)
 }
 
-/// The bytes that stand as the name in a slot.
+/// Returns the bytes of the name in a slot.
 #[tactic(auto, unfolding(crate::specs::Slots::name_in))]
 pub fn name_in(slot: &[u8]) -> &[u8]
     requires { length slot.now ≡ 23 }
@@ -79,7 +79,7 @@ pub fn name_in(slot: &[u8]) -> &[u8]
     &slot[2..2 + length]
 }
 
-/// Whether the name in a slot is this one.
+/// Returns whether the name in a slot is this one.
 pub fn has_name(slot: &[u8], name: &[u8]) -> bool
     requires { length slot.now ≡ 23 }
     ensures { result ≡ bytes_eq name.now (name_in slot.now) }
@@ -87,7 +87,7 @@ pub fn has_name(slot: &[u8], name: &[u8]) -> bool
     name == name_in(slot)
 }
 
-/// The value in a slot, if it is one.
+/// Returns the value in a slot, if it is one.
 #[tactic(auto, unfolding(crate::specs::Slots::value_in))]
 pub fn value_in(slot: &[u8]) -> Option<Value>
     requires { length slot.now ≡ 23 }
@@ -108,7 +108,7 @@ fn text_in(slot: &[u8]) -> Option<Text>
     Text::new(&slot[11..11 + length]).ok()
 }
 
-/// Whether a slot is unused.
+/// Returns whether a slot is unused.
 #[tactic(auto, unfolding(crate::specs::Slots::unused_slot))]
 pub fn is_unused(slot: &[u8]) -> bool
     ensures { result ≡ is_unused slot.now }
@@ -116,7 +116,7 @@ pub fn is_unused(slot: &[u8]) -> bool
     slot == [0; SLOT_BYTES].as_slice()
 }
 
-/// The pair whose slot the bytes are, if there is one.
+/// Returns the pair whose slot the bytes are, if there is one.
 pub fn pair_in(slot: &[u8]) -> Option<(Name, Value)>
     requires { length slot.now ≡ 23 }
     ensures { result ≡ (if is_used slot.now then Some (pair_in slot.now) else None) }
@@ -130,7 +130,7 @@ pub fn pair_in(slot: &[u8]) -> Option<(Name, Value)>
     }
 }
 
-/// Whether the bytes are the slot of a pair.
+/// Returns whether the bytes are the slot of a pair.
 pub fn is_used(slot: &[u8]) -> bool
     requires { length slot.now ≡ 23 }
     ensures { result ≡ is_used slot.now }

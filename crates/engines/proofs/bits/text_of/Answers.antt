@@ -13,7 +13,7 @@ loop-line-init c =
     let lines = c.args.lines.now in
     ap (λ (bytes : List ℕ). bytes ++ cell_text_from c.new-bit.result lines) c.new-text.ensures.bytes ∙ ap (λ (bit : Cell). cell_text_from bit lines) c.new-bit.ensures ∙ printed_by_rule lines
 
--- no line is left
+-- no line remains
 pub returns : goal.returns
 returns c =
     let text = string_bytes c.loop-line.text in

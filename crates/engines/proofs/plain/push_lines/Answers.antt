@@ -37,7 +37,7 @@ loop-line-preserved c =
       few = omega (arith, ap (λ (r : Run). r.place) run, place_next setup c.loop-line.run c.line-item.result, c.loop-line.invariant.few);
     }
 
--- no line is left
+-- no line remains
 pub returns : goal.returns
 returns c =
     let setup = c.args.scenario.now.setup in

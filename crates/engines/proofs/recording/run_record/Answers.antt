@@ -26,7 +26,7 @@ returns-clause-read_again g c =
     input_answer c.record_scenario.result (λ said done. WritesRecord said (g.W.Sink.taken c.args.output.now) (g.W.Sink.taken c.record_scenario.new.output)) c.in_ok-file.file.items (script c.in_ok-scenario.scenario) _ _
     c.in_ok-file.ensures.ok good (written_again c.record_scenario.result c.in_ok-file.file.items (script c.in_ok-scenario.scenario) _ _ good c.record_scenario.ensures.ok)
 
--- what is said of all runs and records holds at each way out
+-- the facts about all runs and records hold at each way out
 pub returns-in_err-file-clause-runs : goal.returns-in_err-file-clause-runs
 returns-in_err-file-clause-runs g c = run_again
 

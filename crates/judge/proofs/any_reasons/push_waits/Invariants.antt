@@ -2,7 +2,7 @@ use Rattle.std.proofs.Common.{◌≡◌, ◌++◌, drop}
 use Rattle.judge.specs.{waits_from}
 use Rattle.judge.proofs.any_reasons.push_waits.Given as goal
 
--- what is written, and the lines of those that are left
+-- the lines that are written, and the remaining ones
 abbrev pub invariant-waits : goal.invariant-waits
 invariant-waits l = record {
   text : l.text.items ++ waits_from l.process (drop l.wait-index l.waits) ≡ l.fn.text.items ++ waits_from 0 l.waits;

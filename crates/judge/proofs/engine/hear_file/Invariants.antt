@@ -4,8 +4,8 @@ use Rattle.judge.specs.{HasHeardFirsts}
 use Rattle.judge.proofs.Ends.{Onwards}
 use Rattle.judge.proofs.engine.hear_file.Given as goal
 
--- reading what is left goes on to what reading all gives, each entry so far was heard, a source that has told its end is at
--- it, and no call has failed
+-- reading the rest gives what reading the whole text gives, each entry so far was observed, a source whose end was reported is
+-- at it, and no call has failed
 abbrev pub invariant-lines : goal.invariant-lines
 invariant-lines g l = record {
   onwards : Onwards (HasHeardFirsts l.fn.limit g.H.Hearer.HasHeard) (g.R.Source.to_come l.fn.input) (coming l.lines.ahead (g.R.Source.to_come l.input)) l.lines.taken l.trial.reader l.trial.hearer;

@@ -17,6 +17,6 @@ loop-place-preserved g c =
     ap (λ bytes. bytes ++ flat_map next_pair (drop (c.loop-place.place + 1) (g.S.Store.contents c.args.store.now).pairs)) c.in_ok-push_pair.ensures
     ∙ pairs_more _ _ c.loop-place.place c.unwrap-name.result (sym c.entry-in-loop-place.ensures ∙ c.unwrap-name.ensures) ∙ c.loop-place.invariant
 
--- no pair is left
+-- no pair remains
 pub returns : goal.returns
 returns g c = sym (all_told _ _ c.loop-place.place (omega arith)) ∙ c.loop-place.invariant

@@ -3,6 +3,6 @@ use Rattle.std.specs.String.{string_bytes}
 use Rattle.race.specs.{list_text}
 use Rattle.race.proofs.texts.list_lines.Given as goal
 
--- what is printed for the calls before the present one
+-- the text for the calls before the present one
 abbrev pub invariant-loop-call : goal.invariant-loop-call
 invariant-loop-call l = string_bytes l.text ≡ list_text l.process (take l.call-index l.calls)

@@ -6,7 +6,7 @@ use Rattle.plain_store.proofs.OpeningPairs.{differ-more}
 use Rattle.plain_store.proofs.Places.{one_more, IsOneMore}
 use Rattle.plain_store.proofs.openings.Opening.add.Goals as goal
 
--- the pair stands in the next place
+-- the pair is in the next place
 packed : (c : goal.After-self-1) → IsOneMore (pairs_in c.self.inside.places) (c.args.name, c.args.value) (set c.self.inside.places c.from.result (Some (c.args.name, c.args.value)))
 packed c =
     let next : c.from.result ≡ length (pairs_in c.self.inside.places) = c.from.ensures ∙ c.self.invariant.counted in

@@ -24,11 +24,11 @@ returns-in_default-clause-accepts c = ((λ bad. cc), λ image. sym (bad_length c
 pub returns-in_default-clause-faultless : goal.returns-in_default-clause-faultless
 returns-in_default-clause-faultless c = ((λ bad. cc), λ none. absurd (none Length (bad_length c)))
 
--- the length is right where the count of slots is told
+-- the length is right if the number of slots is known
 right_length : (callers n slots : ℕ) (count : Option ℕ) → count ≡ (if is_length callers n then Some (slot_count callers n) else None) → count ≡ Some slots → (is_length callers n ≡ true) × (slot_count callers n ≡ slots)
 right_length callers n slots count told some = some_length (is_length callers n) (slot_count callers n) slots (sym told ∙ some)
 
--- what a right length means
+-- the consequences of a right length
 long : (callers n slots : ℕ) → is_length callers n ≡ true → slot_count callers n ≡ slots → (1 ≤ slots) × (slots ≤ 8) × (n ≡ 23 * slots + 2 * callers)
 long callers n slots right same =
     let all : ((1 ≤ slot_count callers n) × (slot_count callers n ≤ 8)) × (n ≡ 23 * slot_count callers n + 2 * callers) = grind (arith, nat_tests) in
@@ -97,7 +97,7 @@ returns-clause-known c =
     subst (λ (t : Contents). t ≡ store_in t.slots c.args.callers c.args.bytes.now) (sym (same c))
     (sym (store_in-image s.slots c.args.callers c.args.bytes.now s (read c).1 refl))
 
--- bytes that are no image stand for the empty store
+-- bytes that are not an image represent the empty store
 empty : (callers slots : ℕ) (bytes : List ℕ) → (((s : Contents) × IsImageOf callers bytes s) → ⊥) → callers ≤ 16 → 1 ≤ slots → slots ≤ 8 → store_in slots callers bytes ≡ empty_store slots callers
 empty callers slots bytes none few_callers some few = by (store_in_cases slots callers bytes some few few_callers)
   where
