@@ -6,11 +6,11 @@ use Rattle.record.specs.Parts.{Part, Raises, first_marks, last_marks, part_after
 use Rattle.process.specs.laws.{call}
 use Rattle.bakery.proofs.AtDoor.{AtDoor, raises, asks, takes, lowers, refuses, waits}
 
--- the call of the same process that a door is at
+-- the call of a door, with the process of call c
 abbrev pub some_call : Call → Call
 some_call c = call c.setup c.process Ask 0
 
--- its parts read and write the same
+-- the parts of both calls read and write equally
 same-does : (c : Call) (part : Part) → AtDoor part → (read_at (some_call c) part ≡ read_at c part) × (written_at (some_call c) part ≡ written_at c part)
 same-does c part raises = (refl, refl)
 same-does c part _ = (refl, refl)
@@ -48,7 +48,7 @@ same-marks : (c : Call) (part : Part) → AtDoor part → (bits : List Bool) →
 same-marks c part raises bits = refl
 same-marks c part _ bits = refl
 
--- the call goes on alike
+-- both calls move to equal places
 pub same-after : (c : Call) (at : Place) (v : Bool) → AtDoor at.part → place_after (some_call c) at v ≡ place_after c at v
 same-after c at v door =
     let last = same-last c at.part door at.run in
@@ -57,7 +57,7 @@ same-after c at v door =
     (λ i. cond (last i) (enter (some_call c) (part i)) (record { part = at.part; run = run i }))
     ∙ (let new = same-new c (part_after c at.part (bits_with at.run v)) in λ i. cond (is_last c at.part at.run) (record { part = part_after c at.part (bits_with at.run v); run = new i }) (record { part = at.part; run = run_after c at.part at.run v }))
 
--- with the same marks
+-- both calls have equal marks
 pub same-marked : (c : Call) (at : Place) (v : Bool) → AtDoor at.part → marks_of (some_call c) at v ≡ marks_of c at v
 same-marked c at v door =
     let last = same-last c at.part door at.run in

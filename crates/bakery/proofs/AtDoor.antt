@@ -1,4 +1,4 @@
--- The parts of a call at the door, and what its accesses there lead to.
+-- The parts of a call at the door, and the results of its accesses there.
 use Rattle.std.proofs.Common.{◌≡◌, ℕ, ◌+◌, ◌==◌, Bool, true, false, cond, List, [], ◌∷◌, ◌++◌, refl, sym, ap, subst}
 use Rattle.record.specs.{Call, Mark, Place, Stage, Wait, bits_with, enter, entered_if_none, first_full, greatest, is_fresh, is_last, is_queued, is_waiting_stage, lets_by, marks_of, max_of, new_run, others, place_after, processes, run_after, stage_at, waits_of}
 use Rattle.record.specs.declared.marks.Mark.TheVariants as mark
@@ -55,7 +55,7 @@ stage-runs command number at = by at.part
     by (Clears a) = refl
     by Over = refl
 
--- what is told of an access from a part on to a stage, with these marks
+-- the result of an access from a part to a stage, with these marks
 pub record IsSaid (before : Stage) (part : Part) (next : Stage) (made : List Mark) : Type 0 where
   pub going : is_queued next ≡ goes_on (told_at next (ticket_at part) (full_at part))
   pub waiting : is_waiting_stage next ≡ tells_wait (told_at next (ticket_at part) (full_at part))
@@ -70,7 +70,7 @@ said-within part (lowers t) before fresh = record { going = refl; waiting = refl
 said-within part (refuses full) before fresh = record { going = refl; waiting = refl; marks = refl }
 said-within part (waits t w ws) before fresh = record { going = refl; waiting = refl; marks = refl }
 
--- the doorway goes on
+-- the doorway continues
 doorway-on : (c : Call) (js ts : List ℕ) (fresh : Bool) → stage_of (to_b c js ts) fresh ≡ stage.Doorway
 doorway-on c (j ∷ js) ts fresh = refl
 doorway-on c [] ts fresh = by (greatest ts == max_of c.setup.ticket_bits)
@@ -79,7 +79,7 @@ doorway-on c [] ts fresh = by (greatest ts == max_of c.setup.ticket_bits)
     by true = refl
     by false = refl
 
--- it ends
+-- the doorway ends
 said-lowered : (c : Call) (t : ℕ) (ws : List Wait) (ks : List ℕ) (fresh : Bool) → IsSaid stage.Doorway (Lowers t) (stage_of (elim ws as (λ _. Part) [ [] ↦ to_e ks [] | w ∷ more ↦ Waits t w more ]) fresh) (mark.Waiting t ∷ entered_if_none ws)
 said-lowered c t (w ∷ ws) ks fresh = record { going = refl; waiting = refl; marks = refl }
 said-lowered c t [] [] fresh = record { going = refl; waiting = refl; marks = refl }
@@ -119,7 +119,7 @@ unmarked part (refuses full) true = refl
 unmarked part (waits t w ws) true = refl
 unmarked part at false = refl
 
--- what an access leads to is told
+-- each access from a queued stage has its result
 pub said : (c : Call) (at : Place) (v : Bool) → is_queued (stage_at at) ≡ true → IsSaid (stage_at at) at.part (stage_at (place_after c at v)) (marks_of c at v)
 said c at v queued =
     let door = at-door at.part (is_fresh at.run) queued in

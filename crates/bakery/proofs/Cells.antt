@@ -1,4 +1,4 @@
--- A copy that is there belongs to a process that is there.
+-- The process of an existing copy exists.
 use Rattle.std.proofs.Common.{ℕ, ◌<◌, List, length, inl, inr, subst, arith}
 use Rattle.std.proofs.lemmas.Bool.{cases_lt}
 use Rattle.std.proofs.lemmas.List.{get_or_past}

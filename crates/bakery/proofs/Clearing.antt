@@ -1,4 +1,4 @@
--- The clearing of a ticket is that of a call that has come to its last part.
+-- The clearing of a ticket is that of a call at its last part.
 use Rattle.std.proofs.Common.{◌≡◌, Bool, true, false, cond, refl, sym, ap, ◌∙◌}
 use Rattle.plain_store.specs.{Answer}
 use Rattle.plain_store.specs.declared.Command.TheVariants.{Ask}
@@ -9,7 +9,7 @@ use Rattle.process.specs.laws.{closes}
 use Rattle.process.specs.{ProcessState, may_step, next_at, stepped, torn_of}
 use Rattle.bakery.specs.Leavings.{clearing_at, leaving_at}
 
--- what is said of a clearing that has come so far
+-- the steps of a clearing at this place are those of the call
 pub record IsCleared (c : Call) (at : Place) : Type 0 where
   pub access : next_at (leaving_at c at) false ≡ access_at c at.part at.run
   pub after : (value v : Bool) → stepped (leaving_at c at) false v ≡ leaving_at c (place_after c at value)
@@ -40,6 +40,6 @@ at-last c (Clears a) (Writing w) going = record { access = refl; after = λ valu
 at-last c (Clears a) (Reading bits begun) going = absurd (cc)
 at-last c Over run going = absurd (cc)
 
--- of a leaving that shows it
+-- each leaving at this place has them
 pub cleared : (c : Call) (at : Place) (l : ProcessState) → l ≡ leaving_at c at → may_step l.doing ≡ true → IsCleared c at
 cleared c at l is going = at-last c at.part at.run (sym (ap (λ (x : ProcessState). may_step x.doing) is) ∙ going)

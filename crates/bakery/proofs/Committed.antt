@@ -6,7 +6,7 @@ use Rattle.bakery.specs.{IsReadable, IsQuiet, values_of}
 use Rattle.bakery.specs.Registers.{Data, DataRow, FitsSetup, register_at, data_of, no_data, is_data}
 use Rattle.bakery.proofs.Holdings.{length-values}
 
--- what stands at an index does not hang on the default
+-- the element at an index does not depend on the default
 pub default-same : {X : Type 0} (xs : List X) (k : ℕ) (d e : X) → k < length xs → get_or xs k d ≡ get_or xs k e
 default-same [] k d e inside = absurd (omega arith)
 default-same (x ∷ xs) zero d e inside = refl
@@ -18,7 +18,7 @@ readable s row p field fits quiet inside is =
     let shape = fits.widths p field inside is in
     record { reader = shape.readers; wide = omega (arith, shape.widths 0 shape.readers); closed = λ k there. quiet.closed p field k there }
 
--- and has so many bits
+-- a register of a version has its field's number of bits
 pub values-wide : (s : Setup) (row : DataRow) (p : ℕ) (field : Field) → FitsSetup s row → p < s.processes → is_data field ≡ true → length (values_of (register_at row p field)) ≡ width s field
 values-wide s row p field fits inside is =
     let shape = fits.widths p field inside is in

@@ -17,7 +17,7 @@ going-by Lies queued = absurd (cc)
 going-by (Runs command number at) queued = refl
 going-by (Closes command number at) queued = refl
 
--- what is told of its step
+-- the result of its step
 record IsTold (d : ProcessState) (flick v : Bool) : Type 0 where
   pub going : is_going (stepped d flick v) ≡ goes_on (progress_on d (stepped d flick v))
   pub waiting : is_waiting (stepped d flick v) ≡ tells_wait (progress_on d (stepped d flick v))
@@ -45,7 +45,7 @@ told-by d (Runs command number at) flick v queued =
 told : (d : ProcessState) (flick v : Bool) → is_going d ≡ true → IsTold d flick v
 told d flick v queued = told-by d d.doing flick v queued
 
--- as the code finds it
+-- the result as the code computes it
 pub record Tells (d then : ProcessState) (progress : DoorProgress) (flick v : Bool) : Type 0 where
   pub is : progress ≡ progress_on d (stepped d flick v)
   pub going : is_going then ≡ goes_on progress

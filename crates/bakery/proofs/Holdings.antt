@@ -1,4 +1,4 @@
--- What a register holds, as a number and as bytes.
+-- The value of a register, as a number and as bytes.
 use Rattle.std.proofs.Common.{◌≡◌, ℕ, zero, suc, ◌+◌, ◌*◌, ◌^◌, ◌<◌, ◌≤◌, Bool, true, false, List, [], ◌∷◌, ◌++◌, length, map, take, drop, get_or, if◌then◌else◌, refl, sym, ap, ◌∙◌, add-one, pow_mono, arith}
 use Rattle.std.proofs.Math.Seq.{drop-cons}
 use Rattle.std.proofs.lemmas.List.{length-map, length-take, drop-drop}
@@ -33,7 +33,7 @@ number-more register k n there =
     ∙ ap (number (suc n)) (drop-cons values k false inside)
     ∙ (λ i. (if value-at register k i then 1 else 0) + 2 * number_of_bits (take n (drop (sym (add-one k) i) values)))
 
--- so many bits make a number below that power of 2
+-- n bits make a number below 2 ^ n
 pub number-below : (bits : List Bool) (n : ℕ) → number_of_bits (take n bits) < 2 ^ n
 number-below bits n =
     let fits = number-fits (take n bits) in

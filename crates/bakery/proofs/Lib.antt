@@ -1,4 +1,4 @@
--- What an access of the door leads to, and that it is that of any call
+-- The result of an access of the door is that of any call
 pub mod AnyCall
 pub mod AtDoor
 pub mod Cells
@@ -6,11 +6,11 @@ pub mod Clearing
 pub mod DoorSteps
 -- A step of a section
 pub mod SectionSteps
--- What the registers hold, and the newest version in them
+-- The values of the registers, and the newest version in them
 pub mod Committed
 pub mod Holdings
 pub mod Opening
 pub mod Widths
--- What a memory unit makes of its registers
+-- The effect of a memory unit on its registers
 mod UnitRegisters
 pub mod UnitSteps

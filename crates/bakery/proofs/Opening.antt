@@ -23,7 +23,7 @@ zero-register s owner field =
     ap (replicate s.processes) (const-range (new_cell false) 0 (width s field))
     ∙ const-range (map (λ (k : ℕ). new_cell false) (range_with_len 0 (width s field))) 0 s.processes
 
--- all processes but the first open at 0
+-- all processes except the first are initially 0
 pub open-other : (s : Setup) (p q : ℕ) → (p ≡ 0 → ⊥) → data_from zero_cell s q ≡ data_from (opening_cell s) s p
 open-other s zero q other = absurd (other refl)
 open-other s (suc p) q other = refl
@@ -58,7 +58,7 @@ closed-row opens w a (suc n) bit (suc reader) = closed-row opens w (a + 1) n bit
 pub zero-closed : (s : Setup) (owner : ℕ) (field : Field) (bit reader : ℕ) → IsClosed (cell_at (register_from zero_cell s owner field) bit reader)
 zero-closed s owner field bit reader = closed-row (λ r k. false) (width s field) 0 s.processes bit reader
 
--- how many bits the copies of its first reader have
+-- the number of bits that the copies of its first reader have
 pub zero-wide : (s : Setup) (owner : ℕ) (field : Field) → 0 < s.processes → length (get_or (register_from zero_cell s owner field) 0 []) ≡ width s field
 zero-wide s owner field some =
     let copies : ℕ → List Cell = λ r. map (λ (k : ℕ). new_cell false) (range_with_len 0 (width s field)) in

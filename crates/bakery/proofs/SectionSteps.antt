@@ -1,4 +1,4 @@
--- What an access of a section leads to, and its marks.
+-- The results of accesses of a section, and their marks.
 use Rattle.std.proofs.Common.{◌≡◌, ℕ, ◌==◌, Bool, true, false, cond, List, [], ◌∷◌, ◌++◌, Option, is_some, refl, sym, ap, subst, ◌∙◌}
 use Rattle.plain_store.specs.{Answer, Contents, changes}
 use Rattle.plain_store.specs.declared.Answer.TheVariants as answer
@@ -35,7 +35,7 @@ of-data (WritesCommit vs st) is = new_commit vs st
 of-data (Clears a) is = absurd (cc)
 of-data Over is = absurd (cc)
 
--- what an access tells that leads from a part to this one
+-- the result of an access from a part to the next one
 abbrev told_to : Call → (part next : Part) → SectionProgress
 told_to c part next = told_at (changes_at part) (answer_at next) (is_some (pending_at c next))
 
@@ -103,7 +103,7 @@ going-by Lies going = absurd (cc)
 going-by (Runs command number at) going = refl
 going-by (Closes command number at) going = absurd (cc)
 
--- what is told of its step
+-- the result of its step
 pub record IsTold (now : ProcessState) (flick v : Bool) : Type 0 where
   pub going : is_going (stepped now flick v) ≡ goes_on (progress_on now (stepped now flick v))
   pub marks : marks_told (progress_on now (stepped now flick v)) ≡ marks_on now flick v
@@ -125,7 +125,7 @@ told-by now (Runs command number at) flick v going =
 pub told : (now : ProcessState) (flick v : Bool) → is_going now ≡ true → IsTold now flick v
 told now flick v going = told-by now now.doing flick v going
 
--- as the code finds it
+-- the result as the code computes it
 pub told-is : {changes : ℕ} {a : Option Answer} {writes : Bool} (now place then : ProcessState) (flick v : Bool) → place ≡ now → then ≡ stepped now flick v → changes ≡ changes_read place.doing → a ≡ answer_of then.doing → writes ≡ is_some (change_of then.setup then.process then.doing) →
     told_at changes a writes ≡ progress_on now (stepped now flick v)
 told-is now place then flick v same goes changes a writes =

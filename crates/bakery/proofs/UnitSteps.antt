@@ -1,4 +1,4 @@
--- What a unit does is what the closing machine does, at whatever closing it shows.
+-- A unit's steps are those of the closing machine, at each closing that the unit shows.
 use Rattle.std.proofs.Common.{◌≡◌, ℕ, Bool, true, false, cond, List, [], ◌∷◌, Option, None, Some, option_map, refl, sym, ap, ◌∙◌}
 use Rattle.reader_copies.specs.{settled_at, settle_after}
 use Rattle.record.specs.{Call, Change, Field, Mark, Next, TornBit, cut, is_commit, taken_with, write_moved}
@@ -10,7 +10,7 @@ use Rattle.process.specs.laws.{Doing, Closes, call, closes}
 use Rattle.process.specs.{ProcessState, may_step, next_at, stepped, unit_with}
 use Rattle.bakery.specs.Units.{marks_told, remains, unit_at, work_at}
 
--- what is said of a unit at a closing
+-- a unit's step at a closing
 pub record IsUnit (c : Call) (at : Closing) (flick : Bool) : Type 0 where
   pub access : option_map (λ (n : Next). n.access) (closing_next c at flick) ≡ Some (next_at (unit_at c at) flick)
   pub after : stepped (unit_at c at) flick false ≡ unit_at c (closing_after c at flick)
@@ -59,14 +59,14 @@ unit-by c (Lowers w) flick going =
     marks true = refl
     marks false = refl
 
--- of a unit that shows it
+-- each unit at this closing has this step
 unit-is : (c : Call) (at : Closing) (u : ProcessState) (flick : Bool) → u ≡ unit_at c at → may_step u.doing ≡ true → IsUnit c at flick
 unit-is c at u flick is going = unit-by c at flick (sym (ap (λ (x : ProcessState). may_step x.doing) is) ∙ going)
 
 pub unit-after : (c : Call) (at : Closing) (u then : ProcessState) (flick : Bool) → u ≡ unit_at c at → may_step u.doing ≡ true → then ≡ stepped u flick false → then ≡ unit_at c (closing_after c at flick)
 unit-after c at u then flick is going goes = goes ∙ ap (λ x. stepped x flick false) is ∙ (unit-is c at u flick is going).after
 
--- WHERE IT BEGINS
+-- THE BEGINNING
 
 untaken : (field : Field) → taken_with field None ≡ None
 untaken field = by (is_commit field)
@@ -75,7 +75,7 @@ untaken field = by (is_commit field)
     by true = refl
     by false = refl
 
--- whatever the version, its number is 0
+-- the number is 0 in every version of the setup
 abbrev numbered : Call → Option TornBit → ℕ → ProcessState
 numbered c torn n = record { setup = c.setup; process = c.process; doing = Closes Ask n (unit_with (call c.setup c.process Ask n) torn); command = Ask; number = n }
 

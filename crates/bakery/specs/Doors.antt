@@ -1,4 +1,4 @@
--- The doorway and the waiting of a process: what its accesses lead to; and that they are those of any call.
+-- The doorway and the waiting of a process: the results of its accesses. They are those of any call.
 use Rattle.std.specs.Prelude.{◌≡◌, ◌<◌, ℕ, Bool, true, false, List, [], ◌∷◌, length, IfSome, Option, None, Some}
 use Rattle.plain_store.specs.declared.Answer.TheVariants as answer
 use Rattle.plain_store.specs.declared.Command.TheVariants.{Ask}
@@ -18,11 +18,11 @@ is_going d = is_queued (stage_doing d.doing)
 abbrev pub is_waiting : ProcessState → Bool
 is_waiting d = is_waiting_stage (stage_doing d.doing)
 
--- the next access is in its turn on the locks, a read's end with what they answer
+-- the next access is in its turn on the locks; the end of a read has the value from the locks
 abbrev pub IsInTurn : ProcessState → List LockRows → Bool → Type 0
 IsInTurn d locks flick = let next = answered locks flick (next_at d flick) in CanAccess (lock_of locks next.owner) next
 
--- the reader of the register that is read is there, so that its open read can be dropped
+-- the reader of the register that is read exists, so that its open read can be dropped
 abbrev pub MayDrop : ProcessState → List LockRows → Type 0
 MayDrop d locks = IfSome (reads_of d.setup d.process d.doing) (λ (register : ℕ × Field). d.process < length (row_in (lock_of locks register.0) register.1))
 
@@ -30,9 +30,9 @@ MayDrop d locks = IfSome (reads_of d.setup d.process d.doing) (λ (register : �
 abbrev pub dropped : ProcessState → List LockRows → List LockRows
 dropped d locks = elim (reads_of d.setup d.process d.doing) [ None ↦ locks | Some register ↦ locks_without_reads locks register.0 register.1 d.process ]
 
--- WHAT AN ACCESS LEADS TO
+-- THE RESULTS OF ACCESSES
 
--- by the stage after it; before it the process had this ticket, or was refused for that of another process
+-- the result, by the stage after the access; before it the process had this ticket, or was refused for the ticket of another process
 abbrev pub told_at : Stage → (ticket full : Option ℕ) → DoorProgress
 told_at stage.Waiting (Some t) full = told.Waiting t
 told_at stage.Inside (Some t) full = told.Inside t
@@ -42,18 +42,18 @@ told_at _ _ _ = told.Doorway
 abbrev pub progress_on : ProcessState → ProcessState → DoorProgress
 progress_on d then = told_at (stage_doing then.doing) (ticket_of d.doing) (full_of d.doing)
 
--- accesses of the door are left after one that tells this
+-- the door has further accesses after this result
 abbrev pub goes_on : DoorProgress → Bool
 goes_on told.Doorway = true
 goes_on (told.Waiting t) = true
 goes_on _ = false
 
--- the process waits after one that tells this
+-- the process waits after this result
 abbrev pub tells_wait : DoorProgress → Bool
 tells_wait (told.Waiting t) = true
 tells_wait _ = false
 
--- the marks of an access that tells this, by the stage before it
+-- the marks of an access with this result, by the stage before it
 abbrev pub marks_told : Stage → DoorProgress → List Mark
 marks_told stage.Doorway (told.Waiting t) = mark.Waiting t ∷ []
 marks_told stage.Doorway (told.Inside t) = mark.Waiting t ∷ mark.Entered ∷ []
@@ -67,19 +67,19 @@ marks_told _ _ = []
 abbrev pub door_at : Call → Place → ProcessState
 door_at c at = record { setup = c.setup; process = c.process; doing = Runs Ask 0 at; command = Ask; number = 0 }
 
--- each call of its process begins where the door is then
+-- each call of its process begins at the door's place
 abbrev pub BeginsCalls : ProcessState → ProcessState → Type 0
 BeginsCalls d then = (c : Call) → d.setup ≡ c.setup → d.process ≡ c.process → then ≡ door_at c (enter c Raises)
 
--- the next access of the call, a read's end with what the locks answer
+-- the next access of the call; the end of a read has the value from the locks
 abbrev pub IsNextOfCall : ProcessState → List LockRows → Bool → Access → Type 0
 IsNextOfCall d locks flick access = (c : Call) (at : Place) → d ≡ door_at c at → access ≡ answered locks flick (access_at c at.part at.run)
 
--- the call goes on by its next access, whose value is v
+-- each next access, with value v, moves the call to its next place
 abbrev pub CallGoesOn : ProcessState → Bool → ProcessState → Type 0
 CallGoesOn d v then = (c : Call) (at : Place) → d ≡ door_at c at → then ≡ record d { doing = runs Ask 0 (place_after c at v) }
 
--- what is told tells the marks of that access
+-- the marks of that access follow from its result
 abbrev pub MarksOfCall : ProcessState → Bool → DoorProgress → Type 0
 MarksOfCall d v progress = (c : Call) (at : Place) → d ≡ door_at c at → marks_of c at v ≡ marks_told (stage_at at) progress
 

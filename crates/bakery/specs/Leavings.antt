@@ -1,4 +1,4 @@
--- The clearing of a ticket: it is that of a call that has come to its last part.
+-- The clearing of a ticket is that of a call at its last part.
 use Rattle.std.specs.Prelude.{◌≡◌, ℕ, Bool, Option}
 use Rattle.plain_store.specs.{Answer, Setup}
 use Rattle.plain_store.specs.declared.Command.TheVariants.{Ask}
@@ -6,12 +6,12 @@ use Rattle.record.specs.{Access, Call, Clears, Part, Place, Run, TornBit, Withdr
 use Rattle.process.specs.laws.{Doing, Closes, Rests}
 use Rattle.process.specs.{ProcessState}
 
--- how far the clearing has come, as a withdrawal of some call has it
+-- the progress of the clearing, as in a withdrawal of some call
 abbrev pub clearing_by : Run → Doing
 clearing_by (Writing w) = Closes Ask 0 (Withdraws w)
 clearing_by _ = Rests
 
--- the same at a part of a call; nothing is cleared wherever it isn't the last one
+-- the clearing at a part of a call; at any part except the last one, nothing is cleared
 abbrev pub clearing_at : Part → Run → Doing
 clearing_at (Clears a) run = clearing_by run
 clearing_at _ run = Rests
@@ -28,7 +28,7 @@ BeginsClearing s p l = (c : Call) (a : Answer) → s ≡ c.setup → p ≡ c.pro
 abbrev pub IsNextOfCall : ProcessState → Access → Type 0
 IsNextOfCall l access = (c : Call) (at : Place) → l ≡ leaving_at c at → access ≡ access_at c at.part at.run
 
--- the call goes on by its next access, whatever its value is
+-- the next access moves the call to its next place, for any value of the access
 abbrev pub CallGoesOn : ProcessState → ProcessState → Type 0
 CallGoesOn l then = (c : Call) (at : Place) (value : Bool) → l ≡ leaving_at c at → then ≡ leaving_at c (place_after c at value)
 

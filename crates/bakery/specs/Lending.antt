@@ -1,4 +1,4 @@
--- What becomes of the registers when one process's lock, its part of the versions, or one of their registers was lent.
+-- The registers after one process's lock, its part of the versions, or one of their registers was borrowed.
 use Rattle.std.specs.Prelude.{ℕ, List, slice_set}
 use Rattle.std.specs.Borrow.{Lends, MutBor, Fml}
 use Rattle.bakery.specs.Locks.{LockRows}
@@ -11,14 +11,14 @@ use Rattle.reader_copies.specs.safe_bit.Cell.{Cell}
 use Rattle.record.specs.{Field}
 use Rattle.safe_number.specs.contracts.register.Register as register
 
--- the locks with that of p as it was left, and the others as they were
+-- the locks with p's lock as it was left, and the others as before
 abbrev pub LendsLock : MutBor (List LockRows) → ℕ → MutBor LockRows → Fml
 LendsLock all p one = Lends locks lock all one (slice_set all.now p)
 
--- r lends the part of p alone: what is last left behind r becomes that part, and all else stays
+-- r borrows the part of p alone: the last value in r becomes that part, and all others stay
 abbrev pub LendsPart : MutBor DataRow → ℕ → MutBor Data → Fml
 LendsPart all p r = Lends row.the_row part.the_row all r (λ d. record all.now { parts = slice_set all.now.parts p d })
 
--- r lends this register alone
+-- r borrows this register alone
 abbrev pub LendsRegister : MutBor Data → Field → MutBor (List (List Cell)) → Fml
 LendsRegister all field r = Lends part.the_row register.the_row all r (with_register all.now field)

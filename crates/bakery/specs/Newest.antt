@@ -8,7 +8,7 @@ use Rattle.store_image.specs.{store_in}
 use Rattle.plain_store.specs.{Contents, Setup, callers_of}
 use Rattle.bakery.specs.Registers.{Data, DataRow, data_of, register_of, register_at}
 
--- the store of the bits of an image; the empty one, if they are none
+-- the store of the bits of an image; the empty store, if they are not an image
 abbrev pub store_of_bits : Setup → List Bool → Contents
 store_of_bits s bits = store_in s.slots (callers_of s) (bytes_of_bits (image_bytes s) bits)
 
@@ -45,7 +45,7 @@ newest_bits row =
     let newest = newest_process versions in
     values_of (register_at row newest (image_field (version_of versions newest)))
 
--- the store whose image it is; the empty one, if it is none
+-- the store of this image; the empty store, if the bits are not an image
 abbrev pub newest_store : DataRow → Contents
 newest_store row = store_of_bits row.setup (newest_bits row)
 
@@ -53,7 +53,7 @@ newest_store row = store_of_bits row.setup (newest_bits row)
 pub record IsQuiet (row : DataRow) : Type 0 where
   pub closed : (p : ℕ) (field : Field) (bit : ℕ) → HasCell (register_at row p field) bit 0 → (cell_at (register_at row p field) bit 0).writing ≡ false
 
--- reader 0 has so many bits of the register at least, and no write of its copies is open
+-- reader 0 has at least n bits of the register, and no write of its copies is open
 pub record IsReadable (register : List (List Cell)) (n : ℕ) : Type 0 where
   pub reader : 0 < length register
   pub wide : n ≤ length (slice_index_or register 0 [])

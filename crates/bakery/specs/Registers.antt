@@ -1,4 +1,4 @@
--- The registers of the store's versions: those of one process, those of all, and what an access makes of them.
+-- The registers of the store's versions: those of one process, those of all, and the effect of an access on them.
 use Rattle.std.specs.Prelude.{◌≡◌, ℕ, ◌<◌, Bool, true, false, List, [], length, map, slice_index_or, slice_set}
 use Rattle.std.specs.List.{range_with_len}
 use Rattle.reader_copies.specs.safe_bit.Cell.{Cell, new_cell, read_answer}
@@ -15,7 +15,7 @@ pub record Data : Type 0 where
   pub image0 : List (List Cell)
   pub image1 : List (List Cell)
 
--- those of all processes of a setup
+-- the registers of all processes of a setup
 pub record DataRow : Type 0 where
   pub setup : Setup
   pub parts : List Data
@@ -24,7 +24,7 @@ pub record DataRow : Type 0 where
 abbrev pub no_data : Data
 no_data = record { commit = []; stamp0 = []; stamp1 = []; image0 = []; image1 = [] }
 
--- a register of a process; those of the lock are not among them
+-- a register of a process; the registers of the lock are not included
 abbrev pub register_of : Data → Field → List (List Cell)
 register_of d Choosing = []
 register_of d Ticket = []
@@ -56,19 +56,19 @@ data_of row p = slice_index_or row.parts p no_data
 abbrev pub register_at : DataRow → ℕ → Field → List (List Cell)
 register_at row p field = register_of (data_of row p) field
 
--- the row with a register of a process changed, and no other
+-- the row with a register of a process changed, and the others as before
 abbrev pub with_register_at : DataRow → ℕ → Field → List (List Cell) → DataRow
 with_register_at row p field register = record row { parts = slice_set row.parts p (with_register (data_of row p) field register) }
 
--- what an access makes of one copy of its bit
+-- the action of an access on one copy of its bit
 abbrev pub made_of : Access → Made
 made_of a = record { reader = a.reader; how = a.how }
 
--- the row after one access: one copy of one bit goes on by it, and all else stays
+-- the row after one access: it advances one copy of one bit, and all others stay
 abbrev pub after_access : DataRow → Access → DataRow
 after_access row a = with_register_at row a.owner a.field (row_after (register_at row a.owner a.field) a.bit (made_of a))
 
--- the copy of an access is there
+-- the copy of an access exists
 pub record HasCopy (row : DataRow) (a : Access) : Type 0 where
   pub owner_in : a.owner < length row.parts
   pub there : HasCell (register_at row a.owner a.field) a.bit a.reader
@@ -78,7 +78,7 @@ pub record MayMake (row : DataRow) (a : Access) : Type 0 where
   pub owner_in : a.owner < length row.parts
   pub can : CanMake (register_at row a.owner a.field) a.bit (made_of a)
 
--- an access, a read's end with what its copy answers
+-- an access; the end of a read has the value from its copy
 abbrev pub answered : DataRow → Bool → Access → Access
 answered row flick a = ended_with (read_answer (cell_at (register_at row a.owner a.field) a.bit a.reader) flick) a
 
@@ -112,7 +112,7 @@ data_from cells s owner = record {
   image1 = register_from cells s owner Image1;
 }
 
--- those of all processes, with these cells
+-- the registers of all processes, with these cells
 abbrev pub row_from : (Access → Cell) → Setup → DataRow
 row_from cells s = record { setup = s; parts = map (data_from cells s) (processes s) }
 

@@ -1,4 +1,4 @@
--- A process inside the critical section: parts E to G of its call, and what is told of each access.
+-- A process inside the critical section: parts E to G of its call, and the result of each access.
 use Rattle.std.specs.Prelude.{◌≡◌, ◌<◌, ℕ, Bool, true, false, cond, List, [], ◌∷◌, Option, None, Some, is_some}
 use Rattle.plain_store.specs.{Answer, Setup}
 use Rattle.plain_store.specs.declared.Answer.TheVariants as answer
@@ -20,7 +20,7 @@ is_of_data (WritesStamp vs st) = true
 is_of_data (WritesCommit vs st) = true
 is_of_data _ = false
 
--- an access is left to be made
+-- an access remains to be made
 abbrev pub goes : Doing → Bool
 goes (Runs command number at) = is_of_data at.part
 goes _ = false
@@ -42,9 +42,9 @@ dropped section row = elim (reads_of section.setup section.process section.doing
   | Some register ↦ cond (is_data register.1) (without_reads_at row register.0 register.1 section.process) row
 ]
 
--- WHAT AN ACCESS LEADS TO
+-- THE RESULTS OF ACCESSES
 
--- by the answer that the call has come to, and by whether it writes a change; before the access so many changes were read
+-- the result, by the answer of the call, if it has one, and by whether it writes a change; `changes` is the greatest stamp read before the access
 abbrev pub told_at : (changes : ℕ) → Option Answer → (writes : Bool) → SectionProgress
 told_at changes None true = told.Writing
 told_at changes None false = told.Reading
@@ -54,13 +54,13 @@ told_at changes (Some _) writes = told.NoStamp
 abbrev pub progress_on : ProcessState → ProcessState → SectionProgress
 progress_on section then = told_at (changes_read section.doing) (answer_of then.doing) (is_some (change_of then.setup then.process then.doing))
 
--- an access is left after this was told
+-- the section has further accesses after this result
 abbrev pub goes_on : SectionProgress → Bool
 goes_on told.Reading = true
 goes_on told.Writing = true
 goes_on _ = false
 
--- the marks of an access with which this is told; the place in the history is left open here, as 0
+-- the marks of an access with this result; the place in the history is open here, and written as 0
 abbrev pub marks_told : SectionProgress → List Mark
 marks_told (told.Taken reply changes) = mark.Taken 0 reply ∷ []
 marks_told _ = []

@@ -1,4 +1,4 @@
--- The memory unit: what remains of its work; and that its accesses are those of any closing of the failure rule.
+-- The memory unit: its remaining work. Its accesses are those of any closing of the failure rule.
 use Rattle.std.specs.Prelude.{◌≡◌, ℕ, Bool, false, cond, List, [], ◌∷◌, Option, None, Some, option_map}
 use Rattle.reader_copies.specs.{settled_at}
 use Rattle.record.specs.{Access, Call, Change, Mark, Next, TornBit, cut}
@@ -11,13 +11,13 @@ use Rattle.process.specs.{ProcessState, may_step, settles}
 use Rattle.bakery.specs.declared.unit_progress.UnitProgress.{UnitProgress}
 use Rattle.bakery.specs.declared.unit_progress.UnitProgress.TheVariants as progress
 
--- what remains
+-- the remaining work
 abbrev pub remains : Doing → UnitProgress
 remains d = cond (settles d) progress.Settling (cond (may_step d) progress.Clearing progress.Down)
 
 -- ANY CLOSING
 
--- what the unit does at a closing: whether its process is inside, and which command is taken, makes no difference here
+-- the unit's work at a closing, whether or not its process is inside and whichever command is taken
 abbrev pub work_at : Closing → Doing
 work_at (Settles field bit begun taken inside t) = Closes Ask 0 (Settles field bit false None false t)
 work_at (Frees inside w) = Closes Ask 0 (Frees false w)
@@ -36,7 +36,7 @@ BeginsClosings s p torn u = (c : Call) (begun : Bool) (pending : Option Change) 
 abbrev pub IsNextOfClosing : ProcessState → Bool → Access → Type 0
 IsNextOfClosing u flick access = (c : Call) (at : Closing) → u ≡ unit_at c at → option_map (λ (n : Next). n.access) (closing_next c at flick) ≡ Some access
 
--- the closing goes on by it
+-- the access moves the closing to its next place
 abbrev pub ClosingGoesOn : ProcessState → Bool → ProcessState → Type 0
 ClosingGoesOn u flick then = (c : Call) (at : Closing) → u ≡ unit_at c at → then ≡ unit_at c (closing_after c at flick)
 
@@ -45,13 +45,13 @@ abbrev pub settled_by : Closing → Bool → List Mark
 settled_by (Settles field bit begun taken inside t) flick = settled_marks begun taken (settled_at t flick)
 settled_by _ flick = []
 
--- the marks of an access, by what remained before it and what remains after it
+-- the marks of an access, by the remaining work before it and after it
 abbrev pub marks_told : Closing → Bool → UnitProgress → UnitProgress → List Mark
 marks_told at flick progress.Settling progress.Clearing = settled_by at flick
 marks_told at flick progress.Clearing progress.Clearing = cond (is_inside_closing at) (mark.Left ∷ []) []
 marks_told at flick progress.Clearing progress.Down = mark.Down ∷ []
 marks_told at flick _ _ = []
 
--- what remains after it tells its marks
+-- the remaining work after the access determines its marks
 abbrev pub MarksOfClosing : ProcessState → Bool → UnitProgress → Type 0
 MarksOfClosing u flick then = (c : Call) (at : Closing) → u ≡ unit_at c at → option_map (λ (n : Next). n.marks) (closing_next c at flick) ≡ Some (marks_told at flick (remains u.doing) then)

@@ -36,8 +36,8 @@ impl Data {
     ghost use Rattle.std.specs.Borrow.{sem};
     ghost use Rattle.bakery.specs.Lending.{LendsRegister};
 
-    /// The registers of a process as they open: those of process 0 with the opening store's image, and all
-    /// else 0.
+    /// Returns the initial registers of a process: those of process 0 have the opening store's image, and all
+    /// others are 0.
     pub(crate) fn open(alloc: Global, setup: &Setup, process: u8) -> Result<Data, AllocError>
         requires { checked setup.now ≡ Ok tt }
         ensures { IfOk result (λ d. d ≡ data_from (opening_cell setup.now) setup.now process) }
@@ -68,7 +68,7 @@ impl Data {
         })
     }
 
-    /// Lends a register: the others stay as they are. The lock's registers are not among these.
+    /// Borrows a register: the others stay as they are. The lock's registers are not among these.
     #[inline(always)]
     pub(crate) fn register(&mut self, field: Field) -> &mut Register
         requires { is_data field ≡ true }
@@ -94,8 +94,8 @@ impl Data {
         self.register(field).apply(bit, made);
     }
 
-    /// What the end of a reader's open read of a bit gives: `flick` if a write of the reader's copy was
-    /// open at some time during the read, and else the copy's value.
+    /// Returns the value that the end of a reader's open read of a bit has: `flick` if a write of the reader's copy
+    /// was open at some time during the read, and otherwise the copy's value.
     #[inline]
     pub(crate) fn answer(&self, field: Field, bit: u16, reader: u8, flick: bool) -> bool
         requires { HasCell (register_of self.now field) bit reader }
@@ -111,7 +111,7 @@ impl Data {
         }
     }
 
-    /// The commit bit, and the stamp of the version that it chooses.
+    /// Returns the commit bit, and the stamp of the version that it chooses.
     pub(crate) fn version(&self, stamp_bits: u8) -> (bool, u32)
         requires bits { stamp_bits ≤ 32 }
         requires commit { IsReadable self.now.commit 1 }
@@ -134,7 +134,7 @@ impl Data {
         }
     }
 
-    /// The bytes of the image that a commit bit chooses, and zeros.
+    /// Returns the bytes of the image that a commit bit chooses; zeros follow them.
     pub(crate) fn image(&self, commit: bool, count: u16) -> [u8; MOST_IMAGE_BYTES]
         requires few { count ≤ 216 }
         requires image0 { IsReadable self.now.image0 (8 * count) }
@@ -150,7 +150,7 @@ impl Data {
     }
 }
 
-/// The image of the opening store.
+/// Returns the image of the opening store.
 fn opening_image(setup: &Setup) -> Result<Image, AllocError>
     requires { checked setup.now ≡ Ok tt }
     ensures { IfOk result (λ image. image ≡ opening_store setup.now) }
@@ -158,7 +158,7 @@ fn opening_image(setup: &Setup) -> Result<Image, AllocError>
     plain_store::opened(Image::empty(setup.slots, setup.callers()), setup)
 }
 
-/// The registers of a version, a stamp and an image, that are 0.
+/// Creates the registers of a version, a stamp and an image, which are 0.
 fn version(
     alloc: Global,
     setup: &Setup,
@@ -172,7 +172,7 @@ fn version(
     Ok((stamp, register(alloc, setup, image)?))
 }
 
-/// A register of a setup that is 0.
+/// Creates a register of a setup, which is 0.
 fn register(alloc: Global, setup: &Setup, field: Field) -> Result<Register, AllocError>
     requires { checked setup.now ≡ Ok tt }
     ensures { IfOk result (λ register. register ≡ register_from zero_cell setup.now 0 field) }

@@ -36,8 +36,12 @@ impl DataRow {
     ghost use Rattle.std.specs.Borrow.{sem};
     ghost use Rattle.bakery.specs.Lending.{LendsPart};
 
-    /// The registers as they open: the first image of process 0 has the image of the opening store, and all
-    /// else is 0. The one fault is want of memory.
+    /// Creates the registers as they are initially: the first image of process 0 has the image of the opening store,
+    /// and all others are 0.
+    ///
+    /// # Errors
+    ///
+    /// Returns [`AllocError`] if memory runs out.
     pub fn new(alloc: Global, setup: &Setup) -> Result<DataRow, AllocError>
         requires { checked setup.now ≡ Ok tt }
         ensures { IfOk result (λ row. row ≡ row_from (opening_cell setup.now) setup.now) }
@@ -52,7 +56,7 @@ impl DataRow {
         })
     }
 
-    /// The part of one process. The parts of the others stay as they are.
+    /// Borrows the part of one process. The parts of the others stay as they are.
     pub fn own(&mut self, process: u8) -> &mut Data
         requires { process < length self.old.parts }
         ensures part { result.now ≡ data_of self.old process }
@@ -61,9 +65,9 @@ impl DataRow {
         &mut self.parts[usize::from(process)]
     }
 
-    /// The store whose image the registers hold as committed, with the greatest stamp, of the lowest process
-    /// on a tie. They are read off as reader 0 has them, and no access is made. The empty store stands in
-    /// place of bytes that are no image.
+    /// Returns the store of the committed image with the greatest stamp, of the lowest process on a tie. It is read
+    /// from the copies of reader 0 without an access. If the bytes are not an image, the result is the empty
+    /// store.
     pub fn newest(&self) -> Image
         requires fits { FitsSetup self.now.setup self.now }
         requires quiet { IsQuiet self.now }
@@ -79,7 +83,7 @@ impl DataRow {
         Image::read_or_empty(&self.setup, &bytes[..usize::from(count)])
     }
 
-    /// The access, a read's end with what the reader's copy answers.
+    /// Returns the access. The end of a read has the value from the reader's copy.
     #[inline(always)]
     pub fn answered(&self, access: Access, flick: bool) -> Access
         requires { HasCopy self.now access }

@@ -14,12 +14,12 @@ use record::{Access, TornBit};
 use std::alloc::{AllocError, Global};
 use std::marker::Model;
 
-/// The doorway and the waiting of one process (Lamport 1974): it announces that it is choosing, reads the
-/// others' tickets, takes one more than the greatest, and waits for each other process, first until that one
-/// is not choosing, then until its ticket is 0 or comes after its own.
+/// The doorway and the waiting of one process (Lamport 1974). It announces that it is choosing, reads the others'
+/// tickets, and takes one more than the greatest. Then it waits for each other process, first until that one is not
+/// choosing, then until its ticket is 0 or comes after its own.
 ///
-/// It is a process that runs a call, as far as that has to do with the lock. Which call it is makes no difference
-/// there, and contracts say of each step what it is in any of them.
+/// It is a process that runs a call, with the state that the lock needs. The command of the call makes no difference
+/// there, and contracts state each step for every call.
 #[derive(Drop)]
 pub struct Door {
     place: Process,
@@ -34,7 +34,11 @@ impl Model for Door {
 }
 
 impl Door {
-    /// A door of process `process`. It is not started. It takes no memory.
+    /// Creates a door of process `process`. It is not started and needs no memory.
+    ///
+    /// # Errors
+    ///
+    /// Returns no error.
     pub fn new(_alloc: Global, process: u8, setup: &Setup) -> Result<Door, AllocError>
         requires setup { checked setup.now ≡ Ok tt }
         requires process { process < setup.now.processes }
@@ -46,7 +50,7 @@ impl Door {
         })
     }
 
-    /// Begins the doorway of a call of this process: nothing of it is made.
+    /// Begins the doorway of a call of this process, before its first access.
     pub fn start(&mut self)
         ensures door { self.new ≡ called self.old Ask 0 }
         ensures calls { BeginsCalls self.old self.new }
@@ -55,8 +59,8 @@ impl Door {
         self.place.call(Command::Ask, 0);
     }
 
-    /// Makes the next access on the lock's registers, and tells what it leads to. The end of a bit's read
-    /// gives `flick` if a write of this process's copy was open at some time during it, and else the copy's
+    /// Makes the next access on the lock's registers, and returns it with its result. The end of a bit's read
+    /// gives `flick` if a write of this process's copy was open at some time during the read, and otherwise the copy's
     /// value. The access has to be in its turn there.
     #[inline]
     pub fn step(&mut self, locks: &mut Locks, flick: bool) -> (Access, DoorProgress)
@@ -81,7 +85,7 @@ impl Door {
         (access, DoorProgress::at(self.place.stage(), ticket, full))
     }
 
-    /// Gives up waiting: the open read is dropped, and the door has no call. The ticket still stands;
+    /// Gives up waiting: the open read is dropped, and the door has no call. The ticket remains until
     /// a [`Leaving`](crate::Leaving) clears it.
     pub fn withdraw(&mut self, locks: &mut Locks)
         requires waiting { is_waiting self.old ≡ true }
@@ -93,8 +97,8 @@ impl Door {
         self.place.restart();
     }
 
-    /// Halts at the next access: an open read is dropped, and the door has no call. An open write stays
-    /// open. It tells the bit whose write has begun and has not ended on every copy, if there is one.
+    /// Halts at the next access: an open read is dropped, and the door has no call. An open write stays open.
+    /// Returns the bit whose write has begun and has not ended on every copy, if it exists.
     pub fn fail(&mut self, locks: &mut Locks) -> Option<TornBit>
         requires going { is_going self.old ≡ true }
         requires there { MayDrop self.old locks.old }

@@ -3,23 +3,23 @@ ghost use Rattle.bakery.specs.Doors.{told_at};
 
 use record::Stage;
 
-/// What an access of the doorway or of the waiting leads to.
+/// The result of an access of the doorway or of the waiting.
 #[derive(Clone, Copy)]
 pub enum DoorProgress {
-    /// The doorway goes on.
+    /// The doorway continues.
     Doorway,
     /// The process has this ticket, and waits.
     Waiting(u32),
     /// The process is inside the critical section, with this ticket.
     Inside(u32),
-    /// The doorway ended without a ticket: no greater one fits than that of this process, the lowest whose
-    /// ticket was read as the greatest that there is.
+    /// The doorway ended without a ticket, because no ticket above that of this process fits. It is the lowest process
+    /// whose ticket was read as the greatest possible one.
     Full { process: u8 },
 }
 
 impl DoorProgress {
-    /// What the last access has led to, by the stage now; before it the process had this ticket, or was refused for that of
-    /// another process.
+    /// Returns the result of the last access, by the stage now. Before it the process had this ticket, or was refused for
+    /// the ticket of another process.
     pub(crate) fn at(stage: Stage, ticket: Option<u32>, full: Option<u8>) -> DoorProgress
         ensures { result ≡ told_at stage ticket full }
     {

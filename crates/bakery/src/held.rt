@@ -1,4 +1,4 @@
-//! What a register holds, off the copies of reader 0, without an access.
+//! The value of a register, from the copies of reader 0, without an access.
 ghost use Rattle.std.specs.Prelude.{◌≡◌, ◌+◌, ◌*◌, ◌≤◌, length, take, drop};
 ghost use Rattle.safe_number.specs.{number_of_bits};
 ghost use Rattle.record.specs.{bytes_of_bits};
@@ -7,7 +7,7 @@ ghost use Rattle.bakery.specs.Newest.{values_of, IsReadable};
 use safe_number::Register;
 use store_image::MOST_IMAGE_BYTES;
 
-/// The number of some bits of a register, from a bit on.
+/// Returns the number of `width` bits of a register, from bit `from` on.
 pub(crate) fn number_held(register: &Register, from: u16, width: u16) -> u32
     requires few { width ≤ 32 }
     requires inside { from + width ≤ 1728 }
@@ -21,7 +21,7 @@ pub(crate) fn number_held(register: &Register, from: u16, width: u16) -> u32
     number
 }
 
-/// The first bytes of a register, of each byte the least significant bit first; zeros follow them.
+/// Returns the first `count` bytes of a register, each with its least significant bit first; zeros follow them.
 pub(crate) fn bytes_held(register: &Register, count: u16) -> [u8; MOST_IMAGE_BYTES]
     requires few { count ≤ 216 }
     requires readable { IsReadable register.now (8 * count) }

@@ -16,8 +16,8 @@ use std::marker::Model;
 /// The clearing of a process's ticket, with which a call ends (Lamport 1974): a write of 0. It serves a process
 /// that was inside the critical section, and one that withdrew.
 ///
-/// It is a process that has given up waiting. Contracts say of each step what it is in a call that has come to the
-/// same place. It takes no memory.
+/// It is a process that has given up waiting. Contracts state each step as that of a call at the
+/// corresponding place. It needs no memory.
 #[derive(Drop)]
 pub struct Leaving {
     place: Process,
@@ -32,7 +32,7 @@ impl Model for Leaving {
 }
 
 impl Leaving {
-    /// The clearing of the ticket of process `process`, of which nothing is made.
+    /// Creates the clearing of the ticket of process `process`, before its first access.
     pub fn new(process: u8, setup: &Setup) -> Leaving
         requires setup { checked setup.now ≡ Ok tt }
         requires process { process < setup.now.processes }
@@ -66,8 +66,8 @@ impl Leaving {
         }
     }
 
-    /// Halts at the next access, and tells the bit whose write has begun and has not ended on every copy, if
-    /// there is one. Its write stays open.
+    /// Halts at the next access, and returns the bit whose write has begun and has not ended on every copy, if it
+    /// exists. Its write stays open.
     pub fn fail(&self) -> Option<TornBit>
         requires { may_step self.now.doing ≡ true }
         ensures torn { result ≡ torn_of self.now.setup self.now.process self.now.doing }

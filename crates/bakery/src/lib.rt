@@ -1,12 +1,12 @@
-//! The reference's calls: Lamport's bakery lock (1974) on safe registers, with the doorway in which a process takes a ticket, the
-//! waiting and the clearing of the ticket; the critical section, in which a process reads the committed versions of the store,
-//! answers its command from the newest one, and commits the changed store as its own next version; and the memory unit of a failed
-//! process, which settles the bit that the failure has torn, then clears the process's ticket, then its choosing bit.
+//! The reference's calls: Lamport's bakery lock (1974) on safe registers, the critical section, and the memory unit. With the
+//! lock a process takes a ticket in its doorway, waits, and clears the ticket. Inside it reads the committed versions of the
+//! store, answers its command from the newest one, and commits the changed store as its own next version. The memory unit of
+//! a failed process settles the bit that the failure has torn, then clears the process's ticket, then its choosing bit.
 //!
-//! Each is a process at its place; its `step` makes the next access on the lock's registers or on those of the versions. The
-//! versions and the failure rule are this project's own profile; they stand on Lamport's safe registers (1986a).
+//! Each is a process at its place. Its `step` makes the next access on the lock's registers or on those of the versions. The
+//! versions and the failure rule are this project's own profile, on Lamport's safe registers (1986a).
 //!
-//! This crate has the calls of what the request calls `critical` and `failure`: [`Section`] is the first, and [`Unit`]
+//! This crate has the calls of the request's `critical` and `failure`: [`Section`] is the first, and [`Unit`]
 //! is the second.
 #![tactic(auto)]
 

@@ -43,7 +43,7 @@ impl Model for Locks {
 }
 
 impl Lock {
-    /// A lock of one process of a setup: both registers are 0.
+    /// Creates a lock of one process of a setup: both registers are 0.
     fn new(alloc: Global, setup: &Setup) -> Result<Lock, AllocError>
         requires { checked setup.now ≡ Ok tt }
         ensures { IfOk result (λ lock. lock ≡ new_lock setup.now) }
@@ -54,7 +54,7 @@ impl Lock {
         })
     }
 
-    /// Makes one access to a register of the lock, in its turn, whatever cursor told it.
+    /// Makes one access to a register of the lock, in its turn. It may come from any cursor.
     #[inline]
     pub fn apply(&mut self, access: Access)
         requires { CanAccess self.old access }
@@ -70,8 +70,8 @@ impl Lock {
         }
     }
 
-    /// What the end of an open read of the bit of an access gives: `flick` if a write of the reader's copy
-    /// was open at some time during the read, and else the copy's value.
+    /// Returns the value that the end of an open read of the bit of an access has: `flick` if a write of the reader's
+    /// copy was open at some time during the read, and otherwise the copy's value.
     #[inline]
     fn answer(&self, access: Access, flick: bool) -> bool
         requires { HasCell (row_in self.now access.field) access.bit access.reader }
@@ -96,7 +96,7 @@ impl Lock {
     }
 }
 
-/// A register of a lock, which is 0.
+/// Creates a register of a lock, which is 0.
 fn register(alloc: Global, width: u16, readers: u8) -> Result<Register, AllocError>
     requires width { 1 ≤ width × width ≤ 32 }
     requires readers { 1 ≤ readers × readers ≤ 16 }
@@ -106,7 +106,11 @@ fn register(alloc: Global, width: u16, readers: u8) -> Result<Register, AllocErr
 }
 
 impl Locks {
-    /// The locks of all processes of a setup: all registers are 0. The only fault is want of memory.
+    /// Creates the locks of all processes of a setup: all registers are 0.
+    ///
+    /// # Errors
+    ///
+    /// Returns [`AllocError`] if memory runs out.
     pub fn new(alloc: Global, setup: &Setup) -> Result<Locks, AllocError>
         requires { checked setup.now ≡ Ok tt }
         ensures { IfOk result (λ locks. locks ≡ new_locks setup.now) }
@@ -118,7 +122,7 @@ impl Locks {
         Ok(Locks { locks })
     }
 
-    /// Lends the lock of process `p` alone: the other locks stay as they are.
+    /// Borrows the lock of process `p` alone: the other locks stay as they are.
     pub fn own(&mut self, p: u8) -> &mut Lock
         requires { p < length self.old }
         ensures* lends { sem 𝓛 (LendsLock self.entry p result) }
@@ -136,7 +140,7 @@ impl Locks {
         self.own(access.owner).apply(access);
     }
 
-    /// What the end of an open read of the bit of an access gives.
+    /// Returns the value that the end of an open read of the bit of an access has.
     #[inline]
     pub(crate) fn answer(&self, access: Access, flick: bool) -> bool
         requires { HasCopy self.now access }
@@ -145,7 +149,7 @@ impl Locks {
         self.locks[access.owner as usize].answer(access, flick)
     }
 
-    /// The access, a read's end with what the reader's copy answers.
+    /// Returns the access. The end of a read has the value from the reader's copy.
     #[inline]
     pub fn answered(&self, access: Access, flick: bool) -> Access
         requires { HasCopy self.now access }

@@ -16,11 +16,11 @@ use std::marker::Model;
 /// A process inside the critical section.
 ///
 /// It reads each process's commit bit and the stamp that it chooses, then the image with the greatest stamp,
-/// of the lowest process on a tie. A command that changes the store that was read writes the store after it
-/// over the version that its process has not committed: the image, the stamp after the greatest one, and at
-/// last the commit bit.
+/// of the lowest process on a tie. If the command changes the store that was read, it writes the changed store
+/// over the version that its process has not committed: first the image, then the stamp after the greatest
+/// one, and at last the commit bit.
 ///
-/// It is a process whose call has come inside. It takes no memory.
+/// It is a process whose call is inside. It needs no memory.
 #[derive(Drop)]
 pub struct Section {
     place: Process,
@@ -35,7 +35,11 @@ impl Model for Section {
 }
 
 impl Section {
-    /// The section of a process, which has not started. It takes no memory.
+    /// Creates the section of a process. It is not started and needs no memory.
+    ///
+    /// # Errors
+    ///
+    /// Returns no error.
     pub fn new(_alloc: Global, process: u8, setup: &Setup) -> Result<Section, AllocError>
         requires good { checked setup.now ≡ Ok tt }
         requires process { process < setup.now.processes }
@@ -56,7 +60,7 @@ impl Section {
         self.place.call_inside(command, number);
     }
 
-    /// The next access: the process's local program, parts E to G. The end of a read gives `value`.
+    /// Returns the next access of the process's local program, parts E to G. The end of a read has `value`.
     #[inline]
     pub fn next(&self, value: bool) -> Access
         requires going { is_going self.now ≡ true }
@@ -73,7 +77,7 @@ impl Section {
         }
     }
 
-    /// Goes on by that access. The end of a read keeps `value`; with any other access it is not looked at.
+    /// Advances the section by that access. The end of a read stores `value`, which has no effect with any other access.
     #[inline]
     pub fn advance(&mut self, value: bool) -> SectionProgress
         requires going { is_going self.old ≡ true }
@@ -87,8 +91,8 @@ impl Section {
         SectionProgress::at(changes, self.place.answer(), self.place.pending().is_some())
     }
 
-    /// Makes the next access on the registers, and goes on by it. The end of a read gives `flick` if a write
-    /// of the copy was open at some time during it.
+    /// Makes the next access on the registers, and returns it with its result. The end of a read gives `flick` if a
+    /// write of the copy was open at some time during the read.
     #[inline]
     pub fn step(&mut self, row: &mut DataRow, flick: bool) -> (Access, SectionProgress)
         requires going { is_going self.old ≡ true }
@@ -105,7 +109,7 @@ impl Section {
         (access, self.advance(given(access.how)))
     }
 
-    /// While a change is written: the reply, the greatest stamp that was read, and the new value of the commit
+    /// Returns, while a change is written, the reply, the greatest stamp that was read, and the new value of the commit
     /// bit.
     pub fn pending(&self) -> Option<(Reply, u32, bool)>
         ensures { result ≡ change_of self.now.setup self.now.process self.now.doing }
@@ -113,8 +117,8 @@ impl Section {
         self.place.pending()
     }
 
-    /// The process has failed: its open read is dropped, and the bit whose write was cut is told, if there is
-    /// one. The section does nothing until it starts anew.
+    /// Ends the section because the process has failed: its open read is dropped. Returns the bit whose write was cut, if
+    /// it exists. The section does nothing until it starts anew.
     pub fn fail(&mut self, row: &mut DataRow) -> Option<TornBit>
         requires { FitsSetup self.old.setup row.old }
         ensures torn { result ≡ torn_of self.old.setup self.old.process self.old.doing }
@@ -141,7 +145,7 @@ impl Section {
     }
 }
 
-/// Whether a register is one of the store's versions.
+/// Returns whether a register is one of the store's versions.
 fn is_data(field: Field) -> bool
     ensures { result ≡ is_data field }
 {

@@ -3,7 +3,7 @@ ghost use Rattle.bakery.specs.Sections.{told_at};
 
 use plain_store::{Answer, Reply};
 
-/// What a section does next, told with each access.
+/// The result of an access of a section.
 #[derive(Clone, Copy)]
 pub enum SectionProgress {
     /// It reads the versions, or the newest image.
@@ -14,7 +14,7 @@ pub enum SectionProgress {
     Taken {
         /// The store's reply.
         reply: Reply,
-        /// The greatest stamp that was read: how many changes were taken before the command.
+        /// The greatest stamp that was read, which is the number of changes taken before the command.
         changes: u32,
     },
     /// It is over: the command would change the store, and no greater stamp fits the stamp bits. Nothing was
@@ -23,8 +23,8 @@ pub enum SectionProgress {
 }
 
 impl SectionProgress {
-    /// What an access leads to, by the answer that the call has come to, and by whether it writes a change. Before the
-    /// access so many changes were read.
+    /// Returns the result of an access, by the answer of the call, if it has one, and by whether the call writes a change.
+    /// `changes` is the greatest stamp that was read before the access.
     pub(crate) fn at(changes: u32, answer: Option<Answer>, writes: bool) -> SectionProgress
         ensures { result ≡ told_at changes answer writes }
     {

@@ -15,12 +15,12 @@ use reader_copies::Made;
 use record::{Access, Field, TornBit};
 use std::marker::Model;
 
-/// The memory unit of a failed process. It settles the torn bit, if there is one: on each copy by begin and
-/// end of a write, and by a single `Settle` where the write was open, all at the flick of its first access.
-/// Then it writes 0 to the ticket, and at last 0 to the choosing bit; with that the process is down.
+/// The memory unit of a failed process. It settles the torn bit, if there is one: on each copy by begin and end of a
+/// write, and by a single `Settle` where the write was open. The flick of the unit's first access sets all copies.
+/// Then it writes 0 to the ticket, and at last 0 to the choosing bit. After that the process is down.
 ///
-/// It is a process whose unit works. Whether the process was inside, and which command the settling may take, makes no
-/// difference there: contracts say of each step what it is in each closing of the failure rule at the same place.
+/// It is a process whose unit works. Contracts state each step for every closing of the failure rule at the corresponding
+/// place, whether or not the process was inside and whichever command the settling may take.
 #[derive(Drop)]
 pub struct Unit {
     place: Process,
@@ -35,8 +35,8 @@ impl Model for Unit {
 }
 
 impl Unit {
-    /// The unit of process `p`, of whose work nothing is made. `torn` is the bit that the failure has torn,
-    /// as `fail` told it.
+    /// Creates the unit of process `p`, before its first access. `torn` is the bit that the failure has torn, as `fail`
+    /// returned it.
     pub fn start(p: u8, setup: &Setup, torn: Option<TornBit>) -> Unit
         requires setup { checked setup.now ≡ Ok tt }
         requires process { p < setup.now.processes }
@@ -50,8 +50,8 @@ impl Unit {
         Unit { place }
     }
 
-    /// Makes the next access on the registers of the process, and goes on by it. Answers the access, and what
-    /// remains. All copies of the torn bit are settled at the flick of the first access; no other flick is looked at.
+    /// Makes the next access on the registers of the process. Returns the access and the remaining work. All copies of the
+    /// torn bit are settled at the flick of the first access. No other flick has an effect.
     #[inline]
     pub fn step(
         &mut self,

@@ -3,7 +3,7 @@ ghost use Rattle.bakery.specs.Units.{remains};
 
 use process::Process;
 
-/// What remains of the work of a memory unit.
+/// The remaining work of a memory unit.
 #[derive(Clone, Copy)]
 pub enum UnitProgress {
     /// The torn bit is not settled on all copies.
@@ -15,7 +15,7 @@ pub enum UnitProgress {
 }
 
 impl UnitProgress {
-    /// What remains of the work of this process's unit.
+    /// Returns the remaining work of this process's unit.
     pub(crate) fn of(place: &Process) -> UnitProgress
         ensures { result ≡ remains place.now.doing }
     {

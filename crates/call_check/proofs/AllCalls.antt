@@ -60,9 +60,9 @@ all_few s p (x ∷ xs) few = All-append (IsFew s) (calls_from p 0 x) (all_calls_
     let lists : p + length (x ∷ xs) ≤ 16 = (few two).0 in
     (omega (arith, lists), All-tail (λ (list : List Placed). length list ≤ 65535) x xs (few two).1)))
 
--- where the calls stand
+-- the positions of the calls
 
--- the call is there in the lists, the first of which is list p
+-- the call is in the lists, the first of which is list p
 pub record IsThere (p : ℕ) (vecs : List (Vec Placed)) (call : Call) : Type 0 where
   pub q : ℕ
   pub port : call.port ≡ p + q
@@ -115,7 +115,7 @@ there_in p j (v ∷ vs) call there = ⊎_elim
     record { q = suc rest.q; port = omega (arith, port); list = rest.list; list_there = rest.list_there; there = rest.there })
     (cases_lt j (length (calls_from p 0 v.items)))
 
--- the calls of list q, which stand behind those of the lists before it
+-- the calls of list q, which follow those of the lists before it
 
 list_calls : (p b i : ℕ) (list : List Placed) (placed : Placed) → slice_get list i ≡ Some placed → slice_get (calls_from p b list) i ≡ Some (record { placed = placed; port = p; index = b + i })
 list_calls p b i [] placed there = absurd (none_some placed there)

@@ -40,7 +40,7 @@ module _ (s : Setup) where
       let same : after store x.placed.command (caller_of s x) ≡ store = quiet_leaves store x.placed.command (caller_of s x) (All-head (λ (call : Call). changes store call.placed.command ≡ false) x xs quiet) in
       ap (λ (st : Contents). store_through s st xs) same ∙ quiet_through store xs (All-tail (λ (call : Call). changes store call.placed.command ≡ false) x xs quiet)
 
-  -- and so all of them are answered by it
+  -- the store answers all of them
   pub quiet_answered : (store : Contents) (xs : List Call) → All (λ (call : Call). changes store call.placed.command ≡ false) xs → All (IsAnsweredBy s store) xs → AreAnsweredFrom s store xs
   quiet_answered store [] quiet answered = tt
   quiet_answered store (x ∷ xs) quiet answered =

@@ -1,4 +1,4 @@
--- Where the lists are good, said over the lists, no call is bad.
+-- If the lists are good, as defined over the lists, no call is bad.
 use Rattle.std.proofs.Common.{◌≡◌, ℕ, ◌<◌, ◌≤◌, ◌&&◌, ◌||◌, nat_lt, nat_le, Bool, true, false, List, [], length, take, Option, Some, None, refl, sym, ap, subst, ◌∙◌, arith}
 use Rattle.std.specs.List.{AllPairs, Any, slice_get, slice_index_or}
 use Rattle.std.proofs.lemmas.Bool.{ltb-true}

@@ -1,10 +1,10 @@
--- Who calls: to a store of version 1 all callers are the same.
+-- Callers: a store of version 1 does not distinguish them.
 use Rattle.std.proofs.Common.{◌≡◌, ℕ, ◌+◌, true, false, if◌then◌else◌, ◌==◌, nat_lt, List, length, slice_index, slice_set, sym, ap, ◌∙◌, arith}
 use Rattle.std.proofs.lemmas.List.{get_or_past, set_past}
 use Rattle.plain_store.specs.{Caller, Command, Contents, Setup, after, callers_of, changes, name_of, outcome, pairs_after, reply_to, value_for}
 use Rattle.call_check.specs.{Call, IsCaller, caller_of}
 
--- numbers that are not there read the same, and take no writing
+-- positions past the end of the numbers read equal, and writing there changes nothing
 same_read : (numbers : List ℕ) (p q : ℕ) → length numbers ≡ 0 → slice_index numbers p ≡ slice_index numbers q
 same_read numbers p q none = get_or_past numbers p 0 (omega (arith, none)) ∙ sym (get_or_past numbers q 0 (omega (arith, none)))
 

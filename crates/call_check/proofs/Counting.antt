@@ -8,7 +8,7 @@ use Rattle.plain_store.specs.{Setup, changes}
 use Rattle.call_check.specs.{Call, changes_at, is_change, is_change_from, is_place, number_of_changes, store_below}
 use Rattle.call_check.proofs.InPlaces.{place_is, place_is_none}
 
--- one filter behind another
+-- one filter after another
 pub filter_twice : {A : Type 0} (p q : A → Bool) (xs : List A) → filter q (filter p xs) ≡ filter (λ x. p x && q x) xs
 filter_twice p q [] = refl
 filter_twice p q (x ∷ xs) = by (p x) (filter_twice p q xs)
@@ -22,12 +22,12 @@ module _ (s : Setup) (calls : List Call) where
   abbrev pub changing_of : ℕ → List Call → List Call
   changing_of k xs = filter (λ (call : Call). is_place k call.placed.place && changes (store_below s calls k) call.placed.command) xs
 
-  -- how many changes there are at the places below n, of some calls
+  -- the number of changes at the places below n, among some calls
   abbrev pub counted : ℕ → List Call → ℕ
   counted zero xs = 0
   counted (suc n) xs = counted n xs + length (changing_of n xs)
 
-  -- a call that is no change at places below n
+  -- a call that is not a change at places below n
   counted_same : (n : ℕ) (x : Call) (xs : List Call) → ((k : ℕ) → k < n → (is_place k x.placed.place && changes (store_below s calls k) x.placed.command) ≡ false) → counted n (x ∷ xs) ≡ counted n xs
   counted_same zero x xs none = refl
   counted_same (suc n) x xs none = rw (counted_same n x xs (λ k lt. none k (omega arith)), none n (omega arith)) refl
@@ -87,7 +87,7 @@ module _ (s : Setup) (calls : List Call) where
   pub changing_is : (k : ℕ) → changes_at calls k (store_below s calls k) ≡ changing_of k calls
   changing_is k = filter_twice (λ (call : Call). is_place k call.placed.place) (λ (call : Call). changes (store_below s calls k) call.placed.command) calls
 
-  -- with one change at each place below c, none at c and none above there are c of them
+  -- if each place below c has one change, and no other place has one, there are c changes
   pub number_is : (c : ℕ) → All (λ (call : Call). (k : ℕ) → call.placed.place ≡ Some k → k < suc c) calls → ((k : ℕ) → k < c → length (changes_at calls k (store_below s calls k)) ≡ 1) → changes_at calls c (store_below s calls c) ≡ [] → number_of_changes s calls ≡ c
   number_is c below one none =
       let all : number_of_changes s calls ≡ counted c calls + length (changing_of c calls) = counted_all (suc c) calls below in
@@ -95,7 +95,7 @@ module _ (s : Setup) (calls : List Call) where
       let last : length (changing_of c calls) ≡ 0 = sym (ap length (changing_is c)) ∙ ap length none in
       omega (arith, all, ones, last)
 
-  -- no change stands at a place above all
+  -- no change has a place above all
   none_of : (n k : ℕ) (xs : List Call) → All (λ (call : Call). (j : ℕ) → call.placed.place ≡ Some j → j < n) xs → n ≤ k → changing_of k xs ≡ []
   none_of n k [] below le = refl
   none_of n k (x ∷ xs) below le =

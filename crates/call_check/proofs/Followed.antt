@@ -46,7 +46,7 @@ callers_of_store s calls (suc k) store is =
     let (before, there, next) = came_from s calls k store is in
     subst (λ (st : Contents). length st.numbers ≡ callers_of s) (sym next.next_is) (callers_after s before next.call.placed.command (caller_of s next.call) (callers_of_store s calls k before there))
 
--- after the last store there is none
+-- no store follows the last one
 pub none_after : (s : Setup) (calls : List Call) (c k j : ℕ) → j ≡ c + k → store_at s calls c ≡ None → store_at s calls j ≡ None
 none_after s calls c zero j at none = let here : c ≡ j = omega (arith, at) in subst (λ m. store_at s calls m ≡ None) here none
 none_after s calls c (suc k) j at none =
@@ -109,7 +109,7 @@ none_at s calls store is =
     let most : length (calls_below calls (suc (length calls))) ≤ length calls = filter_few (λ (call : Call). is_below (suc (length calls)) call.placed.place) calls in
     omega (arith, early, more, most)
 
--- and so no change
+-- after as many changes as calls there is no change
 pub none_left : (s : Setup) (calls : List Call) (store : Contents) → store_at s calls (length calls) ≡ Some store → length (changes_at calls (length calls) store) ≡ 0
 none_left s calls store is =
     let none : length (calls_at calls (length calls)) ≡ 0 = none_at s calls store is in

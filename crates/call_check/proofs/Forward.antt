@@ -1,4 +1,4 @@
--- Where the verdict is `Good`, the lists and the image are good, said over the lists.
+-- If the verdict is `Good`, the lists and the image are good, as defined over the lists.
 use Rattle.std.proofs.Common.{◌≡◌, ◌≢◌, ℕ, suc, ◌<◌, ◌≤◌, ◌==◌, ◌&&◌, ◌||◌, nat_lt, nat_le, eqb-true, Bool, [], true, false, List, length, take, Some, refl, sym, ap, subst, ◌∙◌, arith}
 use Rattle.std.specs.List.{All, AllPairs, slice_get, slice_index_or}
 use Rattle.std.proofs.lemmas.Bool.{eqb-false}

@@ -23,7 +23,7 @@ and_not true true is = absurd (cc)
 and_not true false is = refl
 and_not false b is = absurd (cc)
 
--- what each element has by two facts
+-- a property of each element that follows from two others
 All-both : {A : Type 0} (P Q R : A → Type 0) (xs : List A) → ((x : A) → P x → Q x → R x) → All P xs → All Q xs → All R xs
 All-both P Q R [] by p q = All-nil R
 All-both P Q R (x ∷ xs) by p q = All-cons R x xs (by x (All-head P x xs p) (All-head Q x xs q)) (All-both P Q R xs by (All-tail P x xs p) (All-tail Q x xs q))
@@ -125,7 +125,7 @@ module _ (s : Setup) (lists : List (List Placed)) (image : Contents) (good : Are
         through_append s (opening_store s) before here ∙ ap (λ (st : Contents). store_through s st here) first.1 ∙ next.1,
       )
 
-  -- no change stands at the last place
+  -- no change has the last place
   ends : store_below s (all_calls lists) (suc (number_of_changes s (all_calls lists))) ≡ store_below s (all_calls lists) (number_of_changes s (all_calls lists))
   ends = ap (λ (xs : List Call). store_through s (store_below s (all_calls lists) (number_of_changes s (all_calls lists))) xs) (good.none_behind (number_of_changes s (all_calls lists)) (omega arith))
 

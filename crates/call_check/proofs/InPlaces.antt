@@ -1,4 +1,4 @@
--- A list whose members have places, sorted by place: at each place those that change nothing stand before those that change. It is the list itself, if places never fall and a change stands below all later places.
+-- A list whose members have places, sorted by place; at each place members that change nothing precede those that change. The sorted list is the list itself, if places never fall and a change has a lower place than all later members.
 use Rattle.std.proofs.Common.{◌≡◌, ◌≢◌, ℕ, zero, suc, ◌<◌, ◌≤◌, ◌==◌, ◌&&◌, Bool, true, false, not, cond, List, [], ◌∷◌, ◌++◌, map, Option, Some, None, is_some, refl, sym, ap, subst, ◌∙◌, arith, eqb-true}
 use Rattle.std.specs.List.{filter, flat_map}
 use Rattle.std.proofs.lemmas.Bool.{eqb-false}
@@ -6,7 +6,7 @@ use Rattle.std.proofs.lemmas.Bool.Decides.{nat_tests}
 use Rattle.call_check.specs.{IsMerge, is_place, of_more, of_none, over}
 use Rattle.call_check.proofs.Merging.{in_turn, merge_append}
 
--- a change stands below all that comes later
+-- the least place of the members after one with place j
 abbrev pub least_after : Bool → ℕ → ℕ
 least_after changes j = cond changes (suc j) j
 
@@ -71,7 +71,7 @@ module _ {A : Type 0} (place : A → Option ℕ) (changes : ℕ → A → Bool) 
   above_lower i j [] le above = tt
   above_lower i j (x ∷ xs) le above = ((λ k is. let h : j ≤ k = above.0 k is in omega arith), above_lower i j xs le above.1)
 
-  -- none stands at a place below all
+  -- no member has a place below all
   none_at : (test : A → Bool) (k j : ℕ) (xs : List A) → k < j → AreAbove j xs → filter (λ x. is_place k (place x) && test x) xs ≡ []
   none_at test k j [] lt above = refl
   none_at test k j (x ∷ xs) lt above = by (place x) above.0 (none_at test k j xs lt above.1)

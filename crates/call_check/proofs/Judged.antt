@@ -1,4 +1,4 @@
--- Whether a call is bad.
+-- Bad calls.
 use Rattle.std.proofs.Common.{◌≡◌, ℕ, ◌+◌, ◌<◌, ◌≤◌, ◌||◌, ◌&&◌, max, Bool, true, false, List, [], ◌∷◌, ◌++◌, length, take, get_or, Some, IsTrue, refl, sym, ap, subst, ◌∙◌, arith, ⊎_elim, true≢false}
 use Rattle.std.proofs.Math.Bool.{or-false}
 use Rattle.std.proofs.lemmas.Bool.{cases_lt}
@@ -13,7 +13,7 @@ use Rattle.call_check.specs.{ArePart, Call, HasWrongReply, IsBad, IsBadIn, IsFol
 use Rattle.record.specs.{Placed}
 use Rattle.call_check.proofs.Followed.{from_some}
 
--- where nothing else is bad, a call is bad that has another answer and a place
+-- if no other condition holds, a call is bad exactly if it has another answer and a place
 pub bad_at_last : (s : Setup) (calls : List Call) (c : ℕ) (store : Contents) (earlier : List Placed) (call : Call) (result : Bool) → is_above c call.placed.place ≡ false → is_one_of_several calls c store call.placed ≡ false → falls s calls earlier call.placed.place ≡ false → (HasWrongReply s calls call → ⊥) → is_reply_without_place call.placed ≡ false → result ≡ is_other_with_place call.placed →
     IsBad s calls c store earlier call → IsTrue result
 bad_at_last s calls c store earlier call result a b d w e f (above h) = absurd (true≢false (sym h ∙ a))

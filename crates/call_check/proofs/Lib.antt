@@ -1,4 +1,4 @@
--- What weigh does
+-- The steps of weigh
 pub mod Callers
 pub mod Followed
 pub mod Places
@@ -8,7 +8,7 @@ pub mod Walking
 pub mod Stores
 pub mod Judged
 pub mod Finding
--- What its verdicts mean: merges
+-- The meaning of its verdicts: merges
 pub mod Merging
 pub mod InPlaces
 -- Positions and stores
@@ -17,7 +17,7 @@ pub mod Quiet
 pub mod Replies
 pub mod StoresInTurn
 pub mod Counting
--- The second reading
+-- The definition over the lists
 pub mod Orders
 pub mod Forward
 pub mod Backward

@@ -79,7 +79,7 @@ chains_more calls n heads heads2 links links2 x link chains more new places head
           (cases_lt i (length calls));
     }
 
--- it has no chain
+-- one more call, which has no chain
 pub chain_without : (calls : List Call) (n : ℕ) (heads : List ℕ) (links links2 : List Link) (x : Call) (link : Link) → AreChains calls n heads links → links2 ≡ links ++ link ∷ [] → link.port ≡ x.port → link.index ≡ x.index → link.earlier ≡ 0 → ((k : ℕ) → k < n → x.placed.place ≢ Some k) → AreChains (calls ++ x ∷ []) n heads links2
 chain_without calls n heads links links2 x link chains more port index none elsewhere = chains_more calls n heads heads links links2 x link chains more
     (record { port = port; index = index; before = omega (arith, none); earlier = λ k l there. absurd (elsewhere k l there) })
@@ -92,7 +92,7 @@ chain_without calls n heads links links2 x link chains more port index none else
 some_same : (a b : ℕ) (o : Option ℕ) → o ≡ Some a → o ≡ Some b → a ≡ b
 some_same a b o is_a is_b = from_some a b (sym is_a ∙ is_b)
 
--- it has the chain of its place
+-- one more call, in the chain of its place
 pub chain_with : (calls : List Call) (n : ℕ) (heads heads2 : List ℕ) (links links2 : List Link) (x : Call) (link : Link) (k : ℕ) → AreChains calls n heads links → links2 ≡ links ++ link ∷ [] → link.port ≡ x.port → link.index ≡ x.index → x.placed.place ≡ Some k → slice_get heads k ≡ Some link.earlier → heads2 ≡ set heads k (length links2) → AreChains (calls ++ x ∷ []) n heads2 links2
 chain_with calls n heads heads2 links links2 x link k chains more port index placed earlier heads2_is =
     let last : IsLast calls k (length calls) link.earlier = chains.head k link.earlier earlier in

@@ -1,4 +1,4 @@
--- The lists are in order, if they are so said over the lists.
+-- The lists are in order, if they are in order as defined over the lists.
 use Rattle.std.proofs.Common.{◌≡◌, ℕ, zero, suc, ◌<◌, ◌≤◌, Bool, true, false, List, [], ◌∷◌, Option, Some, None, refl, ap, subst, arith}
 use Rattle.std.specs.List.{All, AllPairs, filter, flat_map}
 use Rattle.std.proofs.lemmas.List.Elements.{All-head, All-tail, filter-append}

@@ -44,7 +44,7 @@ or_second false true true x y = refl
 or_second false false c x y = absurd (cc)
 or_second false true false x y = absurd (cc)
 
--- neither below nor behind a change at the same place
+-- the place of the later call is not lower, and not equal if the earlier call is a change
 pub order_from : (j k : ℕ) (change : Bool) → ((nat_lt k j || (nat_le k j && change)) ≡ true → ⊥) → (j ≤ k) × (change ≡ true → j < k)
 order_from j k change never = (
   not_below k j (λ lt. never (or_first (nat_lt k j) (nat_le k j && change) (lt-ltb k j lt))),

@@ -3,7 +3,7 @@ use Rattle.std.proofs.Common.{◌≡◌, ℕ, Bool, true, false, not, List, Opti
 use Rattle.plain_store.specs.{Caller, Command, Contents, Pair, Value, after, changes, is_new, name_of, outcome_in, pairs_after, same_value, value_at, value_for, with_written}
 use Rattle.plain_store.proofs.Changes.{put-same, same_value-Decides}
 
--- what is written and is not new leaves the pairs
+-- a write that is not new leaves the pairs
 kept_pairs : (pairs : List Pair) (name : Option (List ℕ)) (written : Option Value) → is_new (value_for pairs name) written ≡ false → with_written pairs name written ≡ pairs
 kept_pairs pairs None None old = refl
 kept_pairs pairs None (Some x) old = refl

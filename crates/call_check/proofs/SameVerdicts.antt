@@ -1,4 +1,4 @@
--- Two verdicts on the same lists are the same.
+-- Two verdicts on equal lists are equal.
 use Rattle.std.proofs.Common.{◌≡◌, inl, inr, ℕ, suc, ◌<◌, ◌≤◌, List, Some, None, refl, sym, ap, subst, ◌∙◌, arith}
 use Rattle.plain_store.specs.{Contents, Setup}
 use Rattle.call_check.specs.{Call, IsEnd, IsLowestBad, IsVerdict, VerdictIsOne, Weighed, all_calls, store_at, store_below}

@@ -1,4 +1,4 @@
--- The two readings of weighing say the same.
+-- The two definitions of good lists are equivalent.
 use Rattle.std.proofs.Common.{sym, ap, ◌∙◌}
 use Rattle.store_image.specs.{image_of}
 use Rattle.call_check.specs.{BadEndIsSaidOverLists, GoodIsSaidOverLists, all_calls, number_of_changes, store_below}

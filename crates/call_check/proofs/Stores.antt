@@ -12,7 +12,7 @@ use Rattle.call_check.proofs.Followed.{callers_of_store, from_some, none_after, 
 use Rattle.call_check.proofs.Places.{same_or_not}
 use Rattle.call_check.proofs.Walking.{is_there}
 
--- how many changes there are, up to two
+-- the number of changes, up to two
 
 abbrev pub kind : Changers → ℕ
 kind Nothing = 0
@@ -58,7 +58,7 @@ note_is s calls k store call note at placed is = record {
   );
 }
 
--- a blank note is right where there is no store
+-- a blank note is right if no store is at the place
 blank_is : (s : Setup) (calls : List Call) (call : Call) (note : Note) → IsBlank note → ((j : ℕ) → call.placed.place ≡ Some j → store_at s calls j ≡ None) → IsNote s calls call note
 blank_is s calls call note blank none = record {
   changes = λ j placed. blank.changes ∙ sym (ap (λ (o : Option Contents). changes_there o call.placed) (none j placed));
@@ -148,7 +148,7 @@ some_at k (suc i) (x ∷ xs) call there placed =
     let more : 1 ≤ length (calls_at xs k) = some_at k i xs call there placed in
     elim (is_place k x.placed.place) as (λ b. 1 ≤ length (cond b (x ∷ calls_at xs k) (calls_at xs k))) [ true ↦ omega arith | false ↦ more ]
 
--- where no call has place k, the notes up to it are those below it
+-- if no call has place k, the notes up to it are those below it
 noted_through : (s : Setup) (calls : List Call) (k : ℕ) (notes : List Note) → length (calls_at calls k) ≡ 0 → AreNotedBelow s calls k notes → AreNotedBelow s calls (k + 1) notes
 noted_through s calls k notes none below = record {
   size = below.size;

@@ -57,14 +57,14 @@ module _ (s : Setup) (calls : List Call) where
   all_true true false c x y z = absurd (cc)
   all_true true true false x y z = absurd (cc)
 
-  -- and not several
+  -- not several calls would change the store
   not_several : (c n : ℕ) (store : Contents) (xs : List Call) → All (λ (call : Call). (is_place c call.placed.place && changes store call.placed.command && nat_le 2 n) ≡ true → ⊥) xs → All (λ (call : Call). is_place c call.placed.place ≡ true) xs → All (λ (call : Call). changes store call.placed.command ≡ true) xs → n ≡ length xs → 2 ≤ length xs → ⊥
   not_several c n store [] none at change same two = omega arith
   not_several c n store (x ∷ xs) none at change same two =
       All-head (λ (call : Call). (is_place c call.placed.place && changes store call.placed.command && nat_le 2 n) ≡ true → ⊥) x xs none
       (all_true (is_place c x.placed.place) (changes store x.placed.command) (nat_le 2 n) (All-head (λ (call : Call). is_place c call.placed.place ≡ true) x xs at) (All-head (λ (call : Call). changes store call.placed.command ≡ true) x xs change) (le-leb 2 n (omega arith)))
 
-  -- where the stores end and no call is one of several changes there is no change
+  -- if the stores end and no call is one of several changes, there is no change
   pub none_at_end : (c : ℕ) (store : Contents) → store_at s calls c ≡ Some store → store_at s calls (suc c) ≡ None → All (λ (call : Call). is_one_of_several calls c store call.placed ≡ true → ⊥) calls → changes_at calls c store ≡ []
   none_at_end c store is ends none = by (not_one store (changes_at calls c store) (subst (λ (o : Option Contents). store_after s calls c o ≡ None) is ends))
     where

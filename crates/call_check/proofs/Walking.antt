@@ -30,7 +30,7 @@ is_not_there (Some place) k other = not_same place k (λ e. other (ap (λ m. Som
 at_head : (call : Call) (calls : List Call) (k : ℕ) (b : Bool) → is_place k call.placed.place ≡ b → calls_at (call ∷ calls) k ≡ cond b (call ∷ calls_at calls k) (calls_at calls k)
 at_head call calls k b is = ap (λ (b : Bool). cond b (call ∷ calls_at calls k) (calls_at calls k)) is
 
--- the calls with a place behind a call
+-- the calls with a place after a call
 
 pub nothing_behind : (k m : ℕ) (calls : List Call) → ((j : ℕ) (call : Call) → m ≤ j → slice_get calls j ≡ Some call → call.placed.place ≢ Some k) → calls_at (drop m calls) k ≡ []
 nothing_behind k zero [] none = refl

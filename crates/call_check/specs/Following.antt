@@ -1,4 +1,4 @@
--- The calls by their places, the stores that they lead through, and what those tell of them.
+-- The calls by their places, the stores after their changes, and the notes about the calls in these stores.
 use Rattle.std.specs.Prelude.{◌≡◌, ◌≢◌, ◌↔◌, ℕ, suc, ◌+◌, ◌<◌, ◌≤◌, ◌==◌, nat_lt, nat_le, Bool, false, List, [], ◌∷◌, length, take, Option, slice_get, None, Some, All, IsTrue, ◌++◌, cond}
 use Rattle.std.specs.List.{list_any}
 use Rattle.std.specs.Global.{Vec}
@@ -30,7 +30,7 @@ calls_in vecs = all_calls (lists_of vecs)
 abbrev pub KnowsCallers : Setup → Contents → Type 0
 KnowsCallers s store = length store.numbers ≡ callers_of s
 
--- a caller is as good as that of the call: each store that knows the setup's callers does the same for both
+-- the caller acts as the caller of the call: each store that knows the setup's callers does the same for both
 pub record IsCaller (s : Setup) (call : Call) (caller : Caller) : Type 0 where
   pub reply : (store : Contents) → KnowsCallers s store → (command : Command) → reply_to store command caller ≡ reply_to store command (caller_of s call)
   pub after : (store : Contents) → KnowsCallers s store → (command : Command) → after store command caller ≡ after store command (caller_of s call)
@@ -47,13 +47,13 @@ Counts changers call is_change then = (calls : List Call) → changers ≡ chang
 
 -- Chains of calls.
 
--- Of the calls before the bound, call m - 1 is the last with place k. If m is 0, none of them has it.
+-- Among the calls before the bound, call m - 1 is the last with place k. If m is 0, none of them has it.
 pub record IsLast (calls : List Call) (k bound m : ℕ) : Type 0 where
   pub before : m ≤ bound
   pub there : (j : ℕ) (call : Call) → m ≡ suc j → slice_get calls j ≡ Some call → call.placed.place ≡ Some k
   pub none_later : (j : ℕ) (call : Call) → m ≤ j → j < bound → slice_get calls j ≡ Some call → call.placed.place ≢ Some k
 
--- this link is that of call i, and leads to the last call before it with the same place, if that is one of the first n places
+-- this link is that of call i; if the place of call i is one of the first n, the link leads to the last call before it with an equal place
 pub record IsLink (calls : List Call) (n i : ℕ) (call : Call) (link : Link) : Type 0 where
   pub port : link.port ≡ call.port
   pub index : link.index ≡ call.index
@@ -76,7 +76,7 @@ abbrev pub Puts : ℕ → ℕ → Option ℕ → (heads : Vec ℕ) → (links : 
 Puts port index place heads links heads_then links_then =
     (calls : List Call) (n : ℕ) (call : Call) → call.port ≡ port → call.index ≡ index → call.placed.place ≡ place → AreChains calls n heads.items links.items → AreChains (calls ++ call ∷ []) n heads_then.items links_then.items
 
--- so are the calls of a list
+-- the calls of a list are put to the chains
 abbrev pub PutsList : ℕ → List Placed → (heads : Vec ℕ) → (links : Vec Link) → Vec ℕ → Vec Link → Type 0
 PutsList port list heads links heads_then links_then =
     (calls : List Call) (n : ℕ) → AreChains calls n heads.items links.items → AreChains (calls ++ calls_from port 0 list) n heads_then.items links_then.items
@@ -85,7 +85,7 @@ PutsList port list heads links heads_then links_then =
 abbrev pub AreNothing : List ℕ → Type 0
 AreNothing heads = (k m : ℕ) → slice_get heads k ≡ Some m → m ≡ 0
 
--- the link is that of this call, which is there in the lists
+-- the link is that of this call, which is in the lists
 pub record IsOf (vecs : List (Vec Placed)) (call : Call) (link : Link) : Type 0 where
   pub list : Vec Placed
   pub list_there : slice_get vecs call.port ≡ Some list
@@ -101,20 +101,20 @@ pub record IsWrongBy (s : Setup) (store : Contents) (call : Call) : Type 0 where
   pub answered : call.placed.answer ≡ Some (answer.Reply reply)
   pub wrong : reply ≢ reply_to store call.placed.command (caller_of s call)
 
--- the answer tells of a call of few whether its reply is another than that of this store, which knows the callers
+-- the result is whether the reply of a call of few differs from the reply of this store, which has the setup's callers
 abbrev pub TellsWrong : Setup → Contents → Call → Bool → Type 0
 TellsWrong s store call told = IsFew s call → KnowsCallers s store → IsTrue told ↔ IsWrongBy s store call
 
--- whether this is that of the store
+-- the result is whether this is the store's reply
 abbrev pub TellsReply : Setup → Contents → Call → Reply → Bool → Type 0
 TellsReply s store call reply told = IsFew s call → KnowsCallers s store → IsTrue told ↔ (reply ≡ reply_to store call.placed.command (caller_of s call))
 
--- what this store tells of a call
+-- the note of a call by this store
 pub record IsNoteBy (s : Setup) (store : Contents) (call : Call) (note : Note) : Type 0 where
   pub changes : note.changes ≡ changes store call.placed.command
   pub wrong : IsTrue note.is_wrong ↔ IsWrongBy s store call
 
--- what the store at its place tells of a call, if there is one
+-- the note of a call by the store at its place, if that store exists
 pub record IsNote (s : Setup) (calls : List Call) (call : Call) (note : Note) : Type 0 where
   pub changes : (k : ℕ) → call.placed.place ≡ Some k → note.changes ≡ changes_there (store_at s calls k) call.placed
   pub wrong : IsTrue note.is_wrong ↔ HasWrongReply s calls call
@@ -134,11 +134,11 @@ pub record AreNotedAt (s : Setup) (calls : List Call) (k : ℕ) (store : Content
   pub own : (i : ℕ) (call : Call) → slice_get calls i ≡ Some call → call.placed.place ≡ Some k → (note : Note) × (slice_get notes i ≡ Some note) × IsNoteBy s store call note
   pub others : (i : ℕ) (call : Call) → slice_get calls i ≡ Some call → call.placed.place ≢ Some k → slice_get notes i ≡ slice_get before i
 
--- so it is, if the calls are few and the store knows the callers
+-- the calls with place k are noted, if the calls are few and the store knows the callers
 abbrev pub AreNotedBy : Setup → List Call → ℕ → Contents → Vec Note → Vec Note → Type 0
 AreNotedBy s calls k store before notes = AreFew s calls → KnowsCallers s store → AreNotedAt s calls k store before.items notes.items
 
--- the same, of the calls with place k from call m on
+-- the calls with place k from call m on are noted by this store, and the other notes are as before
 pub record AreNotedFrom (s : Setup) (calls : List Call) (k m : ℕ) (store : Contents) (before notes : List Note) : Type 0 where
   pub own : (i : ℕ) (call : Call) → m ≤ i → slice_get calls i ≡ Some call → call.placed.place ≡ Some k → (note : Note) × (slice_get notes i ≡ Some note) × IsNoteBy s store call note
   pub others : (i : ℕ) (call : Call) → slice_get calls i ≡ Some call → call.placed.place ≢ Some k → slice_get notes i ≡ slice_get before i
@@ -157,7 +157,7 @@ pub record IsFollowed (s : Setup) (calls : List Call) (notes : List Note) (c : �
   pub size : length notes ≡ length calls
   pub each : (i : ℕ) (call : Call) → slice_get calls i ≡ Some call → (note : Note) × (slice_get notes i ≡ Some note) × IsNote s calls call note
 
--- the same, as they are kept
+-- the notes of all calls, as `Followed` stores them
 abbrev pub Follows : Setup → List Call → Followed → Type 0
 Follows s calls found = IsFollowed s calls found.notes.items found.count found.store found.several
 
@@ -165,7 +165,7 @@ Follows s calls found = IsFollowed s calls found.notes.items found.count found.s
 abbrev pub FollowsIfFew : Setup → List Call → Followed → Type 0
 FollowsIfFew s calls found = AreFew s calls → Follows s calls found
 
--- the answer tells whether the call of this place and this note is one of several changes of the last store
+-- the result is whether the call of this place and this note is one of several changes of the last store
 abbrev pub TellsSeveral : Followed → Option ℕ → Note → Bool → Type 0
 TellsSeveral found place note told =
     (s : Setup) (calls : List Call) (call : Call) → call.placed.place ≡ place → Follows s calls found → IsNote s calls call note → told ≡ is_one_of_several calls found.count found.store call.placed
@@ -185,7 +185,7 @@ abbrev pub IsFirstBad : Setup → List Call → ℕ → Contents → ℕ → Lis
 IsFirstBad s calls c store p list None = (i : ℕ) → IsBadIn s calls c store p list i → ⊥
 IsFirstBad s calls c store p list (Some i) = IsBadIn s calls c store p list i × ((j : ℕ) → j < i → IsBadIn s calls c store p list j → ⊥)
 
--- the calls of this list, which is list p, before call i: what they leave as the least place, and that none is bad
+-- `least` is the least place after the calls before call i of this list, which is list p, and none of these calls is bad
 pub record IsJudged (s : Setup) (calls : List Call) (c : ℕ) (store : Contents) (p : ℕ) (list : List Placed) (i least : ℕ) : Type 0 where
   pub least_is : IsLeast s calls (take i list) least
   pub good : (j : ℕ) → j < i → IsBadIn s calls c store p list j → ⊥
@@ -195,13 +195,13 @@ abbrev pub FindsFirstBad : Followed → ℕ → List Placed → Option ℕ → T
 FindsFirstBad found before list told =
     (s : Setup) (calls : List Call) (p : ℕ) → ArePart calls p before list → Follows s calls found → IsFirstBad s calls found.count found.store p list told
 
--- the answer tells whether a call is bad, by its note and the least place
+-- the result is whether a call is bad, by its note and the least place
 abbrev pub TellsBad : Followed → Placed → Note → ℕ → Bool → Type 0
 TellsBad found placed note least told =
     (s : Setup) (calls : List Call) (earlier : List Placed) (call : Call) → call.placed ≡ placed → Follows s calls found → IsNote s calls call note → IsLeast s calls earlier least →
     IsTrue told ↔ IsBad s calls found.count found.store earlier call
 
--- whether its place falls
+-- the result is whether the place of a call falls
 abbrev pub TellsFall : ℕ → Option ℕ → Bool → Type 0
 TellsFall least place told = (s : Setup) (calls : List Call) (earlier : List Placed) → IsLeast s calls earlier least → told ≡ falls s calls earlier place
 

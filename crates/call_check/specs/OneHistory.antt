@@ -1,4 +1,4 @@
--- What a good verdict means: one history of the one-thread store.
+-- The meaning of a good verdict: one history of the sequential store.
 use Rattle.std.specs.Prelude.{◌≡◌, ◌⊎◌, ℕ, suc, List, [], ◌∷◌, map, filter, None, Some, is_some}
 use Rattle.plain_store.specs.declared.Answer.TheVariants as answer
 use Rattle.plain_store.specs.{Contents, Setup, after, opening_store, reply_to}
@@ -10,7 +10,7 @@ use Rattle.call_check.specs.Merges.{IsMerge}
 use Rattle.call_check.specs.SaidOverLists.{store_through}
 use Rattle.call_check.specs.Weighing.{caller_of, calls_from, IsWeighed}
 
--- the calls that were taken, those with a place
+-- the calls that were taken, which have a place
 abbrev pub taken_of : List Call → List Call
 taken_of calls = filter (λ (call : Call). is_some call.placed.place) calls
 

@@ -5,6 +5,6 @@ use Rattle.record.specs.{Placed}
 use Rattle.call_check.specs.declared.verdicts.Weighed.{Weighed}
 use Rattle.call_check.specs.Weighing.{IsWeighed}
 
--- Of lists and an image there is at most one verdict.
+-- There is at most one verdict for lists and an image.
 abbrev pub VerdictIsOne : Type 0
 VerdictIsOne = (s : Setup) (lists : List (List Placed)) (image : Contents) (one other : Weighed) → IsWeighed s lists image one → IsWeighed s lists image other → one ≡ other

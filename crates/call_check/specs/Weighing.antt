@@ -1,4 +1,4 @@
--- What weighing finds in the ports' lists of finished calls: list p is that of process p, its oldest call first. A place counts the changes taken before a call.
+-- The verdict about the ports' lists of finished calls: list p is that of process p, its oldest call first. A place counts the changes taken before a call.
 use Rattle.std.specs.Prelude.{◌≡◌, ◌≢◌, ◌⊎◌, ℕ, zero, suc, ◌+◌, ◌<◌, ◌≤◌, All, ◌==◌, nat_lt, nat_le, Bool, true, false, ◌&&◌, ◌||◌, if◌then◌else◌, List, [], ◌∷◌, ◌++◌, length, take, filter, slice_get, Option, None, Some, is_none, is_some, IsTrue}
 use Rattle.std.specs.List.{list_any}
 use Rattle.plain_store.specs.{Answer, Caller, Contents, Reply, Setup, after, changes, opening_store, reply_to}
@@ -25,7 +25,7 @@ all_calls_from p (list ∷ lists) = calls_from p 0 list ++ all_calls_from (suc p
 abbrev pub all_calls : List (List Placed) → List Call
 all_calls lists = all_calls_from 0 lists
 
--- who makes a call: list p is that of process p, and the call's number is its index plus 1 in version 2, and 0 in version 1
+-- the caller of a call: list p is that of process p, and the call's number is its index plus 1 in version 2, and 0 in version 1
 abbrev pub caller_of : Setup → Call → Caller
 caller_of s call = record { process = call.port; number = if s.version == 1 then 0 else call.index + 1 }
 
@@ -40,7 +40,7 @@ is_place k (Some place) = place == k
 abbrev pub calls_at : List Call → ℕ → List Call
 calls_at calls k = filter (λ (call : Call). is_place k call.placed.place) calls
 
--- those of them that would change the store
+-- the calls with place k that would change the store
 abbrev pub changes_at : List Call → ℕ → Contents → List Call
 changes_at calls k store = filter (λ (call : Call). changes store call.placed.command) (calls_at calls k)
 
@@ -65,7 +65,7 @@ pub record IsEnd (s : Setup) (calls : List Call) (c : ℕ) (store : Contents) : 
   pub last : store_at s calls c ≡ Some store
   pub ends : store_at s calls (suc c) ≡ None
 
--- What is bad.
+-- Bad calls.
 
 -- the place is above c
 abbrev pub is_above : ℕ → Option ℕ → Bool
@@ -125,7 +125,7 @@ is_reply_without_place placed = is_reply placed.answer && is_none placed.place
 abbrev pub is_other_with_place : Placed → Bool
 is_other_with_place placed = is_other_answer placed.answer && is_some placed.place
 
--- A call is bad, where the stores end with store c; earlier: the calls of its list before it.
+-- A call is bad, for stores that end with store c; earlier: the calls of its list before it.
 pub data IsBad (s : Setup) (calls : List Call) (c : ℕ) (store : Contents) (earlier : List Placed) (call : Call) : Type 0 where
   above : IsTrue (is_above c call.placed.place) → IsBad s calls c store earlier call
   several : IsTrue (is_one_of_several calls c store call.placed) → IsBad s calls c store earlier call
@@ -154,7 +154,7 @@ IsBadAt s lists c store p i = (list : List Placed) × (slice_get lists p ≡ Som
 abbrev pub NoneIsBad : Setup → List (List Placed) → ℕ → Contents → Type 0
 NoneIsBad s lists c store = (p i : ℕ) → IsBadAt s lists c store p i → ⊥
 
--- a call of a lower port, or a lower one of the same port
+-- the port is lower, or it is equal and the call is lower
 abbrev pub IsLower : ℕ → ℕ → ℕ → ℕ → Type 0
 IsLower q j p i = (q < p) ⊎ ((q ≡ p) × (j < i))
 
@@ -163,13 +163,13 @@ pub record IsLowestBad (s : Setup) (lists : List (List Placed)) (c : ℕ) (store
   pub bad : IsBadAt s lists c store p i
   pub lowest : (q j : ℕ) → IsLower q j p i → IsBadAt s lists c store q j → ⊥
 
--- the verdict, where the stores end with store c; image: the store that the image stands for
+-- the verdict, for stores that end with store c; image: the store of the image
 abbrev pub IsVerdict : Setup → List (List Placed) → Contents → ℕ → Contents → Weighed → Type 0
 IsVerdict s lists image c store (Bad p i) = IsLowestBad s lists c store p i
 IsVerdict s lists image c store BadEnd = NoneIsBad s lists c store × (image_of image ≢ image_of store)
 IsVerdict s lists image c store Good = NoneIsBad s lists c store × (image_of image ≡ image_of store)
 
--- what weighing finds
+-- the verdict of weighing
 pub record IsWeighed (s : Setup) (lists : List (List Placed)) (image : Contents) (weighed : Weighed) : Type 0 where
   pub c : ℕ
   pub store : Contents

@@ -1,7 +1,7 @@
 //! The calls of the ports' lists.
 use record::Placed;
 
-/// A call of the ports' lists: which list it stands in, and its index there.
+/// A call of the ports' lists: its list, and its index there.
 #[derive(Clone, Copy)]
 pub(crate) struct Call {
     pub placed: Placed,

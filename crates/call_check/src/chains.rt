@@ -5,8 +5,8 @@ ghost use Rattle.call_check.specs.Following.{AreChainsOf, AreNothing, Puts, Puts
 use record::Placed;
 use std::alloc::{AllocError, Global};
 
-/// A call: which list it stands in, its index there, and how many calls there are up to the one before it with the same
-/// place; 0 if there is none.
+/// A call: its list, its index there, and the number of calls up to the one before it with an equal place; 0 if there is
+/// none.
 #[derive(Clone, Copy)]
 pub(crate) struct Link {
     pub port: usize,
@@ -14,7 +14,7 @@ pub(crate) struct Link {
     pub earlier: usize,
 }
 
-/// The calls of all lists in their order, and for each place how many calls there are up to the last one with it; 0 if
+/// The calls of all lists in their order, and for each place the number of calls up to the last one with it; 0 if
 /// there is none. There are as many places as calls, since there are no more changes.
 #[derive(Drop)]
 pub(crate) struct Chains {
@@ -22,7 +22,7 @@ pub(crate) struct Chains {
     pub links: Vec<Link>,
 }
 
-/// The chains of the calls of all lists.
+/// Returns the chains of the calls of all lists.
 pub(crate) fn chain(alloc: Global, lists: &[Vec<Placed>]) -> Result<Chains, AllocError>
     ensures { IfOk result (AreChainsOf lists.now) }
 {
@@ -34,7 +34,7 @@ pub(crate) fn chain(alloc: Global, lists: &[Vec<Placed>]) -> Result<Chains, Allo
     Ok(Chains { heads, links })
 }
 
-/// As many places as calls, with no call.
+/// Returns as many places as there are calls, without calls.
 fn nothing(alloc: Global, lists: &[Vec<Placed>]) -> Result<Vec<usize>, AllocError>
     ensures size { IfOk result (λ heads. length heads.items ≡ length (calls_in lists.now)) }
     ensures nothing { IfOk result (λ heads. AreNothing heads.items) }
@@ -46,7 +46,7 @@ fn nothing(alloc: Global, lists: &[Vec<Placed>]) -> Result<Vec<usize>, AllocErro
     Ok(heads)
 }
 
-/// As many places more as the list has calls.
+/// Adds as many places as the list has calls.
 fn more(heads: &mut Vec<usize>, list: &[Placed]) -> Result<(), AllocError>
     ensures size { OnOk result (length heads.new.items ≡ length heads.old.items + length list.now) }
     ensures nothing { OnOk result (AreNothing heads.old.items → AreNothing heads.new.items) }
@@ -57,7 +57,7 @@ fn more(heads: &mut Vec<usize>, list: &[Placed]) -> Result<(), AllocError>
     Ok(())
 }
 
-/// Chains the calls of a list behind those of the lists before it.
+/// Chains the calls of a list after those of the lists before it.
 fn chain_list(
     heads: &mut Vec<usize>,
     links: &mut Vec<Link>,
@@ -72,7 +72,7 @@ fn chain_list(
     Ok(())
 }
 
-/// Chains one call more.
+/// Chains one more call.
 fn put(
     heads: &mut Vec<usize>,
     links: &mut Vec<Link>,
@@ -95,7 +95,7 @@ fn put(
     }
 }
 
-/// The same of a call with this place. A place past the last one has no chain.
+/// Chains one more call with this place. A place past the last one has no chain.
 fn put_at(
     heads: &mut Vec<usize>,
     links: &mut Vec<Link>,

@@ -1,4 +1,4 @@
-//! Which calls are bad, by what the stores tell of them.
+//! Bad calls, by the notes of the stores.
 ghost use Rattle.std.specs.Prelude.{◌≡◌, ◌↔◌, ◌≤◌, ◌+◌, length, IsTrue};
 ghost use Rattle.store_image.specs.{image_of};
 ghost use Rattle.call_check.specs.Following.{FindsFirstBad, LeavesLeast, TellsBad, TellsFall, TellsSeveral};
@@ -10,7 +10,7 @@ use record::Placed;
 use store_image::Image;
 
 impl Followed {
-    /// The lowest call of a list that is bad; so many calls stand in the lists before it.
+    /// Returns the lowest bad call of a list; `before` is the number of calls in the lists before it.
     pub(crate) fn first_bad(&self, before: usize, list: &[Placed]) -> Option<usize>
         requires { before + length list.now ≤ length self.now.notes.items }
         ensures { FindsFirstBad self.now before list.now result }
@@ -26,7 +26,7 @@ impl Followed {
         None
     }
 
-    /// Whether a call is bad, where the calls of its list before it leave it no place below the least.
+    /// Returns whether a call is bad, if `least` is the least place that the calls before it in its list allow.
     fn is_bad(&self, placed: &Placed, note: Note, least: u64) -> bool
         ensures { TellsBad self.now placed.now note least result }
     {
@@ -48,7 +48,7 @@ impl Followed {
         is_other_with_place(placed)
     }
 
-    /// Whether a place is past the last store.
+    /// Returns whether a place is past the last store.
     fn is_above(&self, place: Option<u32>) -> bool
         ensures { result ≡ is_above self.now.count place }
     {
@@ -58,7 +58,7 @@ impl Followed {
         }
     }
 
-    /// Whether the call would change the last store, as several would.
+    /// Returns whether the call is one of several that would change the last store.
     fn is_one_of_several(&self, place: Option<u32>, note: Note) -> bool
         ensures { TellsSeveral self.now place note result }
     {
@@ -68,7 +68,7 @@ impl Followed {
         }
     }
 
-    /// Whether the image is that of the last store.
+    /// Returns whether the image is that of the last store.
     pub(crate) fn end_with(&self, image: &Image) -> bool
         ensures { IsTrue result ↔ (image_of image.now ≡ image_of self.now.store) }
     {
@@ -76,7 +76,7 @@ impl Followed {
     }
 }
 
-/// The least place that a call may have after this one.
+/// Returns the least place that a call may have after this one.
 fn least_after(place: Option<u32>, note: Note, least: u64) -> u64
     ensures { LeavesLeast place note least result }
 {
@@ -89,7 +89,7 @@ fn least_after(place: Option<u32>, note: Note, least: u64) -> u64
     }
 }
 
-/// Whether a place is below the least.
+/// Returns whether a place is below the least.
 fn is_below(place: Option<u32>, least: u64) -> bool
     ensures { TellsFall least place result }
 {
@@ -99,14 +99,14 @@ fn is_below(place: Option<u32>, least: u64) -> bool
     }
 }
 
-/// Whether a call has a reply and no place.
+/// Returns whether a call has a reply and no place.
 fn is_reply_without_place(placed: &Placed) -> bool
     ensures { result ≡ is_reply_without_place placed.now }
 {
     matches!(placed.answer, Some(Answer::Reply(_))) && placed.place.is_none()
 }
 
-/// Whether a call has another answer and a place.
+/// Returns whether a call has another answer and a place.
 fn is_other_with_place(placed: &Placed) -> bool
     ensures { result ≡ is_other_with_place placed.now }
 {

@@ -1,6 +1,6 @@
-//! Weighing: whether the ports' finished calls stand in one history of the one-thread store, with the image at its end.
-//! The lists may come from anywhere, and need not be of a board. A verdict that is good says that there is such a history;
-//! a bad one names the first bad call of the lowest list, or says that the image alone does not fit.
+//! Weighing is a linearizability check: it reports whether the ports' finished calls belong to one history of the sequential
+//! store, with the image at its end. The lists may come from anywhere, and need not be of a board. `Good` means that such a
+//! history exists. `Bad` names the first bad call of the lowest list. `BadEnd` means that the image alone does not fit.
 //!
 //! ```rust
 //! let verdict = weigh(rt.alloc(), setup, lists, image)?;

@@ -1,4 +1,4 @@
-//! What the stores tell of the calls, one store after each change, up to the place where there is not exactly one change.
+//! The notes of the calls by the stores: one store after each change, up to the place without exactly one change.
 ghost use Rattle.std.specs.Prelude.{◌≡◌, ◌↔◌, ◌<◌, ◌+◌, IfOk, IsTrue, Ok, length};
 ghost use Rattle.plain_store.specs.{changes, checked};
 ghost use Rattle.call_check.specs.declared.calls.Call.{Call as Given};
@@ -12,7 +12,7 @@ use record::Placed;
 use std::alloc::{AllocError, Global};
 use store_image::Image;
 
-/// What the store at its place tells of a call.
+/// The note of a call by the store at its place.
 #[derive(Clone, Copy)]
 pub(crate) struct Note {
     /// Whether the call would change the store.
@@ -21,16 +21,16 @@ pub(crate) struct Note {
     pub is_wrong: bool,
 }
 
-/// The end of the stores, and what each tells of the calls with its place. Only one store is kept at a time.
+/// The end of the stores, and the notes of the calls by the stores at their places. Only one store is kept at a time.
 #[derive(Drop)]
 pub(crate) struct Followed {
-    /// A note of each call, in the order of the lists. Where there is no store at its place, neither is noted.
+    /// A note of each call, in the order of the lists. If no store is at its place, the note is blank.
     pub notes: Vec<Note>,
-    /// How many changes there are.
+    /// The number of changes.
     pub count: usize,
-    /// The store after them.
+    /// The store after the changes.
     pub store: Image,
-    /// Whether several calls would change it.
+    /// Whether several calls would change that store.
     pub several: bool,
 }
 
@@ -43,7 +43,7 @@ pub(crate) enum Changers {
 }
 
 impl Changers {
-    /// With a call before them, if it is a change.
+    /// Returns the changers with a call before them, if it is a change.
     fn with(self, call: &Call, is_change: bool) -> Changers
         ensures { Counts self call.now is_change result }
     {
@@ -102,7 +102,7 @@ impl Followed {
     }
 }
 
-/// Notes of so many calls that tell nothing.
+/// Returns `calls` blank notes.
 fn blank(alloc: Global, calls: usize) -> Result<Vec<Note>, AllocError>
     ensures { IfOk result (λ notes. AreBlank calls notes.items) }
 {
@@ -113,8 +113,8 @@ fn blank(alloc: Global, calls: usize) -> Result<Vec<Note>, AllocError>
     vec![in alloc; note; calls]
 }
 
-/// Notes the calls with a place, from the last one to the first, by the store there; and tells which of them would change
-/// it.
+/// Notes the calls with a place, from the last one to the first, by the store there. Returns those that would
+/// change it.
 fn note_place(
     setup: &Setup,
     lists: &[Vec<Placed>],
@@ -144,7 +144,7 @@ fn note_place(
     found
 }
 
-/// The call of a link.
+/// Returns the call of a link.
 fn call_of(lists: &[Vec<Placed>], link: Link) -> Call
     requires { (call : Given) × IsOf lists.now call link }
     ensures { (call : Given) → IsOf lists.now call link → result ≡ call }
@@ -156,7 +156,7 @@ fn call_of(lists: &[Vec<Placed>], link: Link) -> Call
     }
 }
 
-/// What a store tells of a call.
+/// Returns the note of a call by a store.
 fn note_of(setup: &Setup, call: &Call, store: &Image) -> Note
     ensures changes { result.changes ≡ changes store.now call.now.placed.command }
     ensures wrong { TellsWrong setup.now store.now call.now result.is_wrong }
@@ -167,7 +167,7 @@ fn note_of(setup: &Setup, call: &Call, store: &Image) -> Note
     }
 }
 
-/// Whether a command would change a store.
+/// Returns whether a command would change a store.
 #[tactic(auto, using(plain_store::proofs::Changes::changes_differs))]
 fn would_change(store: &Image, command: &Command) -> bool
     ensures { result ≡ changes store.now command.now }
@@ -175,7 +175,7 @@ fn would_change(store: &Image, command: &Command) -> bool
     store.would_change(command)
 }
 
-/// Whether a call has another reply than that of a store.
+/// Returns whether a call has another reply than that of a store.
 fn is_wrong(setup: &Setup, call: &Call, store: &Image) -> bool
     ensures { TellsWrong setup.now store.now call.now result }
 {
@@ -188,7 +188,7 @@ fn is_wrong(setup: &Setup, call: &Call, store: &Image) -> bool
     !replies(setup, store, call, &reply)
 }
 
-/// Whether this is the store's reply to the call.
+/// Returns whether this is the store's reply to the call.
 fn replies(setup: &Setup, store: &Image, call: &Call, reply: &Reply) -> bool
     ensures { TellsReply setup.now store.now call.now reply.now result }
 {
@@ -199,14 +199,14 @@ fn replies(setup: &Setup, store: &Image, call: &Call, reply: &Reply) -> bool
     }
 }
 
-/// Whether two replies are the same.
+/// Returns whether two replies are equal.
 fn is_same(reply: &Reply, other: &Reply) -> bool
     ensures { IsTrue result ↔ (reply.now ≡ other.now) }
 {
     reply == other
 }
 
-/// Who makes a call. No store of version 1 knows its callers.
+/// Returns the caller of a call. In version 1 stores do not distinguish their callers.
 fn caller(setup: &Setup, call: &Call) -> Caller
     ensures { IsFew setup.now call.now → IsCaller setup.now call.now result }
 {

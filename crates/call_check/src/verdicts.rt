@@ -1,4 +1,4 @@
-/// What weighing finds. It is printed as `good`, `bad <port> <call>` or `bad end`.
+/// The verdict of weighing. It is printed as `good`, `bad <port> <call>` or `bad end`.
 #[derive(Clone, Copy, PartialEq, Eq)]
 pub enum Weighed {
     /// No call is bad, and the image is that of the store after all changes.

@@ -10,9 +10,9 @@ use record::Placed;
 use std::alloc::{AllocError, Global};
 use store_image::Image;
 
-/// Weighs the ports' lists of finished calls against the image at the end: whether they stand in one history of the
-/// one-thread store, with this image after it, and else which call is the first that does not. List p is that of
-/// process p. The one fault is want of memory.
+/// Weighs the ports' lists of finished calls against the image at the end. Returns whether they belong to one history of
+/// the sequential store, with this image after it, and otherwise the first call that does not fit. List p is that of
+/// process p. The only error is allocation failure.
 pub fn weigh(
     alloc: Global,
     setup: &Setup,

@@ -1,4 +1,4 @@
--- What calls are answered, over all their entries, and that store answers stand in the history.
+-- The answers of calls, over all their entries. Store answers are in the history.
 use Rattle.std.proofs.Common.{◌≡◌, ◌≢◌, ℕ, zero, suc, ◌+◌, ◌<◌, ◌==◌, ◌||◌, Bool, true, false, cond, List, [], ◌∷◌, ◌++◌, Option, None, Some, Ok, length, slice_get, take, refl, sym, ap, subst, ◌∙◌, arith, Contains}
 use Rattle.std.specs.List.{list_any}
 use Rattle.std.proofs.lemmas.Bool.{or_right}
@@ -43,7 +43,7 @@ answered_whole s g (e ∷ later) events x y earlier a h c among told = go (answe
     Tells : Past → Type 0
     Tells call = IsAnswerTo a (all_takings call)
 
-    -- the answer stood among its entries before: the call takes no more
+    -- the answer was among its entries before: the call takes no more
     stood : Contains (entries_of_call p later) y → Tells (entries_of_call p later) → Tells (entries_of_call p (e ∷ later))
     stood there so_far =
         let ended = any_at (has ends_span) (entries_of_call p later) y there (any_at ends_span y.marks (Answered a) told refl) in
@@ -65,13 +65,13 @@ answered_whole s g (e ∷ later) events x y earlier a h c among told = go (answe
             let there : Contains (entries_of_call p later) y = subst (λ (call : Past). Contains call y) (sym (whole (own p later) n)) (k, omega (arith, l), is) in
             stood there (ih there told)
 
--- What a call took stands in the history.
+-- A command that a call took is in the history.
 
 -- a command of a call, taken with this reply
 abbrev with_reply : Call → Reply → Taken
 with_reply c r = record { process = c.process; command = c.command; reply = r; number = c.number }
 
--- what the present call of a process took stands at its place
+-- a command that the present call of a process took is at its place
 abbrev Stood : Setup → Past → ℕ → Type 0
 Stood s past p = (k : ℕ) (r : Reply) → Contains (all_takings (since is_called (own p past))) (k, r) → slice_get (history s past) k ≡ Some (with_reply (last_call s p (own p past)) r)
 
@@ -83,7 +83,7 @@ still s past e k t at = go (reply_taken e.marks) refl
     go None r = ap (λ h. slice_get h k) (history-none s past e r) ∙ at
     go (Some q) r = ap (λ h. slice_get h k) (history-takes s past e q r) ∙ get-left (history s past) (taken_at s past e q ∷ []) k (slice_get_within (history s past) k t at) ∙ at
 
--- the reply that an entry takes, of its one mark that says so
+-- the reply that an entry takes is in its one mark that takes a command
 reply_of : (ms : List Mark) (k : ℕ) (r : Reply) → length (takings ms) < 2 → Contains (takings ms) (k, r) → reply_taken ms ≡ Some r
 reply_of [] k r one (i, l, e) = absurd (omega (arith, l))
 reply_of (mark.Taken j q ∷ ms) k r one (zero, l, e) = ap (λ (t : ℕ × Reply). Some t.1) e
@@ -95,7 +95,7 @@ at_the_end taken t k is =
     let last : k ≡ length taken + 0 = omega (arith, is) in
     ap (slice_get (taken ++ t ∷ [])) last ∙ get-append taken (t ∷ []) 0
 
--- where no call begins, the last call is the one before
+-- if no call begins, the last call is the one before
 no_command : (ms : List Mark) → list_any is_called ms ≡ false → called_in ms ≡ None
 no_command [] h = refl
 no_command (mark.Called command ∷ ms) h = cc
@@ -150,7 +150,7 @@ stood s g = own-induction s (Stood s) none others own_entry
             (in-append Here (all_takings (since is_called mine)) (takings e.marks) (k, r) (subst (λ (call : Past). Contains (all_takings call) (k, r)) (since-uncalled e mine t.uncalled) took)
             (λ before. still s past e k (with_reply (last_call s p mine) r) (h k r before)) (now t.one))
 
--- A store answer stands in the history, with the one-thread store's reply at its place.
+-- A store answer is in the history, with the sequential store's reply at its place.
 pub answers_stand : TakenInHistory → (s : Setup) → checked s ≡ Ok tt → (events : List Event) (event : Event) (e : Entry) → AreGiven s (event ∷ events) → entry_of s (past_of s events) event ≡ Some e →
     StandsInHistory s (past_of s events) e
 answers_stand law s ok events event e given is r answered = (told.0, record { there = there; reply = reply })

@@ -1,4 +1,4 @@
--- What `Ask` tells: the number of the asker's latest change, and so whether a cut call was taken.
+-- `Ask` returns the number of the asker's latest change, and so shows whether a cut call was taken.
 use Rattle.std.proofs.Common.{◌≡◌, ℕ, zero, suc, ◌+◌, ◌<◌, ◌==◌, ◌||◌, false, List, [], ◌∷◌, Some, fold, length, take, drop, replicate, slice_get, refl, sym, ap, subst, ◌∙◌, arith, ne_eqb, IsTrue}
 use Rattle.std.proofs.Math.Bool.{or-false}
 use Rattle.std.proofs.lemmas.List.{take-append-drop}
@@ -28,7 +28,7 @@ of-drop xs zero j x h = ap (slice_get xs) (omega arith) ∙ h
 of-drop [] (suc k) j x h = cc
 of-drop (y ∷ xs) (suc k) j x h = let next : suc k + j ≡ suc (k + j) = omega arith in ap (slice_get (y ∷ xs)) next ∙ of-drop xs k j x h
 
--- `Ask` answers the number of the asker's latest change before its place, or 0.
+-- `Ask` returns the number of the asker's latest change before its place, or 0.
 pub ask_answers : TakenInHistory → AskAnswersTheLatestChange
 ask_answers law s good events given k t at asks =
     each_has_its_reply law s good events given k t at
@@ -41,7 +41,7 @@ ask_answers law s good events given k t at asks =
     kept : Each (IsKept (length (opening_store s).numbers)) before
     kept j u h = each_is_kept s (is_good s good) events given j u (of-take (history s (past_of s events)) k j u h)
 
--- from place k on no command of t's process has number m, where t stands at k with a greater one
+-- no command of t's process from place k on has number m, if t is at place k and has a greater number
 later-pass : (h : List Taken) → Ascends h → (k m : ℕ) (t : Taken) → slice_get h k ≡ Some t → m < t.number → Each (λ u. u.process ≡ t.process → (u.number == m) ≡ false) (drop k h)
 later-pass h up k m t at above j u here same = go j (of-drop h k j u here)
   where
@@ -52,7 +52,7 @@ later-pass h up k m t at above j u here same = go j (of-drop h k j u here)
     go zero there = let same_place : Some t ≡ Some u = sym at ∙ ap (slice_get h) (omega arith) ∙ there in let is : t ≡ u = cc in apart u.number (subst (λ (x : Taken). m < x.number) is above)
     go (suc j) there = let less = up k (k + suc j) t u (omega arith) at there (sym same) in apart u.number (omega (arith, less, above))
 
--- Where no later change of the asker stands before it, call m was taken as a change exactly if `Ask` answers `Last(m)`.
+-- If no later change of the asker precedes it, call m was taken as a change exactly if the answer to `Ask` is `Last(m)`.
 pub ask_tells : TakenInHistory → AskTellsOfCutCalls
 ask_tells law s good events given two k m t at asks some above none = (there, back)
   where

@@ -23,7 +23,7 @@ older s (event ∷ events) e rest h = go (older s events e rest) (entry_of s (pa
     go refused None i h = refused h
     go refused (Some f) i h = let same : f ≡ e = cc in record { events = events; event = event; past = cc; added = i ∙ ap Some same }
 
--- what comes before some entries is the past of a record too
+-- the entries before some entries are the past of a record too
 pub before : (s : Setup) (newer : Past) (events : List Event) (rest : Past) → past_of s events ≡ newer ++ rest → (more : List Event) × (past_of s more ≡ rest)
 before s [] events rest h = (events, h)
 before s (e ∷ newer) events rest h = let o = older s events e (newer ++ rest) h in before s newer o.events rest o.past

@@ -24,14 +24,14 @@ clean_begins s past p o f bits read value touched pb whole below access clean = 
   λ begun. access.mark refl ∙ (whole (length read) p below pb).writing,
 )
 
--- it ends: the copy's value is read
+-- the read of a bit ends: it has the copy's value
 pub clean_ends : (s : Setup) (past : Past) (p o : ℕ) (f : Field) (bits read : List Bool) (value : Bool) (touched : ℕ → ℕ → Touches) →
     p < s.processes → IsWhole s.processes (wires s past o f) bits → length read < length bits → ReadAccess s past p o f (length read) true value touched →
     ReadsClean (Reading read true) bits (touches s past o p f) → AreBitsOf bits (read ++ value ∷ [])
 clean_ends s past p o f bits read value touched pb whole below access clean =
     one_more_bit bits read value clean.0 (access.value refl (clean.1 refl) ∙ (whole (length read) p below pb).value)
 
--- and the next one is not yet begun
+-- the read of the next bit has not begun
 pub clean_on : (read bits : List Bool) (touched : ℕ → Bool) → AreBitsOf bits read → ReadsClean (Reading read false) bits touched
 clean_on read bits touched are = (are, λ begun. absurd (false≢true begun))
 
@@ -39,7 +39,7 @@ clean_on read bits touched are = (are, λ begun. absurd (false≢true begun))
 pub all_read : (bits read : List Bool) (value : Bool) → length read + 1 ≡ length bits → AreBitsOf bits (read ++ value ∷ []) → read ++ value ∷ [] ≡ bits
 all_read bits read value last are = ext_get_or false (read ++ value ∷ []) bits (length_push read value ∙ last) are
 
--- a commit bit that nobody writes is a whole register of one bit
+-- a commit bit that no process writes is a whole register of one bit
 pub commit_whole : (s : Setup) (v : Versions) (store : Contents) (busy : ℕ → Bool) (m : ℕ → Wires) → Kept s v store busy m → (q : ℕ) → q < s.processes → busy q ≡ false →
     IsWhole s.processes (m q Commit) (v.commit q ∷ [])
 commit_whole s v store busy m kept q below quiet k r one rb =

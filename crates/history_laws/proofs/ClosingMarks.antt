@@ -1,4 +1,4 @@
--- What the marks of a step of a closing tell, and those of a failure.
+-- The marks of a step of a closing, and the marks of a failure.
 use Rattle.std.proofs.Common.{◌≡◌, ℕ, ◌<◌, ◌&&◌, Bool, true, false, cond, not, List, [], ◌∷◌, ◌++◌, Option, Some, None, length, map, refl, sym, ap, subst, ◌∙◌, arith, append-nil}
 use Rattle.std.specs.Prelude.{if◌then◌else◌}
 use Rattle.record.specs.reader_copies.Runs as copies
@@ -30,7 +30,7 @@ withdraws-tells command number n w w' true taken h = record {
 }
 withdraws-tells command number n w w' false taken h = silent-tells taken _ _ [] unmarked h (λ x. refl) (λ x. refl)
 
--- of a memory unit that settles a bit: with the last one it may take the command
+-- a memory unit settles a bit: with the last access it may take the command
 settles-tells : (c : Call) (command : Command) (number n : ℕ) (f : Field) (bit : ℕ) (begun : Bool) (by : Option Reply) (is : Bool) (t t' : copies.Settling) (v last : Bool) (taken : List (ℕ × Reply)) → TookBefore by taken →
     Tells taken (Closes command number (Settles f bit begun by is t)) (closes command number (cond last (freeing c is) (Settles f bit begun by is t'))) (map (placed n) (cond last (settled_marks begun by v) []))
 settles-tells c command number n f bit begun by is t t' v false taken h = silent-tells taken _ _ [] unmarked h (λ x. cc) (λ x. refl)
@@ -56,13 +56,13 @@ settles-tells c command number n f bit begun (Some r) is t t' v true taken h = g
     }
     go false = silent-tells taken d d' (Settled v ∷ []) (record { taken = refl; called = refl; failed = refl; ended = refl }) (few taken h) (λ x. cc) (λ x. cc)
 
--- of one that clears the ticket
+-- a memory unit clears the ticket
 frees-tells : (command : Command) (number n : ℕ) (is b last : Bool) (w w' : NumberWrite) (taken : List (ℕ × Reply)) → length taken < 2 →
     Tells taken (Closes command number (Frees is w)) (closes command number (cond last (Lowers (new_write 1)) (Frees is w'))) (map (placed n) (cond b (Left ∷ []) []))
 frees-tells command number n is b true w w' taken h = silent-tells taken _ _ _ (one-silent n Left b (record { taken = refl; called = refl; failed = refl; ended = refl })) h (λ x. cc) (λ x. cc)
 frees-tells command number n is b false w w' taken h = silent-tells taken _ _ _ (one-silent n Left b (record { taken = refl; called = refl; failed = refl; ended = refl })) h (λ x. cc) (λ x. cc)
 
--- of one that clears the choosing bit
+-- a memory unit clears the choosing bit
 lowers-tells : (command : Command) (number n : ℕ) (last : Bool) (w w' : NumberWrite) (taken : List (ℕ × Reply)) → length taken < 2 →
     Tells taken (Closes command number (Lowers w)) (closes command number (cond last Ended (Lowers w'))) (map (placed n) (cond last (Down ∷ []) []))
 lowers-tells command number n true w w' taken h = record {
@@ -76,7 +76,7 @@ lowers-tells command number n true w w' taken h = record {
 }
 lowers-tells command number n false w w' taken h = silent-tells taken _ _ [] unmarked h (λ x. cc) (λ x. cc)
 
--- What the marks of a step of a closing tell.
+-- The marks of a step of a closing.
 pub closing-tells : (c : Call) (command : Command) (number n : ℕ) (at : Closing) (flick : Bool) (next : Next) (taken : List (ℕ × Reply)) → closing_next c at flick ≡ Some next → TookIn at taken →
     Tells taken (Closes command number at) (closes command number (closing_after c at flick)) (map (placed n) next.marks)
 closing-tells c command number n at flick next taken h k = go at h k
@@ -113,7 +113,7 @@ part-before c (WritesStamp vs st) r taken h = before (is_commit (written_at c (W
 part-before c (WritesCommit vs st) r taken h = h
 part-before c _ r taken h = few taken h
 
--- what is cut goes on with a memory unit
+-- a cut call continues with a memory unit
 record Cuts (taken : List (ℕ × Reply)) (d : Doing) (cl : Closing) : Type 0 where
   pub took : TookIn cl taken
   pub unanswered : may_answer_in cl ≡ false
@@ -147,7 +147,7 @@ unwithdrawn c past = go (unfinished c.setup.processes (last_write past))
     go None = refl
     go (Some a) = refl
 
--- What the mark of a failure tells.
+-- The mark of a failure.
 pub failure-tells : (s : Setup) (past : Past) (p : ℕ) (e : Entry) (d d' : Doing) (command : Command) (number : ℕ) (c : Call) (mine : Past) (taken : List (ℕ × Reply)) →
     Step s past p e d d' → e.access ≡ None → d' ≡ Closes command number (failing c mine) → TookBy d taken → Tells taken d d' (Failed ∷ [])
 failure-tells s past p e d d' command number c mine taken (calls command' number' i a k) none goal h = let f : Runs command' number' _ ≡ Closes command number (failing c mine) = sym k ∙ goal in cc

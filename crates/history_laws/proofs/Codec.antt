@@ -145,6 +145,6 @@ bytes_read s store is =
 pub image_read : (s : Setup) (store : Contents) → IsStoreOf s store → IsImageOf (callers_of s) (bytes_of_bits (image_bytes s) (image_bits s store)) store
 image_read s store is = record { store = is.store; numbers = is.callers; image = bytes_read s store is }
 
--- and stand for it
+-- the store that is read from these bits is the store
 pub store_is_read : (c : Call) (store : Contents) → IsStoreOf c.setup store → store_read c (image_bits c.setup store) ≡ store
 store_is_read c store is = store_in-image c.setup.slots (callers_of c.setup) (bytes_of_bits (image_bytes c.setup) (image_bits c.setup store)) store (image_read c.setup store is) is.slots

@@ -25,7 +25,7 @@ count_more store (x ∷ taken) t =
     go true true n = omega arith
     go _ _ n = refl
 
--- what an entry's command is taken as
+-- the element that an entry's command adds to the history
 abbrev pub taken_at : Setup → Past → Entry → Reply → Taken
 taken_at s past e r =
     let c = last_call s e.process (own e.process past) in

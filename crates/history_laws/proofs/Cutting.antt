@@ -32,12 +32,12 @@ use Rattle.history_laws.proofs.Uncommitted.{WritesOne, IsUncommitted, lock_besid
 
 -- The unit that a failure starts at a part.
 
--- what a unit is to know, and whether the commit bit is being settled
+-- a unit's knowledge, and whether the commit bit is being settled
 pub record UnitKnows (s : Setup) (c : Call) (v : Versions) (store : Contents) (m : Wires) (busy : Bool) (cl : Closing) : Type 0 where
   pub knows : KnowsClosing s c v store m cl
   pub busy_is : is_busy (Closes c.command c.number cl) ≡ busy
 
--- where a register that isn't committed was written
+-- the failure interrupts a write of a register that is not committed
 cut-register : (s : Setup) (c : Call) (v : Versions) (store : Contents) (m : Wires) (f : Field) (begun : Bool) (pending : Option Change) (torn : Option (ℕ × copies.Settling)) → is_commit_field f ≡ false → IsUncommitted v c.process f →
     UnitKnows s c v store m false (cut c (option_map (named f) torn) begun pending true)
 cut-register s c v store m f begun pending None e h = record { knows = tt; busy_is = refl }
@@ -52,7 +52,7 @@ stamp-other : (b : Bool) → is_commit_field (stamp_field b) ≡ false
 stamp-other true = refl
 stamp-other false = refl
 
--- where the commit bit was written: if its write had begun it is torn, nothing of it is settled, and the change that it may commit is written
+-- the failure interrupts the write of the commit bit: if the write had begun, the bit is torn, no copy is settled, and the change that it may commit is written
 cut-commit : (s : Setup) (c : Call) (v : Versions) (store st : Contents) (m : Wires) (vs : List Version) (bit : ℕ) (run : Option copies.Writing) → c.process < s.processes → bit ≡ 0 → ((r : copies.Writing) → run ≡ Some r → (0 < r.made) × (r.ended ≡ false)) →
     Pending s c v store vs st → HasImage s c v store m → HasStamp s c v m →
     UnitKnows s c v store m (not ((bit == 0) && is_none run)) (cut c (option_map (named Commit) (torn_run bit run)) (slice_index_or (not (version_of vs c.process) ∷ []) bit false) (Some (change_of c vs st)) true)
@@ -84,7 +84,7 @@ cut-commit s c v store st m vs bit (Some r) low first on pending image stamp = s
         let some : 0 < r.made = o.0 in
         λ i. ne_eqb r.made 0 (λ u. omega (arith, u, some)) i || o.1 i
 
--- who reads is not committing
+-- a process that reads is not committing
 reading-idle : (x : Part) (fresh : Bool) → is_read x ≡ true → false ≡ is_committing x fresh
 reading-idle (WritesCommit vs st) fresh h = absurd (false≢true h)
 reading-idle _ fresh h = refl
@@ -115,7 +115,7 @@ cut-part s past p command number v store m t torn _ (Writing w) low is stands l 
 
 -- The entry of a failure.
 
--- who works at a part is inside
+-- a process that works at a part is inside
 working-inside : (x : Part) (fresh : Bool) → is_inside_at x false ≡ true → is_inside_at x fresh ≡ true
 working-inside x fresh h = go (is_inside_at x fresh) refl
   where
@@ -123,13 +123,13 @@ working-inside x fresh h = go (is_inside_at x fresh) refl
     go true i = i
     go false i = absurd (true≢false (sym h ∙ still-outside x fresh i))
 
--- who settles a bit does not fail, and who withdraws works on no version
+-- a unit that settles a bit does not fail, and a process that withdraws works on no version
 closing-stays : (command : Command) (number : ℕ) (at : Closing) → may_fail (Closes command number at) ≡ true → is_working (Closes command number at) ≡ true → ⊥
 closing-stays command number (Withdraws w) may is = false≢true is
 closing-stays command number (Settles f bit begun taken b t) may is = false≢true may
 closing-stays command number _ may is = false≢true is
 
--- what the unit begins with is known, and it settles the commit bit if that was being written
+-- the unit's first knowledge holds, and the unit settles the commit bit if that was being written
 abbrev BeginsAs : Setup → Past → ℕ → Doing → Type 0
 BeginsAs s past p d = Knows s past p d × (is_busy d ≡ is_busy (doing s p past))
 

@@ -21,7 +21,7 @@ use Rattle.history_laws.proofs.SettleSteps.{settling-keeps}
 use Rattle.history_laws.proofs.Sound.{IsGivenTo}
 use Rattle.history_laws.proofs.WriteSteps.{is_data_write, write-keeps}
 
--- who works on versions is inside
+-- a process that works on versions is inside
 working_inside : (d : Doing) → is_working d ≡ true → is_inside d ≡ true
 working_inside Rests h = absurd (false≢true h)
 working_inside Lies h = absurd (false≢true h)
@@ -42,7 +42,7 @@ working_inside (Closes command number at) h = go at h
     go (Settles f bit begun taken is t) h = h
     go _ h = absurd (false≢true h)
 
--- it reads them, or writes
+-- such a process reads versions, or writes one
 reads_or_writes : (x : Part) → is_inside_at x false ≡ true → is_data_read x ≡ false → is_data_write x ≡ true
 reads_or_writes (WritesImage vs st) inside not_read = refl
 reads_or_writes (WritesStamp vs st) inside not_read = refl
@@ -104,7 +104,7 @@ entry_keeps s g events what e h given known = go (is_working (doing s e.process 
     go true works = lifts s past e (inv_of s g events) below (inl (working_inside (doing s e.process past) works)) given known (working_keeps s g events what e h works known)
     go false idle = lifts s past e (inv_of s g events) below (inr (idle-untouched s g events what e h idle)) given known (idle-keeps s g events what e h idle known)
 
--- So it holds of every past.
+-- The invariant holds of every past.
 pub data_of : (s : Setup) → checked s ≡ Ok tt → (events : List Event) → AreGiven s events → Data s (past_of s events)
 data_of s good [] given = opens s good [] given
 data_of s good (what ∷ events) given = go (entry_of s (past_of s events) what) refl (data_of s good events (given_before s what events given))

@@ -1,4 +1,4 @@
--- What the invariant of the data tells beside the headline: whose image is read, and that stamps count the changes.
+-- The invariant of the data also fixes whose image is read, and that stamps count the changes.
 use Rattle.std.proofs.Common.{ℕ, ◌<◌, ◌≤◌, ◌^◌, ◌-◌, sym, ap, subst, ◌∙◌, arith}
 use Rattle.plain_store.specs.{Contents, callers_of}
 use Rattle.record.specs.{ImagesAreOfTheStore, Past, bytes_of_bits, image_bytes, newest_stamp, past_of}

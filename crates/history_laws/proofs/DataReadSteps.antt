@@ -19,7 +19,7 @@ image_is_image : (b : Bool) → is_image (image_field b) ≡ true
 image_is_image false = refl
 image_is_image true = refl
 
--- where p ends a read of a bit of an image, this is the end that is looked back to
+-- if p ends a read of a bit of an image, the look-back finds this end
 pub looks_back : (s : Setup) (past : Past) (p : ℕ) (e : Entry) (command : Command) (number : ℕ) (part : Part) (read : List Bool) (flick : Bool) →
     let c : Call = call s p command number in
     e.process ≡ p → e.access ≡ Some (valued s past flick (access_at c part (Reading read true))) → is_image (read_at c part).1 ≡ true → before_image_read p (e ∷ past) ≡ past
@@ -27,7 +27,7 @@ looks_back s past p e command number part read flick mine access image =
     ap (λ b. elim b as (λ _. Past) [ true ↦ past | false ↦ before_image_read p past ])
     ((λ i. eq-eqb e.process p mine i && elim (access i) as (λ _. Bool) [ None ↦ false | Some a ↦ is_image a.field && ends_read a.how ]) ∙ ap (λ b. b && true) image)
 
--- An access of a read keeps what p knows: it goes on with the read, or knows what the next part asks for.
+-- An access of a read keeps the knowledge of p: the read continues, or p has the knowledge for the next part.
 pub data_reads : (s : Setup) (past past' : Past) (p : ℕ) (busy : ℕ → Bool) (command : Command) (number : ℕ) (m : Wires) (part : Part) (read : List Bool) (begun value : Bool) (touched : ℕ → ℕ → Touches) →
     let c : Call = call s p command number in
     is_data_read part ≡ true → Quiet s past p busy → (begun ≡ true → is_image (read_at c part).1 ≡ true → before_image_read p past' ≡ past) → length read < width s (read_at c part).1 →

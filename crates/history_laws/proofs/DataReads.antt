@@ -1,4 +1,4 @@
--- The reads of the critical section: whoever is inside reads committed registers, which are whole, so it reads what the history says.
+-- The reads of the critical section. A process that is inside reads committed registers. They are whole, so it reads the history's values.
 use Rattle.std.proofs.Common.{◌≡◌, ℕ, ◌+◌, ◌*◌, ◌^◌, ◌<◌, ◌==◌, Bool, true, false, cond, List, [], ◌∷◌, ◌++◌, length, slice_index_or, refl, sym, ap, ◌∙◌, subst, arith, append-nil, append_assoc, eqb-true}
 use Rattle.std.proofs.lemmas.Bool.{eqb-false}
 use Rattle.std.proofs.lemmas.List.{length-append, length_push}
@@ -24,17 +24,17 @@ use Rattle.history_laws.proofs.Kept.{IsStampsFull, Kept, KnowsAt, Pending, Reads
 use Rattle.history_laws.proofs.NewestVersion.{newest_process_is, newest_stamp_is, version_of_is}
 use Rattle.history_laws.proofs.Versions.{Versions, store_of, version, versions, versions_of}
 
--- p makes an access, and nobody writes a commit bit
+-- p makes an access, and no process writes a commit bit
 pub record Quiet (s : Setup) (past : Past) (p : ℕ) (busy : ℕ → Bool) : Type 0 where
   pub process : p < s.processes
   pub kept : Kept s (versions s past) (store_of s past) busy (wires s past)
   pub idle : (q : ℕ) → q < s.processes → busy q ≡ false
 
--- What p knows at a place of its call, past' being the record then: m are its registers, and t tells of each owner which of its open reads are touched. The versions and the store are those of past.
+-- The knowledge of p at a place of its call, where past' is the record then: m are its registers, and t gives for each owner which of its open reads are touched. The versions and the store are those of past.
 abbrev pub KnowsPlace : (s : Setup) (past past' : Past) (p : ℕ) → Command → ℕ → Wires → (ℕ → Touches) → Place → Type 0
 KnowsPlace s past past' p command number m t at = KnowsAt s past' (call s p command number) (versions s past) (store_of s past) m t at.part at.run
 
--- what it knew there before
+-- its knowledge there before
 abbrev pub KnewAt : (s : Setup) (past : Past) (p : ℕ) → Command → ℕ → Part → List Bool → Bool → Type 0
 KnewAt s past p command number part read begun = KnowsAt s past (call s p command number) (versions s past) (store_of s past) (wires s past p) (λ o. touches s past o p) part (Reading read begun)
 
@@ -45,7 +45,7 @@ one_more_version : (v : Versions) (done : List ℕ) (k : ℕ) → versions_of v 
 one_more_version v [] k = refl
 one_more_version v (q ∷ done) k = ap (λ vs. version v q ∷ vs) (one_more_version v done k)
 
--- who is read next is one of the processes
+-- the process that is read next is one of the processes
 next_below : (s : Setup) (done : List ℕ) (k : ℕ) (ks : List ℕ) → processes s ≡ done ++ k ∷ ks → k < s.processes
 next_below s done k ks all =
     let many = length-range_with_len 0 s.processes in
@@ -56,7 +56,7 @@ next_below s done k ks all =
     let same = ap (λ xs. slice_index_or xs (length done) 0) all in
     omega (arith, here, there, same, less)
 
--- E begins, or goes on, or is done: the versions of `done` were read
+-- E begins, continues or is done: the versions of `done` were read
 pub to_e_knows : (s : Setup) (past past' : Past) (p : ℕ) (command : Command) (number : ℕ) (m : Wires) (t : ℕ → Touches) (done ks : List ℕ) (vs : List Version) →
     processes s ≡ done ++ ks → vs ≡ versions_of (versions s past) done → KnowsPlace s past past' p command number m t (enter (call s p command number) (to_e ks vs))
 to_e_knows s past past' p command number m t done [] vs all read =
@@ -108,7 +108,7 @@ to_g_knows s past past' p busy command number m t vs st h before read is = go (c
 
 -- Each read.
 
--- of k's commit bit
+-- a read of k's commit bit
 pub commit_reads : (s : Setup) (past past' : Past) (p : ℕ) (busy : ℕ → Bool) (command : Command) (number : ℕ) (m : Wires) (k : ℕ) (ks : List ℕ) (vs : List Version) (read : List Bool) (begun value : Bool) (touched : ℕ → ℕ → Touches) →
     Quiet s past p busy → length read < 1 → ReadAccess s past p k Commit (length read) begun value touched → KnewAt s past p command number (AsksCommit k ks vs) read begun →
     KnowsPlace s past past' p command number m (λ o. touched o p) (place_after (call s p command number) (record { part = AsksCommit k ks vs; run = Reading read begun }) value)
@@ -125,7 +125,7 @@ commit_reads s past past' p busy command number m k ks vs [] true value touched 
     )
 commit_reads s past past' p busy command number m k ks vs (b ∷ read) true value touched h small access knew = absurd (omega (arith, small))
 
--- a stamp has as many bits as the setup says
+-- the setup's number of stamp bits is the width of a stamp
 pub stamp_width : (s : Setup) (b : Bool) → width s (stamp_field b) ≡ s.stamp_bits
 stamp_width s false = refl
 stamp_width s true = refl
@@ -134,7 +134,7 @@ image_width : (s : Setup) (b : Bool) → width s (image_field b) ≡ 8 * image_b
 image_width s false = refl
 image_width s true = refl
 
--- of the stamp that k's commit bit chooses
+-- a read of the stamp that k's commit bit chooses
 pub stamp_reads : (s : Setup) (past past' : Past) (p : ℕ) (busy : ℕ → Bool) (command : Command) (number : ℕ) (m : Wires) (k : ℕ) (ks : List ℕ) (vs : List Version) (b : Bool) (read : List Bool) (begun value : Bool) (touched : ℕ → ℕ → Touches) →
     Quiet s past p busy → length read < width s (stamp_field b) → ReadAccess s past p k (stamp_field b) (length read) begun value touched → KnewAt s past p command number (AsksStamp k ks vs b) read begun →
     KnowsPlace s past past' p command number m (λ o. touched o p) (place_after (call s p command number) (record { part = AsksStamp k ks vs b; run = Reading read begun }) value)
@@ -183,9 +183,9 @@ stamp_reads s past past' p busy command number m k ks vs b read begun value touc
         (λ e. ends (eqb-true (length read + 1) (width s (stamp_field b)) e) are)
         (λ e. (knew.0, knew.1, clean_on (read ++ value ∷ []) bits (touched k p f) are))
 
--- Of the newest image.
+-- The read of the newest image.
 
--- it is that of the process, and of the version, that the history says
+-- it is the image of the history's newest process and of that process's committed version
 newest_there : (s : Setup) (past : Past) (p : ℕ) (busy : ℕ → Bool) (vs : List Version) → let v : Versions = versions s past in
     Quiet s past p busy → vs ≡ versions_of v (processes s) → (newest_process vs ≡ v.newest) × (version_of vs (newest_process vs) ≡ v.commit v.newest)
 newest_there s past p busy vs h read =
@@ -193,7 +193,7 @@ newest_there s past p busy vs h read =
     let owner : newest_process vs ≡ v.newest = ap newest_process read ∙ newest_process_is s v (store_of s past) busy (wires s past) h.kept in
     (owner, (λ i. version_of (read i) (owner i)) ∙ version_of_is s v v.newest h.kept.newest)
 
--- so the access is to its image
+-- the access is to that image
 image_there : (s : Setup) (past : Past) (p : ℕ) (busy : ℕ → Bool) (vs : List Version) (k : ℕ) (begun value : Bool) (touched : ℕ → ℕ → Touches) → let v : Versions = versions s past in
     Quiet s past p busy → vs ≡ versions_of v (processes s) → ReadAccess s past p (newest_process vs) (image_field (version_of vs (newest_process vs))) k begun value touched →
     ReadAccess s past p v.newest (image_field (v.commit v.newest)) k begun value touched
@@ -226,7 +226,7 @@ image_is_read s past p busy command number vs read value touched h last access k
     all_read (image_bits s (store_of s past)) read value (last ∙ sym (image_wide s (store_of s past) (version_of vs (newest_process vs))))
     (image_ends s past p busy command number vs read value touched h (omega (arith, last)) access knew)
 
--- so that store is read
+-- the store of the history is read
 pub newest_is_read : (s : Setup) (past : Past) (p : ℕ) (busy : ℕ → Bool) (command : Command) (number : ℕ) (vs : List Version) (read : List Bool) (value : Bool) (touched : ℕ → ℕ → Touches) →
     let c : Call = call s p command number in
     Quiet s past p busy → length read + 1 ≡ width s (read_at c (AsksImage vs)).1 → ReadAccess s past p (read_at c (AsksImage vs)).0 (read_at c (AsksImage vs)).1 (length read) true value touched →
@@ -235,7 +235,7 @@ newest_is_read s past p busy command number vs read value touched h last access 
     let c : Call = call s p command number in
     ap (store_read c) (image_is_read s past p busy command number vs read value touched h last access knew) ∙ store_is_read c (store_of s past) h.kept.sound
 
--- before: where it ends, this is the end that is looked back to
+-- before: if the read ends, the look-back finds this end
 pub image_reads : (s : Setup) (past past' : Past) (p : ℕ) (busy : ℕ → Bool) (command : Command) (number : ℕ) (m : Wires) (vs : List Version) (read : List Bool) (begun value : Bool) (touched : ℕ → ℕ → Touches) →
     let c : Call = call s p command number in
     Quiet s past p busy → (begun ≡ true → before_image_read p past' ≡ past) → length read < width s (read_at c (AsksImage vs)).1 →

@@ -1,4 +1,4 @@
--- The writes of a change: of the new version's image, of its stamp, and of the commit bit, with whose last end the command is taken.
+-- The writes of a change: first the new version's image, then its stamp, then the commit bit. The last end of the commit bit takes the command.
 use Rattle.std.specs.Prelude.{◌^◌}
 use Rattle.std.proofs.Common.{◌≡◌, ◌≢◌, ℕ, ◌+◌, ◌<◌, ◌≤◌, ◌==◌, Bool, true, false, cond, List, [], ◌∷◌, not, refl, sym, ap, subst, ◌∙◌, arith, inl, inr, true≢false}
 use Rattle.std.proofs.lemmas.Bool.{cases_eq, eq-eqb, ne_eqb}
@@ -17,7 +17,7 @@ use Rattle.history_laws.proofs.Uncommitted.{WritesOne, TurnsBusy, idle_before, i
 use Rattle.history_laws.proofs.Versions.{Versions, committed}
 use Rattle.history_laws.proofs.VersionsRead.{commit_read, stamp_read}
 
--- What is known of the process itself.
+-- The knowledge of the process itself.
 
 -- its own commit bit, as it was read
 pub own_commit : (s : Setup) (c : Call) (v : Versions) (store : Contents) (vs : List Version) (st : Contents) → c.process < s.processes → Pending s c v store vs st → version_of vs c.process ≡ v.commit c.process
@@ -55,11 +55,11 @@ kept_committed s p command number v store busy busy' m m' below w others fits so
     v' : Versions
     v' = committed p v
 
-    -- of p
+    -- the value for p
     own : {A : Type 0} (x y : A) → cond (p == p) x y ≡ x
     own x y = ap (λ b. cond b x y) (eq-eqb p p refl)
 
-    -- of the others
+    -- the value for the other processes
     other : {A : Type 0} (q : ℕ) (x y : A) → q ≢ p → cond (q == p) x y ≡ y
     other q x y ne = ap (λ b. cond b x y) (ne_eqb q p ne)
 
@@ -95,7 +95,7 @@ kept_committed s p command number v store busy busy' m m' below w others fits so
 
 -- The accesses.
 
--- p at a place of its call knows what it has to
+-- the knowledge of p at a place of its call
 abbrev KnowsPlace : Setup → Past → Call → Versions → Contents → Wires → (ℕ → Touches) → Place → Type 0
 KnowsPlace s past c v store m t at = KnowsAt s past c v store m t at.part at.run
 
@@ -145,7 +145,7 @@ stamp_written s past p command number vs st w x v store busy m m' t below k pend
     )
     go false e = (pending, image')
 
--- what both leave
+-- accesses of the image, and of the stamp, keep the committed registers
 pub image_kept : (s : Setup) (p : ℕ) (command : Command) (number : ℕ) (vs : List Version) (st : Contents) (w : NumberWrite) (d' : Doing) (v : Versions) (store : Contents) (busy busy' : ℕ → Bool) (m m' : ℕ → Wires)
     → let c : Call = call s p command number in
     p < s.processes → Pending s c v store vs st → WritesOne p (image_field (not (version_of vs p))) m m' → TurnsBusy p (Runs command number (record { part = WritesImage vs st; run = Writing w })) d' busy busy' →
@@ -162,7 +162,7 @@ stamp_kept s p command number vs st w d' v store busy busy' m m' below pending o
     let own : version_of vs p ≡ v.commit p = own_commit s (call s p command number) v store vs st below pending in
     kept_apart s v store busy busy' p (stamp_field (not (version_of vs p))) m m' one (uncommitted_beside v p (stamp_field (not (version_of vs p))) (inr (ap (λ b. stamp_field (not b)) own))) (idle_before p _ d' busy busy' turns refl) k
 
--- an access of the commit bit that is not the last: p is busy then, and knows what it knew
+-- an access of the commit bit that is not the last: p is busy then, and keeps its knowledge
 pub commit_goes_on : (s : Setup) (past : Past) (p : ℕ) (command : Command) (number : ℕ) (vs : List Version) (st : Contents) (w : NumberWrite) (x : Bool) (v : Versions) (store : Contents) (busy busy' : ℕ → Bool) (m m' : ℕ → Wires) (t : ℕ → Touches)
     → let c : Call = call s p command number in
     let at : Place = place_after c (record { part = WritesCommit vs st; run = Writing w }) x in
@@ -187,7 +187,7 @@ commit_goes_on s past p command number vs st w x v store busy busy' m m' t more 
     now : is_busy (runs command number (place_after c (record { part = WritesCommit vs st; run = Writing w }) x)) ≡ true
     now = ap (λ at. is_busy (runs command number at)) place ∙ ap not (moved-unfresh s.processes (not (version_of vs p) ∷ []) w)
 
--- its last end: the command is taken, and the new version is committed
+-- the last end of the commit bit: the command is taken, and the new version is committed
 pub commit_written : (s : Setup) (past : Past) (p : ℕ) (command : Command) (number : ℕ) (vs : List Version) (st : Contents) (w : NumberWrite) (x : Bool) (v v' : Versions) (store store' : Contents) (busy busy' : ℕ → Bool) (m m' : ℕ → Wires) (t : ℕ → Touches)
     → let c : Call = call s p command number in
     let at : Place = place_after c (record { part = WritesCommit vs st; run = Writing w }) x in

@@ -1,4 +1,4 @@
--- What a process knows after a step with which it works on no version: nothing, and where it gets inside it has read no version yet. Where it leaves, it still knows why its call was refused.
+-- The knowledge of a process after a step that works on no version. It is nothing; when it enters, it has read no version yet; when it leaves, it still knows why its call was refused.
 use Rattle.std.proofs.Common.{◌≡◌, ℕ, ◌+◌, ◌<◌, ◌==◌, Bool, true, false, cond, List, [], ◌∷◌, ◌++◌, Some, None, refl, sym, ap, subst, ◌∙◌, true≢false, append-nil}
 use Rattle.record.specs.reader_copies.Runs as copies
 use Rattle.record.specs.declared.access.Field.TheVariants.{Commit}
@@ -21,7 +21,7 @@ use Rattle.history_laws.proofs.Outside.{is_settling_inside, is_working, settled-
 
 -- The next part.
 
--- what is known where the versions of some processes were read, and others' come next
+-- the knowledge once the versions of some processes were read, and the others' are next
 pub to_e-known : (c : Call) (past : Past) (v : Versions) (store : Contents) (m : Wires) (t : ℕ → Touches) (done ks : List ℕ) (vs : List Version) → processes c.setup ≡ done ++ ks → vs ≡ versions_of v done →
     KnowsAt c.setup past c v store m t (to_e ks vs) (new_run c (to_e ks vs))
 to_e-known c past v store m t done [] vs all read = (read ∙ ap (versions_of v) (sym (all ∙ append-nil done)), clean_new (image_bits c.setup store) (t v.newest (image_field (v.commit v.newest))))
@@ -61,7 +61,7 @@ next-known c past v store m t (WritesCommit vs st) bits h = absurd (true≢false
 next-known c past v store m t (Clears a) bits h = tt
 next-known c past v store m t Over bits h = tt
 
--- What a step makes known.
+-- The knowledge after a step.
 
 -- a place of its call, or its rest
 pub runs-known : (s : Setup) (past : Past) (p : ℕ) (v : Versions) (store : Contents) (m : Wires) (t : ℕ → Touches) (command : Command) (number : ℕ) (at : Place) →
@@ -102,7 +102,7 @@ idle-closing s c v store m (Settles f bit begun taken true t) idle h = absurd (t
 idle-closing s c v store m (Settles f bit begun taken false t) idle h = let x = settled-outside f taken h in (x.1, x.0)
 idle-closing s c v store m _ idle h = tt
 
--- it stays so
+-- a closing that settles no such bit settles none later
 after-idle : (c : Call) (at : Closing) (flick : Bool) → is_settling_inside at ≡ false → is_settling_inside (closing_after c at flick) ≡ false
 after-idle c (Withdraws w) flick idle = go (is_last_written c (no_ticket c) w)
   where
@@ -127,7 +127,7 @@ after-idle c (Lowers w) flick idle = go (is_last_written c (false ∷ []) w)
 after-idle c Quit flick idle = refl
 after-idle c Ended flick idle = refl
 
--- and a failure where no version is worked on begins such a one
+-- a failure of a process that works on no version begins such a closing
 cut-idle : (s : Setup) (p : ℕ) (c : Call) (cl : Closing) (d : Doing) → IsCut s p c cl d → is_working d ≡ false → is_settling_inside cl ≡ false
 cut-idle s p c cl d (at_rest e) idle = ap is_settling_inside e
 cut-idle s p c cl d (between command number at e) idle = ap is_settling_inside e
@@ -156,11 +156,11 @@ idle-known s past p e d d' v v' store store' m m' t t' step idle closes' read h 
         closing (Settles f bit begun taken is x) k idle = subst K (sym k) (idle-closing s (call s p command number) v' store' m' (Settles f bit begun taken is x) idle (subst ClosesInside k closes'))
         closing _ k idle = subst K (sym k) tt
 
--- the unit that an entry begins, or goes on with, settles bits of versions for a process that is inside alone
+-- the unit that an entry begins, or continues, settles bits of versions only for a process that is inside
 closes_then : (s : Setup) → IsGood s → (events : List Event) (what : Event) (e : Entry) → entry_of s (past_of s events) what ≡ Some e → (p : ℕ) → ClosesInside (doing s p (e ∷ past_of s events))
 closes_then s g events what e h p = subst (λ past. ClosesInside (doing s p past)) (ap (λ x. elim x as (λ _. Past) [ None ↦ past_of s events | Some e ↦ e ∷ past_of s events ]) h) (closes_inside s g (what ∷ events) p)
 
--- Every step of a process that works on no version keeps the data: outside, where it gets inside, and where it leaves.
+-- Every step of a process that works on no version keeps the data: outside, when it enters, and when it leaves.
 pub idle-keeps : (s : Setup) → IsGood s → (events : List Event) (what : Event) (e : Entry) → entry_of s (past_of s events) what ≡ Some e → is_working (doing s e.process (past_of s events)) ≡ false →
     Data s (past_of s events) → Keeps s (past_of s events) e
 idle-keeps s g events what e h idle known = record {

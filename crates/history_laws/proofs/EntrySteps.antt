@@ -1,4 +1,4 @@
--- An accepted entry with an access: which call it is of, whose commit bits are being written then, and what it keeps of the data, where it takes a change or takes nothing.
+-- An accepted entry with an access: its call, the commit bits that are being written then, and the data that it keeps if it takes a change or nothing.
 use Rattle.std.proofs.Common.{◌≡◌, ℕ, ◌<◌, Bool, true, cond, List, ◌∷◌, None, Some, refl, sym, ap, subst, ◌∙◌}
 use Rattle.record.specs.{Access, Call, Entry, Event, Past, caller, last_call, own, past_of, reply_taken, stage, store_after}
 use Rattle.plain_store.specs.{Command, Contents, Reply, Setup, after, changes}
@@ -14,7 +14,7 @@ use Rattle.history_laws.proofs.Lifting.{Keeps, Knows}
 use Rattle.history_laws.proofs.Uncommitted.{TurnsBusy}
 use Rattle.history_laws.proofs.Versions.{Versions, committed, is_change, store_of, versions}
 
--- Whose call it is.
+-- The call of an entry.
 
 -- c is the call that is run, or ended
 abbrev pub IsOfCall : Setup → ℕ → Call → Doing → Type 0
@@ -22,7 +22,7 @@ IsOfCall s p c (Runs command number at) = c ≡ call s p command number
 IsOfCall s p c (Closes command number at) = c ≡ call s p command number
 IsOfCall s p c _ = Unit {0}
 
--- what a process does is of its last call
+-- the state of a process belongs to its last call
 pub of_call : (s : Setup) → IsGood s → (events : List Event) (p : ℕ) → IsOfCall s p (last_call s p (own p (past_of s events))) (doing s p (past_of s events))
 of_call s g events p = go (does_all s g events p)
   where
@@ -49,16 +49,16 @@ pub record Works (s : Setup) (past : Past) (e : Entry) (x : Access) (d d' : Doin
   pub was : doing s e.process past ≡ d
   pub is : doing s e.process (e ∷ past) ≡ d'
 
--- whose commit bits are being written or settled
+-- the processes whose commit bits are being written or settled
 abbrev pub busy : Setup → Past → ℕ → Bool
 busy s past q = is_busy (doing s q past)
 
 pub turns : (s : Setup) (past : Past) (e : Entry) (x : Access) (d d' : Doing) → Works s past e x d d' → TurnsBusy e.process d d' (busy s past) (busy s (e ∷ past))
 turns s past e x d d' w = record { others = λ q ne. ap is_busy (doing-other s q e past (λ h. ne (sym h))); was = ap is_busy w.was; is = ap is_busy w.is }
 
--- What it keeps.
+-- The data that an entry keeps.
 
--- what its process knows then, of these versions and this store
+-- the knowledge of its process then, about these versions and this store
 abbrev pub KnowsThen : Setup → Past → Entry → Versions → Contents → Doing → Type 0
 KnowsThen s past e v store d = KnowsData s (e ∷ past) e.process v store (wires s (e ∷ past) e.process) (λ o. touches s (e ∷ past) o e.process) d
 

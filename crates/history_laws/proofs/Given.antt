@@ -1,4 +1,4 @@
--- What a process does was given: what it calls is a command, and the number of its call has 16 bits.
+-- Each process's call was given: it is a command, and its number has 16 bits.
 use Rattle.std.proofs.Common.{◌≡◌, ℕ, suc, ◌^◌, ◌<◌, ◌==◌, ◌&&◌, Bool, true, false, cond, List, [], ◌∷◌, Option, Some, None, length, refl, sym, ap, subst, ◌∙◌, arith, eqb-true}
 use Rattle.std.proofs.lemmas.Bool.{and_parts, eqb-false}
 use Rattle.std.proofs.lemmas.Bool.Decides.{nat_tests}
@@ -42,7 +42,7 @@ not-full s past what e = go (nat_lt (process_of what) s.processes) (refused_at w
     go true None false h = refl
     go _ _ _ h = cc
 
--- so the next number has 16 bits
+-- the next number has 16 bits
 next-number : (b : Bool) (n : ℕ) → (b && nat_le 65535 n) ≡ false → cond b (suc n) 0 < 2 ^ 16
 next-number true n h = grind (arith, nat_tests)
 next-number false n h = omega arith
@@ -117,7 +117,7 @@ given_calls s g (what ∷ events) h p = go (given_calls s g events both.1) (entr
             subst (IsGivenCall s) (sym (own-own p e past (eqb-true e.process p i))) (subst (λ q. IsGivenCall s (e ∷ own q past)) mine (given-entry s g events what e h both.0 (before (process_of what))))
         at false i = subst (IsGivenCall s) (sym (own-other p e past (eqb-false e.process p i))) (before p)
 
--- and so was what it does
+-- the state of each process was given
 pub given_of : (s : Setup) → IsGood s → (events : List Event) → AreGiven s events → (p : ℕ) → p < s.processes → IsGivenTo (doing s p (past_of s events))
 given_of s g events are p below = go (does_all s g events p)
   where
@@ -134,6 +134,6 @@ given_of s g events are p below = go (does_all s g events p)
     go (leaving b i k) = subst IsGivenTo (sym k) (mine.command, mine.number)
     go (settling b i k) = subst IsGivenTo (sym k) (mine.command, mine.number)
 
--- what was given for one more event was given before it
+-- if the events with one more are given, so are the events before it
 pub given_before : (s : Setup) (what : Event) (events : List Event) → AreGiven s (what ∷ events) → AreGiven s events
 given_before s what events are = record { opening = are.opening; commands = (and_parts (is_event what) (list_all is_event events) are.commands).1 }

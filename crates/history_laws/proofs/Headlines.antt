@@ -50,7 +50,7 @@ history_is_one = record {
   order = keeps_order;
 }
 
--- What holds of the past of one event more holds of the past with the entry that it adds.
+-- A property of the past of one more event is a property of the past with the entry that it adds.
 with-entry : (s : Setup) (P : Past → Type 0) (events : List Event) (event : Event) (e : Entry) → entry_of s (past_of s events) event ≡ Some e → P (past_of s (event ∷ events)) → P (e ∷ past_of s events)
 with-entry s P events event e is = subst P (ap (λ o. elim o as (λ _. Past) [ None ↦ past_of s events | Some x ↦ x ∷ past_of s events ]) is)
 

@@ -1,4 +1,4 @@
--- What the history's commands are: each has the one-thread store's reply at its place, and the numbers of a process's commands ascend.
+-- The commands of the history: each has the sequential store's reply at its place, and the numbers of a process's commands ascend.
 use Rattle.std.proofs.Common.{◌≡◌, ◌≢◌, ◌⊎◌, ℕ, zero, suc, ◌<◌, ◌≤◌, ◌==◌, Bool, true, false, cond, List, [], ◌∷◌, ◌++◌, Option, Some, None, length, take, slice_get, refl, sym, ap, subst, ◌∙◌, arith, inl, inr, eqb-true, Ok, Contains}
 use Rattle.std.proofs.lemmas.List.{length-replicate}
 use Rattle.plain_store.specs.{Reply, Setup, callers_of, checked, opening_store, reply_to}
@@ -41,7 +41,7 @@ one_more P h t all here k u at = elim (at_end h t k u at) [
 no_commands : (P : List Taken → Taken → Type 0) → EachWithBefore P []
 no_commands P k t at = cc
 
--- What holds of each command where it is taken holds of each command of the history.
+-- A property of each command when it is taken is a property of each command of the history.
 pub each_taken : (s : Setup) (P : List Taken → Taken → Type 0) →
     ((events : List Event) (event : Event) (e : Entry) (r : Reply) → AreGiven s (event ∷ events) → entry_of s (past_of s events) event ≡ Some e → reply_taken e.marks ≡ Some r →
     P (history s (past_of s events)) (taken_at s (past_of s events) e r)) →
@@ -62,17 +62,17 @@ each_taken s P here (event ∷ events) given = go (entry_of s past event) refl (
 
 -- Replies.
 
--- the reply of the one-thread store after the commands before
+-- the reply of the sequential store after the commands before
 abbrev pub HasItsReply : Setup → List Taken → Taken → Type 0
 HasItsReply s before t = t.reply ≡ reply_to (store_after s before) t.command (record { process = t.process; number = t.number })
 
--- a reply that is taken stands in a mark
+-- a reply that is taken is in a mark
 taking_of : (ms : List Mark) (r : Reply) → reply_taken ms ≡ Some r → (k : ℕ) × Contains (takings ms) (k, r)
 taking_of [] r h = cc
 taking_of (mark.Taken k q ∷ ms) r h = let same : q ≡ r = cc in (k, (0, omega arith, ap (λ (x : Reply). (k, x)) same))
 taking_of (_ ∷ ms) r h = taking_of ms r h
 
--- Each command of the history has the one-thread store's reply at its place.
+-- Each command of the history has the sequential store's reply at its place.
 pub each_has_its_reply : TakenInHistory → (s : Setup) → checked s ≡ Ok tt → (events : List Event) → AreGiven s events → EachWithBefore (HasItsReply s) (history s (past_of s events))
 each_has_its_reply law s good = each_taken s (HasItsReply s) here
   where
@@ -86,7 +86,7 @@ each_has_its_reply law s good = each_taken s (HasItsReply s) here
 number-none : (s : Setup) (mine : Past) → (s.version == 1) ≡ true → call_number s mine ≡ 0
 number-none s mine h = ap (λ v. cond (v == 2) (calls_in mine) 0) (eqb-true s.version 1 h)
 
--- in version 2 it is how many calls there were
+-- in version 2 the number of a call is the number of calls so far
 number-counts : (s : Setup) (mine : Past) → s.version ≡ 2 → call_number s mine ≡ calls_in mine
 number-counts s mine h = ap (λ v. cond (v == 2) (calls_in mine) 0) h
 
@@ -120,7 +120,7 @@ append-none : {X : Type 0} (xs ys : List X) → xs ++ ys ≡ [] → (xs ≡ []) 
 append-none [] ys h = (refl, h)
 append-none (x ∷ xs) ys h = cc
 
--- with an entry of another process
+-- after an entry of another process
 counted-other : (s : Setup) (past : Past) (e : Entry) (p : ℕ) → e.process ≢ p → Counted (history s past) p (own p past) → Counted (history s (e ∷ past)) p (own p (e ∷ past))
 counted-other s past e p apart c = subst (Counted (history s (e ∷ past)) p) (sym (own-other p e past apart)) (go (reply_taken e.marks) refl)
   where
@@ -137,11 +137,11 @@ counted-other s past e p apart c = subst (Counted (history s (e ∷ past)) p) (s
       ];
     })
 
--- an entry that takes a command has a mark that says so
+-- an entry that takes a command has a mark for it
 no-taking : (ms : List Mark) (r : Reply) → reply_taken ms ≡ Some r → takings ms ≢ []
 no-taking ms r h none = let t = taking_of ms r h in let l = t.1.1 in let n : length (takings ms) ≡ 0 = ap length none in omega (arith, l, n)
 
--- with one of its own
+-- after an entry of the process itself
 counted-own : (s : Setup) → s.version ≡ 2 → (past : Past) (e : Entry) → SaysAfter s past e → Counted (history s past) e.process (own e.process past) → Counted (history s (e ∷ past)) e.process (own e.process (e ∷ past))
 counted-own s two past e told c = subst (Counted (history s (e ∷ past)) p) (sym (own-own p e past refl)) (go (reply_taken e.marks) refl told)
   where
@@ -190,7 +190,7 @@ counted s g two = own-induction s (λ past p. Counted (history s past) p (own p 
         Counted (history s (e ∷ past_of s events)) e.process (own e.process (e ∷ past_of s events))
     own_entry events event e is = counted-own s two (past_of s events) e (says s g events event e is)
 
--- whoever takes a command has taken none before in its call
+-- a process that takes a command has taken none before in its call
 first-of-call : (s : Setup) (past : Past) (e : Entry) (r : Reply) → reply_taken e.marks ≡ Some r → SaysAfter s past e → all_takings (since is_called (own e.process past)) ≡ []
 first-of-call s past e r h (begins command m k) = absurd (no-taking e.marks r h (ap takings m))
 first-of-call s past e r h (goes t) = go (all_takings (since is_called (own e.process past))) (takings e.marks) (doing-few (doing s e.process (e ∷ past)) _ t.took) (no-taking e.marks r h)
@@ -201,7 +201,7 @@ first-of-call s past e r h (goes t) = go (all_takings (since is_called (own e.pr
     go (x ∷ []) (y ∷ ys) few some = absurd (omega (arith, few))
     go (x ∷ z ∷ xs) ys few some = absurd (omega (arith, few))
 
--- those before by the same process have lower numbers
+-- earlier commands of the process have lower numbers
 abbrev IsAbove : List Taken → Taken → Type 0
 IsAbove before t = (j : ℕ) (u : Taken) → slice_get before j ≡ Some u → u.process ≡ t.process → u.number < t.number
 

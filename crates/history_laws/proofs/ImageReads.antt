@@ -1,4 +1,4 @@
--- Who has read the newest image has read that of the store after the history.
+-- A process that has read the newest image has read the image of the store after the history.
 use Rattle.std.proofs.Common.{◌≡◌, ℕ, ◌+◌, ◌<◌, ◌==◌, Bool, true, false, cond, List, [], ◌∷◌, ◌++◌, length, Some, refl, sym, ap, subst, ◌∙◌, eq-eqb}
 use Rattle.std.proofs.lemmas.Bool.{false≢true}
 use Rattle.record.specs.{Access, AsksCommit, AsksImage, AsksStamp, Call, Entry, Event, Field, Numbers, Part, Past, ReadSoFar, Reading, Version, Waits, access_at, bytes_of_bits, ends_read, entry_of, image_bytes, image_field, is_called, is_image, is_version, last_read, newest_process, own, past_of, read_at, read_so_far, since, stamp_field, value_of, valued, version_of, width, with_access}
@@ -26,7 +26,7 @@ use Rattle.history_laws.proofs.ReadEntries.{inside_quiet}
 use Rattle.history_laws.proofs.VersionReads.{EndsRead, ends_by}
 use Rattle.history_laws.proofs.Versions.{store_of, versions}
 
--- The bits of the image that a process has read, where it ends the last one of them.
+-- The bits of the image that a process has read when it ends the last one of them.
 pub image_bits_read : (s : Setup) → IsGood s → (events : List Event) (e : Entry) → let past : Past = past_of s events in let p : ℕ = e.process in p < s.processes → Data s past →
     (command : Command) (number : ℕ) (vs : List Version) (bits : List Bool) (flick : Bool) → let c : Call = call s p command number in
     doing s p past ≡ Runs command number (record { part = AsksImage vs; run = Reading bits true }) → e.access ≡ Some (valued s past flick (access_at c (AsksImage vs) (Reading bits true))) →
@@ -63,7 +63,7 @@ abbrev pub EndsAt : (s : Setup) (past : Past) (p : ℕ) (e : Entry) (a : Access)
 EndsAt s past p e a command number bits part =
     (st : Stepping s past p e command number (record { part = part; run = Reading bits true })) × (a ≡ valued s past st.flick (access_at (call s p command number) part (Reading bits true)))
 
--- where a process ends the read of an image, it reads the newest one
+-- if a process ends the read of an image, the image is the newest one
 pub record EndsImage (s : Setup) (past : Past) (p : ℕ) (e : Entry) (a : Access) : Type 0 where
   pub command : Command
   pub number : ℕ

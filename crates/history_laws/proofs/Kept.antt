@@ -1,4 +1,4 @@
--- The invariant of the data. Committed registers are whole at what the history says; what the one that is inside has read is what is there, and what it writes is not committed.
+-- The invariant of the data. Committed registers are whole and hold the history's values. The process inside has read what the registers hold, and writes only registers that are not committed.
 use Rattle.std.specs.Prelude.{◌≡◌, ◌⊎◌, ℕ, ◌+◌, ◌^◌, ◌<◌, ◌≤◌, Bool, true, false, not, List, [], ◌∷◌, ◌++◌, length, Option, None, Some}
 use Rattle.record.specs.reader_copies.Runs as copies
 use Rattle.record.specs.{AsksCommit, AsksImage, AsksStamp, Call, Clears, Closing, Field, Part, Past, Reading, Run, Settles, Version, WritesCommit, WritesImage, WritesStamp, Writing, before_image_read, count_changes, history, image_field, is_fresh, is_version, max_of, new_image, processes, reply, stamp_field, store_after, width}
@@ -75,14 +75,14 @@ HasImage s c v store m = IsWhole s.processes (m (image_field (not (v.commit c.pr
 abbrev pub HasStamp : Setup → Call → Versions → Wires → Type 0
 HasStamp s c v m = IsWhole s.processes (m (stamp_field (not (v.commit c.process)))) (stamp_bits_of s (v.count + 1))
 
--- where a call is refused for its stamp: the command would change the store that it read, and no further stamp fits
+-- if a call is refused for its stamp, the command would change the store that it read, and no further stamp fits
 abbrev pub IsStampsFull : Setup → Past → Call → Answer → Type 0
 IsStampsFull s past c answer.StampsFull =
     let read = history s (before_image_read c.process past) in
     (changes (store_after s read) c.command ≡ true) × (count_changes (opening_store s) read ≡ max_of s.stamp_bits)
 IsStampsFull s past c _ = Unit {0}
 
--- what p knows at a part of its call. m: its own registers; t: of each owner, which of its open reads are touched
+-- the knowledge of p at a part of its call. m: its own registers; t: for each owner, which of its open reads are touched
 abbrev pub KnowsAt : Setup → Past → Call → Versions → Contents → Wires → (ℕ → Touches) → Part → Run → Type 0
 KnowsAt s past c v store m t (AsksCommit k ks vs) run = HasRead s v k ks vs × ReadsClean run (v.commit k ∷ []) (t k Commit)
 KnowsAt s past c v store m t (AsksStamp k ks vs b) run = HasRead s v k ks vs × (b ≡ v.commit k) × ReadsClean run (stamp_bits_of s (v.stamp k)) (t k (stamp_field (v.commit k)))
@@ -111,7 +111,7 @@ pub record SettlesCommit (s : Setup) (c : Call) (v : Versions) (store : Contents
   pub open_copy : t.begun ≡ true → (x : Bool) → t.value ≡ Some x → (m Commit 0 t.reader).value ≡ x
   pub chosen : (t.reader ≡ 0) × (t.begun ≡ false) ⊎ ((x : Bool) × (t.value ≡ Some x))
 
--- what a unit settles of a process that was inside: a commit bit, or a register that isn't committed
+-- a unit settles, for a process that was inside, a commit bit or a register that is not committed
 abbrev pub KnowsSettling : Setup → Call → Versions → Contents → Wires → Field → ℕ → Bool → Option Reply → copies.Settling → Type 0
 KnowsSettling s c v store m Commit bit begun taken t = SettlesCommit s c v store bit begun taken t m
 KnowsSettling s c v store m f bit begun taken t = (taken ≡ None) × ((f ≡ image_field (not (v.commit c.process))) ⊎ (f ≡ stamp_field (not (v.commit c.process))))
@@ -126,7 +126,7 @@ KnowsData s past p v store m t (Runs command number at) = KnowsAt s past (call s
 KnowsData s past p v store m t (Closes command number at) = KnowsClosing s (call s p command number) v store m at
 KnowsData s past p v store m t _ = Unit {0}
 
--- what every past of a record keeps of the data
+-- every past of a record keeps this of the data
 pub record Data (s : Setup) (past : Past) : Type 0 where
   pub given : (p : ℕ) → p < s.processes → IsGivenTo (doing s p past)
   pub kept : Kept s (versions s past) (store_of s past) (λ q. is_busy (doing s q past)) (wires s past)

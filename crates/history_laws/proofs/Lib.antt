@@ -1,4 +1,4 @@
--- What calls take, and in which order
+-- The commands that calls take, and their order
 pub mod Told
 pub mod Took
 pub mod PartMarks
@@ -17,7 +17,7 @@ pub mod Codec
 pub mod Sounding
 pub mod Opening
 pub mod Lifting
--- It is kept by steps that read
+-- Steps that read keep the invariant
 pub mod CleanReads
 pub mod DataReads
 pub mod DataReadSteps
@@ -31,12 +31,12 @@ pub mod WriteSteps
 pub mod VersionSettles
 pub mod SettleSteps
 pub mod Cutting
--- and by all others
+-- All other steps keep it
 pub mod Outside
 pub mod Entering
 pub mod EntrySteps
 pub mod DataAlways
--- What the invariant tells
+-- Consequences of the invariant
 pub mod OpenVersions
 pub mod VersionReads
 pub mod NewestHeld

@@ -1,4 +1,4 @@
--- One process moves. What its step keeps of the registers and of its own knowledge is kept for all: while it is inside the others know nothing of the versions, and else it leaves the versions as they are.
+-- One process moves. If its step keeps the registers and its own knowledge, all processes keep theirs: while it is inside, the others know nothing of the versions; otherwise its step does not change the versions.
 use Rattle.std.proofs.Common.{◌≡◌, ◌≢◌, ◌⊎◌, ℕ, ◌+◌, ◌<◌, ◌==◌, ◌&&◌, Bool, true, false, not, [], ◌∷◌, Option, Some, None, refl, sym, ap, subst, ◌∙◌, true≢false, inl, inr}
 use Rattle.std.proofs.lemmas.Bool.{cases_eq, ne_eqb}
 use Rattle.record.specs.reader_copies.Runs as copies
@@ -30,14 +30,14 @@ pub record Untouched (s : Setup) (past : Past) (e : Entry) : Type 0 where
   pub wires : (o : ℕ) (f : Field) → is_version f ≡ true → wires s (e ∷ past) o f ≡ wires s past o f
   pub touches : (o r : ℕ) (f : Field) → is_version f ≡ true → touches s (e ∷ past) o r f ≡ touches s past o r f
 
--- registers, and marks of overlap, that are the same where versions are concerned
+-- registers, and marks of overlap, that are equal for versions
 pub record SameVersions (m m' : Wires) (t t' : ℕ → Touches) : Type 0 where
   pub wires : (f : Field) → is_version f ≡ true → m' f ≡ m f
   pub touches : (o : ℕ) (f : Field) → is_version f ≡ true → t' o f ≡ t o f
 
--- What is known stays known.
+-- Knowledge stays true.
 
--- of an answer: its process ends no read of an image meanwhile
+-- the knowledge of an answer: its process ends no read of an image meanwhile
 pub full-kept : (s : Setup) (past past' : Past) (c : Call) (a : Answer) → before_image_read c.process past' ≡ before_image_read c.process past → IsStampsFull s past c a → IsStampsFull s past' c a
 full-kept s past past' c answer.StampsFull same h =
     subst (λ (y : Past). (changes (store_after s (history s y)) c.command ≡ true) × (count_changes (opening_store s) (history s y) ≡ max_of s.stamp_bits)) (sym same) h
@@ -53,7 +53,7 @@ stamp-kept s c v m m' t t' same h =
     let b : Bool = not (v.commit c.process) in
     subst (λ row. IsWhole s.processes row (stamp_bits_of s (v.count + 1))) (sym (same.wires (stamp_field b) (version-stamp b))) h
 
--- at a part, while the versions are the same
+-- the knowledge at a part, while the versions do not change
 part-kept : (s : Setup) (past past' : Past) (c : Call) (v : Versions) (store : Contents) (m m' : Wires) (t t' : ℕ → Touches) (x : Part) (run : Run) → SameVersions m m' t t' →
     before_image_read c.process past' ≡ before_image_read c.process past → KnowsAt s past c v store m t x run → KnowsAt s past' c v store m' t' x run
 part-kept s past past' c v store m m' t t' (AsksCommit k ks vs) run same read h = (h.0, subst (ReadsClean run (v.commit k ∷ [])) (sym (same.touches k Commit refl)) h.1)
@@ -97,7 +97,7 @@ closing-kept s c v store m m' t t' (Settles Image0 bit begun taken true x) same 
 closing-kept s c v store m m' t t' (Settles Image1 bit begun taken true x) same h = h
 closing-kept s c v store m m' t t' _ same h = tt
 
--- whatever is done, while the versions are the same
+-- any knowledge, while the versions do not change
 pub known-kept : (s : Setup) (past past' : Past) (p : ℕ) (v : Versions) (store : Contents) (m m' : Wires) (t t' : ℕ → Touches) (d : Doing) → SameVersions m m' t t' →
     before_image_read p past' ≡ before_image_read p past → KnowsData s past p v store m t d → KnowsData s past' p v store m' t' d
 known-kept s past past' p v store m m' t t' Rests same read h = tt
@@ -105,12 +105,12 @@ known-kept s past past' p v store m m' t t' Lies same read h = tt
 known-kept s past past' p v store m m' t t' (Runs command number at) same read h = part-kept s past past' (call s p command number) v store m m' t t' at.part at.run same read h
 known-kept s past past' p v store m m' t t' (Closes command number at) same read h = closing-kept s (call s p command number) v store m m' t t' at same h
 
--- who isn't inside at a part now isn't so once more of it is made
+-- a process that is not inside at a part now is not inside after more of the part
 pub still-outside : (x : Part) (fresh : Bool) → is_inside_at x fresh ≡ false → is_inside_at x false ≡ false
 still-outside (Clears a) fresh h = refl
 still-outside _ fresh h = h
 
--- who isn't inside knows nothing of the versions
+-- a process that is not inside knows nothing of the versions
 pub outside-part : (s : Setup) (past past' : Past) (c : Call) (v v' : Versions) (store store' : Contents) (m m' : Wires) (t t' : ℕ → Touches) (x : Part) (run run' : Run) → is_inside_at x false ≡ false →
     before_image_read c.process past' ≡ before_image_read c.process past → KnowsAt s past c v store m t x run → KnowsAt s past' c v' store' m' t' x run'
 outside-part s past past' c v v' store store' m m' t t' (AsksCommit k ks vs) run run' out read h = absurd (true≢false out)
@@ -137,13 +137,13 @@ outside-kept s past past' p v v' store store' m m' t t' (Closes command number a
     go (Settles f bit begun taken true x) out h = absurd (true≢false out)
     go _ out h = tt
 
--- Of an entry.
+-- The knowledge after an entry.
 
--- what q knows after a past, whatever it does
+-- the knowledge of q after a past, for any state of q
 abbrev pub Knows : Setup → Past → ℕ → Doing → Type 0
 Knows s past q d = KnowsData s past q (versions s past) (store_of s past) (wires s past q) (λ o. touches s past o q) d
 
--- an entry that ends no read of q's leaves its last read of an image where it was
+-- an entry that ends no read of q does not change its last read of an image
 pub read-kept : (q : ℕ) (e : Entry) (past : Past) (b : Bool) → (e.process == q) ≡ b → (b && elim e.access [ None ↦ false | Some a ↦ is_image a.field && ends_read a.how ]) ≡ false →
     before_image_read q (e ∷ past) ≡ before_image_read q past
 read-kept q e past b is none =
@@ -161,7 +161,7 @@ untouched-known s past e q d u read h =
     (subst (λ store. KnowsData s (e ∷ past) q (versions s past) store m' t' d) (sym u.store)
     (known-kept s past (e ∷ past) q (versions s past) (store_of s past) (wires s past q) m' (λ o. touches s past o q) t' d (record { wires = λ f i. u.wires q f i; touches = λ o f i. u.touches o q f i }) read h))
 
--- and no entry takes anything from who isn't inside
+-- no entry changes the knowledge of a process that is not inside
 outside-known : (s : Setup) (past : Past) (e : Entry) (q : ℕ) (d : Doing) → is_inside d ≡ false → before_image_read q (e ∷ past) ≡ before_image_read q past → Knows s past q d → Knows s (e ∷ past) q d
 outside-known s past e q d out read h =
     outside-kept s past (e ∷ past) q (versions s past) (versions s (e ∷ past)) (store_of s past) (store_of s (e ∷ past)) (wires s past q) (wires s (e ∷ past) q) (λ o. touches s past o q) (λ o. touches s (e ∷ past) o q) d out read h
@@ -201,7 +201,7 @@ untouched-kept s past e u idle h =
       | inr ne ↦ ap is_busy (sym (doing-other s q e past (λ h. ne (sym h)))) ∙ free
     ]
 
--- what a step of the process of e has to keep: the registers, and its own knowledge
+-- a step of the process of e has to keep the registers and its own knowledge
 pub record Keeps (s : Setup) (past : Past) (e : Entry) : Type 0 where
   pub kept : KeptBy s (e ∷ past)
   pub knows : Knows s (e ∷ past) e.process (doing s e.process (e ∷ past))
@@ -214,7 +214,7 @@ lifts s past e inv below how given known keeps = record { given = given; kept = 
     p : ℕ
     p = e.process
 
-    -- what another one does is known after the entry
+    -- the knowledge of another process holds after the entry
     other : (q : ℕ) → q < s.processes → q ≢ p → Knows s (e ∷ past) q (doing s q past)
     other q qb ne = elim how [
       | inr u ↦ untouched-known s past e q (doing s q past) u (read-others q e past (λ h. ne (sym h))) (known.knows q qb)

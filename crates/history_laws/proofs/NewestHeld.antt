@@ -1,4 +1,4 @@
--- While nobody is inside, the copies of reader 0 are the committed versions and the image of the store after the history.
+-- While no process is inside, the copies of reader 0 are the committed versions and the image of the store after the history.
 use Rattle.std.proofs.Common.{◌≡◌, ℕ, zero, suc, ◌+◌, ◌^◌, ◌<◌, Bool, false, List, [], ◌∷◌, length, map, slice_index_or, refl, sym, ap, ◌∙◌, arith}
 use Rattle.std.specs.List.{range_with_len}
 use Rattle.std.proofs.lemmas.List.{ext_get_or}
@@ -23,7 +23,7 @@ use Rattle.history_laws.proofs.Outside.{idle-free, outside-idle}
 use Rattle.history_laws.proofs.VersionReads.{nobody}
 use Rattle.history_laws.proofs.Versions.{Versions, store_of, version, versions, versions_of}
 
--- while nobody is inside, nobody writes or settles a commit bit
+-- while no process is inside, no process writes or settles a commit bit
 pub idle_outside : (s : Setup) → IsGood s → (events : List Event) (p : ℕ) → inside p (past_of s events) ≡ false → is_busy (doing s p (past_of s events)) ≡ false
 idle_outside s g events p out =
     let d : Doing = doing s p (past_of s events) in
@@ -31,7 +31,7 @@ idle_outside s g events p out =
 
 -- The bits that the copies of reader 0 hold.
 
--- of a register that is whole, these are its bits
+-- if a register is whole, these are its bits
 pub held_whole : (s : Setup) (past : Past) (q : ℕ) (f : Field) (bits : List Bool) → 0 < s.processes → length bits ≡ width s f → IsWhole s.processes (wires s past q f) bits → bits_held s past q f 0 ≡ bits
 held_whole s past q f bits some wide whole =
     ext_get_or false (bits_held s past q f 0) bits (long ∙ sym wide) λ k below.
@@ -63,18 +63,18 @@ version_is_held s past busy q kept some below idle = λ i. (commit i, (ap (λ b.
         ap number_of_bits (held_whole s past q (stamp_field (v.commit q)) (stamp_bits_of s (v.stamp q)) some (length-bits_of_number s.stamp_bits (v.stamp q) ∙ sym (stamp_width s (v.commit q))) (kept.stamps q below))
         ∙ number-bits s.stamp_bits (v.stamp q) fits
 
--- what gives the same below, gives the same list
+-- functions that are equal below a bound give equal lists
 same_below : (f g : ℕ → Version) (from n : ℕ) → ((q : ℕ) → q < from + n → f q ≡ g q) → map f (range_with_len from n) ≡ map g (range_with_len from n)
 same_below f g from zero h = refl
 same_below f g from (suc n) h = λ i. h from (omega arith) i ∷ same_below f g (from + 1) n (λ q below. h q (omega (arith, below))) i
 
--- where nobody writes or settles a commit bit, the registers hold the versions of the history
+-- while no process writes or settles a commit bit, the registers hold the versions of the history
 pub all_held : (s : Setup) (past : Past) (busy : ℕ → Bool) → Kept s (versions s past) (store_of s past) busy (wires s past) → ((q : ℕ) → q < s.processes → busy q ≡ false) → versions_held s past ≡ versions_of (versions s past) (processes s)
 all_held s past busy kept idle =
     let some : 0 < s.processes = (let below = kept.newest in omega (arith, below)) in
     same_below (version_held s past) (version (versions s past)) 0 s.processes λ q below. let small : q < s.processes = omega (arith, below) in version_is_held s past busy q kept some small (idle q small)
 
--- Where nobody writes or settles a commit bit, the newest bytes are the image of the store after the history.
+-- While no process writes or settles a commit bit, the newest bytes are the image of the store after the history.
 pub newest_held : (s : Setup) (past : Past) (busy : ℕ → Bool) → Kept s (versions s past) (store_of s past) busy (wires s past) → ((q : ℕ) → q < s.processes → busy q ≡ false) → newest_bytes s past ≡ image_of (store_of s past)
 newest_held s past busy kept idle =
     (λ i. bytes_of_bits (image_bytes s) (bits_held s past (owner i) (image_field (version_of (all i) (owner i))) 0))
@@ -103,7 +103,7 @@ newest_held s past busy kept idle =
     wide : length (image_bits s store) ≡ width s f
     wide = image_wide s store (v.commit v.newest)
 
--- While nobody is inside, the registers hold the image of the store after the history.
+-- While no process is inside, the registers hold the image of the store after the history.
 pub newest_is_the_historys : (s : Setup) → IsGood s → (events : List Event) → Data s (past_of s events) → is_somebody_inside s (past_of s events) ≡ false → newest_bytes s (past_of s events) ≡ image_of (store_of s (past_of s events))
 newest_is_the_historys s g events known none =
     let past : Past = past_of s events in

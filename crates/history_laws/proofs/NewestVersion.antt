@@ -1,4 +1,4 @@
--- Of the versions that were committed, the newest is the one that the history has: the greatest stamp is the number of changes, and its lowest process is the newest one.
+-- The newest committed version is the history's: the greatest stamp is the number of changes, and the lowest process with it is the history's newest one.
 use Rattle.std.proofs.Common.{◌≡◌, ℕ, zero, suc, ◌+◌, ◌<◌, ◌≤◌, ◌==◌, max, Bool, true, false, cond, List, [], ◌∷◌, map, fold, get_or, refl, ap, ◌∙◌, arith, eq-eqb, eqb-true, ne_eqb}
 use Rattle.std.proofs.lemmas.Bool.{eqb-false}
 use Rattle.std.proofs.lemmas.List.FromFn.{get_or-map-range_with_len}

@@ -1,4 +1,4 @@
--- Where a write of a version's bit is open, the bit's owner or its memory unit is making it, inside.
+-- If a write of a version's bit is open, the bit's owner or its memory unit is making it, inside.
 use Rattle.std.proofs.Common.{◌≡◌, ℕ, ◌==◌, ◌&&◌, ◌%◌, Bool, true, false, List, [], ◌∷◌, Some, refl, sym, ap, subst, ◌∙◌, true≢false}
 use Rattle.std.proofs.lemmas.Bool.{and_parts, false≢true}
 use Rattle.record.specs.{Access, Call, Event, Field, Part, Past, Place, Reading, Run, Stage, Writing, access_of, bit_written, call_number, field_number, is_fresh, is_running, is_version, last_command, next_written, open_closing, open_copy, open_run, open_settled, open_written, own, past_of, same_bit, stage, written_at}
@@ -31,7 +31,7 @@ is_reading Lies = false
 is_reading (Runs command number at) = is_reading_run at.run
 is_reading (Closes command number at) = false
 
--- who does this is inside, and reads nothing
+-- a process that does this is inside, and reads nothing
 pub record WritesInside (d : Doing) : Type 0 where
   pub inside : is_inside d ≡ true
   pub writes : is_reading d ≡ false
@@ -63,7 +63,7 @@ closing_writes c command number (Lowers w) a x v h = absurd (true≢false (sym v
 closing_writes c command number Quit a x v h = absurd (false≢true h)
 closing_writes c command number Ended a x v h = absurd (false≢true h)
 
--- Where a process's own entries leave a copy of a version open, it writes inside.
+-- If a process's own entries leave a copy of a version open, it writes inside.
 opens_writes : (s : Setup) (p : ℕ) (mine : Past) (st : Stage) (d : Doing) (a : Access) → Opens s p mine st → Does s p mine st d → ClosesInside d → is_version a.field ≡ true → opened mine a ≡ true → WritesInside d
 opens_writes s p mine st d a (closed i none t) does x v h = absurd (true≢false (sym h ∙ none a))
 opens_writes s p mine st d a (runs_at command b r same t) does x v h = go does
@@ -96,7 +96,7 @@ opens_writes s p mine st d a (settles b i same r t) does x v h = go does
     go (settling b' j k) =
         subst WritesInside (sym k) (closing_writes (call s p (last_command mine) (call_number s mine)) (last_command mine) (call_number s mine) (failing_at s p mine) a (subst ClosesInside k x) v (sym (same a) ∙ h))
 
--- Where a write of a version's bit is open, its owner writes inside.
+-- If a write of a version's bit is open, its owner writes inside.
 pub open_inside : (s : Setup) → IsGood s → (events : List Event) (a : Access) → is_version a.field ≡ true → opened (past_of s events) a ≡ true → WritesInside (doing s a.owner (past_of s events))
 open_inside s g events a v h =
     let past : Past = past_of s events in

@@ -21,7 +21,7 @@ zeros : (n : ℕ) → list_all is_number (replicate n 0) ≡ true
 zeros zero = refl
 zeros (suc n) = zeros n
 
--- in version 1 there are none, in version 2 at most 16
+-- version 1 has no callers, and version 2 at most 16
 callers-fit : (s : Setup) → checked s ≡ Ok tt → callers_of s ≤ 16
 callers-fit s good = by (s.version == 1) (good-checked s good).processes
   where

@@ -1,4 +1,4 @@
--- What calls take: at most one command each, with the places in the order of their spans.
+-- A call takes at most one command, and the places are in the order of the calls' spans.
 use Rattle.std.proofs.Common.{◌≡◌, ℕ, zero, suc, ◌<◌, ◌≤◌, ◌+◌, Bool, true, false, List, [], ◌∷◌, ◌++◌, Some, length, map, refl, sym, ap, subst, ◌∙◌, arith, append_assoc, append-nil, length-append, Contains}
 use Rattle.std.specs.List.{list_any}
 use Rattle.std.proofs.lemmas.Bool.{or_right}
@@ -33,7 +33,7 @@ cut_is_not_answered s g events event e is a h = go (says s g events event e is)
     go (begins command m k) = absurd (answer-at (λ _. ⊥) e.marks a (subst (EachAnswer (λ _. ⊥)) (sym m) tt) h)
     go (goes t) = (told s g events e.process).uncut (answer-at (Answers s past e) e.marks a t.answers h).1
 
--- a call that is answered has taken what its answer tells
+-- a call that is answered has taken what its answer states
 pub answers_tell : (s : Setup) → IsGood s → (events : List Event) (event : Event) (e : Entry) → entry_of s (past_of s events) event ≡ Some e → (a : Answer) → Contains e.marks (Answered a) →
     IsAnswerTo a (all_takings (since is_called (own e.process (e ∷ past_of s events))))
 answers_tell s g events event e is a h = go (says s g events event e is)
@@ -46,7 +46,7 @@ answers_tell s g events event e is a h = go (says s g events event e is)
     go (goes t) = subst (λ (call : Past). IsAnswerTo a (all_takings call)) (sym (ap (since is_called) (own-own e.process e past refl) ∙ since-uncalled e (own e.process past) t.uncalled))
         (answer-at (Answers s past e) e.marks a t.answers h).0
 
--- What a call takes.
+-- The commands of a call.
 
 -- At most one command.
 pub once : (s : Setup) → IsGood s → (later : Past) (events : List Event) (x : Entry) (earlier : Past) → past_of s events ≡ later ++ x ∷ earlier → has is_called x ≡ true → length (takings_of_call x.process later) < 2
@@ -66,7 +66,7 @@ once s g (e ∷ later) events x earlier h c = go (once s g later o.events x earl
         let call : since is_called (own p (past_of s events)) ≡ own p (e ∷ later) = ap (λ (past : Past). since is_called (own p past)) h ∙ since-whole (e ∷ later) x earlier c none in
         subst (λ (call : Past). length (all_takings call) < 2) (call ∙ sym (whole (own p (e ∷ later)) none)) (doing-few (doing s p (past_of s events)) (all_takings (since is_called (own p (past_of s events)))) t.took)
 
--- What is known of an entry, and of the past that it was added to.
+-- The knowledge of an entry, and of the past that it was added to.
 record Added (s : Setup) (rest : Past) (e : Entry) : Type 0 where
   pub told_of : (p : ℕ) → ToldOf s rest p
   pub says_after : SaysAfter s rest e
@@ -98,7 +98,7 @@ in-append A [] ys x h left right = right h
 in-append A (y ∷ xs) ys x (zero, l, e) left right = left (0, omega arith, e)
 in-append A (y ∷ xs) ys x (suc k, l, e) left right = in-append A xs ys x (k, omega (arith, l), e) (λ h. left (suc h.0, (let m = h.1 in omega (arith, m)), h.2)) right
 
--- What a call takes has its place between the lengths of the history before and after its entries.
+-- A command of a call has its place between the lengths of the history before and after the call's entries.
 within : (s : Setup) → IsGood s → (later : Past) (events : List Event) (base : Past) (p k : ℕ) (r : Reply) → past_of s events ≡ later ++ base → Contains (takings_of_call p later) (k, r) →
     (length (history s base) ≤ k) × (k < length (history s (later ++ base)))
 within s g [] events base p k r h (i, l, e) = absurd (omega (arith, l))
@@ -183,7 +183,7 @@ stands s g (e ∷ newer) events between x earlier h c ended = go (stands s g new
         nothing : takings e.marks ≡ []
         nothing = quiet a.says_after
 
--- Of two calls that took a command and do not overlap the earlier one has the lower place.
+-- If two calls took a command and do not overlap, the earlier one has the lower place.
 pub in_order : (s : Setup) → IsGood s → (events : List Event) (newer between earlier : Past) (x y : Entry) → past_of s events ≡ newer ++ y ∷ between ++ x ∷ earlier →
     has is_called x ≡ true → has_ended x.process between ≡ true → (k m : ℕ) (q r : Reply) →
     Contains (takings_of_call x.process (newer ++ y ∷ between)) (k, q) → Contains (takings_of_call y.process newer) (m, r) → k < m

@@ -1,4 +1,4 @@
--- Who doesn't work on the versions, inside or outside, takes nothing and touches no register of a version: its step leaves them as they are.
+-- A process that does not work on the versions, inside or outside, takes nothing and touches no register of a version. Its step does not change the versions.
 use Rattle.std.proofs.Common.{◌≡◌, ◌≢◌, ℕ, ◌==◌, ◌&&◌, Bool, true, false, cond, List, [], ◌∷◌, ◌++◌, length, map, Option, Some, None, refl, sym, ap, subst, ◌∙◌, true≢false}
 use Rattle.std.proofs.lemmas.Bool.{false≢true}
 use Rattle.record.specs.reader_copies.Runs as copies
@@ -30,14 +30,14 @@ abbrev pub is_settling_inside : Closing → Bool
 is_settling_inside (Settles f bit begun taken is t) = is
 is_settling_inside _ = false
 
--- it reads or writes versions, or its unit settles a bit of them
+-- the process reads or writes versions, or its unit settles a bit of them
 abbrev pub is_working : Doing → Bool
 is_working Rests = false
 is_working Lies = false
 is_working (Runs command number at) = is_inside_at at.part false
 is_working (Closes command number at) = is_settling_inside at
 
--- who isn't inside doesn't
+-- a closing that is not inside does not settle inside
 closing-idle : (at : Closing) → is_inside_closing at ≡ false → is_settling_inside at ≡ false
 closing-idle (Settles f bit begun taken is t) h = h
 closing-idle _ h = refl
@@ -74,7 +74,7 @@ idle-free (Closes command number at) h c = go at h c
     go (Settles f bit begun taken false t) h c = version-commit f (settled-outside f taken c).0
     go _ h c = refl
 
--- It takes nothing.
+-- The process takes nothing.
 
 pub placed-none : (n : ℕ) (ms : List Mark) → reply_taken ms ≡ None → reply_taken (map (placed n) ms) ≡ None
 placed-none n [] h = refl
@@ -140,13 +140,13 @@ takes-none s past p e d d' (a_step command number at a flick i o is made m k) h 
 takes-none s past p e d d' (a_closing command number at flick n i next is v m k) h c =
     ap reply_taken m ∙ placed-none (length (history s past)) n.marks (closing-none (call s p command number) at flick n next (ap is_working (sym i) ∙ h) (subst ClosesInside i c))
 
--- It touches no register of a version.
+-- The process touches no register of a version.
 
 -- the access of an entry, if it makes one, is to no register of a version
 abbrev pub IsApart : Entry → Type 0
 IsApart e = (a : Access) → e.access ≡ Some a → is_version a.field ≡ false
 
--- who is inside, and works on no version, clears its ticket
+-- a process that is inside, and works on no version, clears its ticket
 part-apart : (c : Call) (x : Part) (run : Run) → is_inside_at x false ≡ false → is_inside_at x (is_fresh run) ≡ true → is_version (access_at c x run).field ≡ false
 part-apart c (Clears a) (Writing w) idle is = refl
 part-apart c (Clears a) (Reading bits begun) idle is = refl
@@ -211,7 +211,7 @@ apart-read p e past apart = read-kept p e past (e.process == p) refl (go e.acces
     go None h = and_false (e.process == p)
     go (Some a) h = ap (λ b. (e.process == p) && (b && ends_read a.how)) (image-version a.field (apart a h)) ∙ and_false (e.process == p)
 
--- So it leaves the versions as they are.
+-- The process leaves the versions as they are.
 pub untouched : (s : Setup) (past : Past) (e : Entry) → reply_taken e.marks ≡ None → IsApart e → Untouched s past e
 untouched s past e none apart = record {
   versions = versions-none s past e none;

@@ -1,4 +1,4 @@
--- What the marks of a step of a call tell, by its part.
+-- The marks of a step of a call, by its part.
 use Rattle.std.proofs.Common.{◌≡◌, ℕ, ◌+◌, ◌==◌, ◌<◌, Bool, true, false, cond, List, [], ◌∷◌, ◌++◌, length, map, refl, sym, ap, subst, ◌∙◌, arith, append-nil}
 use Rattle.std.specs.List.{list_any}
 use Rattle.plain_store.specs.declared.Answer.TheVariants as answer
@@ -9,7 +9,7 @@ use Rattle.record.specs.Parts.{Part, Raises, Asks, TakesTicket, Lowers, Refuses,
 use Rattle.laws.specs.{Runs, Rests, runs}
 use Rattle.history_laws.proofs.Took.{TookAt, EachAnswer, Gives, Tells, Silent, unmarked, no_answer, kept, few, part-few}
 
--- what the marks tell with which a call goes on to a part
+-- the marks with which a call moves to a part
 record PartTells (taken : List (ℕ × Reply)) (ms : List Mark) (to : Part) : Type 0 where
   pub one : length (takings ms) < 2
   pub answers : EachAnswer (Gives true (taken ++ takings ms)) ms
@@ -32,7 +32,7 @@ silent-part taken ms to s h = record {
 early : (taken : List (ℕ × Reply)) (ms : List Mark) (to : Part) → taken ≡ [] → Silent ms → TookAt to [] → PartTells taken ms to
 early taken ms to none s h = silent-part taken ms to s (subst (TookAt to) (sym none) h)
 
--- The parts to which a call goes on with nothing taken.
+-- The parts to which a call moves without a taken command.
 
 to-c : (c : Call) (ts : List ℕ) → TookAt (to_c c ts) []
 to-c c ts = go (greatest ts == max_of c.setup.ticket_bits)
@@ -78,7 +78,7 @@ unmarked-first X false ms h = h
 
 -- The last access of a part.
 
--- the command is taken, and the call goes on to its last part
+-- the command is taken, and the call moves to its last part
 takes : (taken : List (ℕ × Reply)) (n : ℕ) (r : Reply) → taken ≡ [] → PartTells taken (Taken n r ∷ []) (Clears (answer.Reply r))
 takes taken n r h = record { one = omega arith; answers = tt; uncalled = refl; unfailed = refl; took = (n, ap (λ l. l ++ (n, r) ∷ []) h); unended = λ o. refl }
 
@@ -143,7 +143,7 @@ place-tells c at v n taken o h = go (is_last c at.part at.run)
     go true = last-tells c at.part bits n (is_fresh at.run) taken o h
     go false = silent-part taken _ at.part (first-silent n at.part (is_fresh at.run)) h
 
--- What the marks of a step tell.
+-- The marks of a step.
 pub step-tells : (c : Call) (command : Command) (number : ℕ) (at : Place) (v : Bool) (n : ℕ) (taken : List (ℕ × Reply)) → is_over at.part ≡ false → TookAt at.part taken →
     Tells taken (Runs command number at) (runs command number (place_after c at v)) (map (placed n) (marks_of c at v))
 step-tells c command number at v n taken o h = go (is_over to.part) refl

@@ -26,9 +26,9 @@ use Rattle.history_laws.proofs.Lifting.{Keeps}
 use Rattle.history_laws.proofs.Outside.{append-none, either-none, idle-free, outside-idle, placed-none}
 use Rattle.history_laws.proofs.Versions.{Versions, is_change, store_of, versions}
 
--- Of any entry.
+-- Facts about any entry.
 
--- where nobody else is inside, and p writes no commit bit, nobody does
+-- if no other process is inside, and p writes no commit bit, no process writes one
 pub inside_quiet : (s : Setup) → IsGood s → (events : List Event) (p : ℕ) → let past : Past = past_of s events in p < s.processes → is_inside (doing s p past) ≡ true → is_busy (doing s p past) ≡ false → Data s past →
     Quiet s past p (λ q. is_busy (doing s q past))
 inside_quiet s g events p below inside idle known = record {
@@ -112,7 +112,7 @@ writes_not : (s : Setup) (past : Past) (flick : Bool) (c : Call) (part : Part) (
 writes_not s past flick c part read true = refl
 writes_not s past flick c part read false = refl
 
--- who reads versions is inside, and writes no commit bit
+-- a process that reads versions is inside, and writes no commit bit
 reads_inside : (part : Part) (fresh : Bool) → is_data_read part ≡ true → (is_inside_at part fresh ≡ true) × (is_committing part fresh ≡ false) × (is_read part ≡ true)
 reads_inside (AsksCommit k ks vs) fresh is = (refl, refl, refl)
 reads_inside (AsksStamp k ks vs b) fresh is = (refl, refl, refl)

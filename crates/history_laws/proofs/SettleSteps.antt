@@ -1,4 +1,4 @@
--- A step of a memory unit that settles a bit of a process that was inside: of a register that isn't committed, or of a commit bit, with whose last access the command is taken, if it is settled at the new value.
+-- A memory unit settles a bit of a process that was inside. The bit is in a register that is not committed, or is a commit bit, whose last access takes the command if it settles at the new value.
 use Rattle.std.proofs.Common.{◌≡◌, ℕ, Bool, true, false, cond, not, List, [], ◌∷◌, length, map, Option, None, Some, refl, sym, ap, subst, ◌∙◌}
 use Rattle.std.proofs.lemmas.Bool.{false≢true}
 use Rattle.record.specs.reader_copies.Runs as copies
@@ -24,7 +24,7 @@ use Rattle.history_laws.proofs.Uncommitted.{TurnsBusy, WritesOne}
 use Rattle.history_laws.proofs.VersionSettles.{commit_settled_new, commit_settled_old, commit_settles_on, is_new, register_known, register_settles, register_settles_on, settled_wire, settles_copy}
 use Rattle.history_laws.proofs.Versions.{Versions, store_of, versions}
 
--- What it takes.
+-- The command that it takes.
 
 -- the reply that the settling of a bit at x takes
 abbrev settled_reply : (begun : Bool) → Option Reply → (x : Bool) → Option Reply
@@ -55,7 +55,7 @@ settling f b begun taken t = Settles f b begun taken true t
 abbrev settle_access : Setup → Past → ℕ → Field → ℕ → copies.Settling → Bool → Access
 settle_access s past p f b t flick = valued s past flick (access_of p f (b, copies.next_settle t (copies.settled_at t flick)))
 
--- what comes after it
+-- the closing after it
 abbrev settles_to : Setup → ℕ → Command → ℕ → Field → ℕ → Bool → Option Reply → copies.Settling → Bool → Closing
 settles_to s p command number f b begun taken t flick = closing_after (call s p command number) (settling f b begun taken t) flick
 
@@ -66,13 +66,13 @@ record AtSettling (s : Setup) (past : Past) (e : Entry) (command : Command) (num
   of : last_call s e.process (own e.process past) ≡ call s e.process command number
   data_is : Data s past
 
--- what was known of it
+-- its knowledge before
 knew : (s : Setup) (past : Past) (e : Entry) (command : Command) (number : ℕ) (f : Field) (b : ℕ) (begun : Bool) (taken : Option Reply) (t : copies.Settling) (flick : Bool) → AtSettling s past e command number f b begun taken t flick →
     KnowsSettling s (call s e.process command number) (versions s past) (store_of s past) (wires s past e.process) f b begun taken t
 knew s past e command number f b begun taken t flick h =
     subst (KnowsData s past e.process (versions s past) (store_of s past) (wires s past e.process) (λ o. touches s past o e.process)) h.works.was (h.data_is.knows e.process h.works.below)
 
--- it writes the field alone
+-- the step writes the field alone
 one : (s : Setup) (past : Past) (e : Entry) (command : Command) (number : ℕ) (f : Field) (b : ℕ) (begun : Bool) (taken : Option Reply) (t : copies.Settling) (flick : Bool) → AtSettling s past e command number f b begun taken t flick →
     WritesOne e.process f (wires s past) (wires s (e ∷ past))
 one s past e command number f b begun taken t flick h = writes_one s past e.process e (settle_access s past e.process f b t flick) h.works.by h.works.access
@@ -162,7 +162,7 @@ commit_keeps s past e command number b begun taken t flick h = go (is_last_settl
     reply_is : (last new : Bool) → is_last_settled c t x ≡ last → is_new begun x ≡ new → reply_taken e.marks ≡ cond last (cond new (Some (reply c store)) None) None
     reply_is last new k l = takes s past e command number Commit b begun taken t flick h ∙ (λ i. cond (k i) (settled_reply begun (known.reply_is i) x) None) ∙ ap (λ n. cond last (cond n (Some (reply c store)) None) None) l
 
-    -- with the last access the ticket comes next
+    -- after the last access the unit clears the ticket
     frees : is_last_settled c t x ≡ true → (v' : Versions) (store' : Contents) → KnowsThen s past e v' store' (closes command number to)
     frees last v' store' = subst (λ (y : Closing). KnowsThen s past e v' store' (closes command number y)) (sym (ap (λ l. cond l (freeing c true) (settling Commit b begun taken (copies.settle_after t x))) last)) tt
 

@@ -1,4 +1,4 @@
--- What is sound: a store that has an image, and what a process was given to call.
+-- Sound stores, which have an image, and sound processes, which were given their calls.
 use Rattle.std.specs.Prelude.{◌≡◌, ◌^◌, ◌<◌, true, length}
 use Rattle.plain_store.specs.{Contents, Setup, callers_of, is_command}
 use Rattle.record.specs.store_image.{IsStore}
@@ -10,7 +10,7 @@ pub record IsStoreOf (s : Setup) (st : Contents) : Type 0 where
   pub slots : st.slots ≡ s.slots
   pub callers : length st.numbers ≡ callers_of s
 
--- what a process calls is a command, and its number has 16 bits
+-- the process's call is a command, and its number has 16 bits
 abbrev pub IsGivenTo : Doing → Type 0
 IsGivenTo (Runs command number at) = (is_command command ≡ true) × (number < 2 ^ 16)
 IsGivenTo (Closes command number at) = (is_command command ≡ true) × (number < 2 ^ 16)

@@ -11,7 +11,7 @@ use Rattle.plain_store.proofs.Changes.{put-same, same_value-Decides}
 use Rattle.record.proofs.store_image.Puts.{IsStore-with_number, IsStore-with_pair, written_room}
 use Rattle.history_laws.proofs.Sound.{IsStoreOf}
 
--- What a command writes.
+-- The values that a command writes.
 
 none_is_some : {X : Type 0} (x : Value) → None ≡ Some x → X
 none_is_some x h = cc
@@ -19,7 +19,7 @@ none_is_some x h = cc
 same_some : (x y : Value) → Some x ≡ Some y → x ≡ y
 same_some x y h = cc
 
--- its name is a name
+-- the name of a command is a name
 name_good : (command : Command) (name : List ℕ) → is_command command ≡ true → name_of command ≡ Some name → is_name name ≡ true
 name_good (Read n) name good named = let same : n ≡ name = cc in ap is_name (sym same) ∙ good
 name_good (Write n x) name good named = let same : n ≡ name = cc in ap is_name (sym same) ∙ (and_parts (is_name n) (is_value x) good).0
@@ -27,7 +27,7 @@ name_good (Add n d) name good named = let same : n ≡ name = cc in ap is_name (
 name_good (Cas n x y) name good named = let same : n ≡ name = cc in ap is_name (sym same) ∙ (and_parts (is_name n) (is_value x && is_value y) good).0
 name_good Ask name good named = cc
 
--- where the name is absent, only a `Write` writes
+-- if the name is absent, only a `Write` writes
 absent_good : (room : Bool) (last : ℕ) (command : Command) (x : Value) → is_command command ≡ true → (at_absent room last command).written ≡ Some x → is_value x ≡ true
 absent_good room last (Read n) x good written = none_is_some x written
 absent_good true last (Write n y) x good written = ap is_value (sym (same_some y x written)) ∙ (and_parts (is_name n) (is_value y) good).1
@@ -55,7 +55,7 @@ present_good v last (Cas n y z) x good written =
     go false fits h = none_is_some x h
 present_good v last Ask x good written = none_is_some x written
 
--- what is written is a value
+-- a value that a command writes is valid
 value_good : (before : Option Value) (room : Bool) (last : ℕ) (command : Command) (x : Value) → is_command command ≡ true → (outcome before room last command).written ≡ Some x → is_value x ≡ true
 value_good None room last command x good written = absent_good room last command x good written
 value_good (Some v) room last command x good written = present_good v last command x good written
@@ -90,7 +90,7 @@ as_many : (b : Bool) (numbers : List ℕ) (p n : ℕ) → length (if b then slic
 as_many true numbers p n = length-set numbers p n
 as_many false numbers p n = refl
 
--- it has an image too
+-- the store after a command has an image too
 pub after_is_store : (s : Setup) (store : Contents) (command : Command) (caller : Caller) → IsStoreOf s store → is_command command ≡ true → caller.number < 2 ^ 16 → IsStoreOf s (after store command caller)
 after_is_store s store command caller is good small = record {
   store = numbered (changes store command) (with_pairs store (pairs_after store command)) caller.process caller.number (pairs_good store command is.store good) small;

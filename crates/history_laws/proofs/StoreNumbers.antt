@@ -1,4 +1,4 @@
--- The store keeps the number of each process's latest change, and what that tells of a change with a given number.
+-- The store keeps the number of each process's latest change. So it shows whether a change with a given number was taken.
 use Rattle.std.proofs.Common.{◌≡◌, ◌≢◌, ◌⊎◌, ℕ, zero, suc, ◌<◌, ◌==◌, ◌&&◌, ◌||◌, nat_lt, Bool, true, false, cond, List, [], ◌∷◌, ◌++◌, Some, fold, length, set, slice_get, refl, sym, ap, subst, ◌∙◌, arith, inl, inr, eqb-true}
 use Rattle.std.proofs.lemmas.Bool.{eqb-false}
 use Rattle.std.proofs.lemmas.Bool.Decides.{nat_tests}
@@ -57,7 +57,7 @@ length-then store t = go (changes store t.command)
     go true = length-set store.numbers t.process t.number
     go false = refl
 
--- what holds of each element of a list
+-- each element of a list has this property
 abbrev pub Each : {X : Type 0} → (X → Type 0) → List X → Type 0
 Each {X} P xs = (k : ℕ) (x : X) → slice_get xs k ≡ Some x → P x
 
@@ -79,7 +79,7 @@ neither : (a b : Bool) → (a || b) ≡ false → (a ≡ false) × (b ≡ false)
 neither true b h = cc
 neither false b h = (refl, h)
 
--- those of two lists
+-- a list after another has such a change if one of them has
 pub has_change-append : (p : ℕ) (test : ℕ → Bool) (store : Contents) (h more : List Taken) →
     has_change p test store (h ++ more) ≡ (has_change p test store h || has_change p test (fold then store h) more)
 has_change-append p test store [] more = refl
@@ -90,7 +90,7 @@ has_change-append p test store (t ∷ h) more =
     regroup true b c = refl
     regroup false b c = refl
 
--- where no number of p passes the test there is none
+-- if no number of p passes the test, p has no change with such a number
 pub none_passes : (p : ℕ) (test : ℕ → Bool) (store : Contents) (h : List Taken) → Each (λ t. t.process ≡ p → test t.number ≡ false) h → has_change p test store h ≡ false
 none_passes p test store [] fails = refl
 none_passes p test store (t ∷ h) fails = λ i. hit (t.process == p) refl i || none_passes p test (then store t) h (λ k u at. fails (suc k) u at) i
@@ -111,7 +111,7 @@ is-later m p store t above h = go (t.process == p) (changes store t.command) (na
     go true c false q h = cc
     go false c b q h = h
 
--- where all of p's numbers are above m and no change of p is, the latest change stays
+-- if all of p's numbers are above m, and p has no change with a number above m, the latest change stays
 latest-stays : (m p : ℕ) (store : Contents) (h : List Taken) (last : ℕ) → Each (λ t. t.process ≡ p → m < t.number) h → has_change p (nat_lt m) store h ≡ false →
     latest_change p store h last ≡ last
 latest-stays m p store [] last above none = refl
@@ -137,7 +137,7 @@ Ascends h = (j k : ℕ) (u t : Taken) → j < k → slice_get h j ≡ Some u →
 rest-ascends : (t : Taken) (h : List Taken) → Ascends (t ∷ h) → Ascends h
 rest-ascends t h up j k u v less at_j at_k same = up (suc j) (suc k) u v (omega (arith, less)) at_j at_k same
 
--- Where p has a change with number m and none above m, its latest change has number m.
+-- If p has a change with number m and none above m, its latest change has number m.
 pub latest_is : (m p : ℕ) (store : Contents) (h : List Taken) (last : ℕ) → Ascends h → has_change p (nat_lt m) store h ≡ false → has_change p (λ n. n == m) store h ≡ true →
     latest_change p store h last ≡ m
 latest_is m p store [] last up none h = cc
@@ -163,7 +163,7 @@ latest_is m p store (t ∷ h) last up none there =
         later
     go false hit i more = more i
 
--- And where its latest change has number m, and did not before, there is one.
+-- If its latest change has number m, and had another number before, then p has a change with number m.
 pub latest_is_there : (m p : ℕ) (store : Contents) (h : List Taken) (last : ℕ) → last ≢ m → latest_change p store h last ≡ m → has_change p (λ n. n == m) store h ≡ true
 latest_is_there m p store [] last apart is = absurd (apart is)
 latest_is_there m p store (t ∷ h) last apart is = go (t.process == p) (changes store t.command) (t.number == m) refl is (λ l. latest_is_there m p (then store t) h l)

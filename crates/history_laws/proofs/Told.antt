@@ -1,4 +1,4 @@
--- What each entry tells, and what is known of each process by the entries of its present call.
+-- Each entry's marks, and the knowledge of each process from the entries of its present call.
 use Rattle.std.proofs.Common.{◌≡◌, ◌≢◌, ℕ, true, false, List, [], ◌∷◌, Some, length, refl, sym, ap, subst, arith}
 use Rattle.std.specs.List.{list_any}
 use Rattle.plain_store.specs.{Reply, Setup}
@@ -32,7 +32,7 @@ happens-says s past p e d d' taken (a_step command number at a flick i o is made
 happens-says s past p e d d' taken (a_closing command number at flick n i next is v m k) step h = goes (tells-of taken d d' _ _ e.marks _ i k m
     (closing-tells (call s p command number) command number (length (history s past)) at flick n taken next (subst (λ x. TookBy x taken) i h)))
 
--- What is known goes on with an entry.
+-- The knowledge extends to one more entry.
 
 pub since-called : (e : Entry) (mine : Past) → has is_called e ≡ true → since is_called (e ∷ mine) ≡ []
 since-called e mine h = ap (λ b. elim b as (λ _. Past) [ true ↦ [] | false ↦ e ∷ since is_called mine ]) h
@@ -48,11 +48,11 @@ goes-on d d' mine e t (goes x) = subst (Told d') (sym (since-uncalled e mine x.u
   unended = λ m. either (has ends_span e) (list_any (has ends_span) (since is_called mine)) (x.unended m).0 (t.unended (x.unended m).1);
 })
 
--- what is known of a process of a past
+-- the knowledge of a process of a past
 abbrev pub ToldOf : Setup → Past → ℕ → Type 0
 ToldOf s past p = Told (doing s p past) (since is_called (own p past))
 
--- what an entry tells that is added to a past
+-- the marks of an entry that is added to a past
 abbrev pub SaysAfter : Setup → Past → Entry → Type 0
 SaysAfter s past e = Says (all_takings (since is_called (own e.process past))) (doing s e.process past) (doing s e.process (e ∷ past)) e.marks
 
@@ -62,7 +62,7 @@ says-from s g events event e is t =
     happens-says s past e.process e (doing s e.process past) (doing s e.process (e ∷ past)) (all_takings (since is_called (own e.process past)))
     (accepted s g events event e is).happens (step_of s g events event e is).2 t.took
 
--- What is known of every process of every record.
+-- The knowledge of every process of every record.
 pub told : (s : Setup) → IsGood s → (events : List Event) (p : ℕ) → ToldOf s (past_of s events) p
 told s g = own-induction s (ToldOf s) none others on
   where
@@ -80,6 +80,6 @@ told s g = own-induction s (ToldOf s) none others on
         subst (λ (m : Past). Told (doing s e.process (e ∷ past)) (since is_called m)) (sym (own-own e.process e past refl))
         (goes-on (doing s e.process past) (doing s e.process (e ∷ past)) (own e.process past) e h (says-from s g events event e is h))
 
--- What every entry tells.
+-- The marks of every entry.
 pub says : (s : Setup) → IsGood s → (events : List Event) (event : Event) (e : Entry) → entry_of s (past_of s events) event ≡ Some e → SaysAfter s (past_of s events) e
 says s g events event e is = says-from s g events event e is (told s g events e.process)

@@ -1,4 +1,4 @@
--- What the present call of a process has taken so far, by what the process is doing, and what the marks of each of its entries tell.
+-- The commands that the present call of a process has taken so far, by the state of the process, and the marks of each of its entries.
 use Rattle.std.proofs.Common.{◌≡◌, ℕ, zero, suc, ◌<◌, Bool, true, false, List, [], ◌∷◌, ◌++◌, Option, Some, None, length, refl, sym, ap, subst, ◌∙◌, arith, append-nil, Contains}
 use Rattle.std.specs.List.{list_any}
 use Rattle.plain_store.specs.{Answer, Command, Reply}
@@ -7,7 +7,7 @@ use Rattle.record.specs.{Clears, Closing, IsAnswerTo, Mark, Over, Part, Past, Se
 use Rattle.record.specs.declared.marks.Mark.TheVariants.{Called, Answered, Down}
 use Rattle.laws.specs.{Doing, Rests, Lies, Runs, Closes}
 
--- what a call has taken at a part: nothing before its last read of an image, or the last end of its commit
+-- the commands that a call has taken at a part: nothing before its last read of an image, or the last end of its commit
 abbrev pub TookAt : Part → List (ℕ × Reply) → Type 0
 TookAt (Clears a) taken = IsAnswerTo a taken
 TookAt Over taken = length taken < 2
@@ -54,23 +54,23 @@ is_done Lies = true
 is_done (Runs command number at) = false
 is_done (Closes command number at) = has_settled at
 
--- what is known of a process by the entries of its present call
+-- the knowledge of a process from the entries of its present call
 pub record Told (d : Doing) (call : Past) : Type 0 where
   pub took : TookBy d (all_takings call)
   pub uncut : may_answer d ≡ true → list_any (has is_failed) call ≡ false
   pub unended : is_done d ≡ false → list_any (has ends_span) call ≡ false
 
--- this holds of each answer that the marks tell
+-- this holds of each answer in the marks
 abbrev pub EachAnswer : (Answer → Type 0) → List Mark → Type 0
 EachAnswer P [] = Unit {0}
 EachAnswer P (Answered a ∷ ms) = P a × EachAnswer P ms
 EachAnswer P (_ ∷ ms) = EachAnswer P ms
 
--- an answer that tells what was taken, of a call that may be answered
+-- an answer that states what was taken, in a call that may be answered
 abbrev pub Gives : Bool → List (ℕ × Reply) → Answer → Type 0
 Gives may taken a = IsAnswerTo a taken × (may ≡ true)
 
--- What the marks of an entry tell that begins no call, where its call has taken so much before.
+-- The marks of an entry that begins no call, if its call has taken these commands before.
 pub record Tells (taken : List (ℕ × Reply)) (d d' : Doing) (ms : List Mark) : Type 0 where
   pub one : length (takings ms) < 2
   pub answers : EachAnswer (Gives (may_answer d) (taken ++ takings ms)) ms
@@ -80,12 +80,12 @@ pub record Tells (taken : List (ℕ × Reply)) (d d' : Doing) (ms : List Mark) :
   pub unended : is_done d' ≡ false → (list_any ends_span ms ≡ false) × (is_done d ≡ false)
   pub quiet : is_done d ≡ true → takings ms ≡ []
 
--- what those of any entry tell
+-- the marks of any entry
 pub data Says (taken : List (ℕ × Reply)) (d d' : Doing) (ms : List Mark) : Type 0 where
   begins : (command : Command) → ms ≡ Called command ∷ [] → TookBy d' [] → Says taken d d' ms
   goes : Tells taken d d' ms → Says taken d d' ms
 
--- Marks that tell nothing of a call.
+-- Marks about no call.
 
 pub record Silent (ms : List Mark) : Type 0 where
   pub taken : takings ms ≡ []
@@ -120,7 +120,7 @@ silent-tells taken d d' ms s h answers done = record {
   quiet = λ m. s.taken;
 }
 
--- At most one is taken at every part, and whatever is done.
+-- At most one command is taken at every part, and in every state.
 
 answer-few : (a : Answer) (taken : List (ℕ × Reply)) → IsAnswerTo a taken → length taken < 2
 answer-few (answer.Reply r) taken h = let n : length taken ≡ 1 = ap length h.1 in omega (arith, n)
@@ -143,7 +143,7 @@ doing-few (Closes command number (Withdraws w)) taken h = few taken h
 doing-few (Closes command number (Settles f bit begun by is t)) taken h = before-few by taken h
 doing-few (Closes command number _) taken h = h
 
--- The answer that a mark tells.
+-- The answer in a mark.
 
 answers-rest : (P : Answer → Type 0) (m : Mark) (ms : List Mark) → EachAnswer P (m ∷ ms) → EachAnswer P ms
 answers-rest P (Answered a) ms h = h.1

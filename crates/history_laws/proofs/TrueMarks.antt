@@ -1,4 +1,4 @@
--- What an entry tells is true: a command is taken with the one-thread store's reply, and `StampsFull` is answered where no further change fits.
+-- The marks of an entry are true: a command is taken with the sequential store's reply, and a call is answered `StampsFull` only if no further change fits.
 use Rattle.std.proofs.Common.{◌≡◌, ℕ, ◌+◌, ◌<◌, ◌&&◌, Bool, true, false, cond, not, if◌then◌else◌, List, [], ◌∷◌, ◌++◌, length, map, zero, suc, Option, Some, None, refl, sym, ap, subst, ◌∙◌, arith, eqb-true, Contains}
 use Rattle.std.specs.List.{AllByRecursion}
 use Rattle.std.proofs.lemmas.Bool.{false≢true, true≢false}
@@ -24,13 +24,13 @@ use Rattle.history_laws.proofs.Kept.{Data, IsStampsFull, KnowsAt, KnowsClosing, 
 use Rattle.history_laws.proofs.Places.{at_its_place}
 use Rattle.history_laws.proofs.Versions.{Versions, store_of, versions}
 
--- what a mark tells of a call is true
+-- a mark of a call is true
 abbrev pub IsTrueMark : Setup → Past → Call → Mark → Type 0
 IsTrueMark s past c (mark.Taken k r) = r ≡ reply c (store_of s past)
 IsTrueMark s past c (mark.Answered a) = IsStampsFull s past c a
 IsTrueMark s past c _ = Unit {0}
 
--- all that the marks of a call tell is true
+-- all marks of a call are true
 abbrev pub AreTrue : Setup → Past → Call → List Mark → Type 0
 AreTrue s past c = AllByRecursion (IsTrueMark s past c)
 
@@ -74,7 +74,7 @@ first_true : (s : Setup) (past : Past) (c : Call) (x : Part) → AreTrue s past 
 first_true s past c (Clears a) = (tt, tt)
 first_true s past c _ = tt
 
--- what has to be known for the last marks of a part
+-- the knowledge that the last marks of a part need
 abbrev KnowsLast : Setup → Past → Call → Part → List Bool → Type 0
 KnowsLast s past c (AsksImage vs) bits = store_read c bits ≡ store_of s past
 KnowsLast s past c (WritesCommit vs st) bits = st ≡ store_of s past
@@ -94,7 +94,7 @@ last_true s past c (WritesCommit vs st) bits h = (ap (reply c) h, tt)
 last_true s past c (Clears a) bits h = (h, tt)
 last_true s past c _ bits h = tt
 
--- what a process knows where it runs its call
+-- the knowledge of a process that runs its call
 knows_there : (s : Setup) (past : Past) (p : ℕ) (command : Command) (number : ℕ) (at : Place) → Data s past → p < s.processes → doing s p past ≡ Runs command number at →
     KnowsAt s past (call s p command number) (versions s past) (store_of s past) (wires s past p) (λ o. touches s past o p) at.part at.run
 knows_there s past p command number at known below does = subst (KnowsData s past p (versions s past) (store_of s past) (wires s past p) (λ o. touches s past o p)) does (known.knows p below)
@@ -127,7 +127,7 @@ settled_true s past c begun v true (Some r) h = (tt, where_so (IsTrueMark s past
 none_taken : {X : Type 0} (taken : Option Reply) (r : Reply) → taken ≡ None → taken ≡ Some r → X
 none_taken taken r h k = let f : None ≡ Some r = sym h ∙ k in cc
 
--- what a settling may take is the one-thread store's reply
+-- a reply that a settling may take is the sequential store's reply
 settling_known : (s : Setup) (c : Call) (v : Versions) (store : Contents) (m : Wires) (f : Field) (bit : ℕ) (begun is : Bool) (taken : Option Reply) (t : copies.Settling) →
     KnowsClosing s c v store m (Settles f bit begun taken is t) → (r : Reply) → taken ≡ Some r → r ≡ reply c store
 settling_known s c v store m f bit begun false taken t h r k = none_taken taken r h.0 k
@@ -190,13 +190,13 @@ happens_true s g events e below known d' (a_step command number at a flick was o
     bits : List Bool
     bits = bits_with at.run (value_of (valued s past flick (access_at c at.part at.run)).how)
 
--- All that an entry tells of its call is true.
+-- All marks of an entry about its call are true.
 pub entry_true : (s : Setup) → IsGood s → (events : List Event) (event : Event) (e : Entry) → entry_of s (past_of s events) event ≡ Some e → Data s (past_of s events) → AreTrue s (past_of s events) (call_of s (past_of s events) e) e.marks
 entry_true s g events event e is known =
     let step = accepted s g events event e is in
     happens_true s g events e step.below known (doing s e.process (e ∷ past_of s events)) step.happens
 
--- What is taken has its place in the history, and the one-thread store's reply there.
+-- A command that is taken has its place in the history, and the sequential store's reply there.
 pub taken_in_history : (s : Setup) → IsGood s → (events : List Event) (event : Event) (e : Entry) → entry_of s (past_of s events) event ≡ Some e → let past : Past = past_of s events in Data s past →
     (k : ℕ) (r : Reply) → Contains (takings e.marks) (k, r) → (k ≡ length (history s past)) × (r ≡ reply_to (store_after s (history s past)) (call_of s past e).command (caller (call_of s past e)))
 taken_in_history s g events event e is known k r there =

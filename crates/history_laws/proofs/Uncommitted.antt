@@ -20,21 +20,21 @@ pub record TurnsBusy (p : ℕ) (d d' : Doing) (busy busy' : ℕ → Bool) : Type
   pub was : busy p ≡ is_busy d
   pub is : busy' p ≡ is_busy d'
 
--- who is not busy then was not busy, if p was not
+-- a process that is not busy afterwards was not busy before, if p was not
 pub idle_before : (p : ℕ) (d d' : Doing) (busy busy' : ℕ → Bool) → TurnsBusy p d d' busy busy' → is_busy d ≡ false → (q : ℕ) → busy' q ≡ false → busy q ≡ false
 idle_before p d d' busy busy' b idle q h = elim (cases_eq q p) [
   | inl is ↦ ap busy is ∙ b.was ∙ idle
   | inr ne ↦ sym (b.others q ne) ∙ h
 ]
 
--- nor does it matter whether p was, if it is busy now
+-- if p is busy afterwards, each process that is not busy afterwards was not busy before
 pub idle_beside : (p : ℕ) (d d' : Doing) (busy busy' : ℕ → Bool) → TurnsBusy p d d' busy busy' → is_busy d' ≡ true → (q : ℕ) → busy' q ≡ false → busy q ≡ false
 idle_beside p d d' busy busy' b now q h = elim (cases_eq q p) [
   | inl is ↦ absurd (true≢false (sym (b.is ∙ now) ∙ ap busy' (sym is) ∙ h))
   | inr ne ↦ sym (b.others q ne) ∙ h
 ]
 
--- Fields are told apart by their numbers.
+-- Fields differ by their numbers.
 
 pub image_apart : (b : Bool) → image_field b ≢ image_field (not b)
 image_apart true h = let e : field_number Image1 ≡ 5 = ap field_number h in omega arith
@@ -65,7 +65,7 @@ image_not_commit b h = let e : field_number (image_field b) ≡ 2 = ap field_num
 pub stamp_not_commit : (b : Bool) → stamp_field b ≢ Commit
 stamp_not_commit b h = let e : field_number (stamp_field b) ≡ 2 = ap field_number h in omega (arith, stamp_above b)
 
--- What is kept.
+-- The registers that stay.
 
 -- a register that the access is not one of
 same_row : (p q : ℕ) (f g : Field) (m m' : ℕ → Wires) → WritesOne p f m m' → (q ≡ p → g ≢ f) → m' q g ≡ m q g
@@ -82,7 +82,7 @@ whole_stays n p q f g bits m m' w apart h = subst (λ (y : ℕ → ℕ → Wire)
 pub commit_stays : (p q : ℕ) (f : Field) (r : ℕ) (b : Bool) (m m' : ℕ → Wires) → WritesOne p f m m' → (q ≡ p → Commit ≢ f) → Closed (m q Commit 0 r) b → Closed (m' q Commit 0 r) b
 commit_stays p q f r b m m' w apart h = subst (λ (y : ℕ → ℕ → Wire). Closed (y 0 r) b) (sym (same_row p q f Commit m m' w apart)) h
 
--- an access of p to a field that is none of its committed version; to its commit bit only if p is busy then
+-- an access of p to a field outside its committed version; to its commit bit only if p is busy then
 pub kept_beside : (s : Setup) (v : Versions) (store : Contents) (busy busy' : ℕ → Bool) (p : ℕ) (f : Field) (m m' : ℕ → Wires) → WritesOne p f m m' → stamp_field (v.commit p) ≢ f → image_field (v.commit p) ≢ f
     → ((q : ℕ) → busy' q ≡ false → busy q ≡ false) → (busy' p ≡ false → Commit ≢ f) → Kept s v store busy m → Kept s v store busy' m'
 kept_beside s v store busy busy' p f m m' w stamp image was commit k = record {
@@ -101,7 +101,7 @@ kept_beside s v store busy busy' p f m m' w stamp image was commit k = record {
 abbrev pub IsUncommitted : Versions → ℕ → Field → Type 0
 IsUncommitted v p f = (f ≡ image_field (not (v.commit p))) ⊎ (f ≡ stamp_field (not (v.commit p)))
 
--- it is none of the committed one
+-- the field is outside the committed version
 pub record IsBeside (v : Versions) (p : ℕ) (f : Field) : Type 0 where
   pub stamp : stamp_field (v.commit p) ≢ f
   pub image : image_field (v.commit p) ≢ f

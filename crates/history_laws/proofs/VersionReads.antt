@@ -1,4 +1,4 @@
--- No read of a version is overlapped, and while nobody is inside no write of one is open: who reads one is inside, and so is who writes it.
+-- No read of a version overlaps a write, and while no process is inside no write of a version is open. The reason is that each process that reads or writes a version is inside.
 use Rattle.std.specs.Prelude.{slice_index_or}
 use Rattle.std.proofs.Common.{◌≡◌, ◌≢◌, ℕ, ◌+◌, ◌%◌, ◌<◌, ◌==◌, Bool, true, false, cond, List, [], ◌∷◌, ◌++◌, length, map, Some, None, refl, sym, ap, subst, ◌∙◌, true≢false, arith, inl, inr}
 use Rattle.std.proofs.lemmas.Bool.{cases_eq, false_from_ne_true, false≢true}
@@ -29,16 +29,16 @@ use Rattle.laws.proofs.Notes.{notes}
 use Rattle.laws.proofs.Theorems.{insider, is_process, mutual_exclusion}
 use Rattle.history_laws.proofs.OpenVersions.{WritesInside, is_reading, open_inside}
 
--- a cell tells whether a write of it is open, and whether its read was touched
+-- a cell shows whether a write of it is open, and whether its read was touched
 pub open_cell : (s : Setup) → IsGood s → (events : List Event) (a : Access) → (cell_after s (past_of s events) a).writing ≡ opened (past_of s events) a
 open_cell s g events a = (shows_moves (opening_bit s a) (moves_of a (past_of s events)) (turns_all s g events a)).writing
 
 pub touched_cell : (s : Setup) → IsGood s → (events : List Event) (a : Access) → (cell_after s (past_of s events) a).touched ≡ is_overlapped (moves_of a (past_of s events))
 touched_cell s g events a = (shows_moves (opening_bit s a) (moves_of a (past_of s events)) (turns_all s g events a)).touched
 
--- Nobody inside.
+-- No process inside.
 
--- While nobody is inside, no write of a version is open.
+-- While no process is inside, no write of a version is open.
 pub whole_outside : (s : Setup) → IsGood s → (events : List Event) → ((p : ℕ) → p < s.processes → inside p (past_of s events) ≡ false) → (a : Access) → is_version a.field ≡ true → (cell_after s (past_of s events) a).writing ≡ false
 whole_outside s g events none a v = false_from_ne_true (cell_after s past a).writing λ h.
     let inside_is : inside a.owner past ≡ true = inside-is s g events a.owner ∙ (open_inside s g events a v (sym (open_cell s g events a) ∙ h)).inside in
@@ -47,7 +47,7 @@ whole_outside s g events none a v = false_from_ne_true (cell_after s past a).wri
     past : Past
     past = past_of s events
 
--- Of a read of a version, the open copy is untouched.
+-- If a version is read, the open copy is untouched.
 
 abbrev pub IsUntouched : Setup → (t : ℕ → Touches) → Call → Part → Run → Type 0
 IsUntouched s t c part (Writing w) = Unit {0}
@@ -60,7 +60,7 @@ IsUntouchedBy s t p _ = Unit {0}
 abbrev pub IsUntouchedOf : Setup → Past → ℕ → Doing → Type 0
 IsUntouchedOf s past p d = IsUntouchedBy s (λ o. touches s past o p) p d
 
--- so it is where a part begins
+-- this holds when a part begins
 untouched_new : (s : Setup) (t : ℕ → Touches) (c : Call) (part : Part) → IsUntouched s t c part (new_run c part)
 untouched_new s t c part = go (is_read part)
   where
@@ -68,7 +68,7 @@ untouched_new s t c part = go (is_read part)
     go true = λ begun v. absurd (false≢true begun)
     go false = tt
 
--- and where a read goes on, if it is where it begins
+-- this holds when a read continues, if it holds when the read of the bit begins
 untouched_next : (s : Setup) (t : ℕ → Touches) (c : Call) (part : Part) (run : Run) (v : Bool) →
     ((bits : List Bool) → run ≡ Reading bits false → is_version (read_at c part).1 ≡ true → t (read_at c part).0 (read_at c part).1 (length bits) ≡ false)
     → let to : Place = place_after c (record { part = part; run = run }) v in
@@ -102,7 +102,7 @@ untouched_closes : (s : Setup) (t : ℕ → Touches) (p : ℕ) (command : Comman
 untouched_closes s t p command number (Withdraws w) = tt
 untouched_closes s t p command number _ = tt
 
--- Where it begins, no write of the copy is open: its writer would be inside too.
+-- When the read begins, no write of the copy is open: its writer would be inside too.
 begins_untouched : (s : Setup) → IsGood s → (events : List Event) (event : Event) (e : Entry) → entry_of s (past_of s events) event ≡ Some e →
     let past : Past = past_of s events in
     let p : ℕ = e.process in
@@ -199,7 +199,7 @@ own_untouched s g events event e is d' (a_step command number at a flick was ove
 abbrev AllUntouched : Setup → Past → Type 0
 AllUntouched s past = IsGood s → (p : ℕ) → IsUntouchedOf s past p (doing s p past)
 
--- So it is in every record.
+-- This holds in every record.
 pub untouched : (s : Setup) → IsGood s → (events : List Event) (p : ℕ) → IsUntouchedOf s (past_of s events) p (doing s p (past_of s events))
 untouched s g events p = past-induction AllUntouched s (λ g p. tt) more events g p
   where
@@ -211,12 +211,12 @@ untouched s g events p = past-induction AllUntouched s (λ g p. tt) more events 
 
 -- The statements.
 
--- what ends a read is no write
+-- a move that ends a read is not a write
 not_write : (m : Move) → ends_read m ≡ true → is_write m ≡ false
 not_write (EndRead v) h = refl
 not_write _ h = absurd (false≢true h)
 
--- where a process ends the read of a bit, its place reads it
+-- if a process ends the read of a bit, its place reads the bit
 pub record EndsRead (s : Setup) (past : Past) (p : ℕ) (e : Entry) (a : Access) : Type 0 where
   pub command : Command
   pub number : ℕ
@@ -279,7 +279,7 @@ version_read_unoverlapped s g events event e is a access v ends =
     x : EndsRead s past p e a
     x = ends_by s past p e (doing s p (e ∷ past)) a (accepted s g events event e is).happens access ends
 
--- nobody of all is inside
+-- none of the processes is inside
 pub nobody : (s : Setup) (past : Past) → is_somebody_inside s past ≡ false → (p : ℕ) → p < s.processes → inside p past ≡ false
 nobody s past none p below = false_from_ne_true (inside p past) λ h.
     let all = length-range_with_len 0 s.processes in

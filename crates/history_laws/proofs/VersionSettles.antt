@@ -1,4 +1,4 @@
--- A memory unit settles a bit of a version: of one that isn't committed, or a commit bit, which then commits the new version or stays with the old one.
+-- A memory unit settles a bit of a version. The bit is in a version that is not committed, or is a commit bit, which then commits the new version or stays with the old one.
 use Rattle.std.proofs.Common.{◌≡◌, ◌≢◌, ℕ, ◌+◌, ◌<◌, ◌≤◌, ◌||◌, Bool, true, false, cond, ◌∷◌, not, Option, None, Some, refl, sym, ap, subst, ◌∙◌, arith, inl, inr, true≢false}
 use Rattle.std.specs.Prelude.{unwrap_or, if◌then◌else◌}
 use Rattle.std.proofs.lemmas.Bool.{cases_eq, eqb-true, eqb-false, false≢true}
@@ -18,7 +18,7 @@ use Rattle.history_laws.proofs.Sound.{IsStoreOf}
 use Rattle.history_laws.proofs.Uncommitted.{WritesOne, TurnsBusy, IsUncommitted, idle_before, idle_beside, kept_beside, kept_apart, uncommitted_beside, commit_stays, image_not_commit, stamp_not_commit}
 use Rattle.history_laws.proofs.Versions.{Versions, committed}
 
--- What an access of a settling makes of its copy.
+-- The copy after an access of a settling.
 
 -- a copy's wire after the next access of a settling at x: its end, its settling, or its begin
 abbrev pub settled_wire : copies.Settling → Bool → Wire → Wire
@@ -47,15 +47,15 @@ settles_copy s past p e f b t flick h =
     go false true = refl
     go false false = refl
 
--- How far a settling of a commit bit has come.
+-- The progress of a settling of a commit bit.
 
--- it settles at x: the copies before the cursor are closed at x, and the open one is being given x
+-- the bit settles at x: the copies before the cursor are closed at x, and the open one is being given x
 pub record SettlesAt (x : Bool) (t : copies.Settling) (row : ℕ → Wire) : Type 0 where
   pub value : t.value ≡ Some x
   pub done : (r : ℕ) → r < t.reader → Closed (row r) x
   pub begun : t.begun ≡ true → (row t.reader).value ≡ x
 
--- what is settled at is what was chosen
+-- a settling with a chosen value settles at that value
 chosen_is : (t : copies.Settling) (x flick : Bool) → t.value ≡ Some x → copies.settled_at t flick ≡ x
 chosen_is t x flick h = ap (λ o. unwrap_or o flick) h
 
@@ -105,7 +105,7 @@ settled_further t x m m' w done begun = go t.begun (copies.is_open_at t.made t.r
     }
     go false false here was = record { value = refl; done = earlier; begun = λ e. ap (λ (y : Wire). y.value) here }
 
--- the cursor comes to the next copy at most
+-- the cursor moves at most to the next copy
 next_reader : (t : copies.Settling) (x : Bool) (n : ℕ) → t.reader < n → (copies.settle_after t x).reader ≤ n
 next_reader t x n low = go (t.begun || copies.is_open_at t.made t.reader)
   where
@@ -136,7 +136,7 @@ kept_rested s v store busy busy' p m m' w others closed k = record {
   fits = k.fits;
 }
   where
-    -- whoever is busy
+    -- for any busy processes
     beside : Kept s v store (λ q. true) m'
     beside = kept_beside s v store busy (λ q. true) p Commit m m' w (stamp_not_commit (v.commit p)) (image_not_commit (v.commit p)) (λ q h. absurd (true≢false h)) (λ h. absurd (true≢false h)) k
 
@@ -153,13 +153,13 @@ pub register_settles : (s : Setup) (p : ℕ) (f : Field) (d d' : Doing) (v : Ver
     Kept s v store busy m → Kept s v store busy' m'
 register_settles s p f d d' v store busy busy' m m' apart idle one turns k = kept_apart s v store busy busy' p f m m' one (uncommitted_beside v p f apart) (idle_before p d d' busy busy' turns idle) k
 
--- what is known of such a settling
+-- the knowledge of such a settling
 pub register_known : (s : Setup) (c : Call) (v : Versions) (store : Contents) (m : Wires) (f : Field) (b : ℕ) (begun : Bool) (taken : Option Reply) (t : copies.Settling) → is_commit_field f ≡ false → KnowsSettling s c v store m f b begun taken t →
     (taken ≡ None) × IsUncommitted v c.process f
 register_known s c v store m Commit b begun taken t e h = absurd (true≢false e)
 register_known s c v store m _ b begun taken t e h = h
 
--- it depends neither on the registers nor on the cursor
+-- this knowledge depends neither on the registers nor on the cursor
 register_knows : (s : Setup) (c : Call) (v : Versions) (store : Contents) (m' : Wires) (f : Field) (b : ℕ) (begun : Bool) (taken : Option Reply) (t' : copies.Settling) → is_commit_field f ≡ false → (taken ≡ None) × IsUncommitted v c.process f →
     KnowsSettling s c v store m' f b begun taken t'
 register_knows s c v store m' Commit b begun taken t' e h = absurd (true≢false e)
@@ -220,7 +220,7 @@ commit_settles_on s p command number b begun taken t flick v store busy busy' m 
     now : is_busy (closes command number (closing_after c (Settles Commit b begun taken true t) flick)) ≡ true
     now = ap (λ at. is_busy (closes command number at)) place
 
--- with its last access all copies are closed at what was settled
+-- after the last access all copies are closed at the settled value
 all_settled : (s : Setup) (p : ℕ) (command : Command) (number : ℕ) (b : ℕ) (begun : Bool) (taken : Option Reply) (t : copies.Settling) (flick : Bool) (v : Versions) (store : Contents) (m m' : Wires)
     → let c : Call = call s p command number in let x : Bool = copies.settled_at t flick in
     is_last_settled c t x ≡ true → SettlesCommit s c v store b begun taken t m → Rewired (m Commit) (m' Commit) b t.reader (settled_wire t x (m Commit b t.reader)) → (r : ℕ) → r < s.processes → Closed (m' Commit 0 r) x

@@ -33,6 +33,6 @@ versions s (e ∷ past) = elim (reply_taken e.marks) [ None ↦ versions s past 
 abbrev pub version : Versions → ℕ → Version
 version v q = (v.commit q, v.stamp q)
 
--- those of some processes
+-- the versions of some processes
 abbrev pub versions_of : Versions → List ℕ → List Version
 versions_of v qs = map (version v) qs

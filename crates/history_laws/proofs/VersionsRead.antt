@@ -1,4 +1,4 @@
--- What a process that has read all versions knows: its own commit bit, and the greatest stamp.
+-- A process that has read all versions knows its own commit bit and the greatest stamp.
 use Rattle.std.proofs.Common.{◌≡◌, ◌⊎◌, ℕ, zero, suc, ◌+◌, ◌<◌, ◌≤◌, Bool, false, map, ap, subst, ◌∙◌, arith, inl, inr}
 use Rattle.std.specs.Prelude.{max, fold, slice_index_or}
 use Rattle.std.specs.List.{range_with_len}

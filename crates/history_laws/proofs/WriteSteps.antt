@@ -1,4 +1,4 @@
--- A step of a process that writes a change: an access of the new image, of its stamp, or of the commit bit, with whose last end the command is taken.
+-- A process writes a change, by an access of the new image, of its stamp, or of the commit bit. The last end of the commit bit takes the command.
 use Rattle.std.proofs.Common.{◌≡◌, ℕ, Bool, true, false, cond, List, [], ◌∷◌, ◌++◌, length, map, Option, None, Some, refl, sym, ap, subst, ◌∙◌}
 use Rattle.std.proofs.lemmas.Bool.{false≢true}
 use Rattle.record.specs.{Access, Call, Entry, Event, Mark, Part, Past, Place, Reading, Run, Version, WritesCommit, WritesImage, WritesStamp, Writing, access_at, caller, entry_of, history, is_fresh, is_last, is_read, last_call, marks_of, own, past_of, place_after, placed, reply, reply_taken, value_of, valued, written_at}
@@ -39,7 +39,7 @@ writes_alone (WritesStamp vs st) is = refl
 writes_alone (WritesCommit vs st) is = refl
 writes_alone _ is = absurd (false≢true is)
 
--- What it takes.
+-- The command that it takes.
 
 -- the reply in the marks of a part that has marks on its last access alone
 last_taken : (n : ℕ) (fresh last : Bool) (ms : List Mark) → reply_taken (map (placed n) (cond fresh [] [] ++ cond last ms [])) ≡ cond last (reply_taken (map (placed n) ms)) None
@@ -48,7 +48,7 @@ last_taken n true false ms = refl
 last_taken n false true ms = refl
 last_taken n false false ms = refl
 
--- it takes nothing where its last access has no mark
+-- an entry takes nothing if its last access has no mark
 none_taken : (n : ℕ) (fresh last : Bool) → reply_taken (map (placed n) (cond fresh [] [] ++ cond last [] [])) ≡ None
 none_taken n fresh last = last_taken n fresh last [] ∙ go last
   where
@@ -66,7 +66,7 @@ written_to part w = record { part = part; run = Writing w }
 abbrev accessed : Setup → Past → ℕ → Command → ℕ → Part → NumberWrite → Bool → Access
 accessed s past p command number part w flick = valued s past flick (access_at (call s p command number) part (Writing w))
 
--- where p comes with it
+-- the place of p after the access
 abbrev comes_to : Setup → Past → ℕ → Command → ℕ → Part → NumberWrite → Bool → Place
 comes_to s past p command number part w flick = place_after (call s p command number) (written_to part w) (value_of (accessed s past p command number part w flick).how)
 
@@ -78,13 +78,13 @@ record AtWrite (s : Setup) (past : Past) (e : Entry) (command : Command) (number
   inv : Inv s past
   data_is : Data s past
 
--- what p knew there
+-- the knowledge of p there
 knew : (s : Setup) (past : Past) (e : Entry) (command : Command) (number : ℕ) (part : Part) (w : NumberWrite) (flick : Bool) → AtWrite s past e command number part w flick →
     KnowsAt s past (call s e.process command number) (versions s past) (store_of s past) (wires s past e.process) (λ o. touches s past o e.process) part (Writing w)
 knew s past e command number part w flick h =
     subst (KnowsData s past e.process (versions s past) (store_of s past) (wires s past e.process) (λ o. touches s past o e.process)) h.works.was (h.data_is.knows e.process h.works.below)
 
--- how far the write has come then
+-- the progress of the write then
 further : (s : Setup) (past : Past) (e : Entry) (command : Command) (number : ℕ) (part : Part) (w : NumberWrite) (flick : Bool) → AtWrite s past e command number part w flick → let c : Call = call s e.process command number in
     Advanced s.processes (written_at c part).1 w (wires s (e ∷ past) e.process) (written_at c part).0
 further s past e command number part w flick h =
@@ -92,7 +92,7 @@ further s past e command number part w flick h =
     advances s past e.process e (written_at c part).0 (written_at c part).1 w flick h.works.access
     (subst (Stands s e.process (notes s e.process past) (wires s past e.process)) h.works.was (h.inv.own e.process h.works.below).stands).0.1
 
--- it writes the part's register alone
+-- the entry writes the part's register alone
 one : (s : Setup) (past : Past) (e : Entry) (command : Command) (number : ℕ) (part : Part) (w : NumberWrite) (flick : Bool) → AtWrite s past e command number part w flick →
     WritesOne e.process (written_at (call s e.process command number) part).0 (wires s past) (wires s (e ∷ past))
 one s past e command number part w flick h = writes_one s past e.process e (accessed s past e.process command number part w flick) h.works.by h.works.access

@@ -1,10 +1,10 @@
--- Laws of the data beside those that record's headline states, of the record of every list of events.
+-- The laws of the data that are not among the main theorems of `record`. They hold of the record of every list of events.
 use Rattle.std.specs.Prelude.{◌≡◌, ℕ, ◌<◌, ◌≤◌, take, slice_get, Some, IsFalse}
 use Rattle.plain_store.specs.{reply_to}
 use Rattle.record.specs.{EachPastGiven, Taken, history, is_somebody_inside, max_of, newest_stamp, store_after, versions_held}
 use Rattle.history_laws.specs.Stamps.{changes_taken}
 
--- Each command of the history has the one-thread store's reply after those before it.
+-- Each command of the history has the sequential store's reply after the commands before it.
 abbrev pub RepliesAreThoseOfTheirPlaces : Type 0
 RepliesAreThoseOfTheirPlaces = EachPastGiven λ s past. (k : ℕ) (t : Taken) → slice_get (history s past) k ≡ Some t →
     t.reply ≡ reply_to (store_after s (take k (history s past))) t.command (record { process = t.process; number = t.number })
@@ -13,7 +13,7 @@ RepliesAreThoseOfTheirPlaces = EachPastGiven λ s past. (k : ℕ) (t : Taken) �
 abbrev pub ChangesFitTheStamps : Type 0
 ChangesFitTheStamps = EachPastGiven λ s past. changes_taken s past ≤ max_of s.stamp_bits
 
--- While nobody is inside, the greatest committed stamp is the number of changes.
+-- While no process is inside, the greatest committed stamp is the number of changes.
 abbrev pub NewestStampCountsTheChanges : Type 0
 NewestStampCountsTheChanges = EachPastGiven λ s past. IsFalse (is_somebody_inside s past) → newest_stamp (versions_held s past) ≡ changes_taken s past
 

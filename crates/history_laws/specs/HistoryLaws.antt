@@ -1,4 +1,4 @@
--- The laws of the history that need no register, of the record of every list of events, beside those that record's headline states.
+-- The laws of the history that need no register and are not among the main theorems of `record`. They hold of the record of every list of events.
 use Rattle.std.specs.Prelude.{◌≡◌, ℕ, ◌∷◌, ◌++◌, length, map, Contains}
 use Rattle.plain_store.specs.{Reply, Setup}
 use Rattle.record.specs.{Call, EachEntry, Entry, Past, Taken, call_of, history, takings}

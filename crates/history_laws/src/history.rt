@@ -1,27 +1,27 @@
-//! The laws of one history that hold whatever the registers give. Each is of every setup that the check
-//! passes, of every list of events, refused ones among them, and of every flick.
+//! The laws of one history that hold whatever the registers give. Each law holds for every setup that passes the
+//! check, every list of events, including refused ones, and every flick.
 ghost use Rattle.record.specs.{AnsweredCallsTakeNoMore, AnswersAreTaken, AnswersStandInHistory, CutCallsAreNotAnswered, KeepsOrder, TakenOnce};
 ghost use Rattle.history_laws.specs.HistoryLaws.{HistoryGrowsByTheTaken, TakenAtItsPlace};
 
-/// The mark of a command that is taken tells its place in the history, which is the number of commands taken
-/// before. The history grows by the commands so marked, each with its call's process and number, and by
-/// nothing else.
+/// The mark of a command that is taken contains its place in the history, which is the number of commands taken
+/// before. The history grows by the commands that are marked in this way, each with its call's process and number,
+/// and by nothing else.
 pub fn taken_at_its_place()
     ensures place { TakenAtItsPlace }
     ensures grows { HistoryGrowsByTheTaken }
 {}
 
-/// A call that is answered with a reply of the store has taken exactly one command, with that reply. A call
-/// that is answered otherwise has taken none. After its answer a call takes nothing. A reply of the store stands
-/// in the history, with its process, command and number, and is the one-thread store's at its place.
+/// A call that is answered with a reply of the store has taken exactly one command, with that reply. A call with
+/// another answer has taken none. After its answer a call takes nothing. A reply of the store is in the history,
+/// with its process, command and number, and is the sequential store's at its place.
 pub fn answers_are_taken()
     ensures answers { AnswersAreTaken }
     ensures whole_calls { AnsweredCallsTakeNoMore }
     ensures history { AnswersStandInHistory }
 {}
 
-/// A call takes at most one command, also one that is cut by a failure and whose command its memory unit
-/// takes.
+/// A call takes at most one command. This includes a call that is cut by a failure and whose command its memory
+/// unit takes.
 pub fn taken_once()
     ensures { TakenOnce }
 {}
@@ -31,8 +31,8 @@ pub fn cut_calls_are_not_answered()
     ensures { CutCallsAreNotAnswered }
 {}
 
-/// Of two calls that took a command and do not overlap the earlier one has the lower place. The span of a
-/// call ends with its answer; that of a cut call where its process is down. (Herlihy and Wing 1990.)
+/// Of two calls that took a command and do not overlap, the earlier one has the lower place. The span of a call
+/// ends with its answer. The span of a cut call ends when its process is down. (Herlihy and Wing 1990.)
 pub fn keeps_order()
     ensures { KeepsOrder }
 {}

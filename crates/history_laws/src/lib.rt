@@ -1,7 +1,7 @@
-//! The laws of the history of every record of a list of events, whatever the flicks: what the marks of a record tell of
-//! its calls and of the commands that were taken (Herlihy and Wing 1990; cut calls by this project's own failure rule), what
-//! the registers of the store's versions hold, and the headline. Each law is a function with nothing to do, whose contract is
-//! the law. Whoever needs one calls it where the proof needs it.
+//! The laws of the history of every record of a list of events, for every flick. They state how the marks of a record fit its
+//! calls and the commands that were taken (Herlihy and Wing 1990; cut calls by this project's own failure rule), and what the
+//! registers of the store's versions hold. [`headline`] is the main theorem. Each law is a function with an empty body, whose
+//! contract is the law. A proof that needs a law calls its function.
 //!
 //! ```rust
 //! world::history_laws::headline();

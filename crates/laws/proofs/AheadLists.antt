@@ -1,4 +1,4 @@
--- Who is ahead of whom.
+-- The lists of processes that are ahead of another.
 use Rattle.std.proofs.Common.{◌≡◌, ◌↔◌, ℕ, zero, suc, ◌<◌, ◌&&◌, Bool, true, false, cond, List, [], ◌∷◌, Some, None, filter, refl, sym, ap, subst, ◌∙◌, true≢false, arith, IsTrue, Contains, AllPairs}
 use Rattle.std.specs.List.{range_with_len}
 use Rattle.std.proofs.lemmas.List.Elements.{All-contains, All-filter, All-contains_itself, filter_passes}
@@ -14,7 +14,7 @@ use Rattle.laws.proofs.DoorwayParts.{both}
 use Rattle.laws.proofs.FrameInside.{stage-is}
 use Rattle.laws.proofs.Theorems.{IsKept, is_process, waiter, waiter-numbers, not_ahead_of_itself, no_overtaking}
 
--- What a filter keeps.
+-- The elements that a filter keeps.
 
 kept : {X : Type 0} (test : X → Bool) (xs : List X) (x : X) → Contains (filter test xs) x → Contains xs x × (test x ≡ true)
 kept test xs x h = (
@@ -61,7 +61,7 @@ ascending n i j d less long =
     let y = get_or-range_with_len 0 n j d k in
     omega (arith, x, y, less)
 
--- Those ahead.
+-- The processes ahead.
 
 waits-is : (st : Stage) → is_waiting_stage st ≡ true → st ≡ stages.Waiting
 waits-is stages.Waiting h = refl
@@ -73,7 +73,7 @@ list-is s p past q = ap (λ b. elim b as (λ _. List ℕ) [ true ↦ filter (λ 
 pub queued-only : (s : Setup) (p : ℕ) (past : Past) → is_queued (stage p past) ≡ false → ahead s p past ≡ []
 queued-only s p past q = ap (λ b. elim b as (λ _. List ℕ) [ true ↦ filter (λ j. is_ahead past j p) (processes s) | false ↦ [] ]) q
 
--- whoever is ahead is ahead by the look-back
+-- a process in the list is ahead by the look-back
 ahead-is : (s : Setup) (p : ℕ) (past : Past) (j : ℕ) → Contains (ahead s p past) j → Contains (processes s) j × (is_ahead past j p ≡ true)
 ahead-is s p past j h = go (is_queued (stage p past)) refl
   where

@@ -32,7 +32,7 @@ ClosesInside Lies = Unit {0}
 ClosesInside (Runs command number at) = Unit {0}
 ClosesInside (Closes command number at) = SettlesInside at
 
--- who writes a version is inside
+-- a process that writes a version is inside
 pub version-written : (c : Call) (part : Part) (fresh : Bool) → is_version (written_at c part).0 ≡ true → is_inside_at part fresh ≡ true
 version-written c (WritesImage vs st) fresh h = refl
 version-written c (WritesStamp vs st) fresh h = refl
@@ -99,7 +99,7 @@ closes_inside s g = own-induction s (λ (past : Past) (p : ℕ). ClosesInside (d
     (λ past e p apart h. subst ClosesInside (sym (doing-other s p e past apart)) h)
     (λ events event e is h. on-step s (past_of s events) e.process e (doing s e.process (past_of s events)) (doing s e.process (e ∷ past_of s events)) (step_of s g events event e is).2 h)
 
--- who waits reads no version
+-- a process that waits reads no version
 waits-apart : (held_at since : ℕ) (from to : ℕ → ℕ) (w : Wait) (ws : List Wait) (j : ℕ) (js : List ℕ) → IsWait held_at since from to w ws j js → is_version w.1 ≡ false
 waits-apart held_at since from to (i, Choosing) ws j js h = refl
 waits-apart held_at since from to (i, Ticket) ws j js h = refl
@@ -159,7 +159,7 @@ touched_inside s g kept events event e is a acc h =
 pub alone : (s : Setup) → IsGood s → IsKept s → (events : List Event) (p : ℕ) → IsTrue (inside p (past_of s events)) → (j : ℕ) → IsTrue (inside j (past_of s events)) → j ≡ p
 alone s g kept events p h j k = mutual_exclusion s g kept events j p k h
 
--- who writes a register owns it
+-- a process that writes a register owns it
 pub owner_writes : (s : Setup) → IsGood s → (events : List Event) (event : Event) (e : Entry) → entry_of s (past_of s events) event ≡ Some e → (a : Access) → e.access ≡ Some a → IsWrite a.how → a.owner ≡ e.process
 owner_writes s g events event e is a acc w = go (entry-by s g events event e is)
   where

@@ -39,7 +39,7 @@ inv_opens s = record {
     none : {X : Type 0} → false ≡ true → X
     none e = absurd (false≢true e)
 
--- an entry leaves all but its process as they were
+-- an entry leaves all other processes as they were
 apart : (s : Setup) (past : Past) (e : Entry) → EntryBy e.process e → Apart s past e.process e
 apart s past e by = record {
   doing = λ q ne. doing-other s q e past (λ h. ne (sym h));
@@ -55,7 +55,7 @@ step_keeps s g past e below by truly inv d does step = go step
     at : (d' : Doing) → d ≡ d' → At s past e.process e d'
     at d' is = record { good = g; below = below; inv = inv; process = refl; apart = apart s past e by; does = does ∙ is }
 
-    -- an access of its call: of a read or of a write
+    -- an access of its call, which is part of a read or of a write
     access_keeps : (command : Command) (number : ℕ) (place : Place) (flick : Bool)
         → let x : Access = valued s past flick (access_at (call s e.process command number) place.part place.run) in
         d ≡ Runs command number place → is_over place.part ≡ false → e.access ≡ Some x → doing s e.process (e ∷ past) ≡ runs command number (place_after (call s e.process command number) place (value_of x.how)) →
@@ -72,7 +72,7 @@ step_keeps s g past e below by truly inv d does step = go step
         access_keeps command number place flick was over (access ∙ ap Some is) (then ∙ ap (λ (a : Access). runs command number (place_after (call s e.process command number) place (value_of a.how))) is) (is_read place.part) refl
     go (closes_on command number place flick n was next access then) = closing_keeps s past e.process e command number place flick n (at _ was) next access then
 
--- so every event does, and every past of a record keeps it
+-- every event keeps the invariant, and so every past of a record has it
 abbrev Holds : Setup → Past → Type 0
 Holds s past = IsGood s → Inv s past
 

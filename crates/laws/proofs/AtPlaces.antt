@@ -1,4 +1,4 @@
--- Induction over the places of a process: nothing but its call and its own steps changes what it knows there.
+-- Induction over the places of a process: its knowledge there changes only by its call and its own steps.
 use Rattle.std.specs.Prelude.{Option, not}
 use Rattle.std.proofs.Common.{◌≡◌, ◌≢◌, ℕ, ◌==◌, ◌&&◌, ◌||◌, Bool, true, false, cond, List, [], ◌∷◌, Some, None, length, map, refl, sym, ap, subst, ◌∙◌, eqb-true}
 use Rattle.std.proofs.lemmas.Bool.{eqb-false}
@@ -16,7 +16,7 @@ use Rattle.laws.specs.{Doing, Rests, Lies, Runs, Closes, call, runs, closes, doi
 use Rattle.laws.proofs.Frame.{Happens, a_call, a_withdrawal, a_failure, a_restart, a_step, a_closing, doing-other}
 use Rattle.laws.proofs.FrameEvents.{accepted}
 
--- what holds of each process of no entries, stays with the entries of others, and is kept by its own
+-- a property always holds if it holds without entries, and the entries of others and the process's own entries keep it
 pub own-induction : (s : Setup) (P : Past → ℕ → Type 0) → ((p : ℕ) → P [] p) →
     ((past : Past) (e : Entry) (p : ℕ) → e.process ≢ p → P past p → P (e ∷ past) p) →
     ((events : List Event) (event : Event) (e : Entry) → entry_of s (past_of s events) event ≡ Some e → P (past_of s events) e.process → P (e ∷ past_of s events) e.process) →
@@ -40,7 +40,7 @@ pub record Stepping (s : Setup) (past : Past) (p : ℕ) (e : Entry) (command : C
   pub made : access ≡ valued s past flick (access_at (call s p command number) at.part at.run)
   pub marks : e.marks ≡ map (placed (length (history s past))) (marks_of (call s p command number) at (value_of access.how))
 
--- what is said of a place, and of nothing else that a process may be doing
+-- a property of a place, and of no other state
 abbrev pub AtPlace : (Command → ℕ → Place → Type 0) → Doing → Type 0
 AtPlace Q Rests = Unit {0}
 AtPlace Q Lies = Unit {0}
@@ -58,11 +58,11 @@ at_place-runs Q command number at h = go (is_over at.part) h
     go true h = tt
     go false h = h refl
 
--- what is said of every past, process and place
+-- properties of every past, process and place
 abbrev pub Knowledge : Type 1
 Knowledge = Past → ℕ → Command → ℕ → Place → Type 0
 
--- what holds where a call begins, and is kept by steps and by the entries of others, holds at each place of each record
+-- a property that holds when a call begins, and that steps and the entries of others keep, holds at each place of each record
 pub place-induction : (s : Setup) → IsGood s → (Q : Knowledge) →
     ((past : Past) (e : Entry) (p : ℕ) (command : Command) (number : ℕ) (at : Place) → e.process ≢ p → Q past p command number at → Q (e ∷ past) p command number at) →
     ((past : Past) (e : Entry) (command : Command) (number : ℕ) → e.access ≡ None → e.marks ≡ Called command ∷ [] → Q (e ∷ past) e.process command number (enter (call s e.process command number) Raises)) →
@@ -142,7 +142,7 @@ any-placed test of k [] = refl
 any-placed test of k (Taken i r ∷ ms) = (λ j. (of.taken k r ∙ sym (of.taken i r)) j || any-placed test of k ms j)
 any-placed test of k (m ∷ ms) = ap (λ t. test m || t) (any-placed test of k ms)
 
--- of the marks of an access only the last ones pass
+-- only the last marks of an access pass the test
 pub any-marks : (test : Mark → Bool) → test Left ≡ false → (c : Call) (at : Place) (v : Bool) →
     list_any test (marks_of c at v) ≡ (is_last c at.part at.run && list_any test (last_marks c at.part (bits_with at.run v)))
 any-marks test left c at v = list_any-append test (cond (is_fresh at.run) (first_marks at.part) []) (cond (is_last c at.part at.run) (last_marks c at.part (bits_with at.run v)) [])

@@ -7,7 +7,7 @@ use Rattle.std.proofs.lemmas.List.{ext_get_or, get_or_append_left, length_push}
 use Rattle.record.specs.safe_number.{number_of_bits, bits_of_number}
 use Rattle.record.proofs.safe_number.Bits.{number-bits, number-fits, length-bits_of_number}
 
--- the bits are a ticket's, as far as they were read
+-- the bits are a prefix of the ticket's bits
 abbrev pub AreBitsOf : (ticket bits : List Bool) → Type 0
 AreBitsOf ticket bits = (k : ℕ) → k < length bits → slice_index_or bits k false ≡ slice_index_or ticket k false
 
@@ -25,6 +25,6 @@ pub number_read : (w ticket : ℕ) (bits : List Bool) → ticket < 2 ^ w → len
 number_read w ticket bits fits whole are =
     ap number_of_bits (ext_get_or false bits (bits_of_number w ticket) (whole ∙ sym (length-bits_of_number w ticket)) are) ∙ number-bits w ticket fits
 
--- what is read of w bits has w bits
+-- a number of w bits is below 2 ^ w
 pub number_small : (w : ℕ) (bits : List Bool) → length bits ≡ w → number_of_bits bits < 2 ^ w
 number_small w bits whole = subst (λ n. number_of_bits bits < 2 ^ n) whole (number-fits bits)

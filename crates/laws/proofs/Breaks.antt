@@ -9,7 +9,7 @@ use Rattle.laws.proofs.Owner.{ShowsNoMore, owner_shows_no_more}
 use Rattle.laws.proofs.Ready.{Ready}
 use Rattle.laws.proofs.Writing.{OneField}
 
--- Fields are told apart by their numbers.
+-- Fields differ by their numbers.
 
 pub ticket_not_choosing : Ticket ≢ Choosing
 ticket_not_choosing h = let e : field_number Ticket ≡ 0 = ap field_number h in omega arith
@@ -39,11 +39,11 @@ pub image_of_section : (b : Bool) → OfSection (image_field b)
 image_of_section true = above_one Image1 (omega arith)
 image_of_section false = above_one Image0 (omega arith)
 
--- the notes, but for whether the announcement and the ticket are whole, and when the announcement began
+-- the notes with another state of the announcement and the ticket, and another beginning of the announcement
 abbrev pub within : Notes → (announced holds : Bool) (began : ℕ) → Notes
 within n announced holds began = record n { announced = announced; holds = holds; began = began }
 
--- a write of field f leaves the announcement and the ticket, each only if f is another field; who is inside then was inside, and holds its ticket still
+-- a write of field f leaves the announcement, or the ticket, only if f is another field; a process that is inside then was inside, and still holds its ticket
 pub record Breaks (f : Field) (is is' : Bool) (n : Notes) (announced holds : Bool) (began : ℕ) : Type 0 where
   pub announced_was : announced ≡ true → n.announced ≡ true
   pub choosing_apart : announced ≡ true → Choosing ≢ f
@@ -53,7 +53,7 @@ pub record Breaks (f : Field) (is is' : Bool) (n : Notes) (announced holds : Boo
   pub inside_was : is' ≡ true → is ≡ true
   pub inside_holds : is' ≡ true → holds ≡ true
 
--- as owner
+-- the notes of p as an owner
 shows_no_more : (p r : ℕ) (f : Field) (is is' : Bool) (n : Notes) (announced holds : Bool) (began : ℕ) (m m' : Wires) (t t' : ℕ → ℕ → Touches) → Breaks f is is' n announced holds began → OneField p f m m' t t' →
     ShowsNoMore n (within n announced holds began) (t p r) (t' p r)
 shows_no_more p r f is is' n announced holds began m m' t t' b one = record {
@@ -66,7 +66,7 @@ shows_no_more p r f is is' n announced holds began m m' t t' b one = record {
   ticket_marks = λ e k. ap (λ y. y k) (one.touches r Ticket (b.ticket_apart e));
 }
 
--- an access of a write, all but its place
+-- an access of a write keeps all of the own part except its place
 pub ready_breaks : (s : Setup) (past : Past) (p : ℕ) (f : Field) (is is' : Bool) (n : Notes) (announced holds : Bool) (began : ℕ) (m m' : Wires) (t t' : ℕ → ℕ → Touches) →
     Breaks f is is' n announced holds began → OneField p f m m' t t' → began < suc (next_time past) → Ready s past p is n m t → Ready s past p is' (within n announced holds began) m' t'
 ready_breaks s past p f is is' n announced holds began m m' t t' b one early r = record {

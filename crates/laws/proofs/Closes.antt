@@ -1,4 +1,4 @@
--- The accesses of a closing: of a withdrawal, and of a memory unit.
+-- The accesses of a withdrawal and of a memory unit.
 use Rattle.std.proofs.Common.{◌≡◌, ℕ, ◌&&◌, Bool, true, false, cond, [], ◌∷◌, Option, None, Some, refl, sym, ap, subst, ◌∙◌}
 use Rattle.std.proofs.lemmas.Bool.{false≢true}
 use Rattle.record.specs.reader_copies.Runs as copies
@@ -27,7 +27,7 @@ closing_field c (closing.Lowers w) flick n h = ap {A = Option Next} (λ o. elim 
 closing_field c Quit flick n h = cc
 closing_field c Ended flick n h = cc
 
--- who withdrew clears its ticket, and is at rest then
+-- a process that withdrew clears its ticket, and is at rest then
 withdraws_on : (s : Setup) (past : Past) (p : ℕ) (command : Command) (number : ℕ) (w : NumberWrite) (flick : Bool) (n : Notes) (m m' : Wires) (t t' : ℕ → ℕ → Touches) → Ready s past p false n m t → OneField p Ticket m m' t t' →
     Moves s past p (closes command number (closing_after (call s p command number) (Withdraws w) flick)) (broken Ticket n) m' t'
 withdraws_on s past p command number w flick n m m' t t' r one = go (is_last_written c (no_ticket c) w)
@@ -79,7 +79,7 @@ lowers_on s past p command number w flick n m m' t t' r free one = go (is_last_w
     go true = moves_to s past p Lies (broken Choosing n) m' t' after free (λ o below ne. tt)
     go false = closing_moves s past p command number (closing.Lowers (write_moved s.processes (false ∷ []) w)) (broken Choosing n) m' t' after free
 
--- what the settling of a bit breaks: who settles a bit of its ticket holds none, and is not inside
+-- the breaks of a settling: a process whose unit settles a bit of its ticket holds no ticket, and is not inside
 settling_breaks : (f : Field) (is : Bool) (n : Notes) → StandsSettling f n.holds → (is ≡ true → n.holds ≡ true) → Breaks f is is n (breaks_announced f n.announced) (breaks_ticket f n.holds) n.began
 settling_breaks Choosing is n st held = choosing_breaks n n.began is (λ e. refl) held
 settling_breaks Ticket is n st held = record {

@@ -1,4 +1,4 @@
--- How far each write of a register has come, also one of a withdrawal or of a memory unit: what stands before its place is done.
+-- The progress of each write of a register, including writes of a withdrawal or of a memory unit: all copies before its place are done.
 use Rattle.std.proofs.Common.{◌≡◌, ℕ, ◌<◌, Bool, true, false, cond, List, [], ◌∷◌, Option, Some, None, refl, sym, ap, subst, ◌∙◌, arith, inl, inr}
 use Rattle.std.proofs.lemmas.Bool.{cases_eq}
 use Rattle.std.specs.Prelude.{option_map}
@@ -24,7 +24,7 @@ use Rattle.laws.proofs.Writing.{Advanced, advances}
 
 -- The writes of closings.
 
--- how far the write of a closing has come
+-- the progress of the write of a closing
 abbrev ClosingWritten : Setup → ℕ → Wires → Doing → Type 0
 ClosingWritten s p m (Closes command number (Withdraws w)) = Written s.processes (no_ticket (call s p command number)) w m Ticket
 ClosingWritten s p m (Closes command number (Frees is w)) = Written s.processes (no_ticket (call s p command number)) w m Ticket
@@ -138,7 +138,7 @@ closings_written s = past-induction Each s (λ g p. tt) more
 pub some_write : (x y : RegisterWrite) → Some x ≡ Some y → x ≡ y
 some_write x y h = cc
 
--- how far a write has come
+-- the progress of a write
 abbrev pub WrittenSoFar : Setup → Wires → RegisterWrite → Type 0
 WrittenSoFar s m w = Written s.processes w.bits w.run m w.field
 
@@ -146,7 +146,7 @@ run_written : (c : Call) (m : Wires) (part : Part) (run : Run) (w : RegisterWrit
 run_written c m part (Writing x) w stands h = subst (WrittenSoFar c.setup m) (some_write _ w h) stands.1
 run_written c m part (Reading bits begun) w stands h = cc
 
--- in every record: the write that a process makes, or its memory unit, has come so far
+-- in every record: the progress of the write that a process, or its memory unit, makes
 pub written_so_far : (s : Setup) → IsGood s → (events : List Event) (p : ℕ) (w : RegisterWrite) → register_write s p (doing s p (past_of s events)) ≡ Some w → WrittenSoFar s (wires s (past_of s events) p) w
 written_so_far s g events p w h = go (doing s p past) refl h
   where

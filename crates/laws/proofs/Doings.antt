@@ -1,4 +1,4 @@
--- Of what a process is doing: whether it is inside, its stage, and what one accepted event makes of it.
+-- The state of a process: whether it is inside, its stage, and its change by one accepted event.
 use Rattle.std.specs.Prelude.{◌≡◌, ℕ, Bool, false, cond, List, None, Some}
 use Rattle.record.specs.reader_copies.Runs as copies
 use Rattle.record.specs.{Access, Call, Closing, Entry, Next, Past, Place, Raises, Run, Settles, Stage, Wait, Waits, Withdraws, access_at, closing_after, closing_next, closing_stage, enter, freeing, is_commit, is_fresh, is_over, is_read, is_unwritten, place_after, stage_at, value_of, valued, withdrawing, written_at}
@@ -15,7 +15,7 @@ stage_of Lies = stage.Down
 stage_of (Runs command number at) = stage_at at
 stage_of (Closes command number at) = closing_stage at
 
--- what the memory unit of p begins with where p fails: with the bit that is unfinished, or with the ticket
+-- the first closing of the memory unit of p where p fails: with the bit that is unfinished, or with the ticket
 pub data IsCut (s : Setup) (p : ℕ) (c : Call) (cl : Closing) : Doing → Type 0 where
   at_rest : cl ≡ freeing c false → IsCut s p c cl Rests
   between : (command : Command) (number : ℕ) (at : Place) → cl ≡ freeing c (is_inside_at at.part (is_fresh at.run)) → IsCut s p c cl (Runs command number at)
@@ -26,7 +26,7 @@ pub data IsCut (s : Setup) (p : ℕ) (c : Call) (cl : Closing) : Doing → Type 
   clearing : (command : Command) (number : ℕ) (w : NumberWrite) (bit : ℕ) (begun : Bool) (t : copies.Settling) →
       cl ≡ Settles Ticket bit begun None false t → is_unwritten w ≡ false → IsCut s p c cl (Closes command number (Withdraws w))
 
--- what one accepted event is for its process p, which was doing d and does d' then; e is its entry
+-- one accepted event for its process p, which had state d and then has d'; e is its entry
 pub data Step (s : Setup) (past : Past) (p : ℕ) (e : Entry) (d d' : Doing) : Type 0 where
   calls : (command : Command) (number : ℕ) → d ≡ Rests → e.access ≡ None → d' ≡ Runs command number (enter (call s p command number) Raises) → Step s past p e d d'
   withdraws : (command : Command) (number t : ℕ) (w : Wait) (ws : List Wait) (run : Run) → d ≡ Runs command number (record { part = Waits t w ws; run = run }) → e.access ≡ None →

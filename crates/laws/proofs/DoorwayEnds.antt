@@ -1,4 +1,4 @@
--- How a doorway ends that is not cut: with a ticket or with `TicketsFull`, and which of the two by the tickets that were read.
+-- The end of a doorway that is not cut: a ticket or `TicketsFull`, depending on the tickets that were read.
 use Rattle.std.proofs.Common.{◌≡◌, ◌↔◌, ℕ, zero, suc, ◌==◌, ◌||◌, Bool, true, false, cond, List, [], ◌∷◌, ◌++◌, Some, None, length, map, refl, sym, ap, subst, ◌∙◌, true≢false, arith, eqb-true, eq-eqb, Contains}
 use Rattle.std.specs.List.{list_any}
 use Rattle.plain_store.specs.{Answer, Setup, changes}
@@ -14,7 +14,7 @@ use Rattle.laws.proofs.AtPlaces.{AtPlace, Stepping, IsOfLock, any-placed, any-st
 use Rattle.laws.proofs.DoorwayParts.{both}
 use Rattle.laws.proofs.FullAnswers.{AllAsked, KnowsAt, KnowsTickets, full_in, is_full, knows, read_in_call}
 
--- how an entry ends the doorway in which these numbers were read
+-- an entry ends the doorway in which these numbers were read
 pub data EndsWith (s : Setup) (p : ℕ) (values : Numbers) (e : Entry) : Type 0 where
   with_ticket : (t : ℕ) (ws : List Wait) → e.marks ≡ Waiting t ∷ entered_if_none ws → AllAsked s p None values → EndsWith s p values e
   with_full : (f : ℕ) → e.marks ≡ Answered (answer.TicketsFull f) ∷ [] → AllAsked s p (Some f) values → EndsWith s p values e
@@ -75,12 +75,12 @@ happens-ends s past p e (a_step command number at a flick i o is made m k) x h =
     part-ends s p c at.part bits (read_in_call s p past).finished e (length (history s past)) (is_fresh at.run) tests.1 knows_it.knows
     (m ∙ ap (λ b. map (placed (length (history s past))) (cond (is_fresh at.run) (first_marks at.part) [] ++ cond b (last_marks c at.part bits) [])) tests.0)
 
--- how an entry of a record ends its doorway
+-- an entry of a record ends its doorway
 pub ends : (s : Setup) → IsGood s → (events : List Event) (event : Event) (e : Entry) → entry_of s (past_of s events) event ≡ Some e → has ends_doorway e ≡ true →
     EndsWith s e.process (read_in_call s e.process (past_of s events)).finished e
 ends s g events event e is h = happens-ends s (past_of s events) e.process e (accepted s g events event e is).happens (knows s g events e.process) h
 
--- Marks that tell.
+-- Marks that end a doorway.
 
 -- `TicketsFull` with this process
 abbrev pub tells_full : ℕ → Mark → Bool

@@ -1,4 +1,4 @@
--- The doorway of a call, part by part: whether it has begun and whether it is finished, what a step makes of it, and what the step's entry tells.
+-- The doorway of a call, part by part: whether it has begun, whether it has ended, the change by a step, and the marks of the step's entry.
 use Rattle.std.proofs.Common.{◌≡◌, ℕ, ◌+◌, ◌/◌, ◌%◌, ◌==◌, ◌&&◌, ◌||◌, not, Bool, true, false, cond, List, [], ◌∷◌, Option, Some, None, refl, sym, ap, subst, ◌∙◌, true≢false, if◌then◌else◌, slice_index_or, is_none}
 use Rattle.std.proofs.lemmas.Bool.{eqb-true}
 use Rattle.std.specs.Prelude.{unwrap_or}
@@ -35,7 +35,7 @@ abbrev pub is_lowering : Part → Bool
 is_lowering (Lowers t) = true
 is_lowering _ = false
 
--- What a step does to the place.
+-- The change of the place.
 
 begun-to_e : (ks : List ℕ) (vs : List Version) (fresh : Bool) → (has_begun (to_e ks vs) fresh ≡ true) × (has_finished (to_e ks vs) ≡ true)
 begun-to_e [] vs fresh = (refl, refl)
@@ -119,14 +119,14 @@ finished-next c at v = go (is_last c at.part at.run)
     go true o = finished-after c at.part (bits_with at.run v) o
     go false o = none (has_finished at.part)
 
--- What it does to the notes.
+-- The change of the notes.
 
 pub began-kept : (part : Part) (fresh : Bool) (now was : ℕ) → has_begun part fresh ≡ true → began_by part fresh now was ≡ was
 began-kept Raises true now was h = absurd (true≢false (sym h))
 began-kept Raises false now was h = refl
 began-kept _ fresh now was h = refl
 
--- where nothing has begun, the announcement is still to be made
+-- if the doorway has not begun, the announcement is still to be made
 pub to-begin : (part : Part) (fresh : Bool) → has_begun part fresh ≡ false → (part ≡ Raises) × (fresh ≡ true)
 to-begin Raises true h = (refl, refl)
 to-begin Raises false h = absurd (true≢false h)
@@ -156,7 +156,7 @@ pub finished-begun : (part : Part) (fresh : Bool) → has_finished part ≡ true
 finished-begun Raises fresh h = absurd (true≢false (sym h))
 finished-begun _ fresh h = refl
 
--- What its entry tells.
+-- The marks of the entry.
 
 abbrev pub of_waiting : IsOfLock is_waiting
 of_waiting = record { taken = λ k r. refl; left = refl; settled = λ v. refl; down = refl; withdrawn = refl }

@@ -24,7 +24,7 @@ use Rattle.laws.proofs.Invariant.{Wire, wires}
 abbrev Copy : Setup → Past → Access → Wire
 Copy s past n = wires s past n.owner n.field n.bit n.reader
 
--- where the next access ends a write, its copy has the value that is being written
+-- if the next access ends a write, its copy has the value that is being written
 abbrev Ending : Setup → Past → ℕ → Doing → Type 0
 Ending s past p d = (flick : Bool) (n : Access) → next_of s p d flick ≡ Some n → n.how ≡ EndWrite → (Copy s past n).value ≡ being_written s p d
 
@@ -51,7 +51,7 @@ written s past e p f bits n w access x is how = go (made + 1 == 2 * n) refl
     a : Access
     a = access_of p f (next_written bits w)
 
-    -- where the write is then
+    -- the place of the write then
     to : Bool → NumberWrite
     to b = if b then record { width = w.width; bit = w.bit + 1; run = None } else record { width = w.width; bit = w.bit; run = Some (record { value = value; made = made + 1; ended = b }) }
 
@@ -79,7 +79,7 @@ written s past e p f bits n w access x is how = go (made + 1 == 2 * n) refl
 fresh_write : (p : ℕ) (f : Field) (bits : List Bool) (width : ℕ) (x : Access) → access_of p f (next_written bits (new_write width)) ≡ x → x.how ≡ EndWrite → ⊥
 fresh_write p f bits width x is how = let h : (if 0 % 2 == 0 then BeginWrite (bit_written bits (new_write width)).value else EndWrite) ≡ EndWrite = ap (λ (y : Access). y.how) is ∙ how in cc
 
--- nor at that of a part
+-- nothing ends at the begin of a part
 fresh_part : (s : Setup) (past : Past) (p : ℕ) (command : Command) (number : ℕ) (x : Part) → Ending s past p (runs command number (enter (call s p command number) x))
 fresh_part s past p command number x flick n = over (is_over x)
   where
@@ -221,7 +221,7 @@ happens_ends s past p e d d' (a_step command number at a flick was over access i
     subst (Ending s (e ∷ past) p) (sym goes) (place_ends s past e p command number at flick over (access ∙ ap Some is) (value_of a.how))
 happens_ends s past p e d d' (a_closing command number at flick n was next access same marks goes) = subst (Ending s (e ∷ past) p) (sym goes) (closing_ends s past e p command number at flick n next access)
 
--- who writes is the owner
+-- a process that writes is the owner
 write_owner : (s : Setup) (p : ℕ) (d : Doing) (flick : Bool) (n : Access) → next_of s p d flick ≡ Some n → n.how ≡ EndWrite → n.owner ≡ p
 write_owner s p Rests flick n i how = cc
 write_owner s p Lies flick n i how = cc

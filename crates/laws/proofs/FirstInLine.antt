@@ -1,4 +1,4 @@
--- Who is inside stands before everybody that waits, and so does whoever gets inside.
+-- A process that is inside, or enters, precedes each process that waits.
 use Rattle.std.proofs.Common.{◌≡◌, ◌≢◌, ◌⊎◌, ℕ, ◌<◌, ◌==◌, ◌&&◌, ◌||◌, nat_lt, Bool, true, false, List, ◌∷◌, Some, refl, sym, ap, subst, ◌∙◌, true≢false, inl, inr, cond, eq-eqb, ne_eqb, IsTrue}
 use Rattle.std.specs.Prelude.{fold}
 use Rattle.std.proofs.lemmas.Bool.{lt-ltb}
@@ -27,14 +27,14 @@ below-test a j b p (inr (same, lower)) = go (nat_lt a b)
     go true = refl
     go false = λ i. eq-eqb a b same i && lt-ltb j p lower i
 
--- who waits was told the ticket that it holds
+-- the ticket that a waiting process holds is the one in its marks
 waiter-told : (s : Setup) → IsGood s → (events : List Event) (q : ℕ) → WaitsAt (doing s q (past_of s events)) → ticket_told q (past_of s events) ≡ (notes s q (past_of s events)).ticket
 waiter-told s g events q x =
     let past : Past = past_of s events in
     let at : TicketIs s past q x.command x.number x.at = subst (AtPlace (TicketIs s past q)) x.does (tickets s g events q) in
     subst (λ y. TicketAt y (notes s q past).ticket (ticket_told q past)) x.part_is at
 
--- it is not inside
+-- a waiting process is not inside
 waiter-outside : (s : Setup) (past : Past) (q : ℕ) → WaitsAt (doing s q past) → is_inside (doing s q past) ≡ false
 waiter-outside s past q x = ap is_inside x.does ∙ ap (λ y. is_inside_at y (is_fresh x.at.run)) x.part_is
 

@@ -1,4 +1,4 @@
--- What each process is doing is what the look-backs of its entries say, and what one accepted event is for its process.
+-- The state of each process agrees with the look-backs of its entries. One accepted event is a step of its process.
 use Rattle.std.proofs.Common.{◌≡◌, ◌≢◌, ℕ, suc, ◌==◌, Bool, true, false, cond, List, [], ◌∷◌, Some, None, length, map, refl, sym, ap, ◌∙◌, eq-eqb, ne_eqb}
 use Rattle.std.specs.Prelude.{fold}
 use Rattle.record.specs.safe_bit.{read_value}
@@ -28,7 +28,7 @@ doing-other s q e past h = ap (λ b. cond b (does_after s q (own q past) e (star
 pub notes-other : (s : Setup) (q : ℕ) (e : Entry) (past : Past) → e.process ≢ q → notes s q (e ∷ past) ≡ notes s q past
 notes-other s q e past h = ap (λ b. cond b (notes_after s q (suc (length past)) e.access (doing s q past) (notes s q past)) (notes s q past)) (ne_eqb e.process q h)
 
--- one of its own goes on
+-- an entry of the process itself is added
 pub own-own : (q : ℕ) (e : Entry) (past : Past) → e.process ≡ q → own q (e ∷ past) ≡ e ∷ own q past
 own-own q e past h = ap (λ b. cond b (e ∷ own q past) (own q past)) (eq-eqb e.process q h)
 
@@ -38,7 +38,7 @@ doing-goes s q e past h = ap (λ b. cond b (does_after s q (own q past) e (start
 pub notes-goes : (s : Setup) (q : ℕ) (e : Entry) (past : Past) → e.process ≡ q → notes s q (e ∷ past) ≡ notes_after s q (suc (length past)) e.access (doing s q past) (notes s q past)
 notes-goes s q e past h = ap (λ b. cond b (notes_after s q (suc (length past)) e.access (doing s q past) (notes s q past)) (notes s q past)) (eq-eqb e.process q h)
 
--- what p is doing is what its own entries say when they are looked back on
+-- the state of p agrees with the look-backs of its own entries
 pub data Does (s : Setup) (p : ℕ) (mine : Past) (st : Stage) (d : Doing) : Type 0 where
   at_rest : st ≡ stages.Idle → d ≡ Rests → Does s p mine st d
   lying : st ≡ stages.Down → d ≡ Lies → Does s p mine st d
@@ -46,7 +46,7 @@ pub data Does (s : Setup) (p : ℕ) (mine : Past) (st : Stage) (d : Doing) : Typ
   leaving : last_start mine ≡ Some Withdrew → st ≡ stages.Leaving → d ≡ Closes (last_command mine) (call_number s mine) (leaving_at s p mine) → Does s p mine st d
   settling : last_start mine ≡ Some Failed → st ≡ stages.Settling → d ≡ Closes (last_command mine) (call_number s mine) (failing_at s p mine) → Does s p mine st d
 
--- where it may fail
+-- whether it may fail
 abbrev pub may_fail : Doing → Bool
 may_fail Rests = true
 may_fail Lies = false
@@ -54,7 +54,7 @@ may_fail (Runs command number at) = true
 may_fail (Closes command number (Withdraws w)) = true
 may_fail (Closes command number _) = false
 
--- What one accepted event is for its process p, with its marks.
+-- One accepted event for its process p, with its marks.
 pub data Happens (s : Setup) (past : Past) (p : ℕ) (e : Entry) (d d' : Doing) : Type 0 where
   a_call : (command : Command) (number : ℕ) → d ≡ Rests → e.access ≡ None → e.marks ≡ Called command ∷ [] → d' ≡ Runs command number (enter (call s p command number) Raises) → Happens s past p e d d'
   a_withdrawal : (command : Command) (number t : ℕ) (w : Wait) (ws : List Wait) (run : Run) → d ≡ Runs command number (record { part = Waits t w ws; run = run }) → e.access ≡ None → e.marks ≡ Withdrew ∷ [] →
@@ -73,7 +73,7 @@ pub record Goes (s : Setup) (past : Past) (p : ℕ) (e : Entry) (d d' : Doing) :
   pub happens : Happens s past p e d d'
   pub does : Does s p (e ∷ own p past) (fold stage_after (stage p past) e.marks) d'
 
--- what p does after an entry of its own
+-- the state of p after an entry of its own
 abbrev pub then_doing : Setup → Past → ℕ → Entry → Doing
 then_doing s past p e = does_after s p (own p past) e (start_in e.marks) (doing s p past)
 

@@ -1,4 +1,4 @@
--- What an entry does to the cells, and what the end of a read gives.
+-- The effect of an entry on the cells, and the value that the end of a read gives.
 use Rattle.std.proofs.Common.{◌≡◌, ◌≢◌, ℕ, ◌==◌, ◌&&◌, Bool, true, false, cond, List, [], ◌∷◌, ◌++◌, Some, None, refl, sym, ap, subst, ◌∙◌, eqb-true, eq-eqb}
 use Rattle.record.specs.safe_bit.Cell.{Cell, cell_of, read_answer}
 use Rattle.record.specs.safe_bit.Cell as bit
@@ -12,7 +12,7 @@ use Rattle.record.proofs.Singles.{is_write}
 use Rattle.record.proofs.TurnRecords.{turns_all}
 use Rattle.record.proofs.Width.{IsGood}
 
--- the cells of o as the past has made them: of each field each bit, and of it each reader's copy
+-- the cells of o after the past: each reader's copy of each bit of each field
 abbrev pub cells : Setup → Past → ℕ → Field → ℕ → ℕ → Cell
 cells s past o f k r = cell_after s past (copy o f r k)
 
@@ -36,7 +36,7 @@ cells-kept s past e o f k r h = ap (λ y. cell_of (opening_bit s a) (elim y as (
     a : Access
     a = copy o f r k
 
--- a field is told by its number
+-- the field with this number
 abbrev pub field_of : ℕ → Field
 field_of n = cond (n == 0) Choosing (cond (n == 1) Ticket (cond (n == 2) Commit (cond (n == 3) Stamp0 (cond (n == 4) Stamp1 (cond (n == 5) Image0 Image1)))))
 

@@ -1,4 +1,4 @@
--- A step of a process that withdrew, and of a memory unit, is what the look-backs say.
+-- A step of a process that withdrew, and of a memory unit, agrees with the look-backs.
 use Rattle.std.proofs.Common.{◌≡◌, ℕ, ◌==◌, Bool, true, false, cond, List, ◌∷◌, Some, map, refl, sym, ap, ◌∙◌, true≢false}
 use Rattle.std.specs.Prelude.{fold}
 use Rattle.record.specs.safe_bit.{read_value}
@@ -48,7 +48,7 @@ closing-goes s past p flick e at step does then = record {
     d' : then_doing s past p e ≡ closes (last_command mine) (call_number s mine) (closing_after (last_call s p mine) at value)
     d' = then-closing s past p e (last_command mine) (call_number s mine) at n.access step.plain step.access does
 
--- what it closes is the same command, with the same number, after an entry that begins no program
+-- an entry that begins no program changes neither the command nor the number of the closing
 same-call : (s : Setup) (mine : Past) (e : Entry) (at : Closing) → has starts e ≡ false →
     Closes (last_command (e ∷ mine)) (call_number s (e ∷ mine)) at ≡ Closes (last_command mine) (call_number s mine) at
 same-call s mine e at plain = λ j. Closes (command-plain e mine plain j) (cond (s.version == 2) (calls-plain e mine plain j) 0) at

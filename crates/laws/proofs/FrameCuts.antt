@@ -1,4 +1,4 @@
--- What the writes of a process have left unfinished, by what it is doing: so what its memory unit begins with where it fails.
+-- The unfinished write of a process, by its state: its memory unit begins with it where the process fails.
 use Rattle.std.proofs.Common.{◌≡◌, ℕ, ◌+◌, ◌*◌, ◌%◌, ◌<◌, ◌==◌, Bool, true, false, cond, List, [], ◌∷◌, Option, Some, None, length, refl, sym, ap, subst, ◌∙◌, arith, true≢false, eqb-true}
 use Rattle.std.specs.Prelude.{is_none}
 use Rattle.record.specs.safe_bit.{Move}
@@ -33,18 +33,18 @@ last-made e mine x h =
     go (BeginWrite v) = refl
     go _ = refl
 
--- Of a write.
+-- The unfinished access of a write.
 
--- the access that a process has left unfinished
+-- the unfinished access of a process
 abbrev pub left : Setup → Past → Option Access
 left s mine = unfinished s.processes (last_write mine)
 
--- a write of a field has left nothing unfinished, or its present bit
+-- a write of a field has no unfinished access, or one of its present bit
 pub data LeftBy (torn : Option Access) (f : Field) (w : NumberWrite) : Type 0 where
   nothing : torn ≡ None → LeftBy torn f w
   one_bit : (a : Access) → torn ≡ Some a → a.field ≡ f → is_none w.run ≡ false → LeftBy torn f w
 
--- a write that goes on, and has made an access of its present bit once it has begun it
+-- a write that continues, and has made an access of its present bit once it has begun it
 pub record WriteOn (n : ℕ) (bits : List Bool) (w : NumberWrite) : Type 0 where
   pub goes : Goes n bits w
   pub begun : (r : copies.Writing) → w.run ≡ Some r → 0 < r.made
@@ -63,7 +63,7 @@ written-writes p f bits w = go ((bit_written bits w).made % 2 == 0)
     go true = refl
     go false = refl
 
--- what it leaves unfinished, by whether it is the last one on its bit
+-- the unfinished access, by whether it is the last one on its bit
 left-written : (n p : ℕ) (f : Field) (bits : List Bool) (w : NumberWrite) → unfinished n (Some (written p f bits w)) ≡ cond ((bit_written bits w).made + 1 == 2 * n) None (Some (written p f bits w))
 left-written n p f bits w = ap (λ b. cond b None (Some (written p f bits w))) (ends-bit n (bit_written bits w).made (bit_written bits w).value)
 
@@ -104,7 +104,7 @@ left-done n p f bits w torn h inside = go ((bit_written bits w).made + 1 == 2 * 
     go true k l = k
     go false k l = let all : w.bit ≡ w.width = eqb-true w.bit w.width l in absurd (omega (arith, inside, all))
 
--- Of what is done.
+-- The unfinished access of a state.
 
 abbrev pub LeftRun : Call → Option Access → Part → Run → Type 0
 LeftRun c torn x (Writing w) = (is_read x ≡ false) × WriteOn c.setup.processes (written_at c x).1 w × LeftBy torn (written_at c x).0 w
@@ -118,7 +118,7 @@ LeftClosing c torn (Lowers w) = WriteOn c.setup.processes (false ∷ []) w
 LeftClosing c torn Quit = Unit {0}
 LeftClosing c torn Ended = Unit {0}
 
--- what is left unfinished while this is done
+-- the unfinished access in this state
 abbrev pub LeftIn : Setup → ℕ → Option Access → Doing → Type 0
 LeftIn s p torn Rests = torn ≡ None
 LeftIn s p torn Lies = torn ≡ None
@@ -139,7 +139,7 @@ pub unit-left : (c : Call) → IsGood c.setup → (mine : Past) (torn now : Opti
 unit-left c g mine None now = new-ticket c g
 unit-left c g mine (Some a) now = tt
 
--- at a place to which the process has come
+-- at a place that the process reaches
 place-left : (s : Setup) (p : ℕ) (torn : Option Access) (command : Command) (number : ℕ) (to : Place) → (is_over to.part ≡ true → torn ≡ None) → (is_over to.part ≡ false → LeftRun (call s p command number) torn to.part to.run) →
     LeftIn s p torn (runs command number to)
 place-left s p torn command number to over on = go (is_over to.part) refl

@@ -1,4 +1,4 @@
--- With which steps a doorway begins, and what each process is doing, said by each of its look-backs.
+-- The steps with which a doorway begins, and the state of each process, by each of its look-backs.
 use Rattle.std.proofs.Common.{◌≡◌, ◌≢◌, ℕ, ◌/◌, ◌%◌, ◌<◌, ◌==◌, ◌&&◌, Bool, true, false, cond, List, [], ◌∷◌, Option, Some, None, refl, sym, ap, subst, ◌∙◌, arith, eqb-true, ne_eqb}
 use Rattle.std.specs.Prelude.{is_none, not, slice_index_or, unwrap_or}
 use Rattle.record.specs.reader_copies.Runs as copies
@@ -68,7 +68,7 @@ choosing-begins bits w v begun = go w.run begun
             let even : r.made % 2 ≡ 0 = eqb-true (r.made % 2) 0 i in
             ap (λ z. z && r.value) (ne_eqb (r.made / 2) 0 (λ u. omega (arith, u, even, some)))
 
--- of one bit
+-- a write of one bit
 one_bit : (n : ℕ) (b : Bool) (w : NumberWrite) → WriteOn n (b ∷ []) w → w.bit ≡ 0
 one_bit n b w on = omega (arith, on.goes.inside, on.goes.width)
 

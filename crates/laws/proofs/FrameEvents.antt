@@ -18,7 +18,7 @@ use Rattle.laws.specs.{Doing, Rests, Lies, Runs, Closes, doing}
 use Rattle.laws.proofs.Frame.{Does, at_rest, lying, running, leaving, settling, may_fail, Happens, a_call, a_withdrawal, a_failure, a_restart, Goes, then_doing, running-goes, doing-goes}
 use Rattle.laws.proofs.FrameClosings.{leaving-goes, settling-goes}
 
--- where the stage tells what is done
+-- the stage determines the state
 rest-of : (s : Setup) (p : ℕ) (mine : Past) (st : Stage) (d : Doing) → Does s p mine st d → st ≡ stages.Idle → d ≡ Rests
 rest-of s p mine st d (at_rest i k) h = k
 rest-of s p mine st d (lying i k) h = let f : stages.Down ≡ stages.Idle = sym i ∙ h in cc
@@ -48,7 +48,7 @@ is-waiting p stages.Doorway h = cc
 is-waiting p stages.Waiting h = refl
 is-waiting p _ h = cc
 
--- who waits is at a part D
+-- a process that waits is at a part D
 waits-part : (x : Part) (f : Bool) → part.stage_of x f ≡ stages.Waiting → (t : ℕ) × (w : Wait) × (ws : List Wait) × (x ≡ Waits t w ws)
 waits-part part.Raises f h = cc
 waits-part (part.Asks j js ts) f h = cc
@@ -66,7 +66,7 @@ waits-part (part.Clears a) true h = cc
 waits-part (part.Clears a) false h = cc
 waits-part part.Over f h = cc
 
--- a withdrawal goes on, or is over
+-- a withdrawal continues, or is over
 leaving-fails : (command : Command) (number : ℕ) (x : Closing) → closing_stage x ≡ stages.Leaving → may_fail (Closes command number x) ≡ true
 leaving-fails command number (Withdraws w) h = refl
 leaving-fails command number _ h = cc
@@ -145,7 +145,7 @@ event-goes s g events (event.Step p flick) e h does a = go does
     go (leaving b i k) = leaving-goes s g events p flick e b i k a
     go (settling b i k) = settling-goes s g events p flick e b i k a
 
--- in every record each process does what its entries say
+-- in every record the state of each process agrees with its entries
 pub does_all : (s : Setup) → IsGood s → (events : List Event) (p : ℕ) → Does s p (own p (past_of s events)) (stage p (past_of s events)) (doing s p (past_of s events))
 does_all s g [] p = at_rest refl refl
 does_all s g (what ∷ events) p = with_entry (does_all s g events) (entry_of s (past_of s events) what) refl
@@ -171,7 +171,7 @@ does_all s g (what ∷ events) p = with_entry (does_all s g events) (entry_of s 
             rw i (subst P (sym is ∙ eqb-true e.process p i) (event-goes s g events what e acc.1 (ih (process_of what)) acc.2).does)
         at false i = rw i (ih p)
 
--- an accepted event is one of a process that there is, and what it is for it
+-- an accepted event is of a process that exists, and is a step of it
 pub record Accepted (s : Setup) (past : Past) (what : Event) (e : Entry) : Type 0 where
   pub process : e.process ≡ process_of what
   pub below : e.process < s.processes

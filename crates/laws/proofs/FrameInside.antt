@@ -114,7 +114,7 @@ inside-marks c (Clears a) v false true = refl
 inside-marks c (Clears a) v false false = refl
 inside-marks c Over v b1 b2 = plain_first _ _ _ b1 b2 refl
 
--- How far a number access has come: nothing is made of a new one, and something after an access.
+-- The progress of a number access: a new one has no access, and any other has one.
 
 pub enter-fresh : (c : Call) (x : Part) → is_fresh (new_run c x) ≡ true
 enter-fresh c x = go (is_read x)
@@ -139,7 +139,7 @@ over-outside : (x : Part) (fresh : Bool) → is_over x ≡ true → is_inside_at
 over-outside Over fresh h = refl
 over-outside _ fresh h = cc
 
--- what is inside at a place, is inside in the doing of that place
+-- a place that is inside is inside as a state
 pub inside-runs : (command : Command) (number : ℕ) (at : Place) → is_inside (runs command number at) ≡ is_inside_at at.part (is_fresh at.run)
 inside-runs command number at = go (is_over at.part) refl
   where
@@ -221,7 +221,7 @@ failing-inside c mine = go (unfinished c.setup.processes (last_write mine))
     go None = and_true (inside c.process mine)
     go (Some a) = refl
 
--- what an accepted event makes of it
+-- the change by an accepted event
 pub inside-happens : (s : Setup) (past : Past) (p : ℕ) (e : Entry) (d d' : Doing) → Happens s past p e d d' → inside p past ≡ is_inside d → fold inside_after (is_inside d) e.marks ≡ is_inside d'
 inside-happens s past p e d d' (a_call command number was none marks then) i =
     ap (fold inside_after (is_inside d)) marks ∙ ap is_inside was ∙ sym (ap is_inside then)
@@ -241,7 +241,7 @@ inside-happens s past p e d d' (a_closing command number at flick n was next acc
 abbrev IsInsideAll : Setup → Past → Type 0
 IsInsideAll s past = IsGood s → (p : ℕ) → inside p past ≡ is_inside (doing s p past)
 
--- who is inside is read off what it is doing
+-- whether a process is inside follows from its state
 pub inside-is : (s : Setup) → IsGood s → (events : List Event) (p : ℕ) → inside p (past_of s events) ≡ is_inside (doing s p (past_of s events))
 inside-is s g events p = past-induction IsInsideAll s (λ g p. refl) more events g p
   where

@@ -1,4 +1,4 @@
--- With which steps a call begins, a doorway begins and ends, and a process gets inside.
+-- The steps with which a call begins, a doorway begins and ends, and a process enters.
 use Rattle.std.proofs.Common.{◌≡◌, ℕ, ◌&&◌, ◌||◌, Bool, true, false, cond, not, List, [], ◌∷◌, ◌++◌, Option, Some, None, length, map, refl, sym, ap, subst, ◌∙◌, true≢false}
 use Rattle.std.specs.List.{list_any}
 use Rattle.std.proofs.lemmas.List.Folds.{list_any-append}
@@ -37,12 +37,12 @@ abbrev pub is_lowering : Part → Bool
 is_lowering (part.Lowers t) = true
 is_lowering _ = false
 
--- what is done next ends the doorway with a ticket
+-- the next access ends the doorway with a ticket
 abbrev pub ends_doorway : Setup → ℕ → Doing → Bool
 ends_doorway s p (Runs command number at) = is_lowering at.part && is_last (call s p command number) at.part at.run
 ends_doorway s p _ = false
 
--- for marks of a kind it does not matter which place in the history `Taken` tells
+-- for marks of a kind, the place in the history that `Taken` contains does not matter
 any-placed : (test : Mark → Bool) → ((k i : ℕ) (r : Reply) → test (Taken k r) ≡ test (Taken i r)) → (k : ℕ) (ms : List Mark) → list_any test (map (placed k) ms) ≡ list_any test ms
 any-placed test h k [] = refl
 any-placed test h k (Taken i r ∷ ms) = λ j. h k i r j || any-placed test h k ms j
@@ -125,7 +125,7 @@ closing-marks test taken answered settled left down c at flick n h = subst (λ o
     go Quit = refl
     go Ended = refl
 
--- the mark is made, at an access, where the doing says so
+-- the mark is made, at an access, if the state has it
 abbrev pub at_access : Option Access → Bool → Bool
 at_access None b = false
 at_access (Some a) b = b
@@ -170,7 +170,7 @@ pub called-is : (s : Setup) → IsGood s → (events : List Event) (what : Event
     has is_called e ≡ (is_resting (doing s e.process (past_of s events)) && is_running (doing s e.process (e ∷ past_of s events)))
 called-is s g events what e h = called-happens s (past_of s events) e.process e (doing s e.process (past_of s events)) (doing s e.process (e ∷ past_of s events)) (accepted s g events what e h).happens
 
--- Who gets inside.
+-- Entering.
 
 entered-next : (c : Call) (t : ℕ) (ws : List Wait) → list_any is_entered (entered_if_none ws) ≡ true → is_inside_at (to_d c t ws) true ≡ true
 entered-next c t [] h = section (processes c.setup)
@@ -233,7 +233,7 @@ entered-happens s past p e d d' (a_closing command number at flick n was next ac
     absurd (true≢false (sym h ∙ ap (list_any is_entered) marks ∙ any-placed is_entered (λ k i r. refl) (length (history s past)) n.marks
     ∙ closing-marks is_entered (λ k i r. refl) refl (λ v. refl) refl refl (call s p command number) at flick n next))
 
--- Who makes the mark `Entered` was not inside before, and is then.
+-- A process with the mark `Entered` was not inside before, and is inside then.
 pub entered-is : (s : Setup) → IsGood s → (events : List Event) (what : Event) (e : Entry) → entry_of s (past_of s events) what ≡ Some e → has is_entered e ≡ true →
     (is_inside (doing s e.process (past_of s events)) ≡ false) × (is_inside (doing s e.process (e ∷ past_of s events)) ≡ true)
 entered-is s g events what e h = entered-happens s (past_of s events) e.process e (doing s e.process (past_of s events)) (doing s e.process (e ∷ past_of s events)) (accepted s g events what e h).happens

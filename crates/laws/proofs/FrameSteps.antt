@@ -24,7 +24,7 @@ use Rattle.laws.proofs.FrameCuts.{left, LeftBy, nothing, one_bit, LeftRun, LeftI
 use Rattle.laws.proofs.FrameEvents.{Accepted, accepted}
 use Rattle.laws.proofs.FrameInside.{inside-is}
 
--- What an access leaves unfinished.
+-- The unfinished access after an access.
 
 ended-write : (v : Bool) (m : Move) → is_write m ≡ true → ended v m ≡ m
 ended-write v (BeginWrite b) h = refl
@@ -37,7 +37,7 @@ pub is_write-ended : (v : Bool) (m : Move) → is_write (ended v m) ≡ is_write
 is_write-ended v (BeginWrite b) = refl
 is_write-ended v _ = refl
 
--- a write's access is as it is told, whatever the cell holds
+-- an access of a write does not depend on the cell
 pub valued-write : (s : Setup) (past : Past) (flick : Bool) (x : Access) → is_write x.how ≡ true → valued s past flick x ≡ x
 valued-write s past flick x h = λ i. record { owner = x.owner; field = x.field; bit = x.bit; reader = x.reader; how = ended-write (read_value (opening_bit s x) (moves_of x past) flick) x.how h i }
 
@@ -82,7 +82,7 @@ left-happens s g past p e d d' (a_closing command number at flick n was next acc
 abbrev LeftAll : Setup → Past → Type 0
 LeftAll s past = IsGood s → (p : ℕ) → LeftIn s p (left s (own p past)) (doing s p past)
 
--- in every record a process has left unfinished what it is doing, and nothing else
+-- in every record the unfinished access of a process is that of its state
 pub left-is : (s : Setup) → IsGood s → (events : List Event) (p : ℕ) → LeftIn s p (left s (own p (past_of s events))) (doing s p (past_of s events))
 left-is s g events p = past-induction LeftAll s (λ g p. refl) more events g p
   where
@@ -104,9 +104,9 @@ left-is s g events p = past-induction LeftAll s (λ g p. refl) more events g p
             subst (LeftIn s p (left s (own p (e ∷ past)))) (sym (doing-other s p e past other))
             (subst (λ mine. LeftIn s p (left s mine) (doing s p past)) (sym (own-other p e past other)) (ih g p))
 
--- Where a unit begins.
+-- The beginning of a unit.
 
--- what is left to settle of the bit of an access
+-- the remaining settling of the bit of an access
 abbrev torn_settling : Access → copies.Settling
 torn_settling a = record { made = made_with a; reader = 0; begun = false; value = None }
 
@@ -153,7 +153,7 @@ step-from s past p e d d' (a_restart was none marks then) i l = restarts was non
 step-from s past p e d d' (a_step command number at a flick was over access is marks then) i l = steps command number at a flick was over access is then
 step-from s past p e d d' (a_closing command number at flick n was next access same marks then) i l = closes_on command number at flick n was next (access ∙ ap Some (sym same)) then
 
--- Every accepted event is one of a process that there is, and a step of it.
+-- Every accepted event is of a process that exists, and is a step of it.
 pub step_of : (s : Setup) → IsGood s → (events : List Event) (what : Event) (e : Entry) → entry_of s (past_of s events) what ≡ Some e →
     (e.process ≡ process_of what) × (e.process < s.processes) × Step s (past_of s events) e.process e (doing s e.process (past_of s events)) (doing s e.process (e ∷ past_of s events))
 step_of s g events what e h =
@@ -161,7 +161,7 @@ step_of s g events what e h =
     let acc : Accepted s past what e = accepted s g events what e h in
     (acc.process, acc.below, step-from s past e.process e (doing s e.process past) (doing s e.process (e ∷ past)) acc.happens (inside-is s g events e.process) (left-is s g events e.process))
 
--- who is not there rests
+-- a process that does not exist rests
 abbrev AboveAll : Setup → Past → Type 0
 AboveAll s past = IsGood s → (p : ℕ) → s.processes ≤ p → doing s p past ≡ Rests
 
@@ -173,7 +173,7 @@ doing-above s g events p l = past-induction AboveAll s (λ g p l. refl) more eve
         let below : e.process < s.processes = (accepted s g events what e h).below in
         doing-other s p e (past_of s events) (λ u. omega (arith, u, below, l)) ∙ ih g p l
 
--- What p accesses: it writes its own bits, and reads its own copies.
+-- The accesses of p: it writes its own bits, and reads its own copies.
 
 place-by : (c : Call) (x : Part) (run : Run) (v : Bool) → ByProcess c.process (ended_with v (access_at c x run))
 place-by c x (Writing w) v = record {

@@ -1,4 +1,4 @@
--- What an entry does to the registers and to the marks of overlap.
+-- The effect of an entry on the registers and on the marks of overlap.
 use Rattle.std.proofs.Common.{◌≡◌, ◌≢◌, ℕ, Bool, true, false, cond, List, ◌∷◌, Some, None, refl, ap, ◌∙◌}
 use Rattle.record.specs.safe_bit.Cell.{Cell}
 use Rattle.record.specs.safe_bit.Cell as bit
@@ -73,7 +73,7 @@ wires-others s past e p o by n = λ i f k r. same (cells-others s past e p o f k
     same : {now before : Cell} → KeptBits now before → wire now ≡ wire before
     same k = λ i. record { value = k.value i; writing = k.writing i }
 
--- and the marks of overlap of other readers on others' registers
+-- the marks of overlap of other readers on others' registers stay
 pub touches-apart : (s : Setup) (past : Past) (e : Entry) (p o r : ℕ) → EntryBy p e → o ≢ p → r ≢ p → touches s (e ∷ past) o r ≡ touches s past o r
 touches-apart s past e p o r by n m = λ i f k. (cells-apart s past e p o f k r by n m i).touched
 

@@ -1,4 +1,4 @@
--- How a doorway ends: with a ticket where no read of it gave the greatest one, and else with `TicketsFull`, which names the lowest process whose read did. A fact of the local program alone.
+-- The end of a doorway. If one of its reads gave the greatest ticket, it ends with `TicketsFull`, which names the lowest process with such a read; otherwise it ends with a ticket. This is a fact of the local program alone.
 use Rattle.std.proofs.Common.{◌≡◌, ◌≢◌, ℕ, suc, ◌+◌, ◌^◌, ◌%◌, ◌<◌, ◌==◌, Bool, true, false, cond, if◌then◌else◌, List, [], ◌∷◌, ◌++◌, Option, Some, None, length, map, refl, sym, ap, subst, ◌∙◌, true≢false, arith, append_assoc, eqb-true, length-append, slice_index}
 use Rattle.std.proofs.lemmas.List.{length_push, map-append}
 use Rattle.std.proofs.lemmas.Nat.{pow_pos}
@@ -36,7 +36,7 @@ pub record Asked (s : Setup) (p : ℕ) (js ts : List ℕ) (values : Numbers) : T
   pub as_many : length done ≡ length ts
   pub up_to : AllUpTo (max_of s.ticket_bits) ts
 
--- all have been read; the lowest one whose ticket is the greatest, if there is one
+-- all tickets have been read; the lowest process whose ticket is the greatest one, if such a process exists
 abbrev pub AllAsked : Setup → ℕ → Option ℕ → Numbers → Type 0
 AllAsked s p o values = (length (tickets values) ≡ length (others s p)) × (full_in s p values ≡ o)
 
@@ -45,7 +45,7 @@ abbrev pub is_full : Answer → Bool
 is_full (answer.TicketsFull j) = true
 is_full _ = false
 
--- what a process knows of the tickets it has read in this call
+-- the knowledge of a process about the tickets that it has read in this call
 abbrev pub KnowsTickets : Setup → ℕ → Part → Numbers → Type 0
 KnowsTickets s p Raises values = values ≡ []
 KnowsTickets s p (Asks j js ts) values = Asked s p (j ∷ js) ts values
@@ -55,7 +55,7 @@ KnowsTickets s p (Refuses f) values = AllAsked s p (Some f) values
 KnowsTickets s p (Clears a) values = is_full a ≡ false
 KnowsTickets s p _ values = Unit {0}
 
--- what has been read of the number that is being read
+-- the bits read so far of the present number
 abbrev pub IsReadingOf : Part → Run → List Bool → Type 0
 IsReadingOf part (Writing w) read = (is_read part ≡ false) × (read ≡ [])
 IsReadingOf part (Reading bits begun) read = (is_read part ≡ true) × (read ≡ bits)
@@ -64,7 +64,7 @@ pub record KnowsReads (s : Setup) (p : ℕ) (at : Place) (r : ReadSoFar) : Type 
   pub reading : IsReadingOf at.part at.run r.bits
   pub knows : KnowsTickets s p at.part r.finished
 
--- what p has read in its last call
+-- the values that p has read in its last call
 abbrev pub read_in_call : Setup → ℕ → Past → ReadSoFar
 read_in_call s p past = read_so_far s (since is_called (own p past))
 
@@ -77,7 +77,7 @@ some-top : (s : Setup) → IsGood s → 0 < max_of s.ticket_bits
 some-top s g = let e = g.ticket_is in let p = pow_pos g.ticket in let q = pow-suc 2 g.ticket in
     let w : 2 ^ s.ticket_bits ≡ 2 ^ suc g.ticket = ap (λ k. 2 ^ k) e in omega (arith, p, q, w)
 
--- all tickets were read: there is a greatest one among them, or there is room above it
+-- all tickets were read: one of them is the greatest one, or a greater ticket fits
 to-c : (s : Setup) → IsGood s → (p : ℕ) (command : Command) (number : ℕ) (ts : List ℕ) (values : Numbers) → Asked s p [] ts values → KnowsTickets s p (to_b (call s p command number) [] ts) values
 to-c s g p command number ts values x = go (greatest ts == max_of s.ticket_bits) refl
   where

@@ -1,4 +1,4 @@
--- What an entry does to the cells that the registers hold, and that they are the record's cells, but for whether a read is open.
+-- The effect of an entry on the cells that the registers hold. They are the record's cells, except for whether a read is open.
 use Rattle.std.proofs.Common.{◌≡◌, ◌==◌, ◌&&◌, ◌||◌, Bool, true, false, cond, List, [], ◌∷◌, ◌++◌, Option, Some, None, refl, sym, ap, subst, ◌∙◌}
 use Rattle.std.specs.Prelude.{flat_map}
 use Rattle.std.specs.List.{list_any}
@@ -45,7 +45,7 @@ held-marks s past e a h =
     go true = refl
     go false = refl
 
--- its marks tell whether it drops
+-- its marks determine whether it drops
 pub drops-by : (e : Entry) (marks : List Mark) → e.marks ≡ marks → drops e ≡ (list_any is_failed marks || list_any is_withdrawn marks)
 drops-by e marks h = ap (λ ms. list_any is_failed ms || list_any is_withdrawn ms) h
 
@@ -59,7 +59,7 @@ write-keeps c (Settle v) h = refl
 write-keeps c BeginRead h = cc
 write-keeps c (EndRead v) h = cc
 
--- so does an entry with such an access
+-- an entry with an access of a write leaves the open read
 pub reading-written : (s : Setup) (past : Past) (e : Entry) (x a : Access) → e.access ≡ Some x → is_write x.how ≡ true → (cell_held s (e ∷ past) a).reading ≡ (cell_held s past a).reading
 reading-written s past e x a h w = ap (λ (c : Cell). c.reading) (held-entry s past e x a h) ∙ go (same_bit a x)
   where
@@ -67,22 +67,22 @@ reading-written s past e x a h w = ap (λ (c : Cell). c.reading) (held-entry s p
     go true = write-keeps (cell_held s past a) x.how w
     go false = refl
 
--- and one on other bits
+-- an entry with an access to another bit leaves it
 pub reading-apart : (s : Setup) (past : Past) (e : Entry) (x a : Access) → e.access ≡ Some x → same_bit a x ≡ false → (cell_held s (e ∷ past) a).reading ≡ (cell_held s past a).reading
 reading-apart s past e x a h n =
     ap (λ (c : Cell). c.reading) (held-entry s past e x a h) ∙ ap (λ b. (cond b (cell_after (cell_held s past a) x.how) (cell_held s past a)).reading) n
 
--- and one that only marks, and drops nothing
+-- an entry that only marks, and drops nothing, leaves it
 pub reading-kept : (s : Setup) (past : Past) (e : Entry) (a : Access) → e.access ≡ None → (drops e && (e.process == a.reader)) ≡ false → (cell_held s (e ∷ past) a).reading ≡ (cell_held s past a).reading
 reading-kept s past e a h n =
     ap (λ (c : Cell). c.reading) (held-marks s past e a h) ∙ ap (λ b. (cond b (without_read (cell_held s past a)) (cell_held s past a)).reading) n
 
--- where one drops it, it is open no more
+-- an entry that drops the read closes it
 pub reading-dropped : (s : Setup) (past : Past) (e : Entry) (a : Access) → e.access ≡ None → (drops e && (e.process == a.reader)) ≡ true → (cell_held s (e ∷ past) a).reading ≡ false
 reading-dropped s past e a h n =
     ap (λ (c : Cell). c.reading) (held-marks s past e a h) ∙ ap (λ b. (cond b (without_read (cell_held s past a)) (cell_held s past a)).reading) n
 
--- What is held is what the record finds.
+-- The registers hold the record's cells.
 
 without-moved : (c : Cell) (m : Move) → without_read (cell_after (without_read c) m) ≡ without_read (cell_after c m)
 without-moved c (BeginWrite v) = refl
@@ -91,7 +91,7 @@ without-moved c _ = refl
 both-moved : (c d : Cell) (m : Move) → without_read c ≡ without_read d → without_read (cell_after c m) ≡ without_read (cell_after d m)
 both-moved c d m h = sym (without-moved c m) ∙ ap (λ (x : Cell). without_read (cell_after x m)) h ∙ without-moved d m
 
--- but for whether a read is open
+-- the cells are equal, except for whether a read is open
 pub held-is : (s : Setup) (past : Past) (a : Access) → without_read (cell_held s past a) ≡ without_read (record_cells.cell_after s past a)
 held-is s [] a = refl
 held-is s (e ∷ past) a = go e.access refl (held-is s past a)
@@ -115,14 +115,14 @@ held-is s (e ∷ past) a = go e.access refl (held-is s past a)
     go (Some x) h same =
         ap without_read (held-entry s past e x a h) ∙ moved x.how (same_bit a x) same ∙ ap without_read (sym (cells-entry s past e x a.owner a.field a.bit a.reader h))
 
--- so it shows the moves of its bit
+-- the cell without its read shows the moves of its bit
 pub held_shows : (s : Setup) → IsGood s → (events : List Event) (a : Access) → Shows (opening_bit s a) (moves_of a (past_of s events)) (without_read (cell_held s (past_of s events) a))
 held_shows s g events a =
     let past : Past = past_of s events in
     subst (Shows (opening_bit s a) (moves_of a past)) (sym (held-is s past a))
     (shows_dropped (opening_bit s a) (moves_of a past) (record_cells.cell_after s past a) (shows_moves (opening_bit s a) (moves_of a past) (turns_all s g events a)))
 
--- and answers as the safe rule does
+-- the cell gives the value of the safe rule
 pub held_answers : (s : Setup) → IsGood s → (events : List Event) (a : Access) (flick : Bool) →
     read_answer (cell_held s (past_of s events) a) flick ≡ read_value (opening_bit s a) (moves_of a (past_of s events)) flick
 held_answers s g events a flick = answer-shows (opening_bit s a) (moves_of a (past_of s events)) (without_read (cell_held s (past_of s events) a)) flick (held_shows s g events a)

@@ -1,4 +1,4 @@
--- Each process whose register a call reads is one that there is.
+-- Each process whose register a call reads exists.
 use Rattle.std.proofs.Common.{◌≡◌, ◌≢◌, ℕ, zero, suc, ◌+◌, ◌<◌, ◌≤◌, ◌==◌, max, Bool, true, false, cond, List, [], ◌∷◌, ◌++◌, length, fold, map, refl, arith}
 use Rattle.std.proofs.lemmas.Bool.{eqb-false}
 use Rattle.std.proofs.lemmas.List.{length-map, length_push}
@@ -18,7 +18,7 @@ use Rattle.laws.proofs.Tickets.{above, still-below}
 
 -- The newest version.
 
--- the greatest of some numbers is one of them, where it is above what they begin with
+-- the greatest of some numbers is one of them, if it is above the start value
 place-found : (a : ℕ) (ts : List ℕ) → a < fold max a ts → index_of (fold max a ts) ts < length ts
 place-found a [] l = absurd (omega (arith, l))
 place-found a (t ∷ ts) l = go (t == fold max (max a t) ts) refl (λ m. place-found (max a t) ts m)
@@ -43,9 +43,9 @@ newest-place n (t ∷ ts) l pos = go (t == fold max (max 0 t) ts) refl
 newest-there : (n : ℕ) (vs : List Version) → length vs ≤ n → 0 < n → newest_process vs < n
 newest-there n vs l pos = newest-place n (map (λ v. v.1) vs) (omega (arith, l, length-map vs (λ v. v.1))) pos
 
--- Of a part.
+-- The owners at a part.
 
--- those whose registers are read at a part and after it are there; of the versions no more are read than there are processes
+-- the processes whose registers are read at a part and after it exist; at most as many versions are read as there are processes
 abbrev pub OwnersThere : ℕ → Part → Type 0
 OwnersThere n (Asks j js ts) = AllByRecursion (λ i. i < n) (j ∷ js)
 OwnersThere n (Waits t w ws) = AllByRecursion (λ (x : Wait). x.0 < n) (w ∷ ws)
@@ -54,7 +54,7 @@ OwnersThere n (AsksStamp k ks vs b) = AllByRecursion (λ i. i < n) (k ∷ ks) ×
 OwnersThere n (AsksImage vs) = newest_process vs < n
 OwnersThere n _ = Unit {0}
 
--- so is the one whose register is read at it
+-- the process whose register is read at the part exists
 pub owner-there : (c : Call) (n : ℕ) (part : Part) → is_read part ≡ true → OwnersThere n part → (read_at c part).0 < n
 owner-there c n (Asks j js ts) r h = h.0
 owner-there c n (Waits t w ws) r h = h.0
@@ -105,7 +105,7 @@ to_g-there c n vs st = go (changes st c.command) (newest_stamp vs == max_of c.se
     go true false = tt
     go false d = tt
 
--- whatever was read
+-- for any value that was read
 part-there : (c : Call) → IsGood c.setup → (part : Part) (value : List Bool) → OwnersThere c.setup.processes part → OwnersThere c.setup.processes (part_after c part value)
 part-there c g Raises value h = to_b-there c (others c.setup c.process) [] (others-below c.setup c.process)
 part-there c g (Asks j js ts) value h = to_b-there c js (ts ++ number_of_bits value ∷ []) h.1

@@ -30,7 +30,7 @@ reads_now s p a Lies = false
 reads_now s p a (Runs command number at) = open_read (call s p command number) at.part at.run a
 reads_now s p a (Closes command number at) = false
 
--- Where none is open.
+-- No open read.
 
 -- a number access of which nothing is made has none open
 new-none : (c : Call) (part : Part) (a : Access) → open_read c part (new_run c part) a ≡ false
@@ -51,7 +51,7 @@ closes-none : (s : Setup) (p : ℕ) (a : Access) (command : Command) (number : �
 closes-none s p a command number (Withdraws w) = refl
 closes-none s p a command number _ = refl
 
--- the place after an access has none open, where the number access that goes on has none
+-- the place after an access has no open read, if the number access that continues has none
 after-none : (c : Call) (part : Part) (run : Run) (v : Bool) (a : Access) → open_read c part (run_after c part run v) a ≡ false
     → let to : Place = place_after c (record { part = part; run = run }) v in
     open_read c to.part to.run a ≡ false
@@ -162,7 +162,7 @@ reads_are s g events = past-induction ReadsAll s (λ g p a r. refl) more events 
 
 -- The access itself.
 
--- at a place, a read is open where it ends, and only there
+-- at a place, a read is open if the access ends it, and only then
 place-reads : (s : Setup) (past : Past) (c : Call) (part : Part) (run : Run) (flick : Bool) (a : Access) → a ≡ valued s past flick (access_at c part run) → is_write a.how ≡ false → open_read c part run a ≡ ends_read a.how
 place-reads s past c part (Writing w) flick a is r =
     absurd (true≢false (sym (ap (λ (y : Access). is_write y.how) is ∙ place-writes c part w (read_value (opening_bit s (access_at c part (Writing w))) (moves_of (access_at c part (Writing w)) past) flick)) ∙ r))
@@ -171,7 +171,7 @@ place-reads s past c part (Reading bits true) flick a is r =
     ap (λ (y : Access). same_bit y x) is ∙ itself x ∙ sym (ap (λ (y : Access). ends_read y.how) is)
 place-reads s past c part (Reading bits false) flick a is r = sym (ap (λ (y : Access). ends_read y.how) is)
 
--- so it is with each access
+-- at each access of a process, a read is open if the access ends it, and only then
 pub access-reads : (s : Setup) (past : Past) (p : ℕ) (e : Entry) (d d' : Doing) (a : Access) → Happens s past p e d d' → e.access ≡ Some a → is_write a.how ≡ false → reads_now s p a d ≡ ends_read a.how
 access-reads s past p e d d' a (a_call command number was none marks then) h r = let f : None ≡ Some a = sym none ∙ h in cc
 access-reads s past p e d d' a (a_withdrawal command number t w ws run was none marks then) h r = let f : None ≡ Some a = sym none ∙ h in cc

@@ -1,4 +1,4 @@
--- Every access of a record is of a register that there is.
+-- Every access of a record is of a register that exists.
 use Rattle.std.proofs.Common.{◌≡◌, ◌≢◌, ℕ, ◌+◌, ◌/◌, ◌*◌, ◌<◌, ◌==◌, ◌||◌, Bool, true, false, cond, List, [], ◌∷◌, Option, Some, None, length, refl, sym, ap, subst, ◌∙◌, arith}
 use Rattle.std.proofs.lemmas.Bool.{eqb-false}
 use Rattle.record.specs.reader_copies.Runs as copies
@@ -39,7 +39,7 @@ place-there s p command number part (Reading bits begun) m below o owners st =
 
 -- In a closing.
 
--- the bit that is settled is there, and a copy of it is left
+-- the bit that is settled exists, and a copy of it remains
 abbrev SettlesThere : Setup → Closing → Type 0
 SettlesThere s (Settles f bit begun taken is t) = (bit < width s f) × (t.reader < s.processes)
 SettlesThere s _ = Unit {0}
@@ -50,7 +50,7 @@ ClosesThere s Lies = Unit {0}
 ClosesThere s (Runs command number at) = Unit {0}
 ClosesThere s (Closes command number at) = SettlesThere s at
 
--- an access of a write that goes on
+-- an access of a write that continues
 written-there : (n bit made wide size w : ℕ) → made < 2 * n → bit < w → w ≡ size → wide ≡ size → (made / 2 < n) × (bit < wide)
 written-there n bit made wide size w a b c d = (omega (arith, a), omega (arith, b, c, d))
 
@@ -94,9 +94,9 @@ happens-there s past p e d d' n m torn (a_closing command number at flick x was 
     let same : x.access ≡ a = cc in
     subst (IsThere s) same (closing-there s p command number at flick x torn below next (subst (ClosesThere s) was cl) (subst (LeftIn s p torn) was l))
 
--- Where a unit begins and how it goes on.
+-- The beginning and the progress of a unit.
 
--- with the bit of the last write, which is there
+-- a unit begins with the bit of the last write, which exists
 settles-from : (c : Call) → IsGood c.setup → (mine : Past) (last : Option Access) → ((a : Access) → last ≡ Some a → a.bit < width c.setup a.field) →
     SettlesThere c.setup (settling_from c mine (unfinished c.setup.processes last))
 settles-from c g mine None h = tt
@@ -118,7 +118,7 @@ runs-there s command number at = go (is_over at.part)
     go true = tt
     go false = tt
 
--- a settling that is not at its last copy comes to another
+-- a settling that is not at its last copy moves to another
 next-copy : (n : ℕ) (t : copies.Settling) (v : Bool) → t.reader < n → ((copies.settle_after t v).reader == n) ≡ false → (copies.settle_after t v).reader < n
 next-copy n t v below = go (t.begun || copies.is_open_at t.made t.reader)
   where
@@ -153,11 +153,11 @@ after-there c (Lowers w) flick h = go (is_last_written c (false ∷ []) w)
 after-there c Quit flick h = tt
 after-there c Ended flick h = tt
 
--- The bit that a process wrote last is there, and so is the one that its unit settles.
+-- The bit that a process wrote last exists, and so does the bit that its unit settles.
 abbrev LastThere : Setup → Past → Type 0
 LastThere s mine = (a : Access) → last_write mine ≡ Some a → a.bit < width s a.field
 
--- so it is after an entry
+-- these facts hold after an entry
 step-there : (s : Setup) → IsGood s → (past : Past) (p : ℕ) (e : Entry) (d d' : Doing) → Happens s past p e d d' → LastThere s (own p past) → ClosesThere s d → ClosesThere s d'
 step-there s g past p e d d' (a_call command number was none marks then) last cl = subst (ClosesThere s) (sym then) tt
 step-there s g past p e d d' (a_withdrawal command number t w ws run was none marks then) last cl = subst (ClosesThere s) (sym then) tt
@@ -179,7 +179,7 @@ last-there s mine e made last a h = go e.access refl
     go None none = last a (sym (last-none e mine none) ∙ h)
     go (Some x) is = written x (made x is) (is_write x.how) (sym (last-made e mine x is) ∙ h)
 
--- the access of an entry, where the bit that a unit settles is there
+-- the access of an entry, if the bit that a unit settles exists
 entry-there : (s : Setup) → IsGood s → (events : List Event) (event : Event) (e : Entry) → entry_of s (past_of s events) event ≡ Some e → ClosesThere s (doing s e.process (past_of s events)) →
     (a : Access) → e.access ≡ Some a → IsThere s a
 entry-there s g events event e is cl a h =
@@ -197,6 +197,6 @@ closings_there s g = own-induction s (λ (past : Past) (p : ℕ). LastThere s (o
       step-there s g past e.process e (doing s e.process past) (doing s e.process (e ∷ past)) (accepted s g events event e is).happens h.0 h.1,
     ))
 
--- Every access is of a register that there is.
+-- Every access is of a register that exists.
 pub access_there : (s : Setup) → IsGood s → (events : List Event) (event : Event) (e : Entry) → entry_of s (past_of s events) event ≡ Some e → (a : Access) → e.access ≡ Some a → IsThere s a
 access_there s g events event e is = entry-there s g events event e is (closings_there s g events e.process).1

@@ -1,4 +1,4 @@
--- The ticket that a process holds while it waits, or is inside, is the one that its marks told.
+-- The ticket that a process holds while it waits, or is inside, is the one in its marks.
 use Rattle.std.proofs.Common.{◌≡◌, ◌≢◌, ℕ, suc, Bool, true, false, cond, List, [], ◌∷◌, Some, None, length, refl, sym, ap, subst, ◌∙◌, true≢false, eq-eqb, ne_eqb}
 use Rattle.std.specs.Prelude.{fold}
 use Rattle.std.specs.List.{list_any}
@@ -77,7 +77,7 @@ tickets s g = place-induction s g (TicketIs s) (others-keep s) (λ past e comman
 abbrev InsideTold : Setup → Past → ℕ → Type 0
 InsideTold s past p = inside p past ≡ true → ticket_told p past ≡ (notes s p past).ticket
 
--- marks that tell no ticket, and with which nobody gets inside
+-- marks without a ticket, and with which no process enters
 no-ticket : (was : ℕ) (ms : List Mark) → list_any is_waiting ms ≡ false → fold ticket_after was ms ≡ was
 no-ticket was [] h = refl
 no-ticket was (Waiting t ∷ ms) h = absurd (true≢false h)
@@ -100,7 +100,7 @@ idle-holds : (s : Setup) (past : Past) (e : Entry) → e.access ≡ None → (no
 idle-holds s past e none =
     ap (λ (n : Notes). n.ticket) (notes-goes s e.process e past refl ∙ ap (λ a. notes_after s e.process (suc (length past)) a (doing s e.process past) (notes s e.process past)) none)
 
--- and one of a closing
+-- an entry of a closing
 closing-holds : (s : Setup) (past : Past) (e : Entry) (a : Access) (command : Command) (number : ℕ) (at : Closing) → e.access ≡ Some a → doing s e.process past ≡ Closes command number at →
     (notes s e.process (e ∷ past)).ticket ≡ (notes s e.process past).ticket
 closing-holds s past e a command number at is does =

@@ -1,4 +1,4 @@
--- Every access comes in its turn on what the registers hold, and each read that is open there is of the register that its process reads at its place.
+-- Every access is in its turn on the registers, and each open read is of the register that its process reads at its place.
 use Rattle.std.proofs.Common.{◌≡◌, ℕ, true, false, List, ◌∷◌, Option, Some, None, refl, sym, ap, subst, ◌∙◌, true≢false}
 use Rattle.record.specs.safe_bit.{MayMove}
 use Rattle.record.specs.{Access, Call, Entry, Event, Part, Past, Place, Reading, Run, Writing, access_at, entry_of, is_read, is_running, last_call, last_start, own, past_of, read_at, stage}
@@ -16,7 +16,7 @@ use Rattle.laws.proofs.FrameSteps.{entry-by, left-is}
 use Rattle.laws.proofs.HeldCells.{held_ends, held_writes, may_move}
 use Rattle.laws.proofs.HeldReads.{access-reads, open_read, reads_are, reads_now}
 
--- who reads is the reader
+-- the process that reads is the reader
 reader-is : (e : Entry) (a : Access) → EntryBy e.process e → e.access ≡ Some a → is_write a.how ≡ false → a.reader ≡ e.process
 reader-is e a (marks_only none) acc r = let f : None ≡ Some a = sym none ∙ acc in cc
 reader-is e a (makes x h by) acc r =
@@ -41,7 +41,7 @@ reads-place c part (Reading bits true) a torn h l =
     let on = on-copy (access_at c part (Reading bits true)) a.owner a.field a.bit a.reader h in
     (l.0, λ i. (sym on.owner i, sym on.field i))
 
--- what is known of a process whose place is this
+-- the knowledge of a process at this place
 abbrev pub ReadsThere : Setup → Past → Access → Type 0
 ReadsThere s past a =
     let mine : Past = own a.reader past in

@@ -1,4 +1,4 @@
--- The invariant of the lock. Own part: what each process knows of itself and its registers. Pair part: what a reader has seen of an owner, whatever the reader is doing.
+-- The invariant of the lock. Own part: the knowledge of each process about itself and its registers. Pair part: the knowledge of a reader about an owner, in any state of the reader.
 use Rattle.std.specs.Prelude.{◌≡◌, ◌≢◌, ◌⊎◌, ℕ, suc, ◌+◌, ◌*◌, ◌/◌, ◌%◌, ◌^◌, ◌<◌, ◌≤◌, Bool, true, false, List, [], ◌∷◌, ◌++◌, length, slice_index_or, flat_map}
 use Rattle.record.specs.safe_bit.Cell.{Cell}
 use Rattle.record.specs.{Call, Closing, Ended, Field, Frees, Past, Quit, Reading, Run, Settles, Wait, Withdraws, Writing, bit_written, cell_after, copy, greatest, is_fresh, is_unwritten, others, width}
@@ -12,7 +12,7 @@ use Rattle.laws.proofs.Notes.{Notes, notes}
 
 -- Registers, as a past has made them.
 
--- of a copy: its value and whether a write of it is open
+-- the state of a copy: its value and whether a write of it is open
 pub record Wire : Type 0 where
   pub value : Bool
   pub writing : Bool
@@ -20,7 +20,7 @@ pub record Wire : Type 0 where
 abbrev pub wire : Cell → Wire
 wire c = record { value = c.value; writing = c.writing }
 
--- the registers of a process: of each field each bit, and of it each reader's copy
+-- the registers of a process: each reader's copy of each bit of each field
 abbrev pub Wires : Type 0
 Wires = Field → ℕ → ℕ → Wire
 
@@ -60,7 +60,7 @@ pub record IsPast (now : ℕ) (announced_at held_at began ended since : ℕ) (ch
   pub asked_past : (j : ℕ) → asked_from j < now
   pub let_past : (j : ℕ) → let_from j < now
 
--- the registers are what the notes say: a held ticket is whole on all copies, an announcement too
+-- the registers agree with the notes: a held ticket is whole on all copies, and so is an announcement
 pub record Whole (s : Setup) (announced holds : Bool) (ticket : ℕ) (m : Wires) : Type 0 where
   pub choosing : announced ≡ true → (r : ℕ) → r < s.processes → Closed (m Choosing 0 r) true
   pub ticket_whole : holds ≡ true → (k r : ℕ) → k < s.ticket_bits → r < s.processes → Closed (m Ticket k r) (bit (ticket_of s ticket) k)
@@ -75,7 +75,7 @@ pub record Passed (p ticket held_at : ℕ) (choosing_from choosing_to let_from l
   pub then : choosing_to j ≤ let_from j
   pub beyond : Beyond ticket p (let_by j) j
 
--- who holds a ticket has read all others' tickets since its announcement was whole, and its own is above; who is inside has passed all others
+-- a process that holds a ticket has read all others' tickets since its announcement was whole, and its own is greater; a process that is inside has passed all others
 pub record Senior (s : Setup) (p : ℕ) (holds inside : Bool) (ticket announced_at held_at began : ℕ) (choosing_from choosing_to asked_from asked let_from let_by : ℕ → ℕ) : Type 0 where
   pub fits : holds ≡ true → ticket < 2 ^ s.ticket_bits
   pub positive : holds ≡ true → 0 < ticket
@@ -89,7 +89,7 @@ pub record Senior (s : Setup) (p : ℕ) (holds inside : Bool) (ticket announced_
 abbrev pub Before : (k r bit copy : ℕ) → Type 0
 Before k r bit copy = (k < bit) ⊎ ((k ≡ bit) × (r < copy))
 
--- a write of bits to a field: what stands before its place is done, and the open copy is being given its bit
+-- a write of bits to a field: all copies before its place are done, and the open copy is being given its bit
 pub record Written (n : ℕ) (bits : List Bool) (w : NumberWrite) (m : Field → ℕ → ℕ → Wire) (f : Field) : Type 0 where
   pub width_is : w.width ≡ length bits
   pub below : w.bit < w.width
@@ -99,7 +99,7 @@ pub record Written (n : ℕ) (bits : List Bool) (w : NumberWrite) (m : Field →
   pub done : (k r : ℕ) → r < n → Before k r w.bit ((bit_written bits w).made / 2) → Closed (m f k r) (bit bits k)
   pub begun : (bit_written bits w).made % 2 ≡ 1 → (m f w.bit ((bit_written bits w).made / 2)).value ≡ bit bits w.bit
 
--- how far a number access has come
+-- the progress of a number access
 abbrev pub StandsRun : Call → Wires → Part → Run → Type 0
 StandsRun c m part (Writing w) = (is_read part ≡ false) × Written c.setup.processes (written_at c part).1 w m (written_at c part).0
 StandsRun c m part (Reading bits begun) = (is_read part ≡ true) × (length bits < width c.setup (read_at c part).1)
@@ -123,7 +123,7 @@ Asked s announced_at asked_from asked _ _ = ⊥
 abbrev pub waits : List ℕ → List Wait
 waits = flat_map (λ j. (j, Choosing) ∷ (j, Ticket) ∷ [])
 
--- what is waited for now is j: its choosing, read since the ticket was held, or its ticket, read since its choosing gave 0
+-- the present wait is for j: for its choosing, read since the ticket was held, or for its ticket, read since its choosing gave 0
 abbrev pub IsWait : (held_at since : ℕ) (choosing_from choosing_to : ℕ → ℕ) → Wait → List Wait → ℕ → List ℕ → Type 0
 IsWait held_at since choosing_from choosing_to (i, Choosing) ws j js = (i ≡ j) × (ws ≡ (j, Ticket) ∷ waits js) × (held_at ≤ since)
 IsWait held_at since choosing_from choosing_to (i, Ticket) ws j js = (i ≡ j) × (ws ≡ waits js) × (held_at ≤ choosing_from j) × (choosing_to j ≤ since)
@@ -154,7 +154,7 @@ pub record InAsking (s : Setup) (p : ℕ) (n : Notes) (j : ℕ) (js ts : List �
   pub all : others s p ≡ done ++ j ∷ js
   pub asked_all : Asked s n.announced_at n.asked_from n.asked done ts
 
--- what p knows at a part of its call; fresh: nothing of it is made
+-- the knowledge of p at a part of its call; fresh: no access of it is made
 abbrev pub StandsAt : (s : Setup) (p : ℕ) → Notes → Part → (fresh : Bool) → Type 0
 StandsAt s p n Raises fresh = n.holds ≡ false
 StandsAt s p n (Asks j js ts) fresh = InAsking s p n j js ts
@@ -176,7 +176,7 @@ abbrev pub StandsSettling : Field → Bool → Type 0
 StandsSettling Ticket holds = holds ≡ false
 StandsSettling _ holds = Unit {0}
 
--- what p or its unit knows in a closing: a held ticket is untouched until its clearing begins
+-- the knowledge of p or its unit in a closing: a held ticket is untouched until its clearing begins
 abbrev pub StandsClosing : (holds : Bool) → Closing → Type 0
 StandsClosing holds (Withdraws w) = holds ≡ true → is_unwritten w ≡ true
 StandsClosing holds (Settles f bit begun taken is t) = StandsSettling f holds
@@ -200,7 +200,7 @@ pub record Own (s : Setup) (p now : ℕ) (d : Doing) (n : Notes) (m : Wires) : T
 
 -- Pair part, of a reader r and an owner o.
 
--- what r has seen of o. Early: r's last read of o's choosing that gave 0 began before o's announcement was whole; late: it ended after o's ticket was whole
+-- the knowledge of r about o. Early: r's last read of o's choosing that gave 0 began before o's announcement was whole; late: it ended after o's ticket was whole
 pub record Knows (o : ℕ) (announced holds : Bool) (ticket announced_at held_at : ℕ) (choosing_from choosing_to asked_from asked let_from let_by : ℕ → ℕ) : Type 0 where
   pub doorway : holds ≡ true → held_at ≤ asked_from o → asked o ≡ ticket
   pub waiting : holds ≡ true → held_at ≤ let_from o → let_by o ≡ ticket
@@ -215,7 +215,7 @@ abbrev pub CleanTicket : (s : Setup) (since : ℕ) (bits : List Bool) (begun hol
 CleanTicket s since bits begun holds ticket held_at t =
     holds ≡ true → held_at ≤ since → ((k : ℕ) → k < length bits → bit bits k ≡ bit (ticket_of s ticket) k) × (begun ≡ true → t Ticket (length bits) ≡ false)
 
--- the same of a read of choosing
+-- a read of choosing under way that began once the announcement was whole is clean: the open copy is untouched
 abbrev pub CleanChoosing : (since : ℕ) (bits : List Bool) (begun announced : Bool) (announced_at : ℕ) → Touches → Type 0
 CleanChoosing since bits begun announced announced_at t = announced ≡ true → announced_at ≤ since → begun ≡ true → t Choosing (length bits) ≡ false
 
@@ -242,12 +242,12 @@ pub record Pair (s : Setup) (o : ℕ) (d : Doing) (n u : Notes) (t : Touches) : 
 abbrev pub next_time : Past → ℕ
 next_time past = suc (length past)
 
--- what every past of a record keeps
+-- every past of a record keeps this
 pub record Inv (s : Setup) (past : Past) : Type 0 where
   pub own : (p : ℕ) → p < s.processes → Own s p (next_time past) (doing s p past) (notes s p past) (wires s past p)
   pub pair : (r o : ℕ) → r < s.processes → o < s.processes → r ≢ o → Pair s o (doing s r past) (notes s r past) (notes s o past) (touches s past o r)
 
--- what a move of p has to keep: it does d then, with notes n and registers m; touched o r: what it makes of the marks of overlap
+-- a move of p has to keep this: p then has state d, notes n and registers m; touched o r are the marks of overlap after it
 pub record Moves (s : Setup) (past : Past) (p : ℕ) (d : Doing) (n : Notes) (m : Wires) (touched : ℕ → ℕ → Touches) : Type 0 where
   pub own : Own s p (suc (next_time past)) d n m
   pub reader : (o : ℕ) → o < s.processes → o ≢ p → Pair s o d n (notes s o past) (touched o p)

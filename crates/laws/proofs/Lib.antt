@@ -1,4 +1,4 @@
--- What a process is doing, read off its entries
+-- The state of a process, from its entries
 pub mod Doings
 pub mod Frame
 pub mod FrameClosings
@@ -13,7 +13,7 @@ pub mod FrameDoorways
 pub mod DoorwayParts
 pub mod DoorwayEnds
 pub mod AtPlaces
--- What an entry does to the registers and to what was shown
+-- The effect of an entry on the registers and on the marks of overlap
 pub mod FrameCells
 pub mod FrameWires
 pub mod Notes
@@ -30,7 +30,7 @@ pub mod Alone
 pub mod Starts
 pub mod Next
 pub mod Always
--- It is kept by steps that read
+-- Steps that read keep the invariant
 pub mod Reading
 pub mod ReadBegins
 pub mod ReadEnds
@@ -38,14 +38,14 @@ pub mod ReadSteps
 pub mod Asking
 pub mod Noting
 pub mod Waiting
--- and by steps that write
+-- Steps that write keep it
 pub mod Writing
 pub mod Writes
 pub mod Wrote
 pub mod Breaks
 pub mod Closes
 pub mod Stepping
--- What the registers hold serves each access
+-- The registers serve each access
 pub mod HeldCells
 pub mod HeldOwners
 pub mod HeldReads
@@ -64,7 +64,7 @@ pub mod AheadLists
 pub mod FullAnswers
 pub mod Takings
 pub mod UnitSteps
--- Who is first in the line of tickets
+-- The first process in the line of tickets
 pub mod PartTickets
 pub mod HeldTickets
 pub mod FirstInLine

@@ -1,4 +1,4 @@
--- One process moves. What its move keeps of itself, and of itself with each other process, is kept for all.
+-- One process moves. If its move keeps its own part, and its part with each other process, then all parts are kept.
 use Rattle.std.proofs.Common.{◌≡◌, ◌≢◌, ℕ, suc, ◌<◌, ◌∷◌, sym, ap, subst, ◌∙◌, arith, inl, inr}
 use Rattle.std.proofs.lemmas.Bool.{cases_eq}
 use Rattle.plain_store.specs.{Setup}
@@ -14,14 +14,14 @@ pub record Apart (s : Setup) (past : Past) (p : ℕ) (e : Entry) : Type 0 where
   pub wires : (q : ℕ) → q ≢ p → wires s (e ∷ past) q ≡ wires s past q
   pub touches : (o r : ℕ) → o ≢ p → r ≢ p → touches s (e ∷ past) o r ≡ touches s past o r
 
--- what an entry of p makes of its own doing, its notes, its registers and the marks of overlap
+-- the state, notes, registers and marks of overlap of p after an entry of p
 pub record Becomes (s : Setup) (past : Past) (p : ℕ) (e : Entry) (d : Doing) (n : Notes) (m : Wires) (t : ℕ → ℕ → Touches) : Type 0 where
   pub doing : doing s p (e ∷ past) ≡ d
   pub notes : notes s p (e ∷ past) ≡ n
   pub wires : wires s (e ∷ past) p ≡ m
   pub touches : touches s (e ∷ past) ≡ t
 
--- what is past stays past
+-- past times stay past
 pub past_later : (now announced_at held_at began ended since : ℕ) (choosing_from asked_from let_from : ℕ → ℕ) → IsPast now announced_at held_at began ended since choosing_from asked_from let_from
     → IsPast (suc now) announced_at held_at began ended since choosing_from asked_from let_from
 past_later now announced_at held_at began ended since choosing_from asked_from let_from h = record {
@@ -38,7 +38,7 @@ past_later now announced_at held_at began ended since choosing_from asked_from l
 pub own_later : (s : Setup) (p now : ℕ) (d : Doing) (n : Notes) (m : Wires) → Own s p now d n m → Own s p (suc now) d n m
 own_later s p now d n m h = record { past = past_later _ _ _ _ _ _ _ _ _ h.past; whole = h.whole; senior = h.senior; stands = h.stands }
 
--- the own part, and the pair part, of what is the same
+-- the own part, and the pair part, of equal states, notes and registers
 own_same : (s : Setup) (p now : ℕ) (d d' : Doing) (n n' : Notes) (m m' : Wires) → d' ≡ d → n' ≡ n → m' ≡ m → Own s p now d n m → Own s p now d' n' m'
 own_same s p now d d' n n' m m' de ne me h = subst (λ x. Own s p now x n' m') (sym de) (subst (λ x. Own s p now d x m') (sym ne) (subst (λ x. Own s p now d n x) (sym me) h))
 

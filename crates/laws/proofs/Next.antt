@@ -1,4 +1,4 @@
--- What comes after a whole number access.
+-- The part after a whole number access.
 use Rattle.std.proofs.Common.{◌≡◌, ◌≢◌, ℕ, ◌+◌, ◌-◌, ◌^◌, ◌<◌, ◌≤◌, ◌==◌, max, Bool, true, false, List, [], ◌∷◌, ◌++◌, refl, sym, subst, ◌∙◌, arith, append-nil}
 use Rattle.std.proofs.lemmas.Bool.{eqb-false, true≢false}
 use Rattle.std.proofs.lemmas.Nat.{pow_pos}
@@ -36,7 +36,7 @@ asked_from_top s announced_at asked_from asked top (j ∷ js) (t ∷ ts) h =
 pub asked_each : (s : Setup) (announced_at : ℕ) (asked_from asked : ℕ → ℕ) (js ts : List ℕ) → Asked s announced_at asked_from asked js ts → AllByRecursion (λ j. (announced_at ≤ asked_from j) × (asked j ≤ greatest ts)) js
 asked_each s announced_at asked_from asked js ts h = asked_from_top s announced_at asked_from asked 0 js ts h
 
--- the greatest of numbers of so many bits has so many bits
+-- the greatest of numbers of n bits has n bits
 fits_from_top : (s : Setup) (announced_at : ℕ) (asked_from asked : ℕ → ℕ) (top : ℕ) (js ts : List ℕ) → top < 2 ^ s.ticket_bits → Asked s announced_at asked_from asked js ts → fold max top ts < 2 ^ s.ticket_bits
 fits_from_top s announced_at asked_from asked top [] [] low h = low
 fits_from_top s announced_at asked_from asked top [] (t ∷ ts) low h = absurd h
@@ -100,7 +100,7 @@ passed_each : (p : ℕ) (n : Notes) (js : List ℕ) → AllPassed p n js → All
 passed_each p n [] h = tt
 passed_each p n (j ∷ js) h = (h.0, passed_each p n js h.1)
 
--- who has passed all others gets inside
+-- a process that has passed all others enters
 gets_inside : (s : Setup) (past : Past) (p : ℕ) (n : Notes) (m : Wires) (t : ℕ → ℕ → Touches) → n.holds ≡ true → AllPassed p n (others s p) → Ready s past p false n m t → Ready s past p true n m t
 gets_inside s past p n m t holding all r = record {
   times = r.times;

@@ -42,11 +42,11 @@ no_notes = record {
   let_by = λ (j : ℕ). 0;
 }
 
--- a function that gives x at j, and else what it gave
+-- a function with value x at j, and its old values elsewhere
 abbrev pub set : ℕ → ℕ → (ℕ → ℕ) → ℕ → ℕ
 set j x f q = cond (q == j) x (f q)
 
--- The notes after an access of a part, one by one. last: it is the last of its number access; fresh: it is the first; now: when it is made.
+-- The notes after an access of a part, one by one. last: it is the last of its number access; fresh: it is the first; now: its time.
 
 -- the announcement is whole with its last end, and broken by any access that lowers it
 abbrev pub announced_by : Part → Bool → Bool → Bool

@@ -1,4 +1,4 @@
--- What a read notes of one process.
+-- The notes of a read of one process.
 use Rattle.std.specs.Prelude.{◌≡◌, ◌≢◌, ℕ, suc, ◌<◌, ◌≤◌, ◌==◌, Bool, true, false, cond}
 use Rattle.std.proofs.Common.{refl, sym, subst, arith}
 use Rattle.std.proofs.lemmas.Bool.{false≢true, cond_both, cond-true, cond-false, eqb-true, eq-eqb, ne_eqb}
@@ -17,11 +17,11 @@ set-same j x f = cond-true (j == j) x (f j) (eq-eqb j j refl)
 pub set-other : (j x : ℕ) (f : ℕ → ℕ) (i : ℕ) → i ≢ j → set j x f i ≡ f i
 set-other j x f i other = cond-false (i == j) x (f i) (ne_eqb i j other)
 
--- what holds of the new value at j, and of the old ones elsewhere, holds everywhere
+-- a property of the new value at j, and of the old ones elsewhere, holds everywhere
 pub set-all : (P : ℕ → ℕ → Type 0) (j x : ℕ) (f : ℕ → ℕ) → P j x → ((i : ℕ) → P i (f i)) → (i : ℕ) → P i (set j x f i)
 set-all P j x f here there i = cond_both (i == j) x (f i) (P i) (λ is. subst (λ k. P k x) (sym (eqb-true i j is)) here) (λ is. there i)
 
--- the same of two functions
+-- a property of the new values of two functions at j, and of the old ones elsewhere, holds everywhere
 pub set-both : (P : ℕ → ℕ → ℕ → Type 0) (j x y : ℕ) (f g : ℕ → ℕ) → P j x y → ((i : ℕ) → P i (f i) (g i)) → (i : ℕ) → P i (set j x f i) (set j y g i)
 set-both P j x y f g here there i = go (i == j) (λ is. subst (λ k. P k x y) (sym (eqb-true i j is)) here)
   where
@@ -34,7 +34,7 @@ abbrev pub seen : ℕ → (choosing_from choosing_to asked_from asked let_from l
 seen now choosing_from choosing_to asked_from asked let_from let_by n =
     record n { since = now; choosing_from = choosing_from; choosing_to = choosing_to; asked_from = asked_from; asked = asked; let_from = let_from; let_by = let_by }
 
--- it is past, the doorway's part is as a held ticket wants it, and it is true of each other process
+-- the read is past, the doorway's part fits a held ticket, and it is true of each other process
 pub record Saw (s : Setup) (past : Past) (p : ℕ) (n : Notes) (choosing_from choosing_to asked_from asked let_from let_by : ℕ → ℕ) : Type 0 where
   pub choosing_past : (j : ℕ) → choosing_from j < suc (next_time past)
   pub asked_past : (j : ℕ) → asked_from j < suc (next_time past)

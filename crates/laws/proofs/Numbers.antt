@@ -1,4 +1,4 @@
--- Where the doorway of a call began and where it was finished: what `doorway_begin` and `doorway_end` look up is what the notes tell, from the first access of the doorway on, and while the process waits.
+-- The beginning and the end of the doorway of a call. `doorway_begin` and `doorway_end` find the entries that the notes have, from the first access of the doorway on, and while the process waits.
 use Rattle.std.proofs.Common.{◌≡◌, ◌≢◌, ℕ, suc, ◌<◌, ◌≤◌, ◌&&◌, ◌||◌, Bool, true, false, List, [], ◌∷◌, Option, Some, None, length, refl, sym, ap, subst, ◌∙◌, true≢false, arith, eq-eqb, ne_eqb}
 use Rattle.std.specs.List.{list_any}
 use Rattle.record.specs.safe_bit.{read_value}
@@ -13,11 +13,11 @@ use Rattle.laws.proofs.Frame.{notes-other, notes-goes}
 use Rattle.laws.proofs.DoorwayParts.{has_begun, has_finished, is_lowering, begun-next, finished-next, began-kept, ended-kept, to-begin, to-end, finished-begun, of_waiting, waiting-last, opens-doorway}
 use Rattle.laws.proofs.AtPlaces.{AtPlace, Stepping, IsRunOf, run-after, place-induction, any-stepping, plain-stepping}
 
--- the number of an entry, told by its time: a time is the number of an entry plus one
+-- the number of an entry, from its time: a time is the number of an entry plus one
 abbrev pub IsNumber : Option ℕ → ℕ → Type 0
 IsNumber o t = (k : ℕ) × (o ≡ Some k) × (t ≡ suc k)
 
--- what is looked up, and what is noted
+-- the entries that are found, and the times that are noted
 pub record NumbersAre (begun finished : Bool) (begin end : Option ℕ) (began ended size : ℕ) : Type 0 where
   pub begun_is : begun ≡ true → IsNumber begin began
   pub unbegun : begun ≡ false → begin ≡ None
@@ -26,7 +26,7 @@ pub record NumbersAre (begun finished : Bool) (begin end : Option ℕ) (began en
   pub earlier : begun ≡ true → began ≤ size
   pub order : finished ≡ true → began < ended
 
--- of a process at a place
+-- the numbers of a process at a place
 abbrev pub NumbersAt : Setup → Past → ℕ → Command → ℕ → Place → Type 0
 NumbersAt s past p command number at =
     IsRunOf at.part at.run

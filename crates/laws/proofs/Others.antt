@@ -1,4 +1,4 @@
--- The others of a process, in their order: each process but itself, once.
+-- The others of a process, in their order: each process except itself, once.
 use Rattle.std.proofs.Common.{◌≡◌, ◌≢◌, ℕ, zero, suc, ◌+◌, ◌<◌, ◌≤◌, ◌==◌, Bool, true, false, cond, List, [], ◌∷◌, ◌++◌, refl, sym, ap, subst, ◌∙◌, arith, inl, inr}
 use Rattle.std.proofs.lemmas.Bool.{false≢true, cases_eq, eqb-false, ne_eqb, not-true}
 use Rattle.std.specs.Prelude.{not, filter}
@@ -6,7 +6,7 @@ use Rattle.std.specs.List.{range_with_len, AllByRecursion}
 use Rattle.plain_store.specs.{Setup}
 use Rattle.record.specs.{others}
 
--- what holds of the numbers of a range that pass a test, holds of each such number
+-- a property of the numbers of a range that pass a test is a property of each such number
 each_kept : (P : ℕ → Type 0) (test : ℕ → Bool) (from n : ℕ) → AllByRecursion P (filter test (range_with_len from n)) → (j : ℕ) → from ≤ j → j < from + n → test j ≡ true → P j
 each_kept P test from zero h j low high passes = absurd (omega arith)
 each_kept P test from (suc n) h j low high passes = go (test from) refl h (λ rest ne. each_kept P test (from + 1) n rest j (omega arith) (omega arith) passes)
@@ -16,7 +16,7 @@ each_kept P test from (suc n) h j low high passes = go (test from) refl h (λ re
     go true e h rest = elim (cases_eq j from) [ inl is ↦ subst P (sym is) h.0 | inr ne ↦ rest h.1 ne ]
     go false e h rest = rest h (λ is. false≢true (sym e ∙ ap test (sym is) ∙ passes))
 
--- and the other way round
+-- the converse for ranges
 all_kept : (P : ℕ → Type 0) (test : ℕ → Bool) (from n : ℕ) → ((j : ℕ) → from ≤ j → j < from + n → test j ≡ true → P j) → AllByRecursion P (filter test (range_with_len from n))
 all_kept P test from zero h = tt
 all_kept P test from (suc n) h = go (test from) refl (all_kept P test (from + 1) n (λ j low high passes. h j (omega arith) (omega arith) passes))
@@ -25,15 +25,15 @@ all_kept P test from (suc n) h = go (test from) refl (all_kept P test (from + 1)
     go true e rest = (h from (omega arith) (omega arith) e, rest)
     go false e rest = rest
 
--- what holds of the others holds of each process but p
+-- a property of the others is a property of each process except p
 pub each_other : (s : Setup) (p : ℕ) (P : ℕ → Type 0) → AllByRecursion P (others s p) → (j : ℕ) → j < s.processes → j ≢ p → P j
 each_other s p P h j below ne = each_kept P (λ j. not (j == p)) 0 s.processes h j (omega arith) (omega arith) (ap not (ne_eqb j p ne))
 
--- and the other way round
+-- the converse for the others
 pub all_others : (s : Setup) (p : ℕ) (P : ℕ → Type 0) → ((j : ℕ) → j < s.processes → j ≢ p → P j) → AllByRecursion P (others s p)
 all_others s p P h = all_kept P (λ j. not (j == p)) 0 s.processes (λ j low high passes. h j (omega arith) (eqb-false j p (not-true (j == p) passes)))
 
--- what holds of all elements holds of one
+-- a property of all elements is a property of one
 pub all_at : (P : ℕ → Type 0) (xs : List ℕ) (y : ℕ) (ys : List ℕ) → AllByRecursion P (xs ++ y ∷ ys) → P y
 all_at P [] y ys h = h.0
 all_at P (x ∷ xs) y ys h = all_at P xs y ys h.1

@@ -1,4 +1,4 @@
--- What a reader knows of an owner, when the owner moves.
+-- The knowledge of a reader about an owner, when the owner moves.
 use Rattle.std.proofs.Common.{◌≡◌, ℕ, ◌<◌, Bool, true, false, List, length, inl, inr, sym, ap, ◌∙◌, arith}
 use Rattle.std.proofs.lemmas.Bool.{false≢true}
 use Rattle.record.specs.declared.access.Field.TheVariants.{Choosing, Ticket}
@@ -27,7 +27,7 @@ clean_run s o since u u' t t' k (Asks j js ts) (Reading bits begun) c = λ e. k.
 clean_run s o since u u' t t' k (Waits ticket w ws) (Reading bits begun) c = clean_wait s o since u u' t t' k w bits begun c
 clean_run s o since u u' t t' k _ _ c = tt
 
--- whatever the reader does
+-- for any state of the reader
 pub clean_still : (s : Setup) (o since : ℕ) (u u' : Notes) (t t' : Touches) → StaysClean s since u u' t t' → (d : Doing) → Clean s o d since u t → Clean s o d since u' t'
 clean_still s o since u u' t t' k Rests c = tt
 clean_still s o since u u' t t' k Lies c = tt
@@ -67,14 +67,14 @@ owner_shows_no_more s o d n u u' t t' k h =
       clean = clean_still s o n.since u u' t t' (record { choosing = clean_choosing n.since u u' t t' k; ticket = clean_ticket s n.since u u' t t' k }) d h.clean;
     }
 
--- the owner's announcement is whole now: whoever read its choosing as 0 began to before
+-- the owner's announcement is whole now: each read of its choosing that gave 0 began before
 pub owner_announces : (s : Setup) (o : ℕ) (d : Doing) (n u u' : Notes) (t t' : Touches) → u'.holds ≡ false → n.choosing_from o < u'.announced_at → n.since < u'.announced_at → Pair s o d n u t → Pair s o d n u' t'
 owner_announces s o d n u u' t t' free before began h = record {
   knows = record { doorway = λ e. not_so free e; waiting = λ e. not_so free e; early = λ e. before; pass = λ e. not_so free e };
   clean = clean_still s o n.since u u' t t' (record { choosing = λ bits begun c e le. absurd (omega arith); ticket = λ bits begun c e. not_so free e }) d h.clean;
 }
 
--- the owner's ticket is whole now: whoever has read it began to before, and read its choosing as 0 before its announcement, if at all
+-- the owner's ticket is whole now: each read of it began before, and each read of its choosing that gave 0 began before its announcement
 pub record Takes (u u' : Notes) (t t' : Touches) : Type 0 where
   pub was_announced : u.announced ≡ true
   pub announced_at : u'.announced_at ≡ u.announced_at

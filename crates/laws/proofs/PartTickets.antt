@@ -1,4 +1,4 @@
--- The ticket of a call, part by part: the one that is held is the one that its place knows, and then the one that was told.
+-- The ticket of a call, part by part: the ticket that is held is the one of its place, and then the one in the marks.
 use Rattle.std.proofs.Common.{◌≡◌, ℕ, ◌+◌, ◌==◌, Bool, true, false, cond, List, [], ◌∷◌, map, refl, sym, ap, subst, ◌∙◌, true≢false}
 use Rattle.std.specs.Prelude.{fold}
 use Rattle.std.proofs.lemmas.Grind.{fold-append}
@@ -10,7 +10,7 @@ use Rattle.record.specs.Parts.{Part, Raises, Asks, TakesTicket, Lowers, Refuses,
 use Rattle.laws.specs.{is_inside_at, ticket_after}
 use Rattle.laws.proofs.Notes.{ticket_by}
 
--- what is known of the ticket at a part, where this one is noted and that one was told last
+-- the knowledge of the ticket at a part, for the noted ticket and the last ticket in the marks
 abbrev pub TicketAt : Part → (noted told : ℕ) → Type 0
 TicketAt Raises noted told = Unit {0}
 TicketAt (Asks j js ts) noted told = Unit {0}
@@ -20,7 +20,7 @@ TicketAt (Refuses f) noted told = Unit {0}
 TicketAt Over noted told = Unit {0}
 TicketAt _ noted told = told ≡ noted
 
--- What comes after a part.
+-- The ticket after a part.
 
 ticket-to_b : (c : Call) (js ts : List ℕ) (noted told : ℕ) → TicketAt (to_b c js ts) noted told
 ticket-to_b c (j ∷ js) ts noted told = tt
@@ -46,7 +46,7 @@ ticket-to_g c vs st noted told h = go (changes st c.command) (newest_stamp vs ==
     go true true = h
     go true false = h
 
--- with the last access of a part
+-- after the last access of a part
 part-on : (c : Call) (x : Part) (bits : List Bool) (noted told : ℕ) → TicketAt x noted told → TicketAt (part_after c x bits) (ticket_by x true noted) (fold ticket_after told (last_marks c x bits))
 part-on c Raises bits noted told h = ticket-to_b c (others c.setup c.process) [] noted told
 part-on c (Asks j js ts) bits noted told h = ticket-to_b c js _ noted told
@@ -71,20 +71,20 @@ part-on c (WritesCommit vs st) bits noted told h = h
 part-on c (Clears a) bits noted told h = tt
 part-on c Over bits noted told h = tt
 
--- with any other
+-- after any other access of a part
 part-still : (x : Part) (noted told : ℕ) → TicketAt x noted told → TicketAt x (ticket_by x false noted) told
 part-still (TakesTicket t) noted told h = tt
 part-still _ noted told h = h
 
--- What a step does.
+-- The ticket after a step.
 
--- the marks on the first access of a part tell no ticket
+-- the marks on the first access of a part have no ticket
 first-tells : (x : Part) (fresh : Bool) (told : ℕ) → fold ticket_after told (cond fresh (first_marks x) []) ≡ told
 first-tells x false told = refl
 first-tells (Clears a) true told = refl
 first-tells _ true told = refl
 
--- nor does the place of a command
+-- the ticket in the marks does not depend on the place of a command
 pub placed-tells : (k told : ℕ) (ms : List Mark) → fold ticket_after told (map (placed k) ms) ≡ fold ticket_after told ms
 placed-tells k told [] = refl
 placed-tells k told (Taken i r ∷ ms) = placed-tells k told ms
@@ -108,7 +108,7 @@ place-on c at v noted told h = subst (TicketAt (place_after c at v).part (ticket
     go true = part-on c at.part bits noted told h
     go false = part-still at.part noted told h
 
--- inside, the ticket that is held was told
+-- inside, the ticket that is held is the one in the marks
 pub inside-told : (x : Part) (fresh : Bool) (noted told : ℕ) → TicketAt x noted told → is_inside_at x fresh ≡ true → told ≡ noted
 inside-told Raises fresh noted told h is = absurd (true≢false (sym is))
 inside-told (Asks j js ts) fresh noted told h is = absurd (true≢false (sym is))

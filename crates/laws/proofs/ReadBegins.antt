@@ -18,7 +18,7 @@ ticket_begins s past p j o bits since v touched inv pb ob below access clean is 
   λ begun. subst (λ o. touched o p Ticket (length bits) ≡ (wires s past o Ticket (length bits) p).writing) is (access.mark refl) ∙ ((inv.own o ob).whole.ticket_whole holds (length bits) p below pb).writing,
 )
 
--- nor of an announcement that is whole
+-- no copy of a whole announcement is being written
 choosing_begins : (s : Setup) (past : Past) (p j o : ℕ) (bits : List Bool) (since : ℕ) (v : Bool) (touched : ℕ → ℕ → Touches) →
     Inv s past → p < s.processes → o < s.processes → length bits < 1 → ReadAccess s past p j Choosing (length bits) false v touched →
     j ≡ o → CleanChoosing since bits true (notes s o past).announced (notes s o past).announced_at (touched o p)

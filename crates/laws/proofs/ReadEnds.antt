@@ -11,13 +11,13 @@ use Rattle.laws.proofs.Invariant.{CleanTicket, Inv, Moves, Touches, next_time, t
 use Rattle.laws.proofs.Notes.{noted, notes}
 use Rattle.laws.proofs.Reading.{AtRead, ReadAccess, own_there, pair_there, reads, reads_on, ticket_bit}
 
--- where the end of a bit leads, with these bits read; last: the number is read
+-- the place after the end of a bit, with these bits read; last: the number is read
 abbrev pub EndsTo : Setup → Past → ℕ → Command → ℕ → Part → List Bool → (ℕ → ℕ → Touches) → Bool → Type 0
 EndsTo s past p command number part bits touched last =
     Moves s past p (runs command number (cond last (enter (call s p command number) (part_after (call s p command number) part bits)) (record { part = part; run = Reading bits false })))
     (noted (call s p command number) (next_time past) part false last bits (notes s p past)) (wires s past p) touched
 
--- what holds in either case of a test holds
+-- a property that holds in either case of a test holds
 pub by_test : (b : Bool) (P : Bool → Type 0) → (b ≡ true → P true) → (b ≡ false → P false) → P b
 by_test true P holds fails = holds refl
 by_test false P holds fails = fails refl

@@ -40,7 +40,7 @@ asks_steps s g past p command number j js ts bits true v touched h access =
 
 -- The waiting.
 
--- what p knows there
+-- the knowledge of p there
 in_waiting : (s : Setup) (past : Past) (p : ℕ) (command : Command) (number t : ℕ) (w : Wait) (ws : List Wait) (bits : List Bool) (begun : Bool) → AtRead s past p command number (Waits t w ws) bits begun → InWaiting s p (notes s p past) t w ws
 in_waiting s past p command number t w ws bits begun h = (own_there s past p command number (Waits t w ws) bits begun h).stands.1
 
@@ -144,7 +144,7 @@ read_moves s g past p command number _ bits begun v touched h access = not_readi
 abbrev pub AnswersTruly : Setup → Past → Type 0
 AnswersTruly s past = (x : Access) (u flick : Bool) → x.how ≡ EndRead u → touches s past x.owner x.reader x.field x.bit ≡ false → value_of (valued s past flick x).how ≡ (wires s past x.owner x.field x.bit x.reader).value
 
--- what the access of an entry does
+-- the effect of the access of an entry
 pub entry_reads : (s : Setup) (past : Past) (p : ℕ) (e : Entry) (command : Command) (number : ℕ) (part : Part) (bits : List Bool) (begun flick : Bool) → AnswersTruly s past →
     e.access ≡ Some (valued s past flick (access_at (call s p command number) part (Reading bits begun))) →
     ReadAccess s past p (read_at (call s p command number) part).0 (read_at (call s p command number) part).1 (length bits) begun (value_of (valued s past flick (access_at (call s p command number) part (Reading bits begun))).how) (touches s (e ∷ past))
@@ -159,7 +159,7 @@ entry_reads s past p e command number part bits true flick truly access = record
   others = λ r other. touches-readers s past e (valued s past flick (access_at (call s p command number) part (Reading bits true))) p r access other;
 }
 
--- it changes no register
+-- the entry changes no register
 entry_writes_not : (s : Setup) (past : Past) (p : ℕ) (e : Entry) (command : Command) (number : ℕ) (part : Part) (bits : List Bool) (begun flick : Bool) →
     e.access ≡ Some (valued s past flick (access_at (call s p command number) part (Reading bits begun))) → wires s (e ∷ past) p ≡ wires s past p
 entry_writes_not s past p e command number part bits false flick access = wires-read s past e (valued s past flick (access_at (call s p command number) part (Reading bits false))) p access refl

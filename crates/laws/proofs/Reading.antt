@@ -1,4 +1,4 @@
--- A read under way: what p knows there, what carries over while it goes on, and the bit that its open copy gives.
+-- A read under way: the knowledge of p there, the part of it that stays during the read, and the bit that its open copy gives.
 use Rattle.std.specs.Prelude.{◌≡◌, ◌≢◌, ℕ, ◌+◌, ◌<◌, ◌≤◌, Bool, true, false, List, [], ◌∷◌, ◌++◌, length}
 use Rattle.std.proofs.Common.{refl, sym, ◌∙◌, subst, arith}
 use Rattle.std.proofs.lemmas.List.{length_push}
@@ -23,18 +23,18 @@ pub record AtRead (s : Setup) (past : Past) (p : ℕ) (command : Command) (numbe
   pub process : p < s.processes
   pub is : doing s p past ≡ reads command number part bits begun
 
--- what p knows then
+-- the knowledge of p then
 pub own_there : (s : Setup) (past : Past) (p : ℕ) (command : Command) (number : ℕ) (part : Part) (bits : List Bool) (begun : Bool) → AtRead s past p command number part bits begun →
     Own s p (next_time past) (reads command number part bits begun) (notes s p past) (wires s past p)
 own_there s past p command number part bits begun h = subst (λ d. Own s p (next_time past) d (notes s p past) (wires s past p)) h.is (h.inv.own p h.process)
 
--- and what it has seen of the others
+-- the knowledge of p about the others
 pub pair_there : (s : Setup) (past : Past) (p : ℕ) (command : Command) (number : ℕ) (part : Part) (bits : List Bool) (begun : Bool) → AtRead s past p command number part bits begun →
     (o : ℕ) → o < s.processes → o ≢ p → Pair s o (reads command number part bits begun) (notes s p past) (notes s o past) (touches s past o p)
 pair_there s past p command number part bits begun h o below other =
     subst (λ d. Pair s o d (notes s p past) (notes s o past) (touches s past o p)) h.is (h.inv.pair p o h.process below (λ same. other (sym same)))
 
--- all that p keeps but its place
+-- all that p keeps except its place
 pub ready_there : (s : Setup) (past : Past) (p : ℕ) (command : Command) (number : ℕ) (part : Part) (bits : List Bool) (begun : Bool) (touched : ℕ → ℕ → Touches) → AtRead s past p command number part bits begun →
     ((r : ℕ) → r ≢ p → touched p r ≡ touches s past p r) → Ready s past p (is_inside_at part (is_fresh (Reading bits begun))) (notes s p past) (wires s past p) touched
 ready_there s past p command number part bits begun touched h kept =
@@ -47,7 +47,7 @@ ready_there s past p command number part bits begun touched h kept =
       owner = λ r below other. subst (λ t. Pair s p (doing s r past) (notes s r past) (notes s p past) t) (sym (kept r other)) (h.inv.pair r p below h.process other);
     }
 
--- the read goes on: only its being clean is to be shown
+-- the read continues: it only has to be shown clean
 pub reads_on : (s : Setup) (past : Past) (p : ℕ) (command : Command) (number : ℕ) (part : Part) (bits bits' : List Bool) (begun begun' : Bool) (touched : ℕ → ℕ → Touches) →
     AtRead s past p command number part bits begun →
     is_inside_at part (is_fresh (Reading bits begun)) ≡ is_inside_at part (is_fresh (Reading bits' begun')) →
@@ -67,13 +67,13 @@ only_copy s past p o k inv pb ob below announced =
     let first : 0 ≡ k = omega arith in
     subst (λ k. Closed (wires s past o Choosing k p) true) first ((inv.own o ob).whole.choosing announced p pb)
 
--- What p's access does, at bit k of a field of o: a begin marks whether a write of its copy is open; an end, if no write touched the read, gives the value of the copy.
+-- The effect of p's access, at bit k of a field of o: a begin marks whether a write of its copy is open; an end, if no write touched the read, gives the value of the copy.
 pub record ReadAccess (s : Setup) (past : Past) (p o : ℕ) (f : Field) (k : ℕ) (begun v : Bool) (touched : ℕ → ℕ → Touches) : Type 0 where
   pub mark : begun ≡ false → touched o p f k ≡ (wires s past o f k p).writing
   pub value : begun ≡ true → touches s past o p f k ≡ false → v ≡ (wires s past o f k p).value
   pub others : (r : ℕ) → r ≢ p → touched p r ≡ touches s past p r
 
--- of a ticket that is held, all bits so far and the one that the open copy gives
+-- if a ticket is held, all its bits so far and the one that the open copy gives
 pub ticket_bit : (s : Setup) (past : Past) (p o : ℕ) (bits : List Bool) (since : ℕ) (v : Bool) (touched : ℕ → ℕ → Touches) →
     Inv s past → p < s.processes → o < s.processes → length bits < s.ticket_bits → ReadAccess s past p o Ticket (length bits) true v touched →
     CleanTicket s since bits true (notes s o past).holds (notes s o past).ticket (notes s o past).held_at (touches s past o p) →
@@ -83,7 +83,7 @@ ticket_bit s past p o bits since v touched inv pb ob below access clean holds he
     one_more_bit (ticket_of s (notes s o past).ticket) bits v so_far.0
     (access.value refl (so_far.1 refl) ∙ ((inv.own o ob).whole.ticket_whole holds (length bits) p below pb).value)
 
--- of an announcement that is whole, the bit that the open copy gives
+-- if an announcement is whole, the bit that the open copy gives
 pub choosing_bit : (s : Setup) (past : Past) (p o : ℕ) (bits : List Bool) (since : ℕ) (v : Bool) (touched : ℕ → ℕ → Touches) →
     Inv s past → p < s.processes → o < s.processes → length bits < 1 → ReadAccess s past p o Choosing (length bits) true v touched →
     CleanChoosing since bits true (notes s o past).announced (notes s o past).announced_at (touches s past o p) →

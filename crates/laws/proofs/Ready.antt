@@ -1,4 +1,4 @@
--- A process between two accesses: all that it keeps but its place in the program.
+-- A process between two accesses: all that it keeps except its place in the program.
 use Rattle.std.proofs.Common.{◌≡◌, ◌≢◌, ℕ, suc, ◌/◌, ◌<◌, Bool, true, false, cond, List, [], length, refl, sym, subst, arith, inl, inr}
 use Rattle.std.proofs.lemmas.Bool.{false≢true}
 use Rattle.record.specs.{Asks, Call, Field, Part, Past, Place, Reading, Wait, Waits, Writing, enter, is_over, is_read, new_run, read_at, width, written_at}
@@ -22,7 +22,7 @@ pub record Ready (s : Setup) (past : Past) (p : ℕ) (is : Bool) (n : Notes) (m 
   pub knows : (o : ℕ) → o < s.processes → o ≢ p → DoesKnow o n (notes s o past)
   pub owner : (r : ℕ) → r < s.processes → r ≢ p → Pair s p (doing s r past) (notes s r past) n (t p r)
 
--- as the past has made it
+-- p is ready after the past
 pub ready : (s : Setup) (past : Past) (p : ℕ) → p < s.processes → Inv s past → Ready s past p (is_inside (doing s p past)) (notes s p past) (wires s past p) (touches s past)
 ready s past p below inv = record {
   times = past_later _ _ _ _ _ _ _ _ _ (inv.own p below).past;
@@ -32,7 +32,7 @@ ready s past p below inv = record {
   owner = λ r rb ne. inv.pair r p rb below ne;
 }
 
--- the notes, but for when the doorway ended and the present number access became the next one
+-- the notes with another end of the doorway, and another beginning of the present number access
 abbrev pub later : Notes → (ended since : ℕ) → Notes
 later n ended since = record n { ended = ended; since = since }
 
@@ -56,11 +56,11 @@ ready_later s past p is n ended since m t ended_past since_past r = record {
   owner = λ q below ne. owner_shows_no_more s p _ _ _ _ _ _ (record { announced = λ e. e; announced_at = refl; holds = λ e. e; ticket = refl; held_at = refl; choosing_marks = λ e k. refl; ticket_marks = λ e k. refl }) (r.owner q below ne);
 }
 
--- and once something else begins
+-- p is ready when another number access begins
 pub ready_turned : (s : Setup) (past : Past) (p : ℕ) (is : Bool) (n : Notes) (m : Wires) (t : ℕ → ℕ → Touches) → Ready s past p is n m t → Ready s past p is (turned (next_time past) n) m t
 ready_turned s past p is n m t r = ready_later s past p is n n.ended (next_time past) m t r.times.ended_past (omega arith) r
 
--- from ready to a move, where it stands and what it has read is clean
+-- from ready to a move, if its place fits and its reads so far are clean
 pub moves_to : (s : Setup) (past : Past) (p : ℕ) (d : Doing) (n : Notes) (m : Wires) (t : ℕ → ℕ → Touches) → Ready s past p (is_inside d) n m t → Stands s p n m d →
     ((o : ℕ) → o < s.processes → o ≢ p → Clean s o d n.since (notes s o past) (t o p)) → Moves s past p d n m t
 moves_to s past p d n m t r stands clean = record {
@@ -73,7 +73,7 @@ moves_to s past p d n m t r stands clean = record {
 pub rests : (s : Setup) (past : Past) (p : ℕ) (n : Notes) (m : Wires) (t : ℕ → ℕ → Touches) → Ready s past p false n m t → n.holds ≡ false → Moves s past p Rests n m t
 rests s past p n m t r free = moves_to s past p Rests n m t r free (λ o ob ne. tt)
 
--- Of a number access nothing is made yet.
+-- No access of a number access is made yet.
 
 no_bit : {X : Type 0} (k : ℕ) → k < 0 → X
 no_bit k below = absurd (omega arith)
@@ -105,7 +105,7 @@ unwritten n bits wide m f some same pos = record {
     none k r (inl lower) = no_bit k lower
     none k r (inr here) = let low : r < 0 / 2 = here.1 in omega arith
 
--- so it stands at its beginning
+-- a new place is at the beginning of its number access
 pub new_stands : (s : Setup) → IsGood s → (p : ℕ) (command : Command) (number : ℕ) (part : Part) (m : Wires) → is_over part ≡ false → StandsRun (call s p command number) m part (new_run (call s p command number) part)
 new_stands s g p command number part m over = go (is_read part) refl
   where

@@ -1,4 +1,4 @@
--- Each read of a record ends with the value of the safe rule, and else with the flick of its event.
+-- Each read of a record ends with the value of the safe rule, and otherwise with the flick of its event.
 use Rattle.std.proofs.Common.{◌≡◌, Bool, if◌then◌else◌, List, Some, None, refl, sym, ap, subst, ◌∙◌, length, ℕ}
 use Rattle.record.specs.safe_bit.{MayEndWith, Move, before_read, last_written, read_value}
 use Rattle.record.specs.safe_bit.declared.Move.TheVariants.{EndRead}
@@ -27,7 +27,7 @@ pub ends_by_its_flick : (s : Setup) (past : Past) (p : ℕ) (flick : Bool) (e : 
     v ≡ read_value (opening_bit s a) (moves_of a past) flick
 ends_by_its_flick s past p flick e is a v acc how = step-ends s past p flick e a v (entry-accepted s past (Step p flick) e is).2 acc how
 
--- what is not overlapped does not depend on the flick
+-- the value of a read that no write overlaps does not depend on the flick
 may-end : (opening v flick : Bool) (moves : List Move) → v ≡ read_value opening moves flick → MayEndWith opening moves v
 may-end opening v flick moves h calm = h ∙ ap (λ b. if b then flick else last_written opening (before_read moves)) calm
 

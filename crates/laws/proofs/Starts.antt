@@ -1,4 +1,4 @@
--- Calls, withdrawals, failures and restarts: entries with no access. Nothing that p shows changes; it goes on elsewhere.
+-- Calls, withdrawals, failures and restarts are entries without an access. The registers of p do not change, only its place.
 use Rattle.std.proofs.Common.{◌≡◌, ℕ, Bool, true, false, refl, sym, ap, subst, ◌∙◌}
 use Rattle.std.proofs.lemmas.Bool.{false_from_ne_true}
 use Rattle.std.specs.Prelude.{not}

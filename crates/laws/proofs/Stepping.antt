@@ -1,4 +1,4 @@
--- Each step that is no read keeps the invariant.
+-- Each step that is not part of a read keeps the invariant.
 use Rattle.std.proofs.Common.{◌≡◌, ℕ, ◌<◌, Bool, false, List, ◌∷◌, Option, None, Some, refl, subst, ◌∙◌}
 use Rattle.record.specs.{Access, Call, Closing, Entry, Next, Part, Past, Raises, Reading, Run, Wait, Waits, Writing, access_at, closing_after, closing_next, enter, is_over, is_read, place_after, value_of, valued, withdrawing, written_at}
 use Rattle.plain_store.specs.{Command, Setup}
@@ -30,7 +30,7 @@ pub record At (s : Setup) (past : Past) (p : ℕ) (e : Entry) (d : Doing) : Type
 ready_at : (s : Setup) (past : Past) (p : ℕ) (e : Entry) (d : Doing) → At s past p e d → Ready s past p (is_inside d) (notes s p past) (wires s past p) (touches s past)
 ready_at s past p e d h = subst (λ y. Ready s past p (is_inside y) (notes s p past) (wires s past p) (touches s past)) h.does (ready s past p h.below h.inv)
 
--- and stands at its place
+-- the place of the process fits
 stands_at : (s : Setup) (past : Past) (p : ℕ) (e : Entry) (d : Doing) → At s past p e d → Stands s p (notes s p past) (wires s past p) d
 stands_at s past p e d h = subst (Stands s p (notes s p past) (wires s past p)) h.does (h.inv.own p h.below).stands
 

@@ -1,4 +1,4 @@
--- What a step of a process is, by what the process does.
+-- The step of a process, by its state.
 use Rattle.std.proofs.Common.{◌≡◌, ℕ, Bool, true, false, cond, List, [], ◌∷◌, Option, Some, None, length, map, option_map, unwrap_or, refl, sym, ap, ◌∙◌}
 use Rattle.std.specs.List.{list_any}
 use Rattle.record.specs.safe_bit.{Move}
@@ -30,13 +30,13 @@ pub record StepIs (s : Setup) (past : Past) (p : ℕ) (flick : Bool) (e : Entry)
   pub plain : has starts e ≡ false
   pub does : doing s p (e ∷ past) ≡ does_then s p (doing s p past) flick (value_of (valued s past flick next).how)
 
--- an entry that begins no program goes on with its access
+-- an entry that begins no program moves by its access
 goes-plain : (s : Setup) (past : Past) (p : ℕ) (e : Entry) (d : Doing) (a : Access) → e.process ≡ p → has starts e ≡ false → e.access ≡ Some a → doing s p past ≡ d → doing s p (e ∷ past) ≡ goes_on s p e (Some a) d
 goes-plain s past p e d a i plain access does = doing-goes s p e past i
     ∙ ap (λ m. does_after s p (own p past) e m (doing s p past)) (no_start e.marks plain)
     ∙ ap (λ x. goes_on s p e x (doing s p past)) access ∙ ap (goes_on s p e (Some a)) does
 
--- of a process that runs its call
+-- a process that runs its call
 running-step : (s : Setup) → IsGood s → (events : List Event) (p : ℕ) (flick : Bool) (e : Entry) (command : Rattle.plain_store.specs.declared.Command.Command)
     → let past : Past = past_of s events in
     let mine : Past = own p past in
@@ -97,7 +97,7 @@ same-value : (b v w : Bool) → cond b (Settle v) (BeginWrite v) ≡ cond b (Set
 same-value true v w h = cc
 same-value false v w h = cc
 
--- what a unit comes to is told by its next access
+-- the state of a unit after an access follows from that access
 unit-after : (c : Call) (mine : Past) (flicks : List Bool) (w flick : Bool) → closing_next c (closing_of c (failing c mine) flicks) w ≡ closing_next c (closing_of c (failing c mine) flicks) flick →
     closing_after c (closing_of c (failing c mine) flicks) w ≡ closing_after c (closing_of c (failing c mine) flicks) flick
 unit-after c mine [] w flick h = go (unfinished c.setup.processes (last_write mine)) h
@@ -111,7 +111,7 @@ leaving-after : (c : Call) (flicks : List Bool) (w flick : Bool) → closing_aft
 leaving-after c [] w flick = refl
 leaving-after c (f ∷ flicks) w flick = after-free c (closing_of c (withdrawing c) (f ∷ flicks)) (chosen-after c (closing_of c (withdrawing c) flicks) f) w flick
 
--- of a process in a closing, which goes on by what its access writes
+-- a process in a closing, which moves by the value that its access writes
 closing-step : (s : Setup) (past : Past) (p : ℕ) (flick : Bool) (e : Entry) (at : Closing)
     → let mine : Past = own p past in
     let c : Call = last_call s p mine in

@@ -1,4 +1,4 @@
--- The two theorems of the lock, from the invariant: no two processes are inside, and who gets inside overtakes nobody.
+-- The two theorems of the lock, from the invariant: no two processes are inside, and a process that enters overtakes no other.
 use Rattle.std.proofs.Common.{◌≡◌, ◌≢◌, ◌⊎◌, ℕ, suc, ◌<◌, ◌≤◌, ◌==◌, ◌&&◌, nat_lt, Bool, true, false, cond, List, [], ◌∷◌, Option, Some, None, refl, sym, ap, subst, ◌∙◌, true≢false, arith, inl, inr, eqb-true, IsTrue, IsFalse, length}
 use Rattle.std.proofs.lemmas.Bool.{eqb-false}
 use Rattle.std.proofs.lemmas.Bool.Decides.{nat_tests}
@@ -55,7 +55,7 @@ together s past i j inv iN jN ne hi hj =
     let y = below s past j i inv jN iN ji (sj.held hj) (si.held hi) (sj.passed hj i iN ne) in
     omega arith
 
--- who is inside and began its doorway after j had finished its own has read j's ticket in it, and took a greater one; yet its ticket is below j's, which it has passed
+-- a process that is inside and began its doorway after j had finished its own has read j's ticket in it, and took a greater one; yet its ticket is below j's, which it has passed
 pub overtaken : (s : Setup) (past : Past) (p j : ℕ) → Inv s past → p < s.processes → j < s.processes → p ≢ j → is_inside (doing s p past) ≡ true →
     (notes s j past).holds ≡ true → (notes s j past).held_at ≤ (notes s j past).ended → (notes s j past).ended < (notes s p past).began → ⊥
 overtaken s past p j inv pN jN ne hp hj held first =
@@ -71,7 +71,7 @@ overtaken s past p j inv pN jN ne hp hj held first =
     let x = below s past p j inv pN jN ne mine hj (senior.passed hp j jN jp) in
     omega arith
 
--- What record says of who is inside, who waits, and who gets inside.
+-- The definitions of `record` for processes that are inside, wait or enter.
 
 pub less : (i n : ℕ) → nat_lt i n ≡ true → i < n
 less i n h = grind (arith, nat_tests)
@@ -79,7 +79,7 @@ less i n h = grind (arith, nat_tests)
 pub not_less : (i n : ℕ) → nat_lt i n ≡ false → n ≤ i
 not_less i n h = grind (arith, nat_tests)
 
--- who does anything is one of the processes
+-- only existing processes act
 pub is_process : (s : Setup) → IsGood s → (events : List Event) (p : ℕ) → doing s p (past_of s events) ≢ Rests → p < s.processes
 is_process s g events p h = go (nat_lt p s.processes) refl
   where
@@ -139,7 +139,7 @@ waiter-holds s past p inv pN x =
     let waits : InWaiting s p n x.ticket x.wait x.waits = subst (λ y. StandsAt s p n y (is_fresh x.at.run)) x.part_is stands.1 in
     (waits.holding, waits.ended_after)
 
--- nobody is before itself
+-- no process is ahead of itself
 pub not_ahead_of_itself : (s : Setup) → IsGood s → (events : List Event) (p : ℕ) → is_ahead (past_of s events) p p ≡ false
 not_ahead_of_itself s g events p = go (is_waiting_stage (stage p past)) refl
   where
@@ -162,7 +162,7 @@ not_ahead_of_itself s g events p = go (is_waiting_stage (stage p past)) refl
         let x = waiter-numbers s g events p (waiter s g events p h) in
         later (doorway_begin p past) (doorway_end p past) (notes s p past).began (notes s p past).ended (x.begun_is refl) (x.finished_is refl) (x.order refl)
 
--- who gets inside does so with a step of its call, once its doorway has begun
+-- a process enters with a step of its call, once its doorway has begun
 pub record Enters (s : Setup) (past : Past) (p : ℕ) (e : Entry) : Type 0 where
   pub command : Command
   pub number : ℕ

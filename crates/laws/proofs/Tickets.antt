@@ -17,12 +17,12 @@ pub above : (a : ℕ) (ts : List ℕ) → a ≤ fold max a ts
 above a [] = omega arith
 above a (t ∷ ts) = let l = above (max a t) ts in grind (arith, l)
 
--- nor above the top, where none is
+-- the greatest is not above the top, if no number is
 most : (top a : ℕ) (ts : List ℕ) → AllUpTo top ts → a ≤ top → fold max a ts ≤ top
 most top a [] h l = l
 most top a (t ∷ ts) h l = let k = h.0 in let m : max a t ≤ top = grind (arith, l, k) in most top (max a t) ts h.1 m
 
--- where the greatest is not the top, none is
+-- if the greatest is not the top, no process is named
 pub none_full : (top a : ℕ) (js ts : List ℕ) → AllUpTo top ts → a ≤ top → (fold max a ts == top) ≡ false → lowest_full top js ts ≡ None
 none_full top a [] ts h l ne = refl
 none_full top a (j ∷ js) [] h l ne = refl
@@ -43,7 +43,7 @@ none_full top a (j ∷ js) (t ∷ ts) h l ne =
 pub still-below : (top a t f : ℕ) → max a t ≤ f → f ≡ top → a < top → t ≢ top → max a t < top
 still-below top a t f up e l ne = grind (arith, up, e, l, ne)
 
--- where it is, the process at its first place is the lowest one whose ticket was the top
+-- if the greatest is the top, the process at its first place is the lowest one whose ticket was the top
 pub lowest_is : (top a : ℕ) (js ts : List ℕ) → length js ≡ length ts → a < top → fold max a ts ≡ top → lowest_full top js ts ≡ Some (slice_index js (index_of top ts))
 lowest_is top a [] [] same l e = absurd (omega (arith, l, e))
 lowest_is top a [] (t ∷ ts) same l e = absurd (omega (arith, same))

@@ -30,9 +30,9 @@ use Rattle.laws.proofs.Frame as frame
 use Rattle.laws.proofs.Frame.{Does, own-own}
 use Rattle.laws.proofs.FrameEvents.{does_all}
 
--- How many accesses there are.
+-- The number of accesses.
 
--- of the settling of a bit, two for each copy at most
+-- settling a bit makes at most two accesses for each copy
 settles-few : (made r n : ℕ) (v : Bool) → length (settles_from made r n v) ≤ 2 * n
 settles-few made r zero v = omega arith
 settles-few made r (suc n) v = go (is_open_at made r) (settles-few made (r + 1) n v)
@@ -49,7 +49,7 @@ settle-few n p v a =
     let few : length (settles_from (made_with a) 0 n v) ≤ 2 * n = settles-few (made_with a) 0 n v in
     omega (arith, long, few)
 
--- of the write of a number, two for each of 16 copies of each bit at most
+-- writing a number makes at most two accesses for each of 16 copies of each bit
 writes-few : (n k : ℕ) (bits : List Bool) → n ≤ 16 → length (writes_from n k bits) ≤ 32 * length bits
 writes-few n k [] copies = omega arith
 writes-few n k (b ∷ bits) copies =
@@ -65,7 +65,7 @@ write-few s p field bits copies =
     let few : length (writes_from s.processes 0 bits) ≤ 32 * length bits = writes-few s.processes 0 bits copies in
     omega (arith, long, few)
 
--- of all that a unit does
+-- all accesses of a unit
 unit-few : (c : Call) → c.setup.processes ≤ 16 → c.setup.ticket_bits ≤ 32 → (past : Past) (v : Bool) → length (singles (unit_program c past v)) ≤ 1088
 unit-few c copies bits past v = go (unfinished c.setup.processes (last_write past))
   where
@@ -97,7 +97,7 @@ unit-few c copies bits past v = go (unfinished c.setup.processes (last_write pas
         let few : length (settle_of c.setup.processes c.process v a) ≤ 2 * c.setup.processes = settle-few c.setup.processes c.process v a in
         omega (arith, first, few, clears, copies)
 
--- there are at most 32 bits of a ticket
+-- a ticket has at most 32 bits
 few-bits : (s : Setup) → checked s ≡ Ok tt → s.ticket_bits ≤ 32
 few-bits s good = by (s.version == 1) (good-checked s good).ticket_bits
   where
@@ -131,7 +131,7 @@ few_accesses s good events p settles = go (does_all s g events p)
 
 -- One step.
 
--- a unit has an end, or goes on
+-- the stage of a unit is down or settling
 unit-stage : (x : Closing) → is_unit x ≡ true → (closing_stage x ≡ stages.Down) ⊎ (closing_stage x ≡ stages.Settling)
 unit-stage (Withdraws w) h = cc
 unit-stage (Settles field bit begun taken is t) h = inr refl
@@ -140,7 +140,7 @@ unit-stage (Lowers w) h = inr refl
 unit-stage Quit h = cc
 unit-stage Ended h = inl refl
 
--- what a step of a unit leads to: its process is down, or the unit is at work still, and has made one access more
+-- the result of a step of a unit: its process is down, or the unit still works and has made one more access
 abbrev pub GoesOn : Setup → ℕ → List Event → List Event → Type 0
 GoesOn s p events on = (stage p (past_of s on) ≡ stages.Down)
     ⊎ ((stage p (past_of s on) ≡ stages.Settling) × (length (since is_failed (own p (past_of s on))) ≡ suc (length (since is_failed (own p (past_of s events))))))

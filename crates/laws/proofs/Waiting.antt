@@ -17,7 +17,7 @@ use Rattle.laws.proofs.Others.{others_before}
 use Rattle.laws.proofs.Reading.{AtRead, ReadAccess, choosing_bit, own_there, pair_there, ready_there, ticket_read}
 use Rattle.laws.proofs.Ready.{Ready, ready_turned, starts}
 
--- Who was passed stays passed, where what is noted is noted of a later one.
+-- A process that was passed stays passed if the notes change for a later process.
 
 -- all of these, at other notes
 passed_kept : (p j : ℕ) (n n' : Notes) (done : List ℕ) → AllByRecursion (λ i. i < j) done →
@@ -26,14 +26,14 @@ passed_kept : (p j : ℕ) (n n' : Notes) (done : List ℕ) → AllByRecursion (�
 passed_kept p j n n' [] lower keeps h = tt
 passed_kept p j n n' (i ∷ done) lower keeps h = let below : i < j = lower.0 in (keeps i (omega arith) h.0, passed_kept p j n n' done lower.1 keeps h.1)
 
--- and one more
+-- one more process was passed
 passed_more : (p : ℕ) (n : Notes) (done : List ℕ) (j : ℕ) → AllPassed p n done → Passed p n.ticket n.held_at n.choosing_from n.choosing_to n.let_from n.let_by j → AllPassed p n (done ++ j ∷ [])
 passed_more p n [] j h now = (now, tt)
 passed_more p n (i ∷ done) j h now = (h.0, passed_more p n done j h.1 now)
 
 -- The read of choosing.
 
--- it gave 1: the same read again
+-- the read gave 1: choosing is read again
 pub choosing_again : (s : Setup) → IsGood s → (past : Past) (p : ℕ) (command : Command) (number t j : ℕ) (ws : List Wait) (touched : ℕ → ℕ → Touches) →
     AtRead s past p command number (Waits t (j, Choosing) ws) [] true → ReadAccess s past p j Choosing 0 true true touched →
     Moves s past p (runs command number (enter (call s p command number) (Waits t (j, Choosing) ws))) (turned (next_time past) (notes s p past)) (wires s past p) touched
@@ -60,7 +60,7 @@ choosing_again s g past p command number t j ws touched h access =
 abbrev let_in : ℕ → ℕ → Notes → Notes
 let_in now j n = record n { since = now; choosing_from = set j n.since n.choosing_from; choosing_to = set j now n.choosing_to }
 
--- It gave 0. Early: it began before j's announcement was whole, if that is whole now, since else it would have read it clean, as 1. Late: it ends now, after j's ticket was whole.
+-- It gave 0. Early: it began before j's announcement was whole, if that is whole now; otherwise it would have read it clean, as 1. Late: it ends now, after j's ticket was whole.
 ready_let_in : (s : Setup) (past : Past) (p j : ℕ) (n : Notes) (touched : ℕ → ℕ → Touches) → Ready s past p false n (wires s past p) touched → n.since < next_time past →
     (j < s.processes → (notes s j past).held_at < next_time past) → (j < s.processes → j ≢ p → (notes s j past).announced ≡ true → n.since < (notes s j past).announced_at) →
     Ready s past p false (let_in (next_time past) j n) (wires s past p) touched
@@ -82,7 +82,7 @@ ready_let_in s past p j n touched r before held early =
       };
     })
 
--- it is noted of j alone
+-- the notes change for j alone
 passed_let_in : (p now j : ℕ) (n : Notes) (done : List ℕ) → AllByRecursion (λ i. i < j) done → AllPassed p n done → AllPassed p (let_in now j n) done
 passed_let_in p now j n done lower h = passed_kept p j n (let_in now j n) done lower
     (λ i other was. record {
@@ -129,7 +129,7 @@ choosing_passed s g past p command number t j ws touched h access =
 
 -- The read of a ticket.
 
--- it doesn't let by: the same read again
+-- the ticket does not let p pass: it is read again
 pub ticket_again : (s : Setup) → IsGood s → (past : Past) (p : ℕ) (command : Command) (number t j : ℕ) (ws : List Wait) (bits : List Bool) (v : Bool) (touched : ℕ → ℕ → Touches) →
     AtRead s past p command number (Waits t (j, Ticket) ws) bits true → ReadAccess s past p j Ticket (length bits) true v touched →
     Moves s past p (runs command number (enter (call s p command number) (Waits t (j, Ticket) ws))) (turned (next_time past) (notes s p past)) (wires s past p) touched
@@ -167,7 +167,7 @@ beyond_is t p v j e = elim (or_cases (v == 0) (is_below t p v j) e) [
 abbrev let_pass : ℕ → ℕ → ℕ → Notes → Notes
 let_pass now j v n = record n { since = now; let_from = set j n.since n.let_from; let_by = set j v n.let_by }
 
--- what it gave is noted
+-- its value is noted
 ready_let_pass : (s : Setup) (past : Past) (p j v : ℕ) (n : Notes) (touched : ℕ → ℕ → Touches) → Ready s past p false n (wires s past p) touched → n.since < next_time past →
     (j < s.processes → j ≢ p → (notes s j past).holds ≡ true → (notes s j past).held_at ≤ n.since → v ≡ (notes s j past).ticket) →
     Ready s past p false (let_pass (next_time past) j v n) (wires s past p) touched
@@ -188,7 +188,7 @@ ready_let_pass s past p j v n touched r before gives =
       };
     })
 
--- it is noted of j alone
+-- the notes change for j alone
 passed_let_pass : (p now j v : ℕ) (n : Notes) (done : List ℕ) → AllByRecursion (λ i. i < j) done → AllPassed p n done → AllPassed p (let_pass now j v n) done
 passed_let_pass p now j v n done lower h = passed_kept p j n (let_pass now j v n) done lower
     (λ i other was. record {

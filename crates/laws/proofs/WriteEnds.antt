@@ -16,13 +16,13 @@ use Rattle.laws.proofs.Invariant.{Closed, Wires, bit, wires}
 use Rattle.laws.proofs.WriteSteps.{StepsOn, ends_next, one_further, steps_on}
 use Rattle.laws.proofs.Writing.{stays, turns}
 
--- How many accesses are made.
+-- The number of accesses made.
 
--- a write of these bits that has come so far
+-- a write of these bits with this progress
 abbrev come_to : RegisterWrite → NumberWrite → RegisterWrite
 come_to w run = record { field = w.field; bits = w.bits; run = run }
 
--- a write that goes on has an access to make
+-- a write that continues has an access to make
 has_more : (s : Setup) (m : Wires) (w : RegisterWrite) → WrittenSoFar s m w → accesses_made s.processes w < accesses_in_all s.processes w
 has_more s m w so_far =
     let n : ℕ = s.processes in
@@ -31,7 +31,7 @@ has_more s m w so_far =
     let made : (bit_written w.bits w.run).made < 2 * n = so_far.made in
     omega (arith, made, rows, mul-suc n w.run.bit)
 
--- with its next access it has made one more
+-- the next access is one more
 one_more : (n : ℕ) (w : RegisterWrite) → accesses_made n (one_further n w) ≡ suc (accesses_made n w)
 one_more n w = go (made + 1 == 2 * n) refl
   where
@@ -49,7 +49,7 @@ one_more n w = go (made + 1 == 2 * n) refl
         let next : 2 * (n * (w.run.bit + 1)) + 0 ≡ suc (2 * (n * w.run.bit) + made) = omega (arith, full, row, mul-suc n w.run.bit) in
         ap (λ run. accesses_made n (come_to w run)) (turns n w.bits w.run e) ∙ next
 
--- it has as many in all
+-- the number of all its accesses stays
 as_many : (n : ℕ) (w : RegisterWrite) → accesses_in_all n (one_further n w) ≡ accesses_in_all n w
 as_many n w = go ((bit_written w.bits w.run).made + 1 == 2 * n) refl
   where
@@ -57,7 +57,7 @@ as_many n w = go ((bit_written w.bits w.run).made + 1 == 2 * n) refl
     go false e = ap (λ run. accesses_in_all n (come_to w run)) (stays n w.bits w.run e)
     go true e = ap (λ run. accesses_in_all n (come_to w run)) (turns n w.bits w.run e)
 
--- where that access is the last one, it has made all
+-- if that access is the last one, all are made
 all_made : (s : Setup) (m : Wires) (w : RegisterWrite) → WrittenSoFar s m w → ends_next s.processes w ≡ true → accesses_in_all s.processes w ≡ accesses_made s.processes (one_further s.processes w)
 all_made s m w so_far ends = go ((bit_written w.bits w.run).made + 1 == 2 * n) refl
   where
@@ -85,7 +85,7 @@ steps_first s p (suc n) past = ap (with_event s (Step p false)) (steps_first s p
 abbrev Finished : Setup → Past → ℕ → RegisterWrite → Type 0
 Finished s past p w = (k r : ℕ) → k < length w.bits → r < s.processes → Closed (wires s past p w.field k r) (bit w.bits k)
 
--- so it is after these Steps, where the write has as many accesses left
+-- the bits are held after this number of Steps, if the write has this number of accesses left
 abbrev Finishes : Setup → ℕ → Type 0
 Finishes s left = (events : List Event) (p : ℕ) (w : RegisterWrite) → register_write s p (doing s p (past_of s events)) ≡ Some w → accesses_in_all s.processes w ≡ left + accesses_made s.processes w →
     Finished s (steps_alone s p left (past_of s events)) p w

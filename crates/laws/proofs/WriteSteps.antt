@@ -1,4 +1,4 @@
--- A step of a process that writes a register takes the write one access further. Until its last access the process goes on with this write.
+-- A step of a process that writes a register advances the write by one access. Until its last access the process continues this write.
 use Rattle.std.proofs.Common.{◌≡◌, ℕ, ◌<◌, ◌==◌, Bool, true, false, cond, List, [], ◌∷◌, Option, Some, None, refl, sym, ap, subst, ◌∙◌, arith}
 use Rattle.std.proofs.lemmas.Bool.Decides.{nat_tests}
 use Rattle.std.specs.Prelude.{nat_lt}
@@ -48,7 +48,7 @@ next_is s p (Closes command number (Lowers y)) flick w h = ap (λ (w : RegisterW
 next_is s p (Closes command number Quit) flick w h = cc
 next_is s p (Closes command number Ended) flick w h = cc
 
--- where a write goes on, it is made then
+-- if a write continues, it has one more access made then
 abbrev GoesOn : Setup → ℕ → Doing → RegisterWrite → Type 0
 GoesOn s p d w = ends_next s.processes w ≡ false → register_write s p d ≡ Some (one_further s.processes w)
 
@@ -123,7 +123,7 @@ live s g events p there = go (doing s p past) refl
         live_part s p (notes s p past) at.part (is_fresh at.run) (subst (Stands s p (notes s p past) (wires s past p)) does (inv.own p there).stands).1
     go (Closes command number at) does = tt
 
--- what a step of a write leads to: an entry that takes it one further
+-- the result of a step of a write: an entry that advances the write by one access
 pub record StepsOn (s : Setup) (events : List Event) (p : ℕ) (w : RegisterWrite) : Type 0 where
   pub advanced : Advanced s.processes w.bits w.run (wires s (past_of s (Step p false ∷ events)) p) w.field
   pub goes_on : GoesOn s p (doing s p (past_of s (Step p false ∷ events))) w

@@ -21,7 +21,7 @@ part_fits c m part (Writing x) w going stands h =
     subst (λ (y : RegisterWrite). length y.bits ≡ width c.setup y.field) (some_write _ w h) (sym (written-width c part stands.0 going))
 part_fits c m part (Reading bits begun) w going stands h = cc
 
--- so has each write of a process, or of its memory unit
+-- each write of a process, or of its memory unit, has the width of its register
 abbrev HasItsWidth : Setup → ℕ → RegisterWrite → Doing → Type 0
 HasItsWidth s p w d = register_write s p d ≡ Some w → length w.bits ≡ width s w.field
 

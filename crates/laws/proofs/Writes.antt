@@ -1,4 +1,4 @@
--- The accesses of a write of a part: each but the last, and the last end.
+-- The accesses of a write of a part: each except the last, and the last end.
 use Rattle.std.proofs.Common.{◌≡◌, ℕ, suc, ◌<◌, ◌==◌, Bool, true, false, cond, List, [], refl, sym, subst, arith}
 use Rattle.std.proofs.lemmas.Bool.{false≢true, cond_both}
 use Rattle.std.specs.Prelude.{not}
@@ -20,7 +20,7 @@ use Rattle.laws.proofs.Breaks.{OfSection, commit_of_section, stamp_of_section, i
 abbrev pub still : Call → ℕ → Part → (fresh : Bool) → Notes → Notes
 still c now part fresh n = noted c now part fresh false [] n
 
--- What an access breaks: a write of choosing, the announcement; a write of the ticket, the ticket, and p is not inside then; a write of the section, nothing.
+-- The breaks of an access: a write of choosing breaks the announcement; a write of the ticket breaks the ticket, and p is not inside then; a write of the section breaks nothing.
 pub choosing_breaks : (n : Notes) (began : ℕ) (is : Bool) → (n.holds ≡ true → began ≡ n.began) → (is ≡ true → n.holds ≡ true) → Breaks Choosing is is n false n.holds began
 choosing_breaks n began is same held = record {
   announced_was = λ e. absurd (false≢true e);
@@ -73,7 +73,7 @@ part_breaks s past p command number (WritesCommit vs store) fresh n m m' t t' w 
 part_breaks s past p command number (Clears a) fresh n m m' t t' w o st one r = ready_breaks s past p Ticket fresh false n n.announced false n.began m m' t t' (ticket_breaks n fresh) one r.times.began_past r
 part_breaks s past p command number _ fresh n m m' t t' w o st one r = cc
 
--- within a write p knows what it knew
+-- within a write p keeps its knowledge
 pub part_stands : (s : Setup) (p : ℕ) (c : Call) (now : ℕ) (part : Part) (fresh : Bool) (n : Notes) → is_read part ≡ false → StandsAt s p n part fresh → StandsAt s p (still c now part fresh n) part false
 part_stands s p c now Raises fresh n w st = st
 part_stands s p c now (TakesTicket t) fresh n w st = (record { free = refl; whole = st.0.whole; began_before = st.0.began_before }, st.1)
@@ -96,7 +96,7 @@ writing_clean s o (Asks j js ts) w since u t = tt
 writing_clean s o (Waits ticket a ws) w since u t = tt
 writing_clean s o _ w since u t = tt
 
--- Each access but the last: p goes on in its write.
+-- Each access except the last: p continues its write.
 pub write_goes_on : (s : Setup) (past : Past) (p : ℕ) (command : Command) (number : ℕ) (part : Part) (w : NumberWrite) (n : Notes) (m m' : Wires) (t t' : ℕ → ℕ → Touches)
     → let c : Call = call s p command number in
     let bits : List Bool = (written_at c part).1 in

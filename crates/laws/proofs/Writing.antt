@@ -1,4 +1,4 @@
--- What an access of a write makes of its register, and how far the write has come then.
+-- The effect of an access of a write on its register, and the progress of the write then.
 use Rattle.std.proofs.Common.{◌≡◌, ◌≢◌, ℕ, ◌+◌, ◌*◌, ◌/◌, ◌%◌, ◌<◌, ◌==◌, Bool, true, false, cond, List, ◌∷◌, length, Some, None, refl, sym, ap, subst, ◌∙◌, arith, inl, inr}
 use Rattle.std.proofs.lemmas.Bool.{cases_eq, eqb-true, eqb-false, ne_eqb}
 use Rattle.record.specs.safe_bit.{read_value}
@@ -23,7 +23,7 @@ pub record Rewired (m m' : ℕ → ℕ → Wire) (b c : ℕ) (x : Wire) : Type 0
   pub here : m' b c ≡ x
   pub there : (k r : ℕ) → ((k ≡ b) × (r ≡ c) → ⊥) → m' k r ≡ m k r
 
--- what holds of the new wire there, and of the old ones elsewhere, holds of all
+-- a property of the new wire there, and of the old ones elsewhere, is a property of all
 all_rewired : (P : ℕ → ℕ → Wire → Type 0) (m m' : ℕ → ℕ → Wire) (b c : ℕ) (x : Wire) → Rewired m m' b c x → P b c x → ((k r : ℕ) → ((k ≡ b) × (r ≡ c) → ⊥) → P k r (m k r)) → (k r : ℕ) → P k r (m' k r)
 all_rewired P m m' b c x w here there k r = elim (cases_eq k b) [
   | inr ne ↦ off (λ h. ne h.0)
@@ -36,7 +36,7 @@ all_rewired P m m' b c x w here there k r = elim (cases_eq k b) [
     off : ((k ≡ b) × (r ≡ c) → ⊥) → P k r (m' k r)
     off ne = subst (P k r) (sym (w.there k r ne)) (there k r ne)
 
--- of what an access makes on its copy
+-- the effect of an access on its copy
 pub rewired : (s : Setup) (past : Past) (e : Entry) (x : Access) → e.access ≡ Some x →
     Rewired (wires s past x.owner x.field) (wires s (e ∷ past) x.owner x.field) x.bit x.reader (wire_after (wires s past x.owner x.field x.bit x.reader) x.how)
 rewired s past e x h = record { here = wires-here s past e x h; there = apart }
@@ -49,18 +49,18 @@ rewired s past e x h = record { here = wires-here s past e x h; there = apart }
 
 -- The next access of a write: begin or end on a copy.
 
--- where the write is, once it has begun on a copy, or ended on one that is not the last of its bit
+-- the place of the write, once it has begun on a copy, or ended on one that is not the last of its bit
 pub stays : (n : ℕ) (bits : List Bool) (w : NumberWrite) → ((bit_written bits w).made + 1 == 2 * n) ≡ false →
     write_moved n bits w ≡ record { width = w.width; bit = w.bit; run = Some (record { value = (bit_written bits w).value; made = (bit_written bits w).made + 1; ended = false }) }
 stays n bits w e = ap {A = Bool} (λ b. cond b (let next : NumberWrite = record { width = w.width; bit = w.bit + 1; run = None } in next)
     (record { width = w.width; bit = w.bit; run = Some (record { value = (bit_written bits w).value; made = (bit_written bits w).made + 1; ended = b }) })) e
 
--- where it is once it has ended on the last copy
+-- the place of the write, once it has ended on the last copy
 pub turns : (n : ℕ) (bits : List Bool) (w : NumberWrite) → ((bit_written bits w).made + 1 == 2 * n) ≡ true → write_moved n bits w ≡ record { width = w.width; bit = w.bit + 1; run = None }
 turns n bits w e = ap {A = Bool} (λ b. cond b (let next : NumberWrite = record { width = w.width; bit = w.bit + 1; run = None } in next)
     (record { width = w.width; bit = w.bit; run = Some (record { value = (bit_written bits w).value; made = (bit_written bits w).made + 1; ended = b }) })) e
 
--- how far a write has come after an access: it goes on, or all its copies are done
+-- the progress of a write after an access: it continues, or all its copies are done
 pub record Advanced (n : ℕ) (bits : List Bool) (w : NumberWrite) (m' : Wires) (f : Field) : Type 0 where
   pub on : ((write_moved n bits w).bit == w.width) ≡ false → Written n bits (write_moved n bits w) m' f
   pub all : ((write_moved n bits w).bit == w.width) ≡ true → (k r : ℕ) → k < length bits → r < n → Closed (m' f k r) (bit bits k)
@@ -91,7 +91,7 @@ begins n bits w m m' f h even x =
     here (inl lower) = omega arith
     here (inr same) = let low : (bit_written bits w).made / 2 < (bit_written bits w).made / 2 = same.1 in omega arith
 
--- an end on a copy: what stands before the next copy is done
+-- an end on a copy: all copies before the next one are done
 ended_copy : (n : ℕ) (bits : List Bool) (w : NumberWrite) (m m' : Wires) (f : Field) → Written n bits w m f → (bit_written bits w).made % 2 ≡ 1
     → Rewired (m f) (m' f) w.bit ((bit_written bits w).made / 2) (record { value = (m f w.bit ((bit_written bits w).made / 2)).value; writing = false })
     → (k r : ℕ) → r < n → Before k r w.bit ((bit_written bits w).made / 2 + 1) → Closed (m' f k r) (bit bits k)

@@ -55,7 +55,7 @@ ready_announced s past p n m t below inv r free whole = record {
   owner = λ q low ne. owner_announces s p _ _ _ _ _ _ free ((inv.own q low).past.choosing_past p) (inv.own q low).past.since_past (r.owner q low ne);
 }
 
--- its announcement is whole: p asks for the tickets
+-- the announcement of p is whole: p asks for the tickets
 announced : (s : Setup) → IsGood s → (past : Past) (p : ℕ) (command : Command) (number : ℕ) (n : Notes) (m : Wires) (t : ℕ → ℕ → Touches) → p < s.processes → Inv s past → Ready s past p false n m t → n.holds ≡ false → Finished s (true ∷ []) m Choosing →
     Moves s past p (runs command number (enter (call s p command number) (to_b (call s p command number) (others s p) []))) (announcing (next_time past) n) m t
 announced s g past p command number n m t below inv r free whole =
@@ -66,7 +66,7 @@ announced s g past p command number n m t below inv r free whole =
 abbrev taking : ℕ → ℕ → Notes → Notes
 taking now ticket n = record n { holds = true; ticket = ticket; held_at = now; since = now }
 
--- what p knows where it takes a ticket
+-- the knowledge of p when it takes a ticket
 abbrev IsTaking : Setup → ℕ → Notes → ℕ → Type 0
 IsTaking s p n ticket = IsInDoorway n × ((ts : List ℕ) × Asked s n.announced_at n.asked_from n.asked (others s p) ts × (ticket ≡ greatest ts + 1) × (ticket < 2 ^ s.ticket_bits))
 
@@ -100,20 +100,20 @@ ready_taken s past p ticket n m t below inv r st whole = record {
     asked : (j : ℕ) → j < s.processes → j ≢ p → (n.announced_at ≤ n.asked_from j) × (n.asked j ≤ greatest st.1.0)
     asked = each_other s p (λ j. (n.announced_at ≤ n.asked_from j) × (n.asked j ≤ greatest st.1.0)) (asked_each s n.announced_at n.asked_from n.asked (others s p) st.1.0 st.1.1)
 
--- its ticket is whole: p lowers its choosing
+-- the ticket of p is whole: p lowers its choosing
 taken : (s : Setup) → IsGood s → (past : Past) (p : ℕ) (command : Command) (number ticket : ℕ) (n : Notes) (m : Wires) (t : ℕ → ℕ → Touches) → p < s.processes → Inv s past → Ready s past p false n m t → IsTaking s p n ticket → Finished s (ticket_of s ticket) m Ticket →
     Moves s past p (runs command number (enter (call s p command number) (Lowers ticket))) (taking (next_time past) ticket n) m t
 taken s g past p command number ticket n m t below inv r st whole =
     starts s g past p command number (Lowers ticket) (taking (next_time past) ticket n) m t refl (ready_taken s past p ticket n m t below inv r st whole) (refl, refl, omega arith)
 
--- its choosing is lowered: p waits for the others, in their order
+-- the choosing of p is lowered: p waits for the others, in their order
 lowered : (s : Setup) → IsGood s → (past : Past) (p : ℕ) (command : Command) (number ticket : ℕ) (n : Notes) (m : Wires) (t : ℕ → ℕ → Touches) → Ready s past p false n m t → n.holds ≡ true → n.ticket ≡ ticket →
     Moves s past p (runs command number (enter (call s p command number) (part_after (call s p command number) (Lowers ticket) []))) (later n (next_time past) (next_time past)) m t
 lowered s g past p command number ticket n m t r holding same =
     let held : n.held_at < suc (next_time past) = r.times.held_at_past in
     to_d_moves s g past p command number (later n (next_time past) (next_time past)) m t (ready_later s past p false n (next_time past) (next_time past) m t (omega arith) (omega arith) r) ticket holding same (omega arith) (omega arith) [] (others s p) refl tt
 
--- The last end of any part: p is ready with what it shows then, and goes on to what comes next.
+-- The last end of any part: p is ready with its new registers, and continues with the next part.
 part_wrote : (s : Setup) → IsGood s → (past : Past) (p : ℕ) (command : Command) (number : ℕ) (part : Part) (fresh : Bool) (n : Notes) (m : Wires) (t : ℕ → ℕ → Touches)
     → let c : Call = call s p command number in
     is_read part ≡ false → is_over part ≡ false → p < s.processes → Inv s past → Ready s past p (is_inside_at part false) (still c (next_time past) part fresh n) m t → StandsAt s p (still c (next_time past) part fresh n) part false →

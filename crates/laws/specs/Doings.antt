@@ -1,4 +1,4 @@
--- What each process is doing, as its entries tell: it rests, it lies down, it is at a place of its call, or at a place of a closing.
+-- The state of each process, from its entries: it rests, it lies down, it is at a place of its call, or at a place of a closing.
 use Rattle.std.specs.Prelude.{ℕ, Bool, true, false, ◌==◌, ◌&&◌, cond, [], ◌∷◌, Option, None, Some}
 use Rattle.record.specs.{Access, Asks, AsksCommit, AsksImage, AsksStamp, Call, Clears, Entry, Mark, Over, Part, Past, Place, Raises, Refuses, TakesTicket, Waits, WritesCommit, WritesImage, WritesStamp, call_number, enter, is_fresh, is_over, last_call, last_command, own, place_after, start_in, value_of, value_written}
 use Rattle.plain_store.specs.{Command, Setup}
@@ -10,7 +10,7 @@ use Rattle.record.specs.Parts as part
 abbrev pub call : Setup → ℕ → Command → ℕ → Call
 call s p command number = record { setup = s; process = p; command = command; number = number }
 
--- what a process is doing
+-- the state of a process
 pub data Doing : Type 0 where
   Rests : Doing
   Lies : Doing  -- it is down
@@ -21,7 +21,7 @@ pub data Doing : Type 0 where
 abbrev pub runs : Command → ℕ → Place → Doing
 runs command number at = cond (is_over at.part) Rests (Runs command number at)
 
--- a place of a closing, until it has come to its end
+-- a place of a closing, until its end
 abbrev pub closes : Command → ℕ → Closing → Doing
 closes command number (Withdraws w) = Closes command number (Withdraws w)
 closes command number (Settles f bit begun taken is t) = Closes command number (Settles f bit begun taken is t)
@@ -30,7 +30,7 @@ closes command number (Lowers w) = Closes command number (Lowers w)
 closes command number Quit = Rests
 closes command number Ended = Lies
 
--- what it goes on with after an access; an entry without one that begins nothing is a restart
+-- the state after an access; an entry without an access that begins nothing is a restart
 abbrev pub goes_on : Setup → ℕ → Entry → Option Access → Doing → Doing
 goes_on s p e None d = Rests
 goes_on s p e (Some a) Rests = Rests
@@ -38,14 +38,14 @@ goes_on s p e (Some a) Lies = Lies
 goes_on s p e (Some a) (Runs command number at) = runs command number (place_after (call s p command number) at (value_of a.how))
 goes_on s p e (Some a) (Closes command number at) = closes command number (closing_after (call s p command number) at (value_written e))
 
--- what p goes on with after an entry of its own; mine has its own entries before
+-- the state of p after an entry of its own; mine has its own entries before
 abbrev pub does_after : Setup → ℕ → Past → Entry → Option Mark → Doing → Doing
 does_after s p mine e (Some (Called command)) d = Runs command (call_number s (e ∷ mine)) (enter (call s p command (call_number s (e ∷ mine))) Raises)
 does_after s p mine e (Some Withdrew) d = Closes (last_command mine) (call_number s mine) (withdrawing (last_call s p mine))
 does_after s p mine e (Some Failed) d = Closes (last_command mine) (call_number s mine) (failing (last_call s p mine) mine)
 does_after s p mine e _ d = goes_on s p e e.access d
 
--- what p is doing
+-- the state of p after a past
 abbrev pub doing : Setup → ℕ → Past → Doing
 doing s p [] = Rests
 doing s p (e ∷ past) = cond (e.process == p) (does_after s p (own p past) e (start_in e.marks) (doing s p past)) (doing s p past)

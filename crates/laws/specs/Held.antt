@@ -1,4 +1,4 @@
--- What the registers hold after a past: the cell of each single-reader bit, where a process that fails or withdraws drops the read that it has open. And that each access may be made on them.
+-- The registers after a past: the cell of each single-reader bit. A process that fails or withdraws drops its open read. Each access may be made on these cells.
 use Rattle.std.specs.Prelude.{◌≡◌, ℕ, ◌<◌, ◌==◌, Bool, true, false, ◌&&◌, ◌||◌, List, [], ◌∷◌, flat_map, cond, None, Some}
 use Rattle.record.specs.safe_bit.declared.Move.TheVariants.{EndWrite}
 use Rattle.record.specs.safe_bit.Cell.{Cell, BitCall, Makes, Drops, cell_of_calls, read_answer, MayMove}
@@ -18,7 +18,7 @@ is_withdrawn _ = false
 abbrev pub drops : Entry → Bool
 drops e = has is_failed e || has is_withdrawn e
 
--- what an entry does with the bit of an access: the access that it makes on it; or, where the bit's reader fails or withdraws, the drop of its open read
+-- the actions of an entry on the bit of an access: its access, if that is on the bit; a drop of the open read, if the bit's reader fails or withdraws
 abbrev pub calls_on : Access → Entry → List BitCall
 calls_on a e = elim e.access [
   | Some b ↦ cond (same_bit a b) (Makes b.how ∷ []) []
@@ -29,21 +29,21 @@ calls_on a e = elim e.access [
 abbrev pub cell_held : Setup → Past → Access → Cell
 cell_held s past a = cell_of_calls (opening_bit s a) (flat_map (calls_on a) past)
 
--- an access names an owner, a reader and a bit that there are
+-- an access names an owner, a reader and a bit that exist
 pub record IsThere (s : Setup) (a : Access) : Type 0 where
   pub owner : a.owner < s.processes
   pub reader : a.reader < s.processes
   pub bit : a.bit < width s a.field
 
--- Every access is of a register that there is.
+-- Every access is of a register that exists.
 abbrev pub AccessesAreThere : Type 0
 AccessesAreThere = EachEntry λ s past e. (a : Access) → e.access ≡ Some a → IsThere s a
 
--- It comes in its turn on what the registers hold: it may be made on them.
+-- It is in its turn on the registers: it may be made on them.
 abbrev pub AccessesComeInTurn : Type 0
 AccessesComeInTurn = EachEntry λ s past e. (a : Access) → e.access ≡ Some a → MayMove (cell_held s past a) a.how
 
--- What the registers hold answers a read as the safe rule does.
+-- Reads of the registers follow the safe rule.
 abbrev pub RegistersAnswerTheSafeRule : Type 0
 RegistersAnswerTheSafeRule = EachPast λ s past. (a : Access) (flick : Bool) → read_answer (cell_held s past a) flick ≡ read_value (opening_bit s a) (moves_of a past) flick
 
@@ -55,6 +55,6 @@ OpenReadsAreOfThePlace = EachPast λ s past. (a : Access) → (cell_held s past 
     (command : Command) × (last_start (own a.reader past) ≡ Some (Called command)) × (is_running (stage a.reader past) ≡ true)
     × (is_read here.part ≡ true) × (read_at c here.part ≡ (a.owner, a.field))
 
--- Where the next access of a process, or of its memory unit, ends a write, its bit has the value that is being written.
+-- If the next access of a process, or of its memory unit, ends a write, its bit has the value that is being written.
 abbrev pub WritesEndWithTheirValue : Type 0
 WritesEndWithTheirValue = EachPast λ s past. (p : ℕ) (flick : Bool) (a : Access) → next_of s p (doing s p past) flick ≡ Some a → a.how ≡ EndWrite → (cell_held s past a).value ≡ being_written s p (doing s p past)

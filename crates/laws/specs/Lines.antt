@@ -1,27 +1,27 @@
--- The line of tickets, and who is first in it (Lamport 1974).
+-- The line of tickets, and the first process in it (Lamport 1974).
 use Rattle.std.specs.Prelude.{◌≡◌, ◌≢◌, ℕ, ◌==◌, [], ◌∷◌, cond, fold, IsTrue}
 use Rattle.record.specs.{EachEntry, EachPast, Mark, Past, has, inside, is_below, is_entered, stage}
 use Rattle.record.specs.declared.marks.Mark.TheVariants as mark
 use Rattle.record.specs.declared.stages.Stage.TheVariants.{Waiting}
 
--- the ticket that was told last, after a mark
+-- the latest ticket after a mark
 abbrev pub ticket_after : ℕ → Mark → ℕ
 ticket_after was (mark.Waiting ticket) = ticket
 ticket_after was _ = was
 
--- the ticket with which a process waited last; 0 where it never did
+-- the ticket with which a process waited last; 0 if it never waited
 abbrev pub ticket_told : ℕ → Past → ℕ
 ticket_told p [] = 0
 ticket_told p (e ∷ past) = cond (e.process == p) (fold ticket_after (ticket_told p past) e.marks) (ticket_told p past)
 
--- p stands before q in the line of tickets: its ticket is the lower one; or both have one ticket, and p is the lower process
+-- p precedes q in the line of tickets: its ticket is lower, or both have one ticket and p is the lower process
 abbrev pub StandsBefore : Past → ℕ → ℕ → Type 0
 StandsBefore past p q = IsTrue (is_below (ticket_told p past) p (ticket_told q past) q)
 
--- Who gets inside stands before everybody else that waits. Its ticket may be told by the very entry with which it gets inside.
+-- A process that enters precedes each other process that waits. The entry with which it enters may also mark its ticket.
 abbrev pub WhoEntersIsFirstInLine : Type 0
 WhoEntersIsFirstInLine = EachEntry λ s past e. IsTrue (has is_entered e) → (q : ℕ) → q ≢ e.process → stage q past ≡ Waiting → StandsBefore (e ∷ past) e.process q
 
--- Who is inside stands before everybody that waits.
+-- A process that is inside precedes each process that waits.
 abbrev pub WhoIsInsideIsFirstInLine : Type 0
 WhoIsInsideIsFirstInLine = EachPast λ s past. (p : ℕ) → IsTrue (inside p past) → (q : ℕ) → stage q past ≡ Waiting → StandsBefore past p q

@@ -1,4 +1,4 @@
--- The laws of the lock, of the record of every list of events, beside those that record's headline states.
+-- The laws of the lock that are not among the main theorems of `record`. They hold of the record of every list of events.
 use Rattle.std.specs.Prelude.{◌≡◌, ◌↔◌, ℕ, ◌<◌, Bool, true, false, List, [], length, None, Some, Ok, IsTrue, IsFalse, Contains, AllPairs}
 use Rattle.record.specs.safe_bit.declared.Move.TheVariants.{EndRead}
 use Rattle.record.specs.safe_bit.{MayEndWith, read_value}
@@ -22,7 +22,7 @@ ends_doorway _ = false
 abbrev pub EachTicketIsRead : Type 0
 EachTicketIsRead = EachEntry λ s past e. IsTrue (has ends_doorway e) → length (tickets_read s e.process past) ≡ length (others s e.process)
 
--- It ends with `TicketsFull` exactly where one of its reads gave the greatest ticket, and names the lowest process whose read did.
+-- It ends with `TicketsFull` exactly if one of its reads gave the greatest ticket, and names the lowest process with such a read.
 abbrev pub TicketsFullExactly : Type 0
 TicketsFullExactly = EachEntry λ s past e. IsTrue (has ends_doorway e) → (j : ℕ) →
     Contains e.marks (Answered (answer.TicketsFull j)) ↔ (lowest_full (max_of s.ticket_bits) (others s e.process) (tickets_read s e.process past) ≡ Some j)
@@ -33,7 +33,7 @@ TicketsFullExactly = EachEntry λ s past e. IsTrue (has ends_doorway e) → (j :
 abbrev pub WaitsBefore : Setup → Past → ℕ → ℕ → Type 0
 WaitsBefore s past p j = (j < s.processes) × (stage j past ≡ stages.Waiting) × IsTrue (is_before (doorway_end j past) (doorway_begin p past))
 
--- `ahead` of a process in its doorway, or that waits, has exactly those that wait before it.
+-- The list `ahead` of a process that is in its doorway or waits has exactly the processes that wait before it.
 abbrev pub AheadAreThoseBefore : Type 0
 AheadAreThoseBefore = EachPast λ s past. (p : ℕ) → IsTrue (is_queued (stage p past)) → (j : ℕ) → Contains (ahead s p past) j ↔ WaitsBefore s past p j
 
@@ -45,7 +45,7 @@ AheadAscends = EachPast λ s past. (p : ℕ) → AllPairs (λ i j. i < j) (ahead
 abbrev pub AheadIsOfTheQueued : Type 0
 AheadIsOfTheQueued = EachPast λ s past. (p : ℕ) → IsFalse (is_queued (stage p past)) → ahead s p past ≡ []
 
--- Nobody is ahead of itself.
+-- No process is ahead of itself.
 abbrev pub NobodyIsAheadOfItself : Type 0
 NobodyIsAheadOfItself = EachPast λ s past. (p : ℕ) → Contains (ahead s p past) p → ⊥
 
@@ -53,7 +53,7 @@ NobodyIsAheadOfItself = EachPast λ s past. (p : ℕ) → Contains (ahead s p pa
 abbrev pub WaitersAreAheadOfACall : Type 0
 WaitersAreAheadOfACall = EachPast λ s past. (p : ℕ) → stage p past ≡ stages.Doorway → doorway_begin p past ≡ None → (j : ℕ) → Contains (ahead s p past) j ↔ (stage j past ≡ stages.Waiting)
 
--- Nobody is ahead of a process that gets inside.
+-- No process is ahead of a process that enters.
 abbrev pub NobodyIsAheadOfWhoEnters : Type 0
 NobodyIsAheadOfWhoEnters = EachEntry λ s past e. IsTrue (has is_entered e) → ahead s e.process past ≡ []
 
@@ -70,7 +70,7 @@ ReadsEndByTheirFlick = (s : Setup) → checked s ≡ Ok tt → (events : List Ev
 
 -- Alone inside.
 
--- While a process that is inside makes an entry, itself or by its memory unit, nobody else is inside.
+-- While a process that is inside makes an entry, itself or by its memory unit, no other process is inside.
 abbrev pub AloneInside : Type 0
 AloneInside = EachEntry λ s past e. IsTrue (inside e.process past) → (j : ℕ) → IsTrue (inside j past) → j ≡ e.process
 

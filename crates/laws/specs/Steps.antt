@@ -1,4 +1,4 @@
--- What a process does next: its next access, what that leads to, and what a failure leaves to its memory unit.
+-- The next step of a process: its next access, the state after it, and the work that a failure leaves to its memory unit.
 use Rattle.std.specs.Prelude.{◌≡◌, ℕ, Bool, false, cond, List, [], ◌∷◌, Option, None, Some, option_map, unwrap_or}
 use Rattle.record.specs.{Access, Field, Mark, Next, Reading, Writing, access_at, bit_written, cut_at, cut_closing, is_over, is_read, marks_of, place_after, place_of, read_at, written_at}
 use Rattle.plain_store.specs.{Command, Setup}
@@ -6,21 +6,21 @@ use Rattle.plain_store.specs.declared.Command.TheVariants.{Ask}
 use Rattle.record.specs.Closings.{Closing, Withdraws, Settles, Frees, Lowers, Quit, Ended, freeing, closing_next, closing_after, no_ticket}
 use Rattle.laws.specs.Doings.{Doing, Rests, Lies, Runs, Closes, call, runs, closes, is_inside}
 
--- the next access of what a process does, a read's end with its value left open; none if it rests, or is down
+-- the next access in a state, where the value of a read's end is open; none if the process rests, or is down
 abbrev pub next_of : Setup → ℕ → Doing → Bool → Option Access
 next_of s p Rests flick = None
 next_of s p Lies flick = None
 next_of s p (Runs command number at) flick = Some (access_at (call s p command number) at.part at.run)
 next_of s p (Closes command number at) flick = option_map (λ (n : Next). n.access) (closing_next (call s p command number) at flick)
 
--- its marks, where it has this value; the place of a command that is taken is left open here, as 0
+-- the marks of the access, if it has this value; the place of a command that is taken is open here, and written as 0
 abbrev pub marks_with : Setup → ℕ → Doing → (flick value : Bool) → List Mark
 marks_with s p Rests flick value = []
 marks_with s p Lies flick value = []
 marks_with s p (Runs command number at) flick value = marks_of (call s p command number) at value
 marks_with s p (Closes command number at) flick value = elim (closing_next (call s p command number) at flick) [ None ↦ [] | Some n ↦ n.marks ]
 
--- what is done then
+-- the state after the access
 abbrev pub does_then : Setup → ℕ → Doing → (flick value : Bool) → Doing
 does_then s p Rests flick value = Rests
 does_then s p Lies flick value = Lies
@@ -44,22 +44,22 @@ being_written s p (Closes command number (Lowers w)) = (bit_written (false ∷ [
 being_written s p (Closes command number Quit) = false
 being_written s p (Closes command number Ended) = false
 
--- a place that a call comes to
+-- a place that a call reaches
 abbrev pub IsReached : Setup → ℕ → Doing → Type 0
 IsReached s p (Runs command number at) = (accesses : List Access) × (at ≡ place_of (call s p command number) accesses)
 IsReached s p _ = Unit {0}
 
--- the command and the number that are kept are those of its call
+-- the stored command and number are those of its call
 abbrev pub IsCallOf : Command → ℕ → Doing → Type 0
 IsCallOf command number (Runs called its at) = (command ≡ called) × (number ≡ its)
 IsCallOf command number _ = Unit {0}
 
--- a call that is run has not come to its end
+-- a call that runs has not ended
 abbrev pub IsLive : Doing → Type 0
 IsLive (Runs command number at) = is_over at.part ≡ false
 IsLive _ = Unit {0}
 
--- the memory unit of a process that fails at what it does
+-- the memory unit of a process that fails in this state
 abbrev pub cut_of : Setup → ℕ → Doing → Closing
 cut_of s p Rests = freeing (call s p Ask 0) false
 cut_of s p Lies = freeing (call s p Ask 0) false

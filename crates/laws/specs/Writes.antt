@@ -1,4 +1,4 @@
--- The write of a register that a process makes, or its memory unit: what it writes, how many of its accesses are made, and what it leaves.
+-- The write of a register by a process or its memory unit: its bits, the number of its accesses made so far, and the copies after it.
 use Rattle.std.specs.Prelude.{◌≡◌, ℕ, zero, suc, ◌+◌, ◌-◌, ◌*◌, ◌<◌, Bool, false, List, [], ◌∷◌, length, slice_index_or, Option, None, Some}
 use Rattle.record.specs.{Call, Closing, EachPast, Field, Part, Past, Reading, Run, Writing, bit_written, copy, no_ticket, width, with_event, written_at}
 use Rattle.record.specs.Closings as closing
@@ -10,18 +10,18 @@ use Rattle.plain_store.specs.{Setup}
 use Rattle.laws.specs.Doings.{Doing, Runs, Closes, call, doing}
 use Rattle.laws.specs.Held.{cell_held}
 
--- A write of a register of the process's own: which one, its bits, and how far the write has come.
+-- A write of one of the process's own registers: the register, its bits, and the progress of the write.
 pub record RegisterWrite : Type 0 where
   pub field : Field
   pub bits : List Bool
   pub run : NumberWrite
 
--- A process at a part of its call makes this write. It makes none where it reads.
+-- A process at a part of its call makes this write. It makes none if it reads.
 abbrev pub write_at : Call → Part → Run → Option RegisterWrite
 write_at c part (Writing w) = Some (record { field = (written_at c part).0; bits = (written_at c part).1; run = w })
 write_at c part (Reading bits begun) = None
 
--- So does a process, or its memory unit, that closes a call. Where the unit settles a torn bit, it makes none.
+-- A process, or its memory unit, that closes a call makes this write. A unit that settles a torn bit makes none.
 abbrev pub closing_write : Call → Closing → Option RegisterWrite
 closing_write c (closing.Withdraws w) = Some (record { field = Ticket; bits = no_ticket c; run = w })
 closing_write c (closing.Frees inside w) = Some (record { field = Ticket; bits = no_ticket c; run = w })
@@ -34,7 +34,7 @@ register_write s p (Runs command number at) = write_at (call s p command number)
 register_write s p (Closes command number at) = closing_write (call s p command number) at
 register_write s p _ = None
 
--- Of the accesses of a write so many are made, and it has so many in all: two for each copy of each bit. There are n copies.
+-- the accesses of a write so far, and all its accesses: two for each copy of each bit. There are n copies.
 abbrev pub accesses_made : ℕ → RegisterWrite → ℕ
 accesses_made n w = 2 * (n * w.run.bit) + (bit_written w.bits w.run).made
 
@@ -67,6 +67,6 @@ pub record FitsItsRegister (s : Setup) (w : RegisterWrite) : Type 0 where
 abbrev pub WritesFitTheirRegister : Type 0
 WritesFitTheirRegister = EachPast λ s past. (p : ℕ) (w : RegisterWrite) → register_write s p (doing s p past) ≡ Some w → FitsItsRegister s w
 
--- Once its process alone has made the accesses that are left of a write, every copy of the register holds its bits.
+-- Once its process alone has made the remaining accesses of a write, every copy of the register holds its bits.
 abbrev pub WritesLeaveTheirBits : Type 0
 WritesLeaveTheirBits = EachPast λ s past. (p : ℕ) (w : RegisterWrite) → register_write s p (doing s p past) ≡ Some w → CopiesHold s (write_ended s p w past) p w.field w.bits

@@ -1,6 +1,6 @@
-//! The laws of the lock, of every record of a list of events, whatever the flicks. The lock is Lamport's bakery (1974) on safe
+//! The laws of the lock, of every record of a list of events, for every flick. The lock is Lamport's bakery (1974) on safe
 //! single-reader bits (1986a), with processes that fail and memory units that clear up after them (this project's own profile).
-//! Each law is a function with nothing to do, whose contract is the law.
+//! Each law is a function with an empty body, whose contract is the law.
 //!
 //! ```rust
 //! pub fn mutual_exclusion()

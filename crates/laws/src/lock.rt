@@ -1,5 +1,5 @@
-//! The laws of the lock. Each is of every setup that the check passes, of every list of events, refused
-//! ones among them, and of every flick.
+//! The laws of the lock. Each law holds for every setup that passes the check, every list of events, including
+//! refused ones, and every flick.
 ghost use Rattle.record.specs.{AcceptedAdds, MutualExclusion, NoOvertaking, OthersStay, OwnEntry, RefusedAddsNothing, TicketsFullNamesTheLowest, WaitersReadNoGreatestTicket};
 ghost use Rattle.laws.specs.LockLaws.{AheadAreThoseBefore, AheadAscends, AheadIsOfTheQueued, AloneInside, EachTicketIsRead, NobodyIsAheadOfItself, NobodyIsAheadOfWhoEnters, ReadsEndAsTheyMay, ReadsEndByTheirFlick, TakenInside, TicketsFullExactly, UnitsAreShort, VersionsAreTouchedInside, VersionsAreWrittenByTheirOwner, WaitersAreAheadOfACall};
 
@@ -9,15 +9,15 @@ pub fn mutual_exclusion()
     ensures { MutualExclusion }
 {}
 
-/// First come, first served: who gets inside overtakes nobody that waits and whose doorway was finished
-/// before its own began. (Lamport 1974.)
+/// First come, first served: a process that enters overtakes no waiting process whose doorway ended before its own
+/// began. (Lamport 1974.)
 pub fn no_overtaking()
     ensures { NoOvertaking }
 {}
 
-/// A doorway that ends without being cut has read one ticket of each other process. It ends with the answer
-/// `TicketsFull` exactly where one of its reads gave the greatest ticket, and the answer names the lowest
-/// process whose read did; where none did, it ends with a ticket.
+/// A doorway that ends without being cut has read one ticket of each other process. If one of its reads gave the
+/// greatest ticket, it ends with the answer `TicketsFull`, which names the lowest process with such a read.
+/// Otherwise it ends with a ticket.
 pub fn full_answers()
     ensures all_read { EachTicketIsRead }
     ensures ticket { WaitersReadNoGreatestTicket }
@@ -25,9 +25,9 @@ pub fn full_answers()
     ensures exactly { TicketsFullExactly }
 {}
 
-/// Those ahead of a process that is in its doorway or waits are the processes, ascending, that wait and
-/// whose doorway was finished before its own began; before its own begins, all that wait. Nobody is ahead
-/// of itself, of a process that has no call or is inside, or of one that gets inside.
+/// The processes ahead of a process that is in its doorway or waits are, ascending, those that wait and whose doorway
+/// ended before its own began; before its own begins, all that wait. No process is ahead of itself, of a process
+/// that has no call or is inside, or of a process that enters.
 pub fn ahead()
     ensures members { AheadAreThoseBefore }
     ensures ascending { AheadAscends }
@@ -37,15 +37,15 @@ pub fn ahead()
     ensures entering { NobodyIsAheadOfWhoEnters }
 {}
 
-/// The safe rule holds of every record: a read of a single-reader bit that no write overlaps ends with the
-/// value last written or settled before it began, and any other with the flick of its event. (Lamport 1986a.)
+/// The safe rule holds of every record. A read of a single-reader bit that no write overlaps ends with the value
+/// last written or settled before it began. Any other read ends with the flick of its event. (Lamport 1986a.)
 pub fn safe_rule()
     ensures unoverlapped { ReadsEndAsTheyMay }
     ensures flick { ReadsEndByTheirFlick }
 {}
 
 /// An accepted event adds one entry, of its own process, and leaves the entries of all others as they are.
-/// A refused one adds none.
+/// A refused event adds no entry.
 pub fn own_entries()
     ensures own { OwnEntry }
     ensures others { OthersStay }
@@ -53,10 +53,10 @@ pub fn own_entries()
     ensures refused { RefusedAddsNothing }
 {}
 
-/// Whatever is done between `Entered` and the clearing of the ticket, also by a memory unit, is done by one
-/// process at a time: while a process that is inside makes an entry, nobody else is inside. The registers of
-/// versions are read and written by such a process alone, each is written by its owner, and commands are
-/// taken by such a process alone.
+/// Between `Entered` and the clearing of the ticket one process works at a time, itself or by its memory unit: while a
+/// process that is inside makes an entry, no other process is inside. Only such a process reads and writes the
+/// registers of versions, and only such a process takes commands. Each of these registers is written by its
+/// owner.
 pub fn alone_inside()
     ensures entries { AloneInside }
     ensures touched { VersionsAreTouchedInside }
@@ -64,9 +64,9 @@ pub fn alone_inside()
     ensures taken { TakenInside }
 {}
 
-/// The memory unit of a failed process makes at most 1,088 accesses, begin and end on each of 16 copies: of the torn
-/// bit, of 32 bits of the ticket, and of the choosing bit. While it is at work its process has made fewer entries
-/// since it failed. (This project's own failure rule.)
+/// The memory unit of a failed process makes at most 1,088 accesses: begin and end, on each of 16 copies, for the torn
+/// bit, 32 bits of the ticket, and the choosing bit. While the unit works, its process has made fewer entries since it
+/// failed. (This project's own failure rule.)
 pub fn units_are_short()
     ensures { UnitsAreShort }
 {}

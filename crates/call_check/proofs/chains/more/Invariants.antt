@@ -2,7 +2,7 @@ use Rattle.std.proofs.Common.{◌≡◌, ◌+◌, length}
 use Rattle.call_check.specs.{AreNothing}
 use Rattle.call_check.proofs.chains.more.Given as goal
 
--- so many places have come, with no call
+-- this number of places has been added, without calls
 abbrev pub invariant-loop : goal.invariant-loop
 invariant-loop l = record {
   size : length l.heads.items ≡ length l.fn.heads.items + l.counter;

@@ -3,7 +3,7 @@ use Rattle.record.specs.{lists_of}
 use Rattle.call_check.specs.{IsBadAt, all_calls}
 use Rattle.call_check.proofs.weighing.weigh.Given as goal
 
--- so many calls stand in the lists before the present one, and none of them is bad
+-- `before` is the number of calls in the lists before the present one, and none of them is bad
 abbrev pub invariant-loop-port : goal.invariant-loop-port
 invariant-loop-port l = record {
   before : l.before ≡ length (all_calls (lists_of (take l.port l.lists)));

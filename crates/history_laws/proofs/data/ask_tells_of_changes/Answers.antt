@@ -1,4 +1,4 @@
--- Ask tells of changes.
+-- The answer to `Ask` shows changes.
 use Rattle.record.proofs.Width.{is_good}
 use Rattle.history_laws.proofs.DataHeadline as headline
 use Rattle.history_laws.proofs.Asked.{ask_answers, ask_tells}

@@ -1,4 +1,4 @@
--- Who is ahead.
+-- The processes ahead of another.
 use Rattle.record.specs.{past_of}
 use Rattle.record.proofs.Width.{is_good}
 use Rattle.laws.proofs.AheadLists.{ahead_are, ascends, queued-only, not_itself, all_waiters, nobody_ahead}

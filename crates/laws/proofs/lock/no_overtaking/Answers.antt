@@ -1,4 +1,4 @@
--- Nobody is overtaken.
+-- No process is overtaken.
 use Rattle.record.proofs.Width.{is_good}
 use Rattle.laws.proofs.Always.{inv_of}
 use Rattle.laws.proofs.Theorems as theorem
