@@ -1,4 +1,4 @@
--- What the name of a command and a file mean, whatever the file.
+-- The meaning of the name of a command and a file, whatever the file.
 use Rattle.std.proofs.Common.{refl, sym, ap, ◌∙◌, ◌&&◌, true, false, not, Bool, Some, None, List, [], ◌∷◌, ◌≡◌, ◌==◌, Option, codes, find, option_map, is_some}
 use Rattle.std.specs.Str.{bytes_eq}
 use Rattle.std.specs.List.{list_all}
@@ -16,7 +16,7 @@ no_hyphen : (b : Bool) → not b ≡ true → b ≡ false
 no_hyphen false e = refl
 no_hyphen true e = sym e
 
--- what clap's lexer asks of a word: such a one is no option, and does not end the options
+-- the tests of clap's lexer: the word is not an option, and does not end the options
 abbrev IsNoOption : Text → Type 0
 IsNoOption file = (bytes_eq file (codes "--") ≡ false) × (long_of file ≡ None) × (short_of file ≡ None)
 
@@ -26,7 +26,7 @@ no_option (x ∷ rest) e = let is = no_hyphen (x == 45) e in (rw is refl, rw is 
 
 -- ---- one word of a walk
 
--- a word that is no option goes to the first positional
+-- a word that is not an option goes to the first positional
 abbrev after_file : List Rule → Held → Text → Walk
 after_file rules h file = to_positional rules (arg_by_index rules 1) file (walk_from h) h
 
@@ -37,7 +37,7 @@ file_taken rules h file is = rw is.0 (rw is.1 (rw is.2 refl))
 file_passes : (s : Shape) (h : Held) (file : Text) → IsNoOption file → turn_passes s [] (walk_from h) file ≡ step_passes s 1 h value
 file_passes s h file is = rw is.0 (rw is.1 (rw is.2 refl))
 
--- ---- the words behind a command's name
+-- ---- the words after a command's name
 
 abbrev rows_of_file : List Rule → Held → Text → List Row
 rows_of_file rules h file = finished rules (after_file rules h file).held
@@ -90,7 +90,7 @@ stops_then_two : (rules : List Rule) (names : Names) (h : Held) (name a b : Text
 unfolding walked
 stops_then_two rules names h name a b is = ap (λ w. walked rules names (walked rules names w a) b) (stops rules names h name is)
 
--- what it means that a walk stopped there
+-- the meaning of a walk that stopped there
 abbrev met_by : App → Walk → Option Meant
 met_by b w = asked_of (finished b.top.rules w.held) (entered b w.stopped)
 
@@ -124,7 +124,7 @@ means_where_built : (own : Text) (words : List Text) (m : Option Meant) → met_
 unfolding the_built
 means_where_built own words m these = these
 
--- what is held behind a flag that is the first word
+-- the state after a flag that is the first word
 abbrev held_behind : List Rule → Names → Text → Held
 held_behind rules names flag = (walked rules names (walk_from nothing_held) flag).held
 
@@ -138,7 +138,7 @@ quiet_is_flag = refl
 abbrev quiet_held : Held
 quiet_held = held_behind the_built.top.rules (names_of the_built) (codes "--quiet")
 
--- what is to be computed of a command: it is met by its name, it is `s`, its two flags are flags, the first line of `RunsFile`, outside and inside, and the others inside
+-- the facts to be computed of a command: it is met by its name, it is `s`, and its two flags are flags. The first line of `RunsFile` is computed outside and inside, the others inside
 abbrev RunsBuilt : Text → Listed → Shape → Type 0
 RunsBuilt file c s = (subcommand_met (names_of the_built) idle c.name ≡ Some c.name)
     × (find (λ s. answers_to c.name (label_of s)) the_built.subs ≡ Some s)

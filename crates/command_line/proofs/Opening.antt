@@ -38,7 +38,7 @@ none_looked front block old new r is came = by old new (subst (λ (r : Result �
     by (Some text) None came = absurd came
     by (Some text) (Some rest) came = ap (λ l. front ++ l) (sym came)
 
--- What its front tells.
+-- The first word, by the front of a text.
 
 -- the lines of a text, by two tests of its first byte
 abbrev by_tests : Bool → Bool → ℕ → List (List ℕ) → List (List ℕ)
@@ -59,7 +59,7 @@ ended_some (b ∷ bs) = by (b == 10) ((b == 13) && begins_with 10 (bs ++ 10 ∷ 
     by false false [] some = tt
     by false false (line ∷ known) some = tt
 
--- behind the end of a line there are the lines of what is behind it
+-- after the end of a line come the lines of the bytes after it
 lines_behind_end : (bs more : List ℕ) → lines (bs ++ 10 ∷ more) ≡ lines (bs ++ 10 ∷ []) ++ lines more
 lines_behind_end [] more = refl
 lines_behind_end (b ∷ bs) more =
@@ -77,7 +77,7 @@ lines_behind_end (b ∷ bs) more =
     by false false [] some = absurd some
     by false false (line ∷ known) some = refl
 
--- so it is behind any 0x0A
+-- the lines of a text are split after each 0x0A
 pub lines_behind : (front more : List ℕ) (at : ℕ) → at < length front → (get_or front at 0 == 10) ≡ true → lines (front ++ more) ≡ lines (take (at + 1) front) ++ lines (drop (length (take (at + 1) front)) front ++ more)
 lines_behind front more at within ends =
     let here : get_or front at 0 ≡ 10 = grind (arith, nat_tests) in
@@ -89,7 +89,7 @@ lines_behind front more at within ends =
     ∙ lines_behind_end (take at front) (drop (at + 1) front ++ more)
     ∙ (λ i. lines (sym part i) ++ lines (drop (sym long i) front ++ more))
 
--- what the first of some lines tells it tells of all
+-- if the first of some lines determine the first word, the other lines do not change it
 opened_more : (some more : List (List ℕ)) → is_some (word_opened (filter is_said (map words_of some))) ≡ true → word_opened (filter is_said (map words_of (some ++ more))) ≡ word_opened (filter is_said (map words_of some))
 opened_more some more is = ap word_opened (ap (filter is_said) (map-append words_of some more) ∙ filter-append is_said (map words_of some) (map words_of more)) ∙ by (filter is_said (map words_of some)) is
   where
@@ -97,15 +97,15 @@ opened_more some more is = ap word_opened (ap (filter is_said) (map-append words
     by [] is = absurd (cc)
     by (u ∷ us) is = refl
 
--- so what is told where it ends is so of all that comes behind
+-- if the lines up to the end of a line determine the first word, the bytes after it do not change it
 pub opened_behind : (front rest : List ℕ) → is_some (word_opened (said_words (front ++ 10 ∷ []))) ≡ true → word_opened (said_words (front ++ 10 ∷ rest)) ≡ word_opened (said_words (front ++ 10 ∷ []))
 opened_behind front rest is = ap (λ l. word_opened (filter is_said (map words_of l))) (lines_behind_end front rest) ∙ opened_more (lines (front ++ 10 ∷ [])) (lines rest) is
 
--- a front of so many bytes tells, whatever comes behind it
+-- a front of `input_limit` bytes determines the first word, whatever comes after it
 pub told_by_length : (front rest : List ℕ) → input_limit ≤ length front → first_word (front ++ rest) ≡ first_word front
 told_by_length front rest long = ap (λ t. unwrap_or (word_opened (said_words t)) Other) (take-append-le input_limit front rest long)
 
--- and so does one in which a line that is not skipped has its end
+-- a front in which a line that is not skipped has its end determines the first word too
 pub told_by_line : (front ended rest : List ℕ) → length front < input_limit → ((more : List ℕ) → lines (front ++ more) ≡ lines ended ++ lines (drop (length ended) front ++ more)) → is_some (word_opened (said_words ended)) ≡ true → first_word (front ++ rest) ≡ first_word front
 told_by_line front ended rest few splits is = ap (λ o. unwrap_or o Other) (all (front ++ rest) (take-of rest) ∙ sym (all front (take-of-none)))
   where
@@ -118,7 +118,7 @@ told_by_line front ended rest few splits is = ap (λ o. unwrap_or o Other) (all 
     take-of-none : (more : List ℕ) × (take input_limit front ≡ front ++ more)
     take-of-none = ([], take_all input_limit front (omega (arith, few)) ∙ sym (append-nil front))
 
--- what a front tells is so of all bytes to come: there are no others, or they don't count
+-- the first word of a front is that of all bytes: there are no others, or they do not matter
 pub told_whole : (unseen rest : Option (List ℕ)) (front : List ℕ) (is : FirstWord) → is ≡ first_word front → Keeps unseen (prepend_known front rest) → IsAtEnd rest → IfSome unseen (λ text. is ≡ first_word text)
 told_whole None rest front is same keeps end = tt
 told_whole (Some text) None front is same keeps end = absurd keeps
@@ -149,7 +149,7 @@ block_given front buffer given count rest is some = (by rest, λ none room. absu
     by None = tt
     by (Some text) = ap (λ l. l ++ text) next ∙ append_assoc (take count buffer) (drop (given + count) front) text
 
--- those behind
+-- the bytes after the front
 behind_all : (front : List ℕ) (given : ℕ) → length front ≤ given → drop given front ≡ []
 behind_all front given past = drop_all given front past
 

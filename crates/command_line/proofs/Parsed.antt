@@ -1,4 +1,4 @@
--- What a parse says of its words, at a command line that the command is. The command line is a variable here, so that nothing of it is computed.
+-- The results of a parse, restated for an equal command line. That command line is a variable here, so that nothing of it is computed.
 use Rattle.std.proofs.Common.{subst, ap, sym, ◌∙◌, ◌≡◌, true, [], List}
 use Rattle.std.specs.Prelude.{IfErr, IfOk, Result}
 use Rattle.std.proofs.lemmas.Result.{IfErr-weaker, IfOk-weaker}

@@ -18,7 +18,7 @@ use Rattle.command_line.proofs.Opening.{opened_behind}
 use Rattle.command_line.specs.{FirstWord, Front, IsLookedAt, Whole, first_word, word_meant, word_opened}
 use Rattle.command_line.specs.declared.first_word.FirstWord.TheVariants.{Record, Trace, Other}
 
--- Of records.
+-- Records.
 
 -- where something was read, the first line that is not skipped opens a record
 abbrev OpensIf : Option Progress → List (List (List ℕ)) → Type 0
@@ -70,7 +70,7 @@ lines_open n (line ∷ rest) entries read is =
 pub looked_at : (text : List ℕ) (w : FirstWord) → length text ≤ input_limit → word_opened (said_words text) ≡ Some w → first_word text ≡ w
 looked_at text w few opens = ap (λ t. unwrap_or (word_opened (said_words t)) Other) (take_all input_limit text few) ∙ ap (λ o. unwrap_or o Other) opens
 
--- or the line that tells
+-- or the line that determines the first word
 cut_behind : (n k : ℕ) (front rest : List ℕ) → n ≡ length front + suc k → take n (front ++ 10 ∷ rest) ≡ front ++ 10 ∷ take k rest
 cut_behind n k front rest all = ap (λ n. take n (front ++ 10 ∷ rest)) all ∙ take-append-add front (10 ∷ rest) (suc k)
 
@@ -98,7 +98,7 @@ recognizes_records text said read = by
     by (Front front rest is few told) =
         ap (λ o. unwrap_or o Other) (ap (λ t. word_opened (said_words (take input_limit t))) is ∙ line_looked_at front rest few told ∙ ap (λ t. word_opened (said_words t)) (sym is) ∙ opens)
 
--- Of scenarios.
+-- Scenarios.
 
 named_otherwise : (first : List ℕ) (words : List (List ℕ)) (p : Head) → scenario_first first words ≡ Ok p → word_meant first ≡ Other
 unfolding scenario_first

@@ -1,4 +1,4 @@
--- What is read as a trace, without a fault, has the first word `trace`.
+-- A text that is read as a trace, without a fault, has the first word `trace`.
 use Rattle.std.proofs.Common.{◌≡◌, ℕ, ◌+◌, ◌==◌, ◌&&◌, not, nat_lt, Bool, true, false, cond, if◌then◌else◌, List, [], ◌∷◌, ◌++◌, codes, filter, length, map, take, Option, None, Some, Result, Ok, Err, refl, ap, sym, subst, ◌∙◌}
 use Rattle.std.proofs.lemmas.Slice.Eq.{bytes_eq-Decides}
 use Rattle.std.specs.Option.{unwrap_or}

@@ -1,4 +1,4 @@
--- Looking for an item, and then taking what is wanted of it.
+-- A search for an item, and then a function of it.
 use Rattle.std.proofs.Common.{refl, true, false, Bool, Option, Some, None, List, [], ◌∷◌, ◌≡◌, find, map, option_map, cond}
 use Rattle.std.specs.Borrow.{Bor}
 

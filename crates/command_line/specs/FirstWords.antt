@@ -1,4 +1,4 @@
--- The first word of a file, which tells what kind of file it is.
+-- The first word of a file, which determines the kind of the file.
 use Rattle.std.specs.Prelude.{◌≡◌, ◌<◌, ◌≤◌, ℕ, true, List, [], ◌∷◌, ◌++◌, codes, cond, length, take, Option, None, Some, Ok}
 use Rattle.std.specs.Option.{is_some, unwrap_or}
 use Rattle.std.specs.Str.{bytes_eq}
@@ -13,7 +13,7 @@ use Rattle.command_line.specs.declared.first_word.FirstWord.TheVariants.{Record,
 abbrev pub word_meant : List ℕ → FirstWord
 word_meant word = cond (bytes_eq word (codes "record")) Record (cond (bytes_eq word (codes "trace")) Trace Other)
 
--- what is read of the first line that is not skipped
+-- the grammar of the first line that is not skipped
 abbrev pub first_line : Grammar FirstWord
 first_line = record { first = λ word words. Ok (word_meant word); later = λ word words line. Ok line }
 
@@ -36,14 +36,14 @@ pub data IsLookedAt (text : List ℕ) : Type 0 where
   Whole : length text ≤ input_limit → IsLookedAt text
   Front : (front rest : List ℕ) → text ≡ front ++ 10 ∷ rest → length front < input_limit → is_some (word_opened (said_words (front ++ 10 ∷ []))) ≡ true → IsLookedAt text
 
--- What is read as a record, without a fault, has the first word `record`.
+-- A text that is read as a record, without a fault, has the first word `record`.
 abbrev pub RecordsAreRecognized : Type 0
 RecordsAreRecognized = (text : List ℕ) (said : Said) → record_of text ≡ Ok said → IsLookedAt text → first_word text ≡ Record
 
--- What is read as a trace, without a fault, has the first word `trace`.
+-- A text that is read as a trace, without a fault, has the first word `trace`.
 abbrev pub TracesAreRecognized : Type 0
 TracesAreRecognized = (text : List ℕ) (said : TraceSaid) → trace_said text ≡ Ok said → IsLookedAt text → first_word text ≡ Trace
 
--- What is read as a scenario, without a fault, has another first word.
+-- A text that is read as a scenario, without a fault, has another first word.
 abbrev pub ScenariosHaveAnotherWord : Type 0
 ScenariosHaveAnotherWord = (text : List ℕ) (script : Script) → scenario_of text ≡ Ok script → first_word text ≡ Other

@@ -44,7 +44,7 @@ bare_app = let a = new_app (codes "bakerystore") in with_flag (record a {
   top = record a.top { has_version = true; disable_help_subcommand = true };
 }) (codes "quiet")
 
--- what a command is called, what runs its file, and its options
+-- a command: its name, the engine that runs its file, and its options
 pub record Listed : Type 0 where
   pub name : Text
   pub engine : Engine
@@ -95,7 +95,7 @@ bakery = with_subcommand (fold with_command bare_app commands) help_app.top
 
 -- ---- what words mean
 
--- that an engine runs a file, with these options
+-- a run of a file by an engine, with these options
 pub record Running : Type 0 where
   pub engine : Engine
   pub file : Text
@@ -108,7 +108,7 @@ pub record Running : Type 0 where
   pub explain : Bool
   pub quiet : Bool
 
--- that a file is run; or that a page is printed: of all words, of the words of a run, of the faults, or of a command
+-- a request: to run a file, or to print the page with all words, with the words of a run, with the faults, or with a command
 pub data Meant : Type 0 where
   runs : Running → Meant
   tells_words : Meant
@@ -155,7 +155,7 @@ is_true text = option_map_or (λ t. bytes_eq t (codes "true")) text false
 abbrev pub has_flag : Text → List Found → Bool
 has_flag id rows = is_true (first_of id rows)
 
--- what a command means with a file, and with the matches of its own
+-- the request of a command with a file, and with the matches of its own
 abbrev pub asked_of_file : Bool → Listed → List Found → Text → Meant
 asked_of_file quiet command own file = runs (record {
   engine = command.engine;
@@ -170,12 +170,12 @@ asked_of_file quiet command own file = runs (record {
   quiet = quiet || has_flag (codes "quiet") own;
 })
 
--- what no command means: `plain -`
+-- the request without a command: `plain -`
 abbrev pub asked_of_none : Bool → Option Meant
 asked_of_none quiet = option_map (λ plain. asked_of_file quiet plain [] (codes "-"))
     (command_named (codes "plain"))
 
--- what `help` means, with the word behind it
+-- the request of `help`, with the word after it
 abbrev pub asked_of_help : Option Text → Option Meant
 asked_of_help None = Some tells_words
 asked_of_help (Some name) = page_named name
@@ -186,12 +186,12 @@ asked_of_command quiet name own =
     else option_and_then (λ command. option_map (asked_of_file quiet command own)
     (first_of (codes "FILE") own)) (command_named name)
 
--- what the matches of the program and of its command mean
+-- the request of the matches of the program and of its command
 abbrev pub asked_of : List Found → Option (Text × List Found) → Option Meant
 asked_of top None = asked_of_none (has_flag (codes "quiet") top)
 asked_of top (Some p) = asked_of_command (has_flag (codes "quiet") top) p.0 p.1
 
--- what the words mean, of which the first is the program's own name
+-- the request of the words, of which the first is the program's own name
 abbrev pub meaning : List Text → Option Meant
 meaning words = asked_of (matches_of bakery words) (subcommand_of bakery words)
 
@@ -202,7 +202,7 @@ abbrev pub is_plain_word : Text → Bool
 is_plain_word [] = true
 is_plain_word (x ∷ rest) = not (x == 45)
 
--- that a command runs a file, and nothing else
+-- a run of a file by a command, without options
 abbrev pub running : Listed → Text → Running
 running c file = record {
   engine = c.engine;
@@ -217,16 +217,16 @@ running c file = record {
   quiet = false;
 }
 
--- the same, quietly
+-- a run of the file, quietly if `quiet`
 abbrev pub runs_file : Listed → Text → Bool → Option Meant
 runs_file c file quiet = Some (runs (record (running c file) { quiet = quiet }))
 
--- the same, with its faults explained
+-- a run of the file, with its faults explained
 abbrev pub explains_file : Listed → Text → Option Meant
 explains_file c file = Some (runs (record (running c file) { explain = true }))
 
--- its name and a file mean that; with `--explain` in front of the file they mean the same, explained; with `--quiet` in front of the name, behind it or behind the file
--- they mean the same, quietly
+-- the command's name and a file run the file. With `--explain` before the file its faults are explained. With `--quiet` before the name, after it or after the file
+-- the run is quiet
 abbrev pub RunsFile : Text → Text → Listed → Type 0
 RunsFile own file c = (takes bakery (own ∷ c.name ∷ file ∷ []) ≡ true)
     × (meaning (own ∷ c.name ∷ file ∷ []) ≡ runs_file c file false)

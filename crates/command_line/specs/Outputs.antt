@@ -5,11 +5,11 @@ use Rattle.command_line.specs.declared.terminal.Output.{Output}
 use Rattle.command_line.specs.declared.terminal.Output.TheVariants.{Lines, Blocks}
 use Rattle.command_line.specs.declared.terminal.UpToFailure.{UpToFailure}
 
--- those of the writer that may fail
+-- the bytes of the writer that may fail
 abbrev pub held_by : {W : Type 0} → (W → Option (List ℕ)) → UpToFailure W → Option (List ℕ)
 held_by contents w = contents w.writer
 
--- those, and behind them what waits in the buffer
+-- these bytes, and after them those that wait in the buffer
 abbrev pub held_in : {W : Type 0} → (W → Option (List ℕ)) → Output W → Option (List ℕ)
 held_in contents (Lines writer) = line_writer_contents (held_by contents) writer
 held_in contents (Blocks writer) = writer_contents (held_by contents) writer

@@ -1,10 +1,10 @@
-//! Why a read or a write of the program has failed.
+//! The reasons for which a read or a write of the program has failed.
 ghost use Rattle.std.specs.Prelude.{◌≡◌};
 
 use std::cell::Cell;
 use std::io::{self, ErrorKind, Read, Write};
 
-/// A reader in front of another one, which notes why the newest read has failed.
+/// A reader that reads from another one, and notes why the newest read has failed.
 #[derive(Drop)]
 pub struct NotedReader<'a, R: Read + Drop> {
     reader: R,
@@ -32,7 +32,7 @@ impl<'a, R: Read + Drop> Read for NotedReader<'a, R> {
     }
 }
 
-/// A writer in front of another one, which notes why the newest write has failed.
+/// A writer that writes to another one, and notes why the newest write has failed.
 #[derive(Drop)]
 pub struct NotedWriter<'a, W: Write + Drop> {
     writer: W,

@@ -55,7 +55,7 @@ pub struct CommandEntry {
     pub intake: Intake,
     /// Its options, in addition to `--quiet` and `--explain`, which all commands have. `at` has a value.
     pub options: &'static [&'static str],
-    /// What it does, in a line of the general page.
+    /// The effect of the command, in a line of the general page.
     pub about: &'static str,
     /// The file of its example on that page.
     pub example: &'static str,

@@ -1,4 +1,4 @@
-//! What the program prints if it runs no file.
+//! The texts that the program prints if it runs no file.
 ghost use Rattle.std.specs.Prelude.{◌≡◌, ◌⊎◌, IfOk, OnErr};
 ghost use Rattle.clap.specs.Words.{kind_of};
 
@@ -19,14 +19,18 @@ const NOT_TEXT: &str =
 /// The number of bytes of a word that an error shows.
 const MOST_SHOWN: usize = 64;
 
-/// What the program prints if it runs no file: a page, the version, an error in its arguments, or an allocation failure.
+/// A text that the program prints if it runs no file: a page, the version, an error in its arguments, or an allocation failure.
 #[derive(Drop)]
 pub struct Notice {
     error: Error,
 }
 
 impl Notice {
-    /// Prints it, and returns the exit status.
+    /// Prints the notice, and returns the exit status.
+    ///
+    /// # Errors
+    ///
+    /// Returns [`Fault::Memory`] if an allocation fails or failed, and [`Fault::Write`] if standard output cannot be written.
     pub fn tell<T: Print + Eprint + AllocGlobal>(&self, rt: &T) -> Result<u8, Fault> {
         match self.error.kind() {
             ErrorKind::OutOfMemory => Err(Fault::Memory),
@@ -62,6 +66,10 @@ impl From<Error> for Notice {
 }
 
 /// Returns an error of the same kind, with words that a terminal can show, or an allocation failure.
+///
+/// # Errors
+///
+/// Returns [`AllocError`] if an allocation fails.
 pub fn shown_error(alloc: Global, words: &[String], error: Error) -> Result<Error, AllocError>
     ensures { IfOk result (λ e. (kind_of e ≡ kind_of error)
         ⊎ (kind_of e ≡ ErrorKind.OutOfMemory)) }
@@ -110,6 +118,10 @@ fn shown_words(alloc: Global, words: &[String]) -> Result<Vec<String>, AllocErro
 
 /// Returns a word as an error shows it: the letters that end within its first 64 bytes, escaped for a terminal, and `..` for the
 /// others.
+///
+/// # Errors
+///
+/// Returns [`AllocError`] if an allocation fails.
 pub fn shown_word(alloc: Global, word: &str) -> Result<String, AllocError> {
     let mut shown = String::new(alloc);
     let mut bytes: usize = 0;
@@ -133,6 +145,10 @@ fn push_escaped(shown: &mut String, letter: char) -> Result<(), AllocError> {
 }
 
 /// Returns why there is no page of this name, which is the message if the name is given as a command.
+///
+/// # Errors
+///
+/// Returns [`AllocError`] if an allocation fails.
 pub fn no_such_page(alloc: Global, name: &str) -> Result<Error, AllocError> {
     let mut words = Vec::new(alloc);
     words.push(String::from_str(alloc, "bakerystore")?)?;
@@ -144,6 +160,10 @@ pub fn no_such_page(alloc: Global, name: &str) -> Result<Error, AllocError> {
 }
 
 /// Returns the error of arguments of which one is not UTF-8.
+///
+/// # Errors
+///
+/// Returns [`AllocError`] if an allocation fails.
 pub fn no_text(alloc: Global) -> Result<Error, AllocError> {
     program_error(alloc, ErrorKind::InvalidValue, NOT_TEXT)
 }

@@ -22,7 +22,7 @@ pub enum HelpPage {
 }
 
 impl HelpPage {
-    /// Returns the page of this name: of a command, or `help`, `run` or `faults`.
+    /// Returns the page of this name: the name of a command, or `help`, `run` or `faults`.
     pub fn named(name: &str) -> Option<HelpPage>
         ensures { option_map told_by result ≡ page_named name.now }
     {
@@ -34,7 +34,11 @@ impl HelpPage {
         }
     }
 
-    /// Prints it to standard output, and returns the exit status.
+    /// Prints the page to standard output, and returns the exit status.
+    ///
+    /// # Errors
+    ///
+    /// Returns [`Fault::Memory`] if an allocation fails, and [`Fault::Write`] if the write fails.
     pub fn tell<T: Print + AllocGlobal>(self, rt: &T) -> Result<u8, Fault> {
         match self.text(rt.alloc()) {
             Ok(text) => tell(rt, text.as_str()),
@@ -42,7 +46,7 @@ impl HelpPage {
         }
     }
 
-    /// Returns its text.
+    /// Returns the text of the page.
     fn text(self, alloc: Global) -> Result<String, AllocError> {
         match self {
             HelpPage::Words => page_of_words(alloc),
@@ -54,6 +58,10 @@ impl HelpPage {
 }
 
 /// Prints a text to standard output, and returns the exit status.
+///
+/// # Errors
+///
+/// Returns [`Fault::Write`] if the write fails.
 pub fn tell<T: Print>(rt: &T, text: &str) -> Result<u8, Fault> {
     match rt.write_all(text.as_bytes()) {
         Ok(()) => Ok(DONE),

@@ -97,6 +97,10 @@ fn with_command<'a>(
 }
 
 /// Returns a command that runs a file.
+///
+/// # Errors
+///
+/// Returns [`AllocError`] if an allocation fails.
 pub fn file_command<'a>(alloc: Global, entry: CommandEntry) -> Result<Command<'a>, AllocError>
     ensures shape { IfOk result (λ c. app_of c ≡ command_app (says entry)) }
     ensures local { IfOk result (λ c. (out-Command c).has_globals ≡ false) }

@@ -64,7 +64,11 @@ pub enum Output<W: Write + Drop> {
 }
 
 impl<W: Write + Drop> Output<W> {
-    /// Returns the writer before this one, which has the same bytes. Fails only if an allocation fails.
+    /// Creates the writer before `writer`, which has the same bytes.
+    ///
+    /// # Errors
+    ///
+    /// Returns an error only if an allocation fails.
     pub fn new(alloc: Global, writer: W, at_terminal: bool) -> io::Result<Output<W>>
         ensures { IfOk result (λ output. Keeps (W.contents writer) (held_in W.contents output)) }
     {

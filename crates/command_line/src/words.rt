@@ -38,7 +38,7 @@ pub struct Request<'a> {
     pub quiet: bool,
 }
 
-/// What the arguments ask for.
+/// The request that the arguments make.
 #[derive(Clone, Copy)]
 pub enum Invocation<'a> {
     /// A command runs a file.
@@ -66,8 +66,8 @@ fn given_words<T: Env + AllocGlobal>(rt: &T) -> Result<Vec<String>, Error> {
     Ok(words)
 }
 
-/// Returns what the words ask for, of which the first is the program's own name. Otherwise returns a notice: why `clap` refuses
-/// the words, its help or the version; that no page has the name that they give; or an allocation failure.
+/// Returns what the words ask for. The first word is the program's own name. Otherwise returns a notice: the refusal of `clap`,
+/// its help or the version, the lack of a page with the name that the words give, or an allocation failure.
 pub fn read_words<'a>(alloc: Global, words: &'a [String]) -> Result<Invocation<'a>, Notice>
     ensures means { IfOk result (λ a. meaning (map string_bytes words.now) ≡ Some (asked_by a)) }
     ensures faultless { IfOk result (λ _. fault_of bakery (map string_bytes words.now) ≡ []) }

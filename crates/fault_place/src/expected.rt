@@ -1,4 +1,4 @@
-//! What was expected in the place of a word.
+//! The texts that state what was expected at the position of a word.
 use crate::forms::{Item, LineForm};
 use crate::kinds::FileKind;
 use crate::near::add_near;
@@ -8,7 +8,7 @@ use trace::TraceMemory;
 use trace_file::forms::TraceOperand;
 use trace_file::most_bits;
 
-/// Adds that one of these key words was expected, or another one of this text.
+/// Adds that one of these key words was expected, or what `other` names.
 pub(crate) fn add_keys(
     keys: &[&str],
     other: &'static str,
@@ -21,7 +21,7 @@ pub(crate) fn add_keys(
     text.push_str(other)
 }
 
-/// Adds which key words of a form's choice a word may have been meant for.
+/// Adds the key words of a form's choice for which a word may have been meant.
 pub(crate) fn add_meant(
     alloc: Global,
     kind: FileKind,
@@ -39,7 +39,7 @@ pub(crate) fn add_meant(
     }
 }
 
-/// Adds words, with this between them.
+/// Adds words, with `between` between them.
 fn add_between(words: &[&str], between: &'static str, text: &mut String) -> Result<(), AllocError> {
     let mut front = "";
     for word in words {
@@ -49,7 +49,7 @@ fn add_between(words: &[&str], between: &'static str, text: &mut String) -> Resu
     Ok(())
 }
 
-/// Adds two texts, one behind the other.
+/// Adds two texts, one after the other.
 pub(crate) fn add_two(first: &str, second: &str, text: &mut String) -> Result<(), AllocError> {
     text.push_str(first)?;
     text.push_str(second)
@@ -72,7 +72,7 @@ pub(crate) fn add_form(form: &LineForm, text: &mut String) -> Result<(), AllocEr
     Ok(())
 }
 
-/// An operand as a form has it.
+/// Returns an operand as a form shows it.
 fn letters(operand: Operand) -> &'static str {
     match operand {
         Operand::Number { letter, .. } => match letter {

@@ -1,4 +1,4 @@
-//! What is told of the place of a fault.
+//! The lines that explain a fault.
 use crate::kept::KeptFile;
 use crate::kinds::FileKind;
 use crate::lines::{Span, SplitLine};
@@ -13,9 +13,13 @@ use scenario::bit_files::BitsReader;
 use std::alloc::{AllocError, Global};
 use trace_file::TraceReader;
 
-/// The lines that explain a fault of a file of this kind, of which this was kept: the line, carets under the word, and what
-/// was expected; the last alone where there is no such line. Nothing is told of a want of memory, nor where memory was
-/// wanting to keep the file.
+/// Returns the lines that explain a fault of a file of this kind, of which `kept` was kept: the line, carets under the word,
+/// and what was expected. If no such line was kept, it returns only what was expected. The text is empty if the fault is an
+/// allocation failure, or if an allocation failed while the file was kept.
+///
+/// # Errors
+///
+/// Returns [`AllocError`] if an allocation fails.
 pub fn explanation(
     alloc: Global,
     kind: FileKind,
@@ -29,7 +33,7 @@ pub fn explanation(
     Ok(text)
 }
 
-/// Adds these lines.
+/// Adds the lines that explain a fault.
 fn add_explanation(
     alloc: Global,
     kind: FileKind,
@@ -75,7 +79,7 @@ fn add_place(
     write!(text, "expected {what}\n")
 }
 
-/// What the lines of a file before the one of this number have set up, as its grammar reads them.
+/// Returns the setup that the lines before the line with this number declare, as the grammar of the file reads them.
 fn setup_before(
     alloc: Global,
     kind: FileKind,
@@ -119,7 +123,7 @@ fn bits_setup(alloc: Global, front: &[u8], number: u64) -> Result<Option<Setup>,
     })
 }
 
-/// Reads the lines before the one of this number.
+/// Reads the lines before the line with this number.
 fn read_before<T: FromLines>(
     alloc: Global,
     front: &[u8],

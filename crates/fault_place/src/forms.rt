@@ -12,12 +12,12 @@ use trace_file::forms::{
     CELL_MOVES, MARK_FORMS, TRACE_HEADS, TraceOperand, TracePattern, TracePhrase,
 };
 
-/// What stands at a place of a form.
+/// An item of a form.
 #[derive(Clone, Copy)]
 pub(crate) enum Item {
     /// This key word.
     Key(&'static str),
-    /// A key word that the line has not.
+    /// A choice of key words, of which the line has none.
     Choice,
     /// An operand.
     Operand(Operand),
@@ -29,18 +29,18 @@ pub(crate) enum Item {
     OfTrace(TraceOperand),
 }
 
-/// A form: its last item is a choice where the line has no such key word, and nothing is known of what is behind it.
+/// A form. Its last item is a choice if the line has no such key word; then nothing is known of the items after it.
 #[derive(Drop)]
 pub(crate) struct LineForm {
     version: u8,
     pub items: Vec<Item>,
-    /// The key words of its choice.
+    /// The key words of the choice.
     pub keys: Vec<&'static str>,
     /// The key word of version 2 that the line has in place of one of them.
     pub of_version_2: Option<&'static str>,
 }
 
-/// The word at a place of a line; behind the last the empty one, which is no key word.
+/// Returns the word at an index of a line, or the empty word after the last one. The empty word is not a key word.
 pub(crate) fn word_at<'w>(words: &[&'w [u8]], place: usize) -> &'w [u8] {
     match words.get(place) {
         Some(word) => *word,
@@ -121,7 +121,7 @@ pub(crate) fn trace_mark_form(alloc: Global, words: &[&[u8]]) -> Result<LineForm
 }
 
 impl LineForm {
-    /// No item yet.
+    /// Creates a form without items.
     fn new(alloc: Global, version: u8) -> LineForm {
         LineForm {
             version,

@@ -1,27 +1,27 @@
-//! What is kept of a file while it is read, to show the line of a fault: its front, which is all of a file that may have no
-//! fault but a record, and its last blocks.
+//! The parts of a file that are kept while it is read, to show the line of a fault: its front and its last blocks. Except
+//! for a record, each file that may have no fault fits in the front.
 ghost use Rattle.std.specs.Prelude.{◌≡◌};
 
 use bstr::ByteSlice;
 use files::{Failed, INPUT_LIMIT, Source};
 use std::alloc::{AllocError, Global};
 
-/// The front of a file, and its last blocks.
+/// The first bytes of a file, and its last blocks.
 #[derive(Drop)]
 pub struct KeptFile {
     front: Vec<u8>,
     /// The block before the last one, and the last one.
     last: Vec<u8>,
-    /// Where the last block begins among them.
+    /// The index at which the last block begins among them.
     block: usize,
-    /// How many lines end before them.
+    /// The number of lines that end before them.
     ended: u64,
-    /// Whether nothing was lost for want of memory.
+    /// Whether nothing was lost because an allocation failed.
     whole: bool,
 }
 
 impl KeptFile {
-    /// Nothing yet.
+    /// Creates a file of which nothing is kept yet.
     fn new(alloc: Global) -> KeptFile {
         KeptFile {
             front: Vec::new(alloc),
@@ -32,17 +32,17 @@ impl KeptFile {
         }
     }
 
-    /// Whether nothing was lost for want of memory.
+    /// Returns whether nothing was lost because an allocation failed.
     pub fn is_whole(&self) -> bool {
         self.whole
     }
 
-    /// The bytes from the front: `INPUT_LIMIT` at most.
+    /// Returns the first bytes of the file, at most `INPUT_LIMIT` of them.
     pub fn front(&self) -> &[u8] {
         self.front.as_slice()
     }
 
-    /// The line of this number, counted from 1, if it is among the front or in the last blocks.
+    /// Returns the line with this number, counted from 1, if it is in the front or in the last blocks.
     pub fn line(&self, number: u64) -> Option<&[u8]> {
         let place = number.saturating_sub(1);
         let front = self.front.as_slice();
@@ -54,7 +54,7 @@ impl KeptFile {
         bytes.lines().nth(place.saturating_sub(ended) as usize)
     }
 
-    /// Keeps bytes that come next.
+    /// Keeps the next bytes of the file.
     fn add(&mut self, bytes: &[u8]) {
         if self.try_add(bytes).is_err() {
             self.whole = false;
@@ -81,7 +81,7 @@ impl KeptFile {
     }
 }
 
-/// How many lines end among bytes.
+/// Returns the number of lines that end among bytes.
 fn ends_among(bytes: &[u8]) -> u64 {
     let mut ends: u64 = 0;
     for byte in bytes {
@@ -90,7 +90,7 @@ fn ends_among(bytes: &[u8]) -> u64 {
     ends
 }
 
-/// A source in front of another one, which keeps what is read.
+/// A source that reads from another one, and keeps what is read.
 #[derive(Drop)]
 pub struct KeptInput<S: Source + Drop> {
     source: S,
@@ -99,7 +99,7 @@ pub struct KeptInput<S: Source + Drop> {
 }
 
 impl<S: Source + Drop> KeptInput<S> {
-    /// In front of this source; nothing is kept unless `keeps`.
+    /// Creates a source that reads from `source`; nothing is kept unless `keeps`.
     pub fn new(alloc: Global, source: S, keeps: bool) -> KeptInput<S>
         ensures to_come { ⟦<KeptInput<S> as Source>⟧.to_come result ≡ S.to_come source }
         ensures failures { ⟦<KeptInput<S> as Source>⟧.failures result ≡ S.failures source }
@@ -111,7 +111,7 @@ impl<S: Source + Drop> KeptInput<S> {
         }
     }
 
-    /// What was kept, and the source behind it.
+    /// Returns the bytes that were kept, and the source from which they were read.
     pub fn into_parts(self) -> (KeptFile, S)
         ensures { result.1 ≡ self.source }
     {

@@ -1,5 +1,5 @@
-//! Where in a file a fault is, and what was expected there: the line, carets under the word that the grammar refused, and
-//! the words, numbers or forms that may stand in its place.
+//! The position of a fault in a file, and what was expected there: the line, carets under the word that the grammar refused,
+//! and the words, numbers or forms that may replace it.
 #![tactic(auto)]
 
 mod cells;

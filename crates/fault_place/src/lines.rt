@@ -1,32 +1,32 @@
-//! The words of a line, and where they stand.
+//! The words of a line, and their positions.
 use std::alloc::{AllocError, Global};
 
-/// The most bytes of a line that are shown.
+/// The greatest number of bytes of a line that are shown.
 const MOST_SHOWN: usize = 64;
 
-/// How many bytes are shown before a word that ends behind these.
+/// The number of bytes shown before a word that ends after the first `MOST_SHOWN` bytes.
 const SHOWN_BEFORE: usize = 16;
 
-/// How many bytes of a line are looked at.
+/// The greatest number of bytes of a line that are read.
 const MOST_SEEN: usize = 129;
 
 /// Some bytes of a line.
 #[derive(Clone, Copy)]
 pub(crate) struct Span {
-    /// How many bytes stand before.
+    /// The number of bytes before them.
     pub from: usize,
-    /// How many stand before its end.
+    /// The number of bytes before their end.
     pub to: usize,
 }
 
 impl Span {
-    /// These bytes of a line.
+    /// Returns these bytes of a line.
     pub fn of(self, line: &[u8]) -> &[u8] {
         line.get(self.from..self.to).unwrap_or(&[])
     }
 }
 
-/// A line, and where its words stand.
+/// A line, and the positions of its words.
 #[derive(Drop)]
 pub(crate) struct SplitLine<'a> {
     bytes: &'a [u8],
@@ -35,7 +35,11 @@ pub(crate) struct SplitLine<'a> {
 }
 
 impl<'a> SplitLine<'a> {
-    /// A line of these bytes.
+    /// Creates a line of these bytes.
+    ///
+    /// # Errors
+    ///
+    /// Returns [`AllocError`] if an allocation fails.
     pub fn new(alloc: Global, bytes: &'a [u8]) -> Result<SplitLine<'a>, AllocError> {
         let mut line = SplitLine {
             bytes,
@@ -46,7 +50,7 @@ impl<'a> SplitLine<'a> {
         Ok(line)
     }
 
-    /// Finds its words.
+    /// Finds the words of the line.
     fn find_words(&mut self) -> Result<(), AllocError> {
         add_spans(self.bytes, &mut self.spans)?;
         for span in &self.spans {
@@ -55,12 +59,12 @@ impl<'a> SplitLine<'a> {
         Ok(())
     }
 
-    /// How many bytes it has.
+    /// Returns the number of bytes of the line.
     pub fn len(&self) -> usize {
         self.bytes.len()
     }
 
-    /// Where a word stands; else the first column.
+    /// Returns the position of a word, or the first column if the line has no such word.
     pub fn word(&self, number: usize) -> Span {
         match self.spans.get(number) {
             Some(span) => *span,
@@ -68,7 +72,7 @@ impl<'a> SplitLine<'a> {
         }
     }
 
-    /// From a word to the last one.
+    /// Returns the position of a word and all words after it.
     pub fn from(&self, number: usize) -> Span {
         let last = self.word(self.spans.len().saturating_sub(1));
         Span {
@@ -77,7 +81,7 @@ impl<'a> SplitLine<'a> {
         }
     }
 
-    /// One column behind a word, where the next one is missing.
+    /// Returns the column after a word and one blank, where the next word is missing.
     pub fn behind(&self, number: usize) -> Span {
         let from = self.word(number).to.saturating_add(1);
         Span {
@@ -86,7 +90,7 @@ impl<'a> SplitLine<'a> {
         }
     }
 
-    /// A part of a word between dots; one column where it is empty.
+    /// Returns the position of a part of a word between dots, or one column if the part is empty.
     pub fn part(&self, number: usize, part: usize) -> Span {
         let word = self.word(number);
         match dotted_part(word.of(self.bytes), part) {
@@ -100,7 +104,11 @@ impl<'a> SplitLine<'a> {
         }
     }
 
-    /// Adds the part of the line round some of its bytes, and carets below these.
+    /// Adds the part of the line around some of its bytes, and carets below these bytes.
+    ///
+    /// # Errors
+    ///
+    /// Returns [`AllocError`] if an allocation fails. The text may then end early.
     pub fn show(&self, span: Span, text: &mut String) -> Result<(), AllocError> {
         let begin = if span.to > MOST_SHOWN {
             span.from.saturating_sub(SHOWN_BEFORE)
@@ -124,7 +132,7 @@ impl<'a> SplitLine<'a> {
     }
 }
 
-/// Adds where the words of a line stand.
+/// Adds the positions of the words of a line.
 fn add_spans(line: &[u8], spans: &mut Vec<Span>) -> Result<(), AllocError> {
     let mut from = 0;
     for (at, byte) in line.iter().enumerate() {
@@ -136,7 +144,7 @@ fn add_spans(line: &[u8], spans: &mut Vec<Span>) -> Result<(), AllocError> {
     add_span(from, line.len(), spans)
 }
 
-/// Adds where some bytes stand that are a word unless there are none.
+/// Adds the position of a word, unless it has no bytes.
 fn add_span(from: usize, to: usize, spans: &mut Vec<Span>) -> Result<(), AllocError> {
     if from < to {
         spans.push(Span { from, to })?;
@@ -144,7 +152,7 @@ fn add_span(from: usize, to: usize, spans: &mut Vec<Span>) -> Result<(), AllocEr
     Ok(())
 }
 
-/// Where in a word a part between its dots stands, counted from the word's first byte, if there are so many.
+/// Returns the position of a part between the dots of a word, counted from the word's first byte, if the word has this part.
 pub(crate) fn dotted_part(word: &[u8], number: usize) -> Option<Span> {
     let mut before: usize = 0;
     let mut from = 0;
@@ -165,7 +173,7 @@ pub(crate) fn dotted_part(word: &[u8], number: usize) -> Option<Span> {
     }
 }
 
-/// What a terminal gets for a byte.
+/// Returns the character that a terminal shows for a byte.
 fn shown(byte: u8) -> char {
     match byte {
         b'\t' => ' ',

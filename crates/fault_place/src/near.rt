@@ -3,7 +3,7 @@ use crate::expected::add_two;
 use std::alloc::{AllocError, Global};
 use strsim::osa_distance;
 
-/// Adds the nearest key words within two typing errors, if there are some; within one of those of two or three letters.
+/// Adds the nearest key words within two typing errors, if there are any; key words of two or three letters within one.
 pub(crate) fn add_near(
     alloc: Global,
     word: &[u8],
@@ -14,7 +14,7 @@ pub(crate) fn add_near(
     add_nearest(alloc, small.as_str(), keys, text)
 }
 
-/// The same of a word of small letters.
+/// Adds the nearest key words of a word in lower case.
 fn add_nearest(
     alloc: Global,
     word: &str,
@@ -29,7 +29,7 @@ fn add_nearest(
     text.push_str("?")
 }
 
-/// How many typing errors lie between a word and the nearest key words.
+/// Returns the number of typing errors between a word and the nearest key words.
 fn least_errors(alloc: Global, word: &str, keys: &[&str]) -> Result<usize, AllocError> {
     let mut least = usize::MAX;
     for key in keys {
@@ -38,7 +38,7 @@ fn least_errors(alloc: Global, word: &str, keys: &[&str]) -> Result<usize, Alloc
     Ok(least)
 }
 
-/// Adds the key words that are so many typing errors away.
+/// Adds the key words that have this number of typing errors.
 fn add_those_at(
     alloc: Global,
     word: &str,
@@ -56,7 +56,7 @@ fn add_those_at(
     Ok(())
 }
 
-/// How many typing errors lie between a word and a key word; the greatest number where they are too many.
+/// Returns the number of typing errors between a word and a key word, or the greatest number if they are too many.
 fn errors(alloc: Global, word: &str, key: &str) -> Result<usize, AllocError> {
     let most = match key.len() {
         0 | 1 => return Ok(usize::MAX),
@@ -67,7 +67,7 @@ fn errors(alloc: Global, word: &str, key: &str) -> Result<usize, AllocError> {
     Ok(if errors <= most { errors } else { usize::MAX })
 }
 
-/// The word with small letters. A byte that is no letter of ASCII is a letter that no key word has.
+/// Returns the word in lower case. A byte that is not an ASCII letter becomes a letter that no key word has.
 fn small_letters(alloc: Global, word: &[u8]) -> Result<String, AllocError> {
     let mut small = String::new(alloc);
     for byte in word {

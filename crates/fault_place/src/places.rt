@@ -1,4 +1,4 @@
-//! Where in a line a fault is, by its kind.
+//! The position of a fault in a line, by the kind of the fault.
 use crate::expected::{add_keys, add_meant, add_operand, add_two};
 use crate::forms::{
     Item, access_form, bits_form, head_form, line_form, mark_form, refused_operand,
@@ -24,13 +24,13 @@ use trace_file::forms::TRACE;
 pub(crate) struct Faulty {
     pub alloc: Global,
     pub kind: FileKind,
-    /// What the lines before the fault have set up; none where they are all skipped.
+    /// The setup that the lines before the fault declare; `None` if they are all skipped.
     pub setup: Option<Setup>,
     pub fault: FaultKind,
 }
 
 impl Faulty {
-    /// The version of the file.
+    /// Returns the version of the file.
     fn version(&self) -> u8 {
         match &self.setup {
             Some(setup) => setup.version,
@@ -38,7 +38,7 @@ impl Faulty {
         }
     }
 
-    /// Where in the line of this number the fault is; adds what was expected there.
+    /// Returns the position of the fault in the line with this number, and adds what was expected there.
     pub fn place(&self, line: &SplitLine<'_>, number: u64, what: &mut String) -> Found {
         match self.fault {
             FaultKind::TooLong => self.too_long(line, number, what),
@@ -49,7 +49,7 @@ impl Faulty {
         }
     }
 
-    /// Of a line that is too long, or one too many.
+    /// Returns the position in a line that is too long, or in one line too many.
     fn too_long(&self, line: &SplitLine<'_>, number: u64, what: &mut String) -> Found {
         if line.len() > 128 {
             let place = Span { from: 128, to: 129 };
@@ -65,7 +65,7 @@ impl Faulty {
         found(line.word(0), most, what)
     }
 
-    /// Of the first line: the word that differs, or those too many.
+    /// Returns the position in the first line: the word that differs, or the words that are too many.
     fn not_first(&self, line: &SplitLine<'_>, what: &mut String) -> Found {
         let Some(first) = line.words.first() else {
             return Ok(None);
@@ -77,7 +77,7 @@ impl Faulty {
         found(self.no_version(line), " as the first line", what)
     }
 
-    /// Of a first line whose first word is right.
+    /// Returns the position in a first line whose first word is right.
     fn no_version(&self, line: &SplitLine<'_>) -> Span {
         match line.words.get(1) {
             None => line.behind(0),
@@ -86,7 +86,7 @@ impl Faulty {
         }
     }
 
-    /// Adds which first lines were expected, and what a file is that begins with another word.
+    /// Adds which first lines were expected, and the kind of a file that begins with another word.
     fn add_other_kind(&self, first: &[u8], what: &mut String) -> Result<(), AllocError> {
         self.kind.add_all_first_lines(what)?;
         what.push_str(" as the first line")?;
@@ -102,7 +102,7 @@ impl Faulty {
         }
     }
 
-    /// Of a line that stands too late.
+    /// Returns the position in a line that comes too late.
     fn too_late(&self, line: &SplitLine<'_>, what: &mut String) -> Found {
         let Some(first) = line.words.first() else {
             return Ok(None);
@@ -119,7 +119,7 @@ impl Faulty {
         found(line.word(0), only, what)
     }
 
-    /// Of an opening pair that the store has no place for, or another one of its name.
+    /// Returns the position in an opening pair for which the store has no slot, or whose name is already open.
     fn not_opened(&self, line: &SplitLine<'_>, what: &mut String) -> Found {
         let Some(setup) = &self.setup else {
             return Ok(None);
@@ -132,7 +132,7 @@ impl Faulty {
         found_by(line.word(0), added)
     }
 
-    /// Of a line whose words are at fault.
+    /// Returns the position in a line whose words are at fault.
     fn in_line(&self, line: &SplitLine<'_>, what: &mut String) -> Found {
         let words = line.words.as_slice();
         let form = match self.kind {
@@ -155,7 +155,7 @@ impl Faulty {
         )
     }
 
-    /// Of words that should have a form.
+    /// Returns the position in words that should have a form.
     fn in_part(&self, part: &Part<'_, '_>, what: &mut String) -> Found {
         match self.fault {
             FaultKind::Unknown => self.unknown(part, what),
@@ -164,7 +164,7 @@ impl Faulty {
         }
     }
 
-    /// A key word that is none.
+    /// Returns the position of a bit or a key word that does not exist.
     fn unknown(&self, part: &Part<'_, '_>, what: &mut String) -> Found {
         if let Some(span) = self.no_bit(part, what)? {
             return Ok(Some(span));
@@ -172,7 +172,7 @@ impl Faulty {
         self.unknown_key(part, what)
     }
 
-    /// A word in the place of a choice.
+    /// Returns the position of a word in the place of a choice.
     pub fn unknown_key(&self, part: &Part<'_, '_>, what: &mut String) -> Found {
         let place = part.form.items.len().saturating_sub(1);
         let (Some(Item::Choice), Some(word)) = (part.form.items.last(), part.words.get(place))
@@ -188,7 +188,7 @@ impl Faulty {
         found_by(part.word(place), added)
     }
 
-    /// The word of a bit that is none, or its part that names no register.
+    /// Returns the position of a word that is not a bit, or of its part that does not name a register.
     fn no_bit(&self, part: &Part<'_, '_>, what: &mut String) -> Found {
         let Some(bit) = part.bit() else {
             return Ok(None);
@@ -209,7 +209,7 @@ impl Faulty {
         found_by(part.line.part(1, 1), added)
     }
 
-    /// The first operand that has the fault.
+    /// Returns the position of the first operand that has the fault.
     fn refused(&self, part: &Part<'_, '_>, what: &mut String) -> Found {
         if let Some(span) = self.refused_number(part, what)? {
             return Ok(Some(span));
@@ -223,7 +223,7 @@ impl Faulty {
         found_by(part.word(place), added)
     }
 
-    /// The first part of a bit that is no number of an owner, a bit or a reader.
+    /// Returns the position of the first part of a bit that is not the number of an owner, a bit or a reader.
     fn refused_number(&self, part: &Part<'_, '_>, what: &mut String) -> Found {
         let (Some(process), Some(bit)) = (part.words.first(), part.bit()) else {
             return Ok(None);
@@ -243,7 +243,7 @@ impl Faulty {
         Ok(None)
     }
 
-    /// Whether a word in the place of an operand has the fault.
+    /// Returns whether a word in the place of an operand has the fault.
     fn is_fault_of(&self, operand: Operand, word: &[u8]) -> bool {
         operand.fault(self.version(), word) == Some(self.fault)
     }
@@ -279,7 +279,7 @@ impl EntryFault for Faulty {
     }
 }
 
-/// Whether a line is one of opening pairs.
+/// Returns whether a line is an opening pair.
 fn opens(line: &SplitLine<'_>) -> bool {
     match Opener::of(word_at(line.words.as_slice(), 0)) {
         Some(Opener::Open) => true,
@@ -287,7 +287,7 @@ fn opens(line: &SplitLine<'_>) -> bool {
     }
 }
 
-/// The first word of a heading or an opening pair, if this is one.
+/// Returns the first word of a heading or an opening pair, if this is one.
 fn head_word(first: &[u8]) -> Option<&'static str> {
     for head in &HEADS {
         if first == head.0.as_bytes() {
@@ -297,7 +297,7 @@ fn head_word(first: &[u8]) -> Option<&'static str> {
     None
 }
 
-/// The names of the registers.
+/// Returns the names of the registers.
 fn field_names(alloc: Global) -> Result<Vec<&'static str>, AllocError> {
     let mut names = Vec::new(alloc);
     for field in &FIELDS {
@@ -306,7 +306,7 @@ fn field_names(alloc: Global) -> Result<Vec<&'static str>, AllocError> {
     Ok(names)
 }
 
-/// Whether a file begins with a byte order mark.
+/// Returns whether a file begins with a byte order mark.
 fn begins_with_mark(first: &[u8]) -> bool {
     match first {
         [0xEF, 0xBB, 0xBF, ..] | [0xFF, 0xFE, ..] | [0xFE, 0xFF, ..] => true,
@@ -314,7 +314,7 @@ fn begins_with_mark(first: &[u8]) -> bool {
     }
 }
 
-/// Whether a setup has opened this name.
+/// Returns whether a setup has opened this name.
 fn is_open(setup: &Setup, word: &[u8]) -> bool {
     let mut opening = setup.opening;
     match name(word) {

@@ -16,7 +16,7 @@ shared a e r s k = grind arith
 ends : (r n e b : ℕ) → r * (n + e) + b * e ≡ r * n + (b + r) * e
 ends r n e b = grind arith
 
--- of a share that is a little too large: what it is too large for the word is less than n
+-- the share may be a little too large, if its excess times the word is less than n
 exact : (n k s e word : ℕ) → 1 ≤ k → s * k ≡ n + e → word * e < n → (word * s) % n * k / n ≡ word % k
 exact n k s e word some parts little =
     let a = word / k in

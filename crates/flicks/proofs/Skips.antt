@@ -22,12 +22,12 @@ none : (increment s : ℕ) → state_after 64 multiplier_64 increment zero s ≡
 unfolding state_after
 none increment s = refl
 
--- the generator one for each
+-- each flick of the generator takes one word
 pub generated : (n s increment : ℕ) → flicks_after n (state Generator s increment) ≡ state Generator (state_after 64 multiplier_64 increment n s) increment
 generated zero s increment = ap (λ x. state Generator x increment) (sym (none increment s))
 generated (suc n) s increment = ap after_flick (generated n s increment) ∙ ap (λ x. state Generator x increment) (sym (last_step n increment s))
 
--- and a pick one by each mode
+-- each pick takes one word, in each mode
 pub picked : (n : ℕ) (mode : Mode) (s increment : ℕ) → picks_after n (state mode s increment) ≡ state mode (state_after 64 multiplier_64 increment n s) increment
 picked zero mode s increment = ap (λ x. state mode x increment) (sym (none increment s))
 picked (suc n) mode s increment = ap after_pick (picked n mode s increment) ∙ ap (λ x. state mode x increment) (sym (last_step n increment s))

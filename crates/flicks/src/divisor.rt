@@ -1,9 +1,9 @@
-//! A number that many words are divided by.
+//! A number by which many words are divided.
 ghost use Rattle.std.specs.Prelude.{◌≡◌, ◌≤◌, ◌%◌};
 
 use std::marker::Model;
 
-/// A number that many words are divided by. It is seen as that number.
+/// A number by which many words are divided. Contracts see it as that number.
 #[derive(Drop)]
 pub struct Divisor {
     number: u32,
@@ -22,8 +22,8 @@ impl Model for Divisor {
 }
 
 impl Divisor {
-    /// The number `k`, with the share of one of `k` parts of 2^64. The one division is here: in its place a compiler that saw it
-    /// would divide again at each pick.
+    /// Creates the divisor `k`, with the share of one of `k` parts of 2^64. The one division is here. A compiler that saw it in
+    /// the caller would divide again at each pick.
     #[inline(never)]
     pub fn new(k: u32) -> Divisor
         requires { 1 ≤ k }
@@ -35,8 +35,8 @@ impl Divisor {
         }
     }
 
-    /// A word modulo this number, by two multiplications: so many shares are whole ones, which a product modulo 2^64 drops, and
-    /// a part of one, in which the remainder is.
+    /// Returns a word modulo this number, by two multiplications. The product of the word and the share, modulo 2^64, drops the
+    /// whole parts and keeps a part of one, in which the remainder is.
     #[inline(always)]
     pub(crate) fn remainder(&self, word: u32) -> u32
         ensures { result ≡ word % self.now }

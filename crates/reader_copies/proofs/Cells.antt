@@ -23,7 +23,7 @@ cells-among flags len k cells seen inside =
 cells-each : (flags : List Flags) (cells : List Cell) (len : ℕ) → length cells ≡ len → ((k : ℕ) → k < len → cell_in cells k ≡ cell_among flags k) → cells_of flags len ≡ cells
 cells-each flags cells len long each = sym (fill_by_all (cell_among flags) cells len (new_cell false) long each)
 
--- what is read in the word of copy k
+-- the cells that are read in the word of copy k
 pub cells-read : {at : Flags} {cells : List Cell} (flags : List Flags) (len k i : ℕ) → cells_of flags len ≡ cells → length flags ≡ (len + 63) / 64 → at ≡ get_or flags (k / 64) at → i < length cells → i / 64 ≡ k / 64 → cell_in_flags at (i % 64) ≡ cell_in cells i
 cells-read {at} {cells} flags len k i seen many read inside same =
     ap (λ x. cell_in_flags x (i % 64)) (read ∙ get_or_default flags (k / 64) at (open_flags 0) (omega (arith, many, length_cells flags len, ap length seen)) ∙ ap (λ p. get_or flags p (open_flags 0)) (sym same))
@@ -69,7 +69,7 @@ cells-moved {at} {cells} flags len k seen many read there f v w r t a b c d sv s
     same_cell (sv.others (j % 64) below apart) (sw.others (j % 64) below apart) (sr.others (j % 64) below apart) (st.others (j % 64) below apart))
     ∙ ap (λ i. set cells i (f (cell_in cells i))) (let e : k + 0 ≡ k = omega arith in e)
 
--- those of a mask change
+-- the cells after a change under a mask
 pub cells-masked : {at : Flags} {cells : List Cell} {mask : ℕ} (flags : List Flags) (len k n : ℕ) (now : Flags) → cells_of flags len ≡ cells → length flags ≡ (len + 63) / 64 → at ≡ get_or flags (k / 64) at → k % 64 + n ≤ 64 → k + n ≤ length cells → 1 ≤ n → IsMask (k % 64) n mask → (f : ℕ → Cell → Cell) →
     ((i : ℕ) → i < 64 → cell_in_flags now i ≡ cond (flag_in mask i) (f i (cell_in_flags at i)) (cell_in_flags at i)) →
     cells_of (set flags (k / 64) now) len ≡ over n (λ j. f (j % 64)) k cells

@@ -15,7 +15,7 @@ over-outside zero f from i cells out = refl
 over-outside (suc n) f from i cells out =
     get_or-set_other (over n f from cells) (from + n) i _ (new_cell false) (out n (omega arith)) ∙ over-outside n f from i cells (λ j h. out j (omega arith))
 
--- and each of these is changed
+-- each of the n bits is changed
 pub over-inside : (n : ℕ) (f : ℕ → Cell → Cell) (from i : ℕ) (cells : List Cell) → from ≤ i → i < from + n → from + n ≤ length cells → cell_in (over n f from cells) i ≡ f i (cell_in cells i)
 over-inside zero f from i cells low high fits = absurd (omega arith)
 over-inside (suc n) f from i cells low high fits = elim (cases_eq i (from + n)) [

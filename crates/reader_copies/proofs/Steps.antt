@@ -62,7 +62,7 @@ write_on row old new b run v there w = elim (cases_eq (run.made % 2) 0) [
       (write_ends row old new b run.made (run.made / 2) (cell_after (cell_at row b (run.made / 2)) EndWrite) (omega arith) there (record { closed = refl; value = (w.opened (run.made / 2) there (omega arith)).value }) w)
 ]
 
--- in a cut write a copy is open exactly where the count of accesses says so
+-- in a write that was cut a copy is open exactly where the count of accesses has it open
 cut_writing : (row : List (List Cell)) (old new : ℕ → Bool) (b m r : ℕ) → HasCell row b r → IsPartlyWritten row old new b m → (cell_at row b r).writing ≡ is_open_at m r
 cut_writing row old new b m r there w = elim (cases_order m (2 * r + 1)) [
   | inl same ↦ (w.opened r there (sym same)).opened ∙ sym (eq-eqb m (2 * r + 1) same)
@@ -72,7 +72,7 @@ cut_writing row old new b m r there w = elim (cases_order m (2 * r + 1)) [
   ]
 ]
 
--- the bits below a cut write's are the new ones, those above the old ones
+-- the bits below that of a write that was cut are the new ones, those above it the old ones
 pub settle_starts : (row : List (List Cell)) (old new : ℕ → Bool) (b m : ℕ) (v : Bool) → IsPartlyWritten row old new b m → IsPartlySettled row (cut_values old new b) b m v 0 false
 settle_starts row old new b m v w = record {
   apart = λ bit r h ne. elim (cases_lt bit b) [
@@ -108,7 +108,7 @@ settle_begins row g b m v s begun d there opens w = record {
   rest = λ r h lt. ap (λ (x : Cell). x.writing) (with_cell-other row b s d b r (λ x y. omega arith)) ∙ w.rest r (HasCell-before row b s d b r h) lt;
 }
 
--- what the next access makes of a settling that has not begun its copy, where the copy is open or not
+-- the effect of the next access on a settling that has not begun its copy, where the copy is open or not
 abbrev NextSettled : List (List Cell) → (ℕ → Bool) → ℕ → Bool → ℕ → ℕ → Option Bool → Bool → Type 0
 NextSettled row g b v m s given is_open =
     CanMake row b (record { reader = s; how = cond is_open (Settle v) (BeginWrite v) })

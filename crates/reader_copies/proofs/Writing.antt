@@ -1,4 +1,4 @@
--- What one access makes of a row.
+-- The effect of one access on a row.
 use Rattle.std.proofs.Common.{◌≡◌, ℕ, ◌+◌, ◌*◌, ◌<◌, List, [], Bool, true, false, cond, refl, sym, ap, subst, ◌∙◌, map, set, get_or, length, ltb, replicate, arith, inl, inr}
 use Rattle.std.proofs.lemmas.Bool.{cases_eq, cases_lt, cond-true, cond-false, lt-ltb, le-ltb}
 use Rattle.std.proofs.lemmas.List.{get_or-set_same, get_or-set_other, length-set, set_past, get_or_past, get_or-replicate, length-replicate, get_or-map, length-map}
@@ -102,7 +102,7 @@ with_cell-keeps row b r d there kept = record {
 pub read-keeps : (row : List (List Cell)) (bit : ℕ) (made : Made) → HasCell row bit made.reader → IsRead made.how → KeepsWrites row (row_after row bit made)
 read-keeps row bit made there is = with_cell-keeps row bit made.reader (cell_after (cell_at row bit made.reader) made.how) there (keeps_read (cell_at row bit made.reader) made.how is)
 
--- nor do dropped reads
+-- a read that is dropped changes no value and no write
 pub drop-keeps : (row : List (List Cell)) (bit reader : ℕ) → HasCell row bit reader → KeepsWrites row (with_cell row bit reader (without_read (cell_at row bit reader)))
 drop-keeps row bit reader there = with_cell-keeps row bit reader (without_read (cell_at row bit reader)) there (record { value = refl; writing = refl })
 
@@ -142,7 +142,7 @@ drops-keep row r = record {
   each = λ bit reader h. drops_at row r bit reader h;
 }
 
--- so written values, a write and a settling stay
+-- written values, a write and a settling stay if no value and no write changes
 pub written-kept : (row row' : List (List Cell)) (v : ℕ → Bool) → KeepsWrites row row' → IsWritten row v → IsWritten row' v
 written-kept row row' v kept w = record {
   copies = λ bit reader h. let there : HasCell row bit reader = kept.shape bit reader h in IsAt-kept _ _ (v bit) (kept.each bit reader there) (w.copies bit reader there);
@@ -191,7 +191,7 @@ partly_written-carry row old new b m all w = record {
   above = λ bit reader h lt. w.above bit reader h (omega arith);
 }
 
--- and has written all once it is past the last bit
+-- a write has written all bits once it is past the last one
 pub partly_written-end : (row : List (List Cell)) (old new : ℕ → Bool) (b m : ℕ) → ((bit reader : ℕ) → HasCell row bit reader → bit < b) → IsPartlyWritten row old new b m → IsWritten row new
 partly_written-end row old new b m all w = record { copies = λ bit reader h. w.below bit reader h (all bit reader h) }
 

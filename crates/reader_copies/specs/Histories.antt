@@ -1,4 +1,4 @@
--- What was done with a row, the newest first, and what of it went to one copy.
+-- The calls on a row, the newest first, and those of them that went to one copy.
 use Rattle.std.specs.Prelude.{ℕ, ◌==◌, ◌&&◌, List, [], ◌∷◌, if◌then◌else◌}
 use Rattle.safe_bit.specs.Cell.{Cell, without_read, BitCall, Makes, Drops}
 use Rattle.reader_copies.specs.declared.runs.Made.{Made}
@@ -20,12 +20,12 @@ abbrev pub row_of : List (List Cell) → List RowCall → List (List Cell)
 row_of row [] = row
 row_of row (call ∷ calls) = row_after_call (row_of row calls) call
 
--- the call is on a copy that is there, and begins, ends or drops a read of it
+-- the call is on a copy that exists, and begins, ends or drops a read of it
 abbrev pub IsReadCall : List (List Cell) → RowCall → Type 0
 IsReadCall row (MakesAt bit made) = HasCell row bit made.reader × IsRead made.how
 IsReadCall row (DropsAt bit reader) = HasCell row bit reader
 
--- those that went to one reader's copy of one bit
+-- the calls that went to one reader's copy of one bit
 abbrev pub calls_at : ℕ → ℕ → List RowCall → List BitCall
 calls_at bit reader [] = []
 calls_at bit reader (MakesAt b made ∷ calls) = if bit == b && reader == made.reader then Makes made.how ∷ calls_at bit reader calls else calls_at bit reader calls

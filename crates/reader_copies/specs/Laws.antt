@@ -11,15 +11,15 @@ use Rattle.reader_copies.specs.Histories.{RowCall, row_of, row_after_call, IsRea
 abbrev pub WriteBegins : Type 0
 WriteBegins = (row : List (List Cell)) (old new : ℕ → Bool) → IsWritten row old → IsPartlyWritten row old new 0 0
 
--- its next access may be made
+-- the next access of a write may be made
 abbrev pub WriteMayGoOn : Type 0
 WriteMayGoOn = (row : List (List Cell)) (old new : ℕ → Bool) (b : ℕ) (run : Writing) → HasCell row b (run.made / 2) → IsPartlyWritten row old new b run.made → CanMake row b (next_write run)
 
--- and brings it one further
+-- the next access of a write brings it one further
 abbrev pub WriteGoesOn : Type 0
 WriteGoesOn = (row : List (List Cell)) (old new : ℕ → Bool) (b : ℕ) (run : Writing) → run.value ≡ new b → HasCell row b (run.made / 2) → IsPartlyWritten row old new b run.made → IsPartlyWritten (row_after row b (next_write run)) old new b (run.made + 1)
 
--- past the last copy it goes on to the next bit
+-- past the last copy a write continues with the next bit
 abbrev pub WriteCarries : Type 0
 WriteCarries = (row : List (List Cell)) (old new : ℕ → Bool) (b m : ℕ) → m ≡ 2 * length row → IsPartlyWritten row old new b m → IsPartlyWritten row old new (b + 1) 0
 
@@ -27,11 +27,11 @@ WriteCarries = (row : List (List Cell)) (old new : ℕ → Bool) (b m : ℕ) →
 abbrev pub WriteEnds : Type 0
 WriteEnds = (row : List (List Cell)) (old new : ℕ → Bool) (b m : ℕ) → ((bit reader : ℕ) → HasCell row bit reader → bit < b) → IsPartlyWritten row old new b m → IsWritten row new
 
--- cut between two bits, it leaves the new values below and the old ones from there on
+-- a write that was cut between two bits leaves the new values below and the old ones from there on
 abbrev pub WriteCutBetweenBits : Type 0
 WriteCutBetweenBits = (row : List (List Cell)) (old new : ℕ → Bool) (b : ℕ) → IsPartlyWritten row old new b 0 → IsWritten row (cut_values old new b)
 
--- a cut write is settled from its first copy on
+-- a write that was cut is settled from its first copy on
 abbrev pub SettlingBegins : Type 0
 SettlingBegins = (row : List (List Cell)) (old new : ℕ → Bool) (b m : ℕ) (v : Bool) → IsPartlyWritten row old new b m → IsPartlySettled row (cut_values old new b) b m v 0 false
 
@@ -47,27 +47,27 @@ SettlingEnds = (row : List (List Cell)) (others : ℕ → Bool) (b m : ℕ) (v :
 abbrev pub ReadKeepsWrites : Type 0
 ReadKeepsWrites = (row : List (List Cell)) (bit : ℕ) (made : Made) → HasCell row bit made.reader → IsRead made.how → KeepsWrites row (row_after row bit made)
 
--- nor does a read that is dropped
+-- a read that is dropped changes no value and no write
 abbrev pub DropKeepsWrites : Type 0
 DropKeepsWrites = (row : List (List Cell)) (bit reader : ℕ) → HasCell row bit reader → KeepsWrites row (with_cell row bit reader (without_read (cell_at row bit reader)))
 
--- nor all reads of a reader, dropped together
+-- all reads of a reader, dropped together, change no value and no write
 abbrev pub DropsKeepWrites : Type 0
 DropsKeepWrites = (row : List (List Cell)) (reader : ℕ) → KeepsWrites row (without_reads row reader)
 
--- so no call that only reads does
+-- a call that only reads changes no value and no write
 abbrev pub ReadCallKeepsWrites : Type 0
 ReadCallKeepsWrites = (row : List (List Cell)) (call : RowCall) → IsReadCall row call → KeepsWrites row (row_after_call row call)
 
--- so written values stay
+-- written values stay if no value and no write changes
 abbrev pub KeepsWritten : Type 0
 KeepsWritten = (row row' : List (List Cell)) (v : ℕ → Bool) → KeepsWrites row row' → IsWritten row v → IsWritten row' v
 
--- a write stays where it is
+-- a write stays where it is if no value and no write changes
 abbrev pub KeepsPartlyWritten : Type 0
 KeepsPartlyWritten = (row row' : List (List Cell)) (old new : ℕ → Bool) (b m : ℕ) → KeepsWrites row row' → IsPartlyWritten row old new b m → IsPartlyWritten row' old new b m
 
--- and a settling too
+-- a settling stays where it is if no value and no write changes
 abbrev pub KeepsPartlySettled : Type 0
 KeepsPartlySettled = (row row' : List (List Cell)) (others : ℕ → Bool) (b m : ℕ) (v : Bool) (reader : ℕ) (begun : Bool) → KeepsWrites row row' → IsPartlySettled row others b m v reader begun → IsPartlySettled row' others b m v reader begun
 
@@ -79,7 +79,7 @@ WriteKeepsReads = (row : List (List Cell)) (bit : ℕ) (made : Made) (at reader 
 abbrev pub NextOfWrite : Type 0
 NextOfWrite = (readers : ℕ) (run : Writing) → run.made < 2 * readers → rest_of_write readers run ≡ next_write run ∷ rest_of_write readers (write_after readers run)
 
--- and that of a settling
+-- the next access of a settling is the first of those that are left
 abbrev pub NextOfSettling : Type 0
 NextOfSettling = (readers : ℕ) (run : Settling) (value : Bool) → run.reader < readers → rest_of_settling readers run value ≡ next_settle run value ∷ rest_of_settling readers (settle_after run value) value
 
@@ -87,6 +87,6 @@ NextOfSettling = (readers : ℕ) (run : Settling) (value : Bool) → run.reader 
 abbrev pub WriteCount : Type 0
 WriteCount = (readers : ℕ) (value : Bool) → length (bit_writes readers value) ≡ 2 * readers
 
--- whatever was done with a row, a copy that was new is what its own calls alone make of it
+-- after any calls on a row, a copy that was new is what its own calls alone make of it
 abbrev pub HasItsOwnCalls : Type 0
 HasItsOwnCalls = (row : List (List Cell)) (bit reader : ℕ) (opening : Bool) (calls : List RowCall) → HasCell row bit reader → cell_at row bit reader ≡ new_cell opening → cell_at (row_of row calls) bit reader ≡ cell_of_calls opening (calls_at bit reader calls)

@@ -11,7 +11,7 @@ cell_in copies k = slice_index_or copies k (new_cell false)
 abbrev pub cell_at : List (List Cell) → ℕ → ℕ → Cell
 cell_at row bit reader = cell_in (slice_index_or row reader []) bit
 
--- the reader and the bit are there
+-- the row has this reader and this bit
 pub record HasCell (row : List (List Cell)) (bit reader : ℕ) : Type 0 where
   pub reader_in : reader < length row
   pub bit_in : bit < length (slice_index_or row reader [])
@@ -28,7 +28,7 @@ row_after row bit made = with_cell row bit made.reader (cell_after (cell_at row 
 abbrev pub without_read_at : List (List Cell) → ℕ → ℕ → List (List Cell)
 without_read_at row bit reader = with_cell row bit reader (without_read (cell_at row bit reader))
 
--- what a read of a copy ends with
+-- the value with which a read of a copy ends
 abbrev pub answer_at : List (List Cell) → ℕ → ℕ → Bool → Bool
 answer_at row bit reader flick = read_answer (cell_at row bit reader) flick
 

@@ -31,7 +31,7 @@ pub record Settling : Type 0 where
 abbrev pub HasItsValue : (begun : Bool) → Option Bool → Type 0
 HasItsValue begun value = begun ≡ true → is_some value ≡ true
 
--- what a run answers that is done, or not
+-- the progress of a run that is done, or not
 abbrev pub progress_of : Bool → Progress
 progress_of done = if done then Done else Going
 
@@ -60,7 +60,7 @@ next_read reader r v = record { reader = reader; how = if r.begun then EndRead v
 abbrev pub read_after : Reading → Bool → Reading
 read_after r v = record { begun = true; value = if r.begun then Some v else r.value }
 
--- what is left to settle: the write has begun and has not ended on every copy
+-- the settling that remains, if the write has begun and has not ended on every copy
 abbrev pub torn_of : Writing → Option Settling
 torn_of w = if w.made == 0 || w.ended then None else Some (record { made = w.made; reader = 0; begun = false; value = None })
 
@@ -68,7 +68,7 @@ torn_of w = if w.made == 0 || w.ended then None else Some (record { made = w.mad
 abbrev pub is_open_at : ℕ → ℕ → Bool
 is_open_at made r = made == 2 * r + 1
 
--- what is settled at: the first value that was handed in
+-- the value that is settled at: the first value that was handed in
 abbrev pub settled_at : Settling → Bool → Bool
 settled_at t v = unwrap_or t.value v
 
@@ -93,7 +93,7 @@ settles_from made r (suc n) v = if is_open_at made r
 abbrev pub rest_of_write : ℕ → Writing → List Made
 rest_of_write n w = drop w.made (bit_writes n w.value)
 
--- those that are left of a settling at v
+-- the accesses that are left of a settling at v
 abbrev pub rest_of_settling : ℕ → Settling → Bool → List Made
 rest_of_settling n t v = if t.begun
     then record { reader = t.reader; how = EndWrite } ∷ settles_from t.made (t.reader + 1) (n - (t.reader + 1)) v

@@ -1,4 +1,4 @@
--- Many accesses at once: what begin and end make of a bit, and of bits side by side.
+-- Many accesses at once: the effect of begin and end on a bit, and on bits side by side.
 use Rattle.std.specs.Prelude.{◌≡◌, ℕ, zero, suc, ◌+◌, ◌<◌, Bool, true, false, List, slice_set}
 use Rattle.safe_bit.specs.Cell.{Cell}
 use Rattle.reader_copies.specs.Row.{cell_in}
@@ -7,7 +7,7 @@ use Rattle.reader_copies.specs.Row.{cell_in}
 abbrev pub after_read : Cell → Cell
 after_read c = record { value = c.value; writing = c.writing; reading = false; touched = c.writing }
 
--- and of a write
+-- a bit after begin and end of a write
 abbrev pub after_write : Bool → Cell → Cell
 after_write v c = record { value = v; writing = false; reading = c.reading; touched = true }
 

@@ -1,4 +1,4 @@
--- What a write, a cut write and its settling make of a row, whatever is read meanwhile.
+-- The effect of a write, a write that was cut and its settling on a row, whatever is read meanwhile.
 use Rattle.std.specs.Prelude.{◌≡◌, ◌≢◌, ℕ, ◌+◌, ◌*◌, ◌<◌, ◌≤◌, ◌==◌, nat_lt, List, Bool, true, false, if◌then◌else◌}
 use Rattle.safe_bit.specs.Cell.{Cell}
 use Rattle.safe_bit.specs.{Move}

@@ -24,7 +24,11 @@ impl Model for CopiedBit {
 }
 
 impl CopiedBit {
-    /// A bit that opens at `value`, with copies for readers 0 to `readers - 1`.
+    /// Creates a bit that opens at `value`, with copies for readers 0 to `readers - 1`.
+    ///
+    /// # Errors
+    ///
+    /// Returns [`AllocError`] if an allocation fails.
     pub fn new(alloc: Global, readers: u8, value: bool) -> Result<CopiedBit, AllocError>
         requires { 1 ≤ readers × readers ≤ 16 }
         ensures { IfOk result (λ bit. bit ≡ new_bit readers value) }
@@ -60,7 +64,7 @@ impl CopiedBit {
         self.row.read_step(0, reader, run, flick)
     }
 
-    /// Makes the next access that settles a cut write, in the writer's stead: all copies at the `value` of
+    /// Makes the next access that settles a write that was cut, in place of the writer. All copies get the `value` of
     /// the first such step.
     pub fn settle_step(&mut self, torn: &mut Torn, value: bool) -> (Made, Progress)
         requires going { torn.old.reader < length self.old }
@@ -73,7 +77,7 @@ impl CopiedBit {
         self.row.settle_step(0, torn, value)
     }
 
-    /// Drops a reader's open read: it ends without a value.
+    /// Drops a reader's open read, which ends without a value.
     pub fn drop_read(&mut self, reader: u8)
         requires there { HasCell self.old 0 reader }
         requires open { (cell_at self.old 0 reader).reading ≡ true }

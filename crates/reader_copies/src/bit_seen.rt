@@ -1,9 +1,9 @@
-//! What one copy of a bit is, to whoever looks at it.
+//! The state of one copy of a bit, as an observer sees it.
 
-/// What a copy of a bit is, but for whether a read of it is open.
+/// The state of a copy of a bit, except whether a read of it is open.
 #[derive(Clone, Copy)]
 pub struct BitSeen {
-    /// What was last written or settled, or what is being written.
+    /// The value that was last written or settled, or that is being written.
     pub value: bool,
     /// Whether a write is open.
     pub writing: bool,

@@ -12,8 +12,8 @@ use safe_bit::Move;
 use std::alloc::{AllocError, Global};
 use std::marker::Model;
 
-/// What sixty-four copies are: bit `k` of each word is a flag of copy `k`. So all that an access to
-/// a copy looks at, and all that it changes, lies in one place.
+/// The state of sixty-four copies: bit `k` of each word is a flag of copy `k`. So all that an access to
+/// a copy reads, and all that it changes, is in one place.
 #[derive(Clone, Copy)]
 struct Flags {
     value: u64,
@@ -23,7 +23,7 @@ struct Flags {
 }
 
 impl Flags {
-    /// Copies that open at the bits of `word`.
+    /// Creates copies that open at the bits of `word`.
     fn open(word: u64) -> Flags
         ensures { result ≡ open_flags word }
     {
@@ -57,7 +57,11 @@ impl Model for Copies {
 
 #[tactic(auto, using(crate::proofs::Cells::length_cells))]
 impl Copies {
-    /// Copies of `width` bits that open at 0.
+    /// Creates copies of `width` bits that open at 0.
+    ///
+    /// # Errors
+    ///
+    /// Returns [`AllocError`] if an allocation fails.
     pub fn new(alloc: Global, width: usize) -> Result<Copies, AllocError>
         ensures { IfOk result (λ copies. copies ≡ replicate width (new_cell false)) }
     {
@@ -65,7 +69,11 @@ impl Copies {
         Ok(Copies { flags, len: width })
     }
 
-    /// Copies of `width` bits that open at those of `words`.
+    /// Creates copies of `width` bits that open at those of `words`.
+    ///
+    /// # Errors
+    ///
+    /// Returns [`AllocError`] if an allocation fails.
     pub fn open(alloc: Global, width: usize, words: &[u64]) -> Result<Copies, AllocError>
         requires { width ≤ 64 * length words.now }
         ensures { IfOk result (λ copies. copies ≡ map new_cell (bits_of_words words.now width)) }
@@ -77,7 +85,7 @@ impl Copies {
         Ok(Copies { flags, len: width })
     }
 
-    /// The copy of bit `k` goes on by one access. Begin and end of a read have no branch between
+    /// Makes one access to the copy of bit `k`. The begin and the end of a read have no branch between
     /// them.
     #[inline]
     pub fn go_on(&mut self, k: usize, how: Move)
@@ -97,7 +105,7 @@ impl Copies {
                 flags.value = with_flag(flags.value, bit, value);
                 flags.writing = with_flag(flags.writing, bit, false);
             }
-            // (in a crowd nothing foretells which of the two comes next)
+            // Begin and end share one arm: under contention a branch would be mispredicted.
             Move::BeginRead | Move::EndRead(_) => {
                 let begins = matches!(how, Move::BeginRead);
                 let here = one_flag(bit) & all_flags(begins);
@@ -116,7 +124,7 @@ impl Copies {
         flags.reading = with_flag(flags.reading, k % 64, false);
     }
 
-    /// Bit `k` is as if it had opened at `value`.
+    /// Makes bit `k` as if it had opened at `value`.
     pub fn preset(&mut self, k: usize, value: bool)
         requires { k < length self.old }
         ensures { self.new ≡ slice_set self.old k (new_cell value) }
@@ -138,7 +146,7 @@ impl Copies {
         }
     }
 
-    /// Becomes as the other, of as many bits. It takes no memory.
+    /// Becomes equal to `other`, which has as many bits. It does not allocate.
     pub fn copy_from(&mut self, other: &Copies)
         requires { length self.old ≡ length other.now }
         ensures { self.new ≡ other.now }
@@ -146,7 +154,7 @@ impl Copies {
         self.flags.copy_from_slice(&other.flags);
     }
 
-    /// What the end of the open read of bit `k` gives.
+    /// Returns the value with which the open read of bit `k` ends.
     #[inline]
     pub fn answer(&self, k: usize, flick: bool) -> bool
         requires { k < length self.now }
@@ -160,8 +168,8 @@ impl Copies {
         }
     }
 
-    /// So many bits of one word go on by begin and end of a read, and the word is answered. Where one
-    /// of them is being written, it answers none and does nothing.
+    /// Makes begin and end of a read of each of `n` bits of one word, from bit `k` on, and returns the word. If one
+    /// of them is being written, it returns `None` and does nothing.
     pub fn read_word(&mut self, k: usize, n: usize) -> Option<u64>
         requires some { 1 ≤ n }
         requires word { k % 64 + n ≤ 64 }
@@ -181,7 +189,7 @@ impl Copies {
         Some(flags.value)
     }
 
-    /// So many bits of one word go on by begin and end of a write of these.
+    /// Makes begin and end of a write of each of `n` bits of one word, from bit `k` on, with the bits of `word`.
     pub fn write_word(&mut self, k: usize, n: usize, word: u64)
         requires some { 1 ≤ n }
         requires word { k % 64 + n ≤ 64 }
@@ -195,7 +203,7 @@ impl Copies {
         flags.touched = choose(mask, u64::MAX, flags.touched);
     }
 
-    /// The word that bit `k` stands in.
+    /// Returns the word that contains bit `k`.
     pub fn word(&self, k: usize) -> u64
         requires { k < length self.now }
         ensures { (i : ℕ) → i / 64 ≡ k / 64 → i < length self.now → flag_in result (i % 64) ≡ (cell_in self.now i).value }
@@ -214,7 +222,7 @@ impl Copies {
         self.flags[k / 64].writing & mask(k % 64, n) != 0
     }
 
-    /// What the copy of bit `k` is.
+    /// Returns the state of the copy of bit `k`.
     #[inline]
     pub fn seen(&self, k: usize) -> BitSeen
         requires { k < length self.now }

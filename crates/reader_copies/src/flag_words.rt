@@ -2,7 +2,7 @@
 ghost use Rattle.std.specs.Prelude.{◌≡◌, ◌≢◌, ℕ, ◌<◌, ◌≤◌, ◌+◌, true, false, if◌then◌else◌};
 ghost use Rattle.reader_copies.specs.Flags.{IsMask, SetsFlag, flag_in};
 
-/// Whether bit `k` of a word is 1.
+/// Returns whether bit `k` of a word is 1.
 #[inline]
 pub fn has_flag(word: u64, k: usize) -> bool
     requires { k < 64 }
@@ -11,7 +11,7 @@ pub fn has_flag(word: u64, k: usize) -> bool
     (word >> k) & 1 == 1
 }
 
-/// A word with bit `k` set or cleared.
+/// Returns a word with bit `k` set or cleared.
 #[inline]
 pub(crate) fn with_flag(word: u64, k: usize, flag: bool) -> u64
     requires { k < 64 }
@@ -20,7 +20,7 @@ pub(crate) fn with_flag(word: u64, k: usize, flag: bool) -> u64
     choose(one_flag(k), all_flags(flag), word)
 }
 
-/// A word of `n` ones from one place on.
+/// Returns a word of `n` ones from bit `from` on.
 pub fn mask(from: usize, n: usize) -> u64
     requires { 1 ≤ n × from + n ≤ 64 }
     ensures { IsMask from n result }
@@ -28,7 +28,7 @@ pub fn mask(from: usize, n: usize) -> u64
     (u64::MAX >> (64 - n)) << from
 }
 
-/// The bits of `ones` where `among` has a 1, and those of `zeros` where it has a 0.
+/// Returns the bits of `ones` where `among` has a 1, and those of `zeros` where it has a 0.
 #[inline(always)]
 pub fn choose(among: u64, ones: u64, zeros: u64) -> u64
     ensures { (i : ℕ) → flag_in result i ≡ (if flag_in among i then flag_in ones i else flag_in zeros i) }
@@ -36,7 +36,7 @@ pub fn choose(among: u64, ones: u64, zeros: u64) -> u64
     zeros ^ ((zeros ^ ones) & among)
 }
 
-/// A word with a 1 at place `k` alone.
+/// Returns a word with a 1 at bit `k` alone.
 #[inline(always)]
 pub fn one_flag(k: usize) -> u64
     requires { k < 64 }
@@ -46,7 +46,7 @@ pub fn one_flag(k: usize) -> u64
     1 << k
 }
 
-/// A word in which all bits are this one.
+/// Returns a word in which all bits are `flag`.
 #[inline(always)]
 pub fn all_flags(flag: bool) -> u64
     ensures { (i : ℕ) → i < 64 → flag_in result i ≡ flag }

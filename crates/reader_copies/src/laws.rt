@@ -1,8 +1,8 @@
-//! What holds of rows over any accesses. Each law is a function with nothing to do, whose contract is the law.
+//! The laws of rows over any accesses. Each law is a function with an empty body, whose contract is the law.
 ghost use Rattle.reader_copies.specs.Laws.{WriteBegins, WriteMayGoOn, WriteGoesOn, WriteCarries, WriteEnds, WriteCutBetweenBits, SettlingBegins, SettlingGoesOn, SettlingEnds, ReadKeepsWrites, DropKeepsWrites, DropsKeepWrites, ReadCallKeepsWrites, KeepsWritten, KeepsPartlyWritten, KeepsPartlySettled, WriteKeepsReads, NextOfWrite, NextOfSettling, WriteCount, HasItsOwnCalls};
 
 /// A write begins over written values. Each of its accesses may be made in its turn, and brings it one
-/// further. Past the last copy it goes on to the next bit, and past the last bit all copies of all bits
+/// further. Past the last copy it continues with the next bit, and past the last bit all copies of all bits
 /// have the new values.
 pub fn writes_reach_all_copies()
     ensures begins { WriteBegins }
@@ -13,7 +13,7 @@ pub fn writes_reach_all_copies()
     ensures cut_between_bits { WriteCutBetweenBits }
 {}
 
-/// A cut write is settled from its first copy on. Each access may be made in its turn, and brings the
+/// A write that was cut is settled from its first copy on. Each access may be made in its turn, and brings the
 /// settling one further. Past the last copy the torn bit has the settled value on all copies, the bits
 /// below it are the new ones, and those above it the old ones.
 pub fn settling_reaches_all_copies()
@@ -47,7 +47,7 @@ pub fn writes_go_in_order()
     ensures count { WriteCount }
 {}
 
-/// Whatever was done with a row, each copy is what its own calls alone make of it. So the safe rule holds
+/// After any calls on a row, each copy is what its own calls alone make of it. So the safe rule holds
 /// of each copy.
 pub fn each_copy_by_itself()
     ensures { HasItsOwnCalls }

@@ -35,7 +35,11 @@ impl Model for CopiedRow {
 }
 
 impl CopiedRow {
-    /// A row of `width` bits that open at 0, with copies for readers 0 to `readers - 1`.
+    /// Creates a row of `width` bits that open at 0, with copies for readers 0 to `readers - 1`.
+    ///
+    /// # Errors
+    ///
+    /// Returns [`AllocError`] if an allocation fails.
     pub fn new(alloc: Global, width: u16, readers: u8) -> Result<CopiedRow, AllocError>
         requires width { 1 ≤ width × width ≤ MAX_WIDTH }
         requires readers { 1 ≤ readers × readers ≤ MAX_READERS }
@@ -48,7 +52,7 @@ impl CopiedRow {
         Ok(CopiedRow { copies })
     }
 
-    /// Makes one access to a bit, in its turn. Whatever cursor told the access, this is what it does to memory.
+    /// Makes one access to a bit, in its turn. Its effect on memory does not depend on the cursor that gave it.
     #[inline]
     pub fn apply(&mut self, bit: u16, made: Made)
         requires { CanMake self.old bit made }
@@ -57,8 +61,8 @@ impl CopiedRow {
         self.copies[made.reader as usize].go_on(bit as usize, made.how);
     }
 
-    /// What the end of a reader's open read of a bit gives: `flick` if a write of the reader's copy was
-    /// open at some time during the read, and else the copy's value.
+    /// Returns the value with which a reader's open read of a bit ends: `flick` if a write of the reader's copy was
+    /// open at some time during the read, and otherwise the copy's value.
     #[inline]
     pub fn answer(&self, bit: u16, reader: u8, flick: bool) -> bool
         requires { HasCell self.now bit reader }
@@ -106,7 +110,7 @@ impl CopiedRow {
         (made, run.advance(value))
     }
 
-    /// Makes the next access that settles a bit whose write was cut, in the writer's stead: all copies at
+    /// Makes the next access that settles a bit whose write was cut, in place of the writer: all copies get
     /// the `value` of the first such step.
     #[inline]
     pub fn settle_step(&mut self, bit: u16, torn: &mut Torn, value: bool) -> (Made, Progress)
@@ -123,7 +127,7 @@ impl CopiedRow {
         (made, torn.advance(readers, value))
     }
 
-    /// How many readers have copies.
+    /// Returns the number of readers that have copies.
     #[inline]
     pub fn readers(&self) -> u8
         ensures readers { result ≡ length self.now }
@@ -132,7 +136,7 @@ impl CopiedRow {
         self.copies.len() as u8
     }
 
-    /// Drops a reader's open read of a bit: it ends without a value.
+    /// Drops a reader's open read of a bit, which ends without a value.
     pub fn drop_read(&mut self, bit: u16, reader: u8)
         requires there { HasCell self.old bit reader }
         requires open { (cell_at self.old bit reader).reading ≡ true }
@@ -149,7 +153,7 @@ impl CopiedRow {
         self.copies[reader as usize].drop_reads();
     }
 
-    /// A reader's copy of a bit, while no write of that copy is open.
+    /// Returns a reader's copy of a bit, while no write of that copy is open.
     pub fn value(&self, bit: u16, reader: u8) -> bool
         requires there { HasCell self.now bit reader }
         requires closed { (cell_at self.now bit reader).writing ≡ false }

@@ -1,5 +1,5 @@
-//! The cursors of one bit: how far a write, a read or a settling has come. Each tells its next access and
-//! is moved on by it, whatever memory the access is made on.
+//! The cursors of one bit: the progress of a write, a read or a settling. Each gives its next access and is
+//! advanced by it, whatever memory the access is made on.
 ghost use Rattle.std.specs.Prelude.{◌≡◌, ◌+◌, ◌*◌, ◌<◌, ◌==◌, ◌≤◌, true, false, None};
 ghost use Rattle.reader_copies.specs.Runs.{HasItsValue, Writing, Reading, Settling, next_write, write_after, next_read, read_after, next_settle, settle_after, settled_at, torn_of, progress_of};
 
@@ -9,7 +9,7 @@ use std::marker::Model;
 /// One access to one copy of a bit.
 #[derive(Clone, Copy, PartialEq, Eq)]
 pub struct Made {
-    /// The reader whose copy it is, counted from 0.
+    /// The reader of the copy, counted from 0.
     pub reader: u8,
     pub how: Move,
 }
@@ -24,11 +24,11 @@ pub enum Progress {
 /// A write of one bit with a copy for each reader (Lamport 1986a): begin and end on each copy in turn,
 /// reader 0 first.
 ///
-/// It belongs to the bit's one writer. It needs to be told the number of readers, 1 to 16, only as it goes on.
+/// It belongs to the bit's one writer. It needs the number of readers, 1 to 16, only when it advances.
 #[derive(Clone, Copy)]
 pub struct CopyWrite {
     value: bool,
-    /// How many of its accesses were made.
+    /// The number of its accesses that were made.
     made: u8,
     /// Whether it has ended on every copy.
     ended: bool,
@@ -45,7 +45,7 @@ impl Model for CopyWrite {
 }
 
 impl CopyWrite {
-    /// A write of `value` of which no access was made.
+    /// Creates a write of `value`, before its first access.
     pub fn new(value: bool) -> Self
         ensures { result ≡ record { value = value; made = 0; ended = false } }
     {
@@ -56,7 +56,7 @@ impl CopyWrite {
         }
     }
 
-    /// What is left to settle, if the write has begun and has not ended on every copy.
+    /// Returns the settling that remains, if the write has begun and has not ended on every copy.
     pub fn torn(&self) -> Option<Torn>
         ensures { result ≡ torn_of self.now }
     {
@@ -67,8 +67,8 @@ impl CopyWrite {
         }
     }
 
-    /// The next access: where the number made is even, the begin on the copy of half that number, else the
-    /// end on it.
+    /// Returns the next access. If the number made is even, it is the begin on the copy of half that number;
+    /// otherwise it is the end on this copy.
     #[inline]
     pub fn next(&self) -> Made
         ensures { result ≡ next_write self.now }
@@ -83,7 +83,7 @@ impl CopyWrite {
         }
     }
 
-    /// Goes on by that access, of a bit with copies for `readers` readers. It is done once it has ended on
+    /// Advances by that access, of a bit with copies for `readers` readers. The write is done once it has ended on
     /// every copy.
     #[inline]
     pub fn advance(&mut self, readers: u8) -> Progress
@@ -120,7 +120,7 @@ impl Model for CopyRead {
 }
 
 impl CopyRead {
-    /// A read that has not begun.
+    /// Creates a read that has not begun.
     pub fn new() -> Self
         ensures { result ≡ record { begun = false; value = None } }
     {
@@ -130,14 +130,14 @@ impl CopyRead {
         }
     }
 
-    /// What was read, once the read is done.
+    /// Returns the value that was read, once the read is done.
     pub fn value(&self) -> Option<bool>
         ensures { result ≡ self.now.value }
     {
         self.value
     }
 
-    /// The next access of this reader's read: the begin, and then the end, which gives `value`.
+    /// Returns the next access of this reader's read: the begin, and then the end, which gives `value`.
     #[inline]
     pub fn next(&self, reader: u8, value: bool) -> Made
         ensures { result ≡ next_read reader self.now value }
@@ -152,7 +152,7 @@ impl CopyRead {
         }
     }
 
-    /// Goes on by that access. The end keeps `value` as what was read; at the begin `value` is not looked at.
+    /// Advances by that access. The end stores `value` as the value that was read; the begin ignores `value`.
     #[inline]
     pub fn advance(&mut self, value: bool) -> Progress
         requires { self.old.value ≡ None }
@@ -169,19 +169,19 @@ impl CopyRead {
     }
 }
 
-/// What is left to settle of a write that was cut: it had begun and not ended on every copy.
+/// The settling that remains of a write that was cut: it had begun and not ended on every copy.
 ///
-/// Settling goes over all copies, reader 0 first, and gives each the same value: a copy whose write is open
-/// by a single `Settle`, any other by begin and end of a write. It belongs to the memory itself, which
-/// settles in the writer's stead.
+/// Settling takes all copies in turn, reader 0 first, and gives each the same value. A copy whose write is open
+/// gets a single `Settle`, any other copy begin and end of a write. It belongs to the memory itself, which
+/// settles in place of the writer.
 #[derive(Clone, Copy)]
 pub struct Torn {
-    /// How many accesses of the write were made.
+    /// The number of accesses of the write that were made.
     made: u8,
     /// The copy that is settled next, and whether a write of it has been begun for that.
     reader: u8,
     begun: bool,
-    /// What is settled at, once the first access was made.
+    /// The value that is settled at, once the first access was made.
     value: Option<bool>,
 }
 
@@ -198,7 +198,7 @@ impl Model for Torn {
 }
 
 impl Torn {
-    /// Of a write that was cut after so many of its accesses: nothing of it is settled.
+    /// Creates the settling of a write that was cut after `made` accesses, before its first access.
     pub fn cut_after(made: u8) -> Torn
         ensures { result ≡ record { made = made; reader = 0; begun = false; value = None } }
     {
@@ -210,21 +210,21 @@ impl Torn {
         }
     }
 
-    /// How many accesses of the write were made.
+    /// Returns the number of accesses of the write that were made.
     pub fn made(&self) -> u8
         ensures { result ≡ self.now.made }
     {
         self.made
     }
 
-    /// The copy that is settled next.
+    /// Returns the copy that is settled next.
     pub fn reader(&self) -> u8
         ensures { result ≡ self.now.reader }
     {
         self.reader
     }
 
-    /// Whether a write of that copy has begun.
+    /// Returns whether a write of that copy has begun.
     pub fn has_begun(&self) -> bool
         ensures begun { result ≡ self.now.begun }
         ensures value { HasItsValue result self.now.value }
@@ -232,15 +232,15 @@ impl Torn {
         self.begun
     }
 
-    /// What is settled at, once the first access was made.
+    /// Returns the value that is settled at, once the first access was made.
     pub fn value(&self) -> Option<bool>
         ensures { result ≡ self.now.value }
     {
         self.value
     }
 
-    /// The next access. All copies are settled at the `value` that is handed in first; later ones are not
-    /// looked at.
+    /// Returns the next access. All copies are settled at the `value` that is handed in first; later values are
+    /// ignored.
     #[inline]
     pub fn next(&self, value: bool) -> Made
         requires { self.now.reader < 16 }
@@ -259,7 +259,7 @@ impl Torn {
         }
     }
 
-    /// Goes on by that access, of a bit with copies for `readers` readers. It is done once every copy is
+    /// Advances by that access, of a bit with copies for `readers` readers. The settling is done once every copy is
     /// settled.
     #[inline]
     pub fn advance(&mut self, readers: u8, value: bool) -> Progress
@@ -282,7 +282,7 @@ impl Torn {
         }
     }
 
-    /// What is settled at, if `value` is handed in.
+    /// Returns the value that is settled at, if `value` is handed in.
     #[inline]
     fn settles_at(&self, value: bool) -> bool
         ensures { result ≡ settled_at self.now value }

@@ -1,4 +1,4 @@
--- What a withdrawal and a memory unit have left, by their machine.
+-- The accesses that a withdrawal and a memory unit have left, by their machine.
 use Rattle.std.proofs.Common.{◌≡◌, ℕ, zero, suc, ◌+◌, ◌-◌, ◌<◌, ◌==◌, ◌&&◌, Bool, true, false, cond, List, [], ◌∷◌, ◌++◌, Some, length, map, refl, sym, ap, ◌∙◌, arith, append-nil}
 use Rattle.std.proofs.lemmas.Bool.{eqb-true, eqb-false}
 use Rattle.std.proofs.lemmas.List.{length-map}
@@ -21,7 +21,7 @@ lowering c = writing c Choosing (false ∷ []) [] (Down ∷ []) ∷ []
 abbrev pub clearing_too : Call → Bool → Script
 clearing_too c is = writing c Ticket (no_ticket c) (cond is (Left ∷ []) []) [] ∷ lowering c
 
--- what is left to do; v is the value that is settled at
+-- the accesses and marks that are left; v is the value that is settled at
 abbrev pub left : Call → Closing → Bool → List Next
 left c (Withdraws w) v = single [] (Answered answer.Withdrawn ∷ []) (map (access_of c.process Ticket) (left_written c.setup.processes (no_ticket c) w))
 left c (Settles field bit begun taken is t) v =
@@ -48,7 +48,7 @@ single-step f l x [] false none some = absurd (omega (arith, some refl))
 single-step f l x (y ∷ ys) true none some = let e : y ∷ ys ≡ [] = none refl in cc
 single-step f l x (y ∷ ys) false none some = ap (λ m. (let n : Next = record { access = x; marks = m } in n) ∷ single [] l (y ∷ ys)) (sym (append-nil f))
 
--- a write that has come to its last access has nothing left after it, and else goes on
+-- a write that has come to its last access has nothing left after it; any other write continues
 pub record Further (n : ℕ) (bits : List Bool) (w : NumberWrite) : Type 0 where
   pub none : ((write_moved n bits w).bit == w.width) ≡ true → left_written n bits (write_moved n bits w) ≡ []
   pub goes : ((write_moved n bits w).bit == w.width) ≡ false → Goes n bits (write_moved n bits w)
@@ -150,6 +150,6 @@ freeing-new c is v = ap (λ l. single (cond is (Left ∷ []) []) [] (map (access
     go true = refl
     go false = refl
 
--- what is left begins with the next access, and what comes after it is left then
+-- the accesses that are left begin with the next access, and the rest of them are left after it
 abbrev pub Steps : Call → Closing → Bool → Bool → Type 0
 Steps c at v flick = (n : Next) × (closing_next c at flick ≡ Some n) × (left c at v ≡ n ∷ left c (closing_after c at flick) v) × ((more : Bool) → Fit c (closing_after c at flick) v more)

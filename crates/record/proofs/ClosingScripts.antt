@@ -214,7 +214,7 @@ drop-none [] (suc k) h = refl
 drop-none (x ∷ xs) zero h = cc
 drop-none (x ∷ xs) (suc k) h = drop-none xs k h
 
--- the first flick is there once there was one
+-- the first flick does not change once a flick was drawn
 pub first-more : (f : Bool) (flicks : List Bool) (flick : Bool) → first_flick (f ∷ flicks) flick ≡ first_flick flicks f
 first-more f [] flick = refl
 first-more f (g ∷ []) flick = refl
@@ -261,7 +261,7 @@ stays : (c : Call) → IsGood c.setup → (script : Bool → Script) (start : Cl
 stays c g script start s [] flick = record { left_is = s.all flick; fit = s.fit flick }
 stays c g script start s (f ∷ flicks) flick = stays-more c g script start f flicks flick (stays c g script start s flicks f)
 
--- so its next access is the script's
+-- so the next access of the closing machine is the script's
 pub closing-tells : (c : Call) → IsGood c.setup → (script : Bool → Script) (start : Closing) → Starts c script start → (flicks : List Bool) (flick : Bool) →
     nth (length flicks) (script (first_flick flicks flick)) ≡ closing_next c (closing_of c start flicks) flick
 closing-tells c g script start s flicks flick = go (goes_on at) refl

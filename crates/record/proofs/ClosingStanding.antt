@@ -1,4 +1,4 @@
--- What a process that withdrew, or its memory unit, does next.
+-- The next access of a process that withdrew, and of its memory unit.
 use Rattle.std.specs.Prelude.{◌≡◌, refl, ℕ, ◌<◌, Bool, true, false, cond, List, [], ◌∷◌, length, map, Option, None, Some, option_map, unwrap_or}
 use Rattle.std.proofs.Common.{sym, ◌∙◌, ap}
 use Rattle.std.specs.List.{list_any}
@@ -68,7 +68,7 @@ stage-kind (Lowers w) o = refl
 stage-kind Quit o = cc
 stage-kind Ended o = cc
 
--- what a script still has, its machine has
+-- while its script has an access left, the machine continues
 goes : (c : Call) (script : Script) (at : Closing) (flick : Bool) (k : ℕ) → k < length (singles script) → nth k script ≡ closing_next c at flick → goes_on at ≡ true
 goes c script at flick k l e = go (goes_on at) refl
   where
@@ -168,7 +168,7 @@ since-failed (e ∷ mine) h = go (has starts e) refl (since-failed mine) h
         ∙ ap (λ l. e ∷ l) (more f)
         ∙ sym (ap (λ b. elim b as (λ _. Past) [ true ↦ [] | false ↦ e ∷ since is_failed mine ]) (no_failed e.marks o))
 
--- what is settled at was chosen
+-- the value that is settled at was chosen
 abbrev pub IsChosen : Closing → Type 0
 IsChosen (Settles field bit begun taken is t) = (v : Bool) × (t.value ≡ Some v)
 IsChosen _ = Unit {0}
@@ -201,7 +201,7 @@ chosen-after c (Lowers w) flick = go (is_last_written c (false ∷ []) w)
 chosen-after c Quit flick = tt
 chosen-after c Ended flick = tt
 
--- so flicks are not looked at any more
+-- once the value is chosen, the machine does not depend on flicks
 pub flick-free : (c : Call) (at : Closing) → IsChosen at → (w flick : Bool) → closing_next c at w ≡ closing_next c at flick
 flick-free c (Withdraws x) h w flick = refl
 flick-free c (Settles field bit begun taken is t) h w flick =
@@ -211,7 +211,7 @@ flick-free c (Settles field bit begun taken is t) h w flick =
     } in n)) (ap (λ o. unwrap_or o w) h.1 ∙ sym (ap (λ o. unwrap_or o flick) h.1))
 flick-free c _ h w flick = refl
 
--- the first access of a unit tells the flick that it was made with
+-- the first access of a unit determines the flick that it was made with
 first-flick : (s : Setup) (past : Past) (c : Call) (mine : Past) (flick : Bool) (n : Next) → closing_next c (failing c mine) flick ≡ Some n →
     closing_next c (failing c mine) (value_written (record { process = c.process; access = Some (valued s past flick n.access); marks = [] })) ≡ Some n
 first-flick s past c mine flick n h = go (unfinished c.setup.processes (last_write mine)) h
@@ -236,7 +236,7 @@ first-flick s past c mine flick n h = go (unfinished c.setup.processes (last_wri
             either true = refl
             either false = refl
 
--- so a unit's next access is the same with what it writes for a flick
+-- so a unit's next access is the same if the value that it wrote is the flick
 pub told-again : (s : Setup) (past : Past) (c : Call) (mine : Past) (flicks : List Bool) (flick : Bool) (n : Next) → closing_next c (closing_of c (failing c mine) flicks) flick ≡ Some n →
     closing_next c (closing_of c (failing c mine) flicks) (value_written (record { process = c.process; access = Some (valued s past flick n.access); marks = [] })) ≡ Some n
 told-again s past c mine [] flick n h = first-flick s past c mine flick n h

@@ -25,7 +25,7 @@ pub record ClosingStep (s : Setup) (past : Past) (p : ℕ) (flick : Bool) (e : E
   pub told : closing_next (last_call s p (own p past)) at (value_written e) ≡ Some next
   pub at_stage : fold stage_after (stage p past) e.marks ≡ closing_stage (closing_after (last_call s p (own p past)) at (value_written e))
 
--- where the closing stands for the program, and its next access is told by the value that it wrote
+-- an entry is the next step of a closing, if a step of p adds it and its written value gives the same next access
 closing-step : (s : Setup) (past : Past) (p : ℕ) (flick : Bool) (e : Entry) (at : Closing)
     → let c : Call = last_call s p (own p past) in
     stage p past ≡ closing_stage at → stepped s past p flick ≡ option_map (closing_entry s past p flick) (closing_next c at flick) →
@@ -54,7 +54,7 @@ closing-step s past p flick e at st stands again h = record {
     told : closing_next c at (value_written e) ≡ Some n
     told = again n made.1 made.2
 
--- what was chosen stays chosen
+-- a value that was chosen stays chosen
 leaving-chosen : (c : Call) (fs : List Bool) → IsChosen (closing_of c (withdrawing c) fs)
 leaving-chosen c [] = tt
 leaving-chosen c (f ∷ fs) = chosen-after c (closing_of c (withdrawing c) fs) f

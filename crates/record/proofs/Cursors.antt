@@ -1,4 +1,4 @@
--- What a write and a read have left, by their cursors.
+-- The accesses that a write and a read have left, by their cursors.
 use Rattle.std.proofs.Common.{◌≡◌, ℕ, zero, suc, ◌+◌, ◌-◌, ◌*◌, ◌<◌, ◌≤◌, ◌==◌, ◌&&◌, Bool, true, false, cond, List, [], ◌∷◌, ◌++◌, Some, None, drop, length, map, replicate, refl, sym, ap, ◌∙◌, arith}
 use Rattle.std.proofs.lemmas.Bool.{eqb-true, eqb-false, ne_eqb}
 use Rattle.std.proofs.lemmas.List.{drop_more}
@@ -41,16 +41,16 @@ drop-map f [] (suc k) = refl
 drop-map f (x ∷ xs) zero = refl
 drop-map f (x ∷ xs) (suc k) = drop-map f xs k
 
--- what is left of a write of these bits, of which m bits are still to be written
+-- the accesses left of a write of these bits, of which m bits are still to be written
 abbrev pub left_bits : ℕ → List Bool → NumberWrite → ℕ → List (ℕ × Made)
 left_bits n bits w zero = []
 left_bits n bits w (suc m) = map (at_bit w.bit) (rest_of_write n (bit_written bits w)) ++ writes_from n (w.bit + 1) (drop (w.bit + 1) bits)
 
--- what is left of a write
+-- the accesses left of a write
 abbrev pub left_written : ℕ → List Bool → NumberWrite → List (ℕ × Made)
 left_written n bits w = left_bits n bits w (w.width - w.bit)
 
--- what is left when the next bit comes
+-- the accesses left when the next bit comes
 next_bit : (n : ℕ) (bits : List Bool) (width bit m : ℕ) → bit + m ≡ length bits → left_bits n bits (record { width = width; bit = bit; run = None }) m ≡ writes_from n bit (drop bit bits)
 next_bit n bits width bit zero h = sym (ap (writes_from n bit) (drop_past bits bit (omega arith)))
 next_bit n bits width bit (suc m) h = sym (ap (writes_from n bit) (drop_more bits bit false (omega arith)))
@@ -120,7 +120,7 @@ left-done n bits w all = let none : w.width - w.bit ≡ 0 = omega arith in ap (l
 pub left-new : (n : ℕ) (bits : List Bool) (width : ℕ) → width ≡ length bits → left_written n bits (new_write width) ≡ number_writes n bits
 left-new n bits width same = let all : width - 0 ≡ width = omega arith in ap (left_bits n bits (new_write width)) all ∙ next_bit n bits width 0 width (omega arith)
 
--- what is left of a read of so many bits
+-- the accesses left of a read that has read these bits
 abbrev pub left_read : ℕ → ℕ → List Bool → Bool → List (ℕ × Made)
 left_read reader width bits true = at_bit (length bits) (record { reader = reader; how = EndRead false }) ∷ reads_from reader (length bits + 1) (replicate (width - (length bits + 1)) false)
 left_read reader width bits false = reads_from reader (length bits) (replicate (width - length bits) false)

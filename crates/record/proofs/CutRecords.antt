@@ -33,7 +33,7 @@ inside-own p (e ∷ past) = go (e.process == p) refl (inside-own p past)
     go true h same = ap (λ b. cond b (fold inside_after (inside p (own p past)) e.marks) (inside p (own p past))) h ∙ ap (λ is. fold inside_after is e.marks) same
     go false h same = same
 
--- what was read last in a call
+-- the bits that a call read last
 abbrev read_last : Call → Past → List Bool
 read_last c mine = last_read (read_so_far c.setup (since is_called mine)).finished
 
@@ -117,7 +117,7 @@ running-cut s g events p command b run = go (opens_all s g events p)
     go (leaves e i w t) = let f : Some (Called command) ≡ Some Withdrew = sym b ∙ e in cc
     go (settles e i w r t) = let f : Some (Called command) ≡ Some Failed = sym b ∙ e in cc
 
--- one that withdrew
+-- a process that withdrew
 pub withdrawn-cut : (s : Setup) → IsGood s → (events : List Event) (p : ℕ)
     → let past : Past = past_of s events in
     let c : Call = last_call s p (own p past) in
@@ -139,7 +139,7 @@ withdrawn-cut s g events p b st = go (opens_all s g events p)
         ∙ ap (cut_closing c (leaving_at s p (own p past))) (inside-own p past)
     go (settles e i w r t) = let f : Some Withdrew ≡ Some Failed = sym b ∙ e in cc
 
--- and one that is at rest
+-- a process that is at rest
 pub rest-cut : (s : Setup) → IsGood s → (events : List Event) (p : ℕ)
     → let past : Past = past_of s events in
     let c : Call = last_call s p (own p past) in

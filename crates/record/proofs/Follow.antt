@@ -1,4 +1,4 @@
--- The place of a process follows from its own accesses: what it does next is what its script says.
+-- The place of a process follows from its own accesses: its next access is that of its script.
 use Rattle.std.specs.Prelude.{◌≡◌, ◌⊎◌, refl, ℕ, suc, ◌+◌, ◌*◌, ◌<◌, ◌==◌, Bool, true, false, cond, List, [], ◌∷◌, ◌++◌, length, slice_get, None, Some, ◌≢◌}
 use Rattle.std.proofs.Common.{sym, ◌∙◌, ap, true≢false, arith, append_assoc, append-nil, length-append, eqb-true, ne_eqb, eq-eqb, inl, inr}
 use Rattle.std.proofs.lemmas.Bool.Decides.{eqb_tells}
@@ -34,7 +34,7 @@ abbrev pub spot_of : Call → List Access → Spot
 spot_of c [] = start
 spot_of c (a ∷ past) = moved_on c (spot_of c past) a
 
--- the place is where the script stands, after the reads and this many accesses
+-- the place is the position of the script, after the reads and this many accesses
 pub record Stands (c : Call) (r : ReadSoFar) (len : ℕ) (at : Spot) : Type 0 where
   pub done : List Next
   pub count : length done + at.made ≡ len
@@ -74,7 +74,7 @@ not_over c r len at n st h = go (is_over at.part) refl
         let e : slice_get (singles []) at.made ≡ Some n = ap (λ s. slice_get (singles s) at.made) (sym (rest-over c at.part [] o)) ∙ next-in_rest c r len at n st h in
         let f : None ≡ Some n = sym (get-none at.made) ∙ e in cc
 
--- the next access is the one that the place says
+-- the next access is that of the place
 pub next_access : (c : Call) (r : ReadSoFar) (len : ℕ) (at : Spot) (n : Next) → Stands c r len at → scripted c r.finished len ≡ Some n → slice_get (doing c at.part) at.made ≡ Some n.access
 next_access c r len at n st h = go (is_read at.part) refl
   where
@@ -219,7 +219,7 @@ step c g r len at n v st h = go (is_read at.part) refl
     go true w = step_read c g r len at n.access v st w (next_access c r len at n st h)
     go false w = step_write c g r len at n.access v st w (not_over c r len at n st h) (next_access c r len at n st h)
 
--- wherever a process has followed its script, its place is where the script stands
+-- if a process has followed its script, its place is the position of the script
 pub stands : (c : Call) → IsGood c.setup → (past : List Access) → IsFollowed c past → Stands c (reads_of c past) (length past) (spot_of c past)
 stands c g [] f = record { done = []; count = refl; bits = refl; script = λ more. refl; within = doing-pos c g Raises; fresh = λ _. refl }
 stands c g (a ∷ past) f = rw (f.1.3) (step c g (reads_of c past) (length past) (spot_of c past) f.1.0 f.1.1 (stands c g past f.0) f.1.2)

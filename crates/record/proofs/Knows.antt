@@ -1,4 +1,4 @@
--- What a call knows while it writes a change: the store is the one of the image that it has read last.
+-- The store that a call knows while it writes a change is the one of the image that it has read last.
 use Rattle.std.proofs.Common.{◌≡◌, ℕ, ◌+◌, ◌==◌, ◌%◌, Bool, true, false, cond, List, [], ◌∷◌, ◌++◌, Some, length, refl, sym, ap, subst, ◌∙◌, true≢false}
 use Rattle.safe_bit.specs.declared.Move.TheVariants.{BeginWrite, EndWrite}
 use Rattle.record.specs.{Access, Call, Numbers, Place, ReadSoFar, Reading, Run, Version, Wait, Writing, access_at, bit_written, ended_with, enter, greatest, is_last, last_read, lets_by, max_of, newest_stamp, others, place_after, run_after, store_read, value_of, waits_of, width, with_access, write_moved}
@@ -82,7 +82,7 @@ writes-of : (even v : Bool) → is_write (cond even (BeginWrite v) EndWrite) ≡
 writes-of true v = refl
 writes-of false v = refl
 
--- so it is known after each access
+-- so the store is known after each access
 pub knows-place : (c : Call) (part : Part) (run : Run) (made : ℕ) (bits : List Bool) (v : Bool) (r : ReadSoFar) → is_over part ≡ false → Tie c part run made bits → r.bits ≡ bits → Knows c part r.finished
     → let y : Access = ended_with v (access_at c part run) in
     Knows c (place_after c (record { part = part; run = run }) (value_of y.how)).part (with_access c.setup (Some y) r).finished

@@ -1,4 +1,4 @@
--- What the writes of a process leave unfinished, by its cursors.
+-- The bits that the writes of a process leave unfinished, by its cursors.
 use Rattle.std.proofs.Common.{◌≡◌, ◌≢◌, ℕ, ◌+◌, ◌*◌, ◌/◌, ◌%◌, ◌<◌, ◌==◌, ◌&&◌, ◌||◌, Bool, true, false, cond, not, List, [], Some, None, refl, sym, ap, ◌∙◌, arith, inl, inr, ◌∷◌}
 use Rattle.std.proofs.lemmas.Bool.{cases_eq, eqb-true, eqb-false, ne_eqb, eq-eqb}
 use Rattle.std.specs.Prelude.{option_map, slice_index_or}
@@ -8,7 +8,7 @@ use Rattle.record.specs.{Access, Call, Field, Part, Place, Reading, Run, TornBit
 use Rattle.safe_number.specs.{NumberWrite, new_write, torn_with}
 use Rattle.record.specs.Closings.{Closing, Withdraws, Settles, Frees, Lowers, Quit, Ended, freeing, withdrawing, no_ticket, is_last_written, is_last_settled, closing_after, closing_of}
 
--- what the last access of a write leaves to settle
+-- the bit that the last access of a write leaves to settle
 abbrev pub bit_left : Access → TornBit
 bit_left a = record { field = a.field; bit = a.bit; torn = record { made = made_with a; reader = 0; begun = false; value = None } }
 
@@ -42,7 +42,7 @@ left-after f width bit m v false =
     ap (λ b. option_map (named f) (torn_with bit (cond (b || false) None (Some (let t : copies.Settling = record { made = m + 1; reader = 0; begun = false; value = None } in t)))))
     (ne_eqb (m + 1) 0 (λ u. omega (arith, u)))
 
--- what an access of a write leaves unfinished is the torn bit of the write after it
+-- the bit that an access of a write leaves unfinished is the torn bit of the write after it
 pub left-written : (n p : ℕ) (f : Field) (bits : List Bool) (w : NumberWrite) → option_map bit_left (unfinished n (Some (access_of p f (next_written bits w)))) ≡ torn_in f (write_moved n bits w)
 left-written n p f bits w = ap (λ b. option_map bit_left (cond b None (Some x))) (ends-bit n m run.value) ∙ go (m + 1 == 2 * n) ∙ sym (left-after f w.width w.bit m run.value (m + 1 == 2 * n))
   where
@@ -129,7 +129,7 @@ of-bit-moved n bits w h = go ((bit_written bits w).made + 1 == 2 * n)
     go true = refl
     go false = h
 
--- so it is at every place of a call
+-- the value that a write is writing is that of the present bit, at every place of a call
 of-bit-after : (c : Call) (at : Place) (v : Bool) → value_at c at ≡ begun_at c at → value_at c (place_after c at v) ≡ begun_at c (place_after c at v)
 of-bit-after c at v h = go (is_last c at.part at.run)
   where
@@ -150,7 +150,7 @@ pub value-begun : (c : Call) (accesses : List Access) → value_at c (place_of c
 value-begun c [] = refl
 value-begun c (a ∷ accesses) = of-bit-after c (place_of c accesses) (value_of a.how) (value-begun c accesses)
 
--- and of a withdrawal
+-- the value that a withdrawal is writing is that of the present bit
 of-bit-closing : (c : Call) (at : Closing) (flick : Bool) → value_closing c at ≡ begun_closing c at → value_closing c (closing_after c at flick) ≡ begun_closing c (closing_after c at flick)
 of-bit-closing c (Withdraws w) flick h = go (is_last_written c (no_ticket c) w)
   where

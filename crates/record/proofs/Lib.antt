@@ -2,7 +2,7 @@ pub use Rattle.reader_copies.proofs as reader_copies
 pub use Rattle.safe_bit.proofs as safe_bit
 pub use Rattle.safe_number.proofs as safe_number
 pub use Rattle.store_image.proofs as store_image
--- A place of the program, and what its script says
+-- A place of the program, and its script
 pub mod Place
 pub mod Standing
 pub mod Singles
@@ -12,7 +12,7 @@ pub mod Knows
 pub mod Follow
 pub mod Ties
 pub mod Cursors
--- What closes a call that was cut or given up
+-- The closing of a call that was cut or given up
 pub mod Closing
 pub mod ClosingStanding
 pub mod ClosingScripts

@@ -1,4 +1,4 @@
--- Where each process stands, in every run: at rest, down, at a place of its program, withdrawing, or in its unit's hands.
+-- The state of each process, in every run: at rest, down, at a place of its program, withdrawing, or in its unit's hands.
 use Rattle.std.specs.Prelude.{◌≡◌, refl, ℕ, zero, suc, ◌+◌, ◌<◌, ◌==◌, Bool, true, false, cond, List, [], ◌∷◌, ◌++◌, length, map, fold, slice_get, Option, None, Some}
 use Rattle.std.proofs.Common.{sym, ◌∙◌, ap, subst, arith, ne_eqb}
 use Rattle.std.specs.List.{list_any}

@@ -1,4 +1,4 @@
--- What a step of a process opens and closes.
+-- The copies that a step of a process opens and closes.
 use Rattle.std.proofs.Common.{◌≡◌, ℕ, ◌*◌, ◌<◌, ◌==◌, ◌&&◌, Bool, true, false, cond, not, List, [], ◌∷◌, Option, Some, None, length, map, refl, sym, ap, subst, ◌∙◌, arith, true≢false, inl}
 use Rattle.std.specs.Prelude.{◌⊎◌, fold}
 use Rattle.std.specs.List.{list_any}
@@ -51,18 +51,18 @@ torn_late (Frees is w) = torn_in Ticket w
 torn_late (Lowers w) = torn_in Choosing w
 torn_late _ = None
 
--- what a failure would find of a process at a place, with these numbers read
+-- the state in which a failure would find a process at a place, with these numbers read
 pub record Cuts (c : Call) (mine : Past) (at : Place) (finished : Numbers) : Type 0 where
   pub torn : Torn c.setup.processes c.process mine (torn_at c at)
   pub begun : IsBegun mine (torn_at c at) (value_at c at)
   pub knows : Knows c at.part finished
 
--- and of one that withdrew
+-- the state in which a failure would find a process that withdrew
 pub record CutsLate (c : Call) (mine : Past) (at : Closing) : Type 0 where
   pub torn : Torn c.setup.processes c.process mine (torn_late at)
   pub begun : IsBegun mine (torn_late at) (value_closing c at)
 
--- what a process has open is what its machine has open
+-- the copies that a process has open are those that its machine has open
 pub data Opens (s : Setup) (p : ℕ) (mine : Past) (st : Stage) : Type 0 where
   closed : ((st ≡ stages.Idle) ⊎ (st ≡ stages.Down)) → ((a : Access) → opened mine a ≡ false) → Torn s.processes p mine None → Opens s p mine st
   runs_at : (command : Command) → last_start mine ≡ Some (Called command) → is_running st ≡ true → ((a : Access) → opened mine a ≡ open_place (last_call s p mine) (place_at s p mine) a) →
@@ -250,7 +250,7 @@ closing-plain c at flick n h = ap (λ o. list_any starts (marks o)) (sym h) ∙ 
     go Quit = refl
     go Ended = refl
 
--- its accesses end no read
+-- the accesses of a closing end no read
 pub closing-same : (c : Call) (at : Closing) (flick u : Bool) (n : Next) → closing_next c at flick ≡ Some n → ended_with u n.access ≡ n.access
 closing-same c at flick u n h = subst (λ o. ended_with u (access_in o) ≡ access_in o) h (go at)
   where

@@ -34,7 +34,7 @@ abbrev pub open_torn : ℕ → Option Access → Access → Bool
 open_torn p None a = false
 open_torn p (Some b) a = open_settled p b.field b.bit (record { made = made_with b; reader = 0; begun = false; value = None }) a
 
--- what is open is what the last write has left open, and what it has left to settle is this torn bit
+-- the open copies are those that the last write has left open, and it has left this torn bit to settle
 pub record Torn (n p : ℕ) (mine : Past) (torn : Option TornBit) : Type 0 where
   pub opens : (a : Access) → opened mine a ≡ open_torn p (unfinished n (last_write mine)) a
   pub reader : (b : Access) → last_write mine ≡ Some b → b.reader < n
@@ -225,7 +225,7 @@ begun-write n p mine e f bits w h same t b now l = go (m % 2 == 0) refl ∙ sym 
         let was = open-torn n p mine (torn_in f w) x t odd in
         value-of e mine x EndWrite h (ap (λ b. cond b (BeginWrite v) EndWrite) k) ∙ b was.0 was.1
 
--- the same at a place
+-- an access at a place keeps the value with which the write of the torn bit began
 pub begun-place : (c : Call) (mine : Past) (e : Entry) (part : Part) (run : Run) (made : ℕ) (bits : List Bool) (v u : Bool) → is_over part ≡ false → Tie c part run made bits →
     e.access ≡ Some (ended_with v (access_at c part run)) → ((a : Access) → opened mine a ≡ open_run c part run a) → Torn c.setup.processes c.process mine (torn_at c (record { part = part; run = run })) →
     IsBegun mine (torn_at c (record { part = part; run = run })) (value_at c (record { part = part; run = run })) →

@@ -1,4 +1,4 @@
--- Where a process stands in its local program: which number access it is making, with what it knows.
+-- The place of a process in its local program: the register access that it is making, and what it knows.
 use Rattle.std.specs.Prelude.{◌≡◌, refl, ℕ, ◌+◌, ◌==◌, Bool, true, false, cond, List, [], ◌∷◌, ◌++◌}
 use Rattle.std.proofs.Common.{sym, ap}
 use Rattle.record.specs.declared.access.Field.TheVariants.{Choosing, Ticket}

@@ -118,7 +118,7 @@ same-made : (m r : ℕ) (v b : Bool) → (let t : copies.Settling = cond b (reco
 same-made m r v true = refl
 same-made m r v false = refl
 
--- what comes after a closing is in reach too
+-- the closing after an access is in reach too
 pub reach-after : (c : Call) (at : Closing) (flick : Bool) → InReach c at → InReach c (closing_after c at flick)
 reach-after c (Withdraws w) flick h = go (is_last_written c (no_ticket c) w)
   where

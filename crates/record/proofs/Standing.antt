@@ -1,4 +1,4 @@
--- What a process does next, by its place.
+-- The next access of a process, by its place.
 use Rattle.std.specs.Prelude.{◌≡◌, refl, ℕ, Bool, true, false, cond, List, [], ◌∷◌, length, map, Option, None, Some, option_map}
 use Rattle.std.proofs.Common.{sym, ◌∙◌, ap, true≢false}
 use Rattle.safe_bit.specs.{read_value}
@@ -22,7 +22,7 @@ next-tied c g r len spot at n st t h =
     let e : Some n.access ≡ Some (access_at c at.part at.run) = sym (follow.next_access c r len spot n st h) ∙ tied-next c g at spot o t in
     (o, cc)
 
--- and so are its marks
+-- the marks that the script has next are those of the place
 pub marks-tied : (c : Call) → IsGood c.setup → (r : ReadSoFar) (len : ℕ) (spot : Spot) (at : Place) (n : Next) (v : Bool) → Stands c r len spot → Tied c at spot → scripted c r.finished len ≡ Some n →
     marks_at len (local_program c (with_access c.setup (Some (ended_with v n.access)) r).finished) ≡ marks_of c at (value_of (ended v n.access.how))
 marks-tied c g r len spot at n v st t h =
@@ -66,7 +66,7 @@ place-next c g accesses f = go (is_over at.part) refl
         let n = runs_on c r (length accesses) spot st (ap is_over t.part ∙ o) in
         ap (option_map (λ (n : Next). n.access)) n.1 ∙ ap Some (next-tied c g r (length accesses) spot at n.0 st t n.1).1
 
--- and its marks are
+-- the script's marks are those of the place, for all accesses of a call
 pub place-marks : (c : Call) → IsGood c.setup → (accesses : List Access) → IsFollowed c accesses → (n : Next) (v : Bool) → scripted c (reads_of c accesses).finished (length accesses) ≡ Some n →
     marks_at (length accesses) (local_program c (reads_of c (ended_with v n.access ∷ accesses)).finished) ≡ marks_of c (place_of c accesses) (value_of (ended v n.access.how))
 place-marks c g accesses f n v h = marks-tied c g (reads_of c accesses) (length accesses) (spot_of c accesses) (place_of c accesses) n v (stands c g accesses f) (follows-tied c g accesses f) h
@@ -115,7 +115,7 @@ running_next s g p past st flick r = ap (option_map (entry_made s past p flick))
     made = (λ i. record { process = p; access = Some (valued s past flick n.access); marks = map (placed (length (history s past))) (marks i) })
         ∙ (λ i. record { process = p; access = Some (valued s past flick (is i)); marks = map (placed (length (history s past))) (marks_of c at (value_of (valued s past flick (is i)).how)) })
 
--- in every record a process that runs its call stands at its place
+-- in every record a process that runs its call is at its place
 pub at_place : (s : Setup) → IsGood s → (events : List Event) (p : ℕ) (command : Rattle.plain_store.specs.declared.Command.Command) →
     last_start (own p (past_of s events)) ≡ Some (Called command) → is_running (stage p (past_of s events)) ≡ true →
     Running s p (own p (past_of s events)) (stage p (past_of s events))

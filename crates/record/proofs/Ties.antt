@@ -16,13 +16,13 @@ use Rattle.safe_bit.specs.declared.Move.TheVariants.{BeginWrite, EndWrite}
 use Rattle.record.proofs.Marking.{spot_marks}
 use Rattle.record.proofs.Width.{IsGood, width-pos}
 
--- the write of these bits has come so far
+-- a write of these bits has made this many accesses of its part
 pub record WriteTie (n : ℕ) (bits : List Bool) (w : NumberWrite) (made : ℕ) : Type 0 where
   pub goes : Goes n bits w
   pub left : drop made (number_writes n bits) ≡ left_written n bits w
   pub fresh : (made == 0) ≡ is_fresh (Writing w)
 
--- the read of so many bits has come so far
+-- a read that has read these bits has made this many accesses of its part
 pub record ReadTie (reader width : ℕ) (bits : List Bool) (begun : Bool) (made : ℕ) : Type 0 where
   pub inside : length bits < width
   pub left : drop made (number_reads reader (replicate width false)) ≡ left_read reader width bits begun
@@ -80,7 +80,7 @@ enters c g part = record { part = refl; run = go (is_over part) refl (is_read pa
       fresh = refl;
     })
 
--- what goes with a tie: the next access, whether it is the last one, and the tie after it
+-- the facts of a tie: the next access, whether it is the last one, and the tie after it
 pub record Facts (c : Call) (part : Part) (run : Run) (made : ℕ) (bits : List Bool) (v : Bool) : Type 0 where
   pub next : slice_get (doing c part) made ≡ Some (access_at c part run)
   pub last : (made + 1 == length (doing c part)) ≡ is_last c part run
@@ -92,7 +92,7 @@ pub record Facts (c : Call) (part : Part) (run : Run) (made : ℕ) (bits : List 
 pub next-of : (f : ℕ × Made → Access) (xs ys : List (ℕ × Made)) (k : ℕ) (y : ℕ × Made) → drop k xs ≡ y ∷ ys → slice_get (map f xs) k ≡ Some (f y)
 next-of f xs ys k y h = get-drop (map f xs) (map f ys) k (f y) (drop-map f xs k ∙ ap (map f) h)
 
--- and whether it is the last one
+-- whether the k-th of some accesses is the last one, by what is left of them
 pub last-of : (f : ℕ × Made → Access) (xs ys : List (ℕ × Made)) (k : ℕ) (y : ℕ × Made) (b : Bool) → drop k xs ≡ y ∷ ys → (b ≡ true → ys ≡ []) → (b ≡ false → 0 < length ys) → (k + 1 == length (map f xs)) ≡ b
 last-of f xs ys k y b h none some = go b none some
   where
@@ -220,7 +220,7 @@ facts c g part run made bits v o (over h) = absurd (Rattle.std.proofs.Common.tru
 facts c g part (Writing w) made bits v o (writes r e t) = facts-write c g part w made bits v r e t
 facts c g part (Reading bits begun) made bits' v o (reads r t) = facts-read c part bits begun made v r t
 
--- a step of the one is a step of the other
+-- a step of the machine is a step of the index
 pub tied-step : (c : Call) → IsGood c.setup → (at : Place) (spot : Spot) (v : Bool) → is_over at.part ≡ false → Tied c at spot → Tied c (place_after c at v) (moved_on c spot (ended_with v (access_at c at.part at.run)))
 tied-step c g at spot v o t = subst (λ s. Tied c (place_after c at v) s) (sym to) (go (is_last c at.part at.run) refl)
   where
@@ -238,7 +238,7 @@ tied-step c g at spot v o t = subst (λ s. Tied c (place_after c at v) s) (sym t
     go true l = enters c g (part_after c at.part (bits_with at.run v))
     go false l = record { part = refl; run = known.on l }
 
--- so are the marks
+-- the marks of a place are those of its index
 pub tied-marks : (c : Call) → IsGood c.setup → (at : Place) (spot : Spot) (v : Bool) → is_over at.part ≡ false → Tied c at spot → spot_marks c spot (ended_with v (access_at c at.part at.run)) ≡ marks_of c at v
 tied-marks c g at spot v o t =
     ap (λ part. marks (spot.made == 0) (spot.made + 1 == length (doing c part)) (more_bits (ended v (access_at c at.part at.run).how) spot.bits) part) t.part
@@ -250,11 +250,11 @@ tied-marks c g at spot v o t =
     marks : Bool → Bool → List Bool → Part → List Rattle.record.specs.declared.marks.Mark.Mark
     marks fresh last bits part = cond fresh (first_marks part) [] ++ cond last (last_marks c part bits) []
 
--- and the stage
+-- the stage of a place is that of its index
 pub tied-stage : (c : Call) → IsGood c.setup → (at : Place) (spot : Spot) → is_over at.part ≡ false → Tied c at spot → stage_of spot.part (spot.made == 0) ≡ stage_at at
 tied-stage c g at spot o t = λ i. stage_of (t.part i) ((facts c g at.part at.run spot.made spot.bits false o t.run).fresh i)
 
--- and the next access
+-- the next access of a place is that of its index
 pub tied-next : (c : Call) → IsGood c.setup → (at : Place) (spot : Spot) → is_over at.part ≡ false → Tied c at spot → slice_get (doing c spot.part) spot.made ≡ Some (access_at c at.part at.run)
 tied-next c g at spot o t = ap (λ part. slice_get (doing c part) spot.made) t.part ∙ (facts c g at.part at.run spot.made spot.bits false o t.run).next
 
@@ -266,7 +266,7 @@ end-value v _ = refl
 pub end-with : (v : Bool) (x : Access) → ended_with v x ≡ ended_with (value_of (ended v x.how)) x
 end-with v x = λ i. record { owner = x.owner; field = x.field; bit = x.bit; reader = x.reader; how = sym (end-value v x.how) i }
 
--- the same where the access is known
+-- the tie after a known access
 pub tied-on : (c : Call) → IsGood c.setup → (at : Place) (spot : Spot) (v : Bool) (a : Access) → is_over at.part ≡ false → Tied c at spot → a ≡ ended_with v (access_at c at.part at.run) →
     Tied c (place_after c at (value_of a.how)) (moved_on c spot a)
 tied-on c g at spot v a o t e = subst (λ b. Tied c (place_after c at (value_of b.how)) (moved_on c spot b)) (sym e)

@@ -50,7 +50,7 @@ waiting-left c part run made bits f o h (over q) = absurd (true≢false (sym q �
 waiting-left c part run made bits f o h (writes r e t) = absurd (waiting-part part f r h)
 waiting-left c part run made bits f o h (reads r t) = refl
 
--- what the last write has left open is where the unit begins
+-- the copies that the last write has left open are those that the unit has open at its begin
 torn-settling : (c : Call) (mine : Past) (torn : Option Access) (a : Access) → open_torn c.process torn a ≡ open_closing c (settling_from c mine torn) a
 torn-settling c mine None a = sym (new-closed c.process Rattle.record.specs.declared.access.Field.TheVariants.Ticket (Rattle.record.specs.Closings.no_ticket c) c.setup.ticket_bits a)
 torn-settling c mine (Some b) a = refl

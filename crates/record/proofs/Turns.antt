@@ -75,7 +75,7 @@ write-leads n p f bits w on = record {
     run : copies.Writing
     run = bit_written bits w
 
--- and nothing is open once it is done
+-- nothing is open once a write is done
 pub done-closed : (n p : ℕ) (f : Field) (bits : List Bool) (w : NumberWrite) (a : Access) → Goes n bits w → ((write_moved n bits w).bit == w.width) ≡ true → open_written p f bits (write_moved n bits w) a ≡ false
 done-closed n p f bits w a on done = go (run.made + 1 == 2 * n) done
   where
@@ -97,7 +97,7 @@ settled_after true true false f was then m h k = refl
 settled_after true false true true was then m h k = k refl
 settled_after _ _ _ _ was then m h k = refl
 
--- what a settling does to the copy of its reader, and to the others
+-- the effect of a settling on the copy of its reader, and on the others
 record CopiesBy (t : copies.Settling) (m : Move) (to : copies.Settling) : Type 0 where
   turn : (r : ℕ) → (r == t.reader) ≡ true → Turn (open_copy t r) m
   here : (r : ℕ) → (r == t.reader) ≡ true → open_copy to r ≡ open_after (open_copy t r) true m

@@ -13,7 +13,7 @@ use Rattle.plain_store.proofs.GoodSetups.{good-checked}
 use Rattle.record.specs.Parts.{Part, Raises, Asks, TakesTicket, Lowers, Refuses, Waits, AsksCommit, AsksStamp, AsksImage, WritesImage, WritesStamp, WritesCommit, Clears, Over, is_over, read_at, doing}
 use Rattle.record.proofs.Singles.{write_of-pos, length-reads_from}
 
--- what a setup that the check passes has
+-- the properties of a setup that the check accepts
 pub record IsGood (s : Setup) : Type 0 where
   pub others : ℕ
   pub processes_is : s.processes ≡ suc others

@@ -16,7 +16,7 @@ data Line : Type 0 where
   marks : ℕ → ℕ → Mark → Line
   refuses : ℕ → Refusal → Line
 
--- what happens at these events, the oldest first, after a past
+-- the lines of these events after a past, the oldest first
 abbrev lines : Setup → Past → List Event → List Line
 lines s past [] = []
 lines s past (event ∷ events) = elim (refused s past event) [
@@ -24,7 +24,7 @@ lines s past (event ∷ events) = elim (refused s past event) [
   | None ↦ elim (added s past event) [ None ↦ [] | Some e ↦ map (marks (length past) e.process) e.marks ++ lines s (e ∷ past) events ]
 ]
 
--- so many processes, ticket bits, stamp bits and slots
+-- a setup with these numbers of processes, ticket bits, stamp bits and slots
 abbrev one : ℕ → ℕ → ℕ → ℕ → Setup
 one n tickets stamps slots = record { version = 1; processes = n; ticket_bits = tickets; stamp_bits = stamps; slots = slots; opening = [] }
 
@@ -41,13 +41,13 @@ tie : lines (one 2 2 2 1) [] (
     ) ≡ marks 0 0 (Called (Write a (Count (pos 5)))) ∷ marks 1 1 (Called (Write a (Count (pos 7)))) ∷ marks 29 0 (Waiting 1) ∷ marks 41 1 (Waiting 1) ∷ marks 53 0 Entered ∷ []
 tie = refl
 
--- nobody ever holds the ticket 3: an overlapped read gives it
+-- no process ever holds the ticket 3: an overlapped read gives it
 flickering_ticket : lines (one 2 2 2 1) [] (
     Call 0 (Read a) ∷ steps 0 20 ++ Withdraw 0 ∷ Call 1 (Read a) ∷ steps 1 4 ++ steps 0 3 ++ replicate 2 (Step 1 true) ++ replicate 4 (Step 0 true) ++ replicate 6 (Step 1 true) ++ Step 0 true ∷ []
     ) ≡ marks 0 0 (Called (Read a)) ∷ marks 20 0 (Waiting 1) ∷ marks 21 0 Withdrew ∷ marks 22 1 (Called (Read a)) ∷ marks 41 1 (Answered (TicketsFull 0)) ∷ marks 42 0 (Answered Withdrawn) ∷ []
 flickering_ticket = refl
 
--- the first 30 entries of a run in which the one ticket that there is stands already
+-- the first 30 entries of a run in which a process already holds the only ticket
 tickets_full : lines (one 2 1 2 1) [] (Call 0 (Read a) ∷ steps 0 14 ++ Call 1 (Read a) ∷ steps 1 10 ++ steps 0 4)
     ≡ marks 0 0 (Called (Read a)) ∷ marks 14 0 (Waiting 1) ∷ marks 15 1 (Called (Read a)) ∷ marks 25 1 (Answered (TicketsFull 0)) ∷ marks 29 0 Entered ∷ []
 tickets_full = refl
@@ -86,7 +86,7 @@ opening_image : newest_bytes (one 2 2 2 1) [] ≡ replicate 23 0
 unfolding image_of unused_slot
 opening_image = refl
 
--- a process fails while it writes bit 0 of its ticket: its unit settles that bit at the first flick, with one access, then clears the ticket and the choosing bit
+-- a process fails while it writes bit 0 of its ticket. Its unit settles that bit at the first flick, with one access. Then it clears the ticket and the choosing bit
 torn_ticket : lines (one 1 2 2 1) [] (Call 0 (Read a) ∷ steps 0 3 ++ Fail 0 ∷ Step 0 true ∷ steps 0 6)
     ≡ marks 0 0 (Called (Read a)) ∷ marks 4 0 Failed ∷ marks 5 0 (Settled true) ∷ marks 11 0 Down ∷ []
 torn_ticket = refl
@@ -105,6 +105,6 @@ an_image_is_read_back : (Rattle.record.specs.Program.store_read lone_write (new_
 unfolding lone_write image_of store_in slots.store_read count_bytes count_in unused_slot name_in value_in number_bytes number_in
 an_image_is_read_back = refl
 
--- and its command changes the empty store
+-- the command of this call changes the empty store
 it_changes_the_store : changes (empty_store 1 0) (Write a (Count (pos 5))) ≡ true
 it_changes_the_store = refl

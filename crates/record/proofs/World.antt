@@ -1,4 +1,4 @@
--- In every run each process stands at a place of its program, at rest, or in its unit's hands.
+-- In every run each process is at a place of its program, at rest, or in its unit's hands.
 use Rattle.std.specs.Prelude.{◌≡◌, ◌⊎◌, refl, ℕ, zero, suc, ◌==◌, nat_lt, Bool, true, false, cond, not, ◌&&◌, List, [], ◌∷◌, ◌++◌, length, map, fold, slice_get, if◌then◌else◌, Option, None, Some}
 use Rattle.std.proofs.Common.{sym, ◌∙◌, ap, subst, inl, inr, append-nil, eqb-true}
 use Rattle.std.specs.List.{list_any}

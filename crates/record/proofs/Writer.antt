@@ -58,7 +58,7 @@ AllOwn-get p [] (suc i) x w h = cc
 AllOwn-get p (a ∷ xs) zero x w h = let e : a ≡ x = cc in let P : Access → Type 0 = IsOwn p in subst P e w.0
 AllOwn-get p (a ∷ xs) (suc i) x w h = AllOwn-get p xs i x w.1 h
 
--- the same of the entries of a script
+-- the accesses of a script are the process's own
 abbrev pub ScriptOwn : ℕ → Script → Type 0
 ScriptOwn p [] = Unit {0}
 ScriptOwn p (q ∷ script) = AllOwn p q.accesses × ScriptOwn p script
@@ -142,7 +142,7 @@ doing-own c at = go (is_read at.part)
     go true = read_of-own c.setup c.process (read_at c at.part).0 (read_at c at.part).1
     go false = write_of-own c.setup c.process (written_at c at.part).0 (written_at c at.part).1
 
--- what a step makes is the process's own
+-- the entry that a step adds is the process's own
 pub step-own : (s : Setup) → IsGood s → (past : Past) (p : ℕ) (flick : Bool) (e : Entry) →
     refused_at (Step p flick) (stage p past) ≡ None → View s p (own p past) (stage p past) → PastOwn p (own p past) → stepped s past p flick ≡ Some e → (a : Access) → e.access ≡ Some a → IsOwn p a
 step-own s g past p flick e h v o a = own_access

@@ -1,4 +1,4 @@
--- What an event did, as contracts see it.
+-- The effect of an event, as contracts see it.
 use Rattle.std.specs.Prelude.{List, Option}
 use Rattle.record.specs.declared.access.Access.{Access}
 use Rattle.record.specs.declared.marks.Mark.{Mark}

@@ -1,4 +1,4 @@
--- What a process calls, and what it has read: looked up in its own entries.
+-- The call of a process, and the numbers that it has read, looked up in its own entries.
 use Rattle.std.specs.Prelude.{ℕ, suc, ◌+◌, ◌==◌, Bool, true, false, List, [], ◌∷◌, ◌++◌, Option, None, Some, cond}
 use Rattle.safe_bit.specs.{Move}
 use Rattle.safe_bit.specs.declared.Move.TheVariants.{EndRead}
@@ -22,17 +22,17 @@ with_bit w k v r = cond (k + 1 == w)
     (record { finished = r.finished ++ (r.bits ++ v ∷ []) ∷ []; bits = [] })
     (record { finished = r.finished; bits = r.bits ++ v ∷ [] })
 
--- what a move on bit k of a number of w bits adds
+-- the numbers read, after a move on bit k of a number of w bits
 abbrev pub with_move : ℕ → ℕ → Move → ReadSoFar → ReadSoFar
 with_move w k (EndRead v) r = with_bit w k v r
 with_move w k _ r = r
 
--- what an entry's access adds
+-- the numbers read, after an entry's access
 abbrev pub with_access : Setup → Option Access → ReadSoFar → ReadSoFar
 with_access s None r = r
 with_access s (Some a) r = with_move (width s a.field) a.bit a.how r
 
--- what was read in these entries
+-- the numbers and bits read in these entries
 abbrev pub read_so_far : Setup → Past → ReadSoFar
 read_so_far s [] = record { finished = []; bits = [] }
 read_so_far s (e ∷ past) = with_access s e.access (read_so_far s past)
@@ -43,17 +43,17 @@ called_in [] = None
 called_in (Called c ∷ marks) = Some c
 called_in (_ ∷ marks) = called_in marks
 
--- the command of the last call (of none, `Ask`)
+-- the command of the last call, or `Ask` if there was no call
 abbrev pub last_command : Past → Command
 last_command [] = Ask
 last_command (e ∷ past) = elim (called_in e.marks) [ None ↦ last_command past | Some c ↦ c ]
 
--- how many calls there were
+-- the number of calls
 abbrev pub calls_in : Past → ℕ
 calls_in [] = 0
 calls_in (e ∷ past) = elim (has is_called e) [ true ↦ suc (calls_in past) | false ↦ calls_in past ]
 
--- the number of the last call: in version 2 how many calls there were, with it; in version 1 always 0
+-- the number of the last call: in version 2 the number of calls, including this one; in version 1 always 0
 abbrev pub call_number : Setup → Past → ℕ
 call_number s past = cond (s.version == 2) (calls_in past) 0
 

@@ -1,4 +1,4 @@
--- How a call ends that was withdrawn or cut by a failure: the machine beside the withdrawal's script and the memory unit's. It is moved on by one flick.
+-- The end of a call that was withdrawn or cut by a failure: the machine next to the withdrawal's script and the memory unit's. One flick advances it by one access.
 use Rattle.std.specs.Prelude.{ℕ, ◌==◌, Bool, false, ◌&&◌, not, cond, if◌then◌else◌, List, [], ◌∷◌, length, map, Option, None, Some, is_none}
 use Rattle.reader_copies.specs.Runs as copies
 use Rattle.record.specs.declared.access.Access.{Access}
@@ -23,7 +23,7 @@ use Rattle.record.specs.Scripts.{Call, Next}
 use Rattle.record.specs.Stages.{inside}
 use Rattle.record.specs.Unit.{last_write, last_read, value_begun, unfinished, made_with, is_commit}
 
--- what is being done, and how far it has come
+-- the closing that is being made, and its progress
 pub data Closing : Type 0 where
   Withdraws : NumberWrite → Closing  -- the process writes `Ticket` 0, and answers `Withdrawn`
   Settles : (field : Field) (bit : ℕ) (begun : Bool) (taken : Option Reply) (inside : Bool) → copies.Settling → Closing  -- the unit settles a bit. begun was being written; a commit bit that is settled at it takes the command, with this reply
@@ -40,7 +40,7 @@ no_ticket c = bits_of_number c.setup.ticket_bits 0
 abbrev pub is_last_written : Call → List Bool → NumberWrite → Bool
 is_last_written c bits w = (write_moved c.setup.processes bits w).bit == w.width
 
--- nothing of a write is made
+-- no access of a write is made
 abbrev pub is_unwritten : NumberWrite → Bool
 is_unwritten w = (w.bit == 0) && is_none w.run
 
@@ -52,11 +52,11 @@ is_last_settled c t v = (copies.settle_after t v).reader == c.setup.processes
 abbrev pub settled_marks : Bool → Option Reply → Bool → List Mark
 settled_marks begun taken v = Settled v ∷ elim taken [ None ↦ [] | Some r ↦ cond (if v then begun else not begun) (Taken 0 r ∷ []) [] ]
 
--- the withdrawal, of which nothing is made
+-- the withdrawal before its first access
 abbrev pub withdrawing : Call → Closing
 withdrawing c = Withdraws (new_write c.setup.ticket_bits)
 
--- the clearing of the ticket, of which nothing is made
+-- the clearing of the ticket before its first access
 abbrev pub freeing : Call → Bool → Closing
 freeing c inside = Frees inside (new_write c.setup.ticket_bits)
 
@@ -71,7 +71,7 @@ settling_from c past (Some a) =
     Settles a.field a.bit (value_begun past) (reply_with c a.field (last_read (read_so_far c.setup (since is_called past)).finished)) (inside c.process past)
     (record { made = made_with a; reader = 0; begun = false; value = None })
 
--- the unit, of whose work nothing is made; past has the process's own entries up to its failure
+-- the unit before its first access; past has the process's own entries up to its failure
 abbrev pub failing : Call → Past → Closing
 failing c past = settling_from c past (unfinished c.setup.processes (last_write past))
 
@@ -88,7 +88,7 @@ closing_next c (Lowers w) flick = Some (record { access = access_of c.process Ch
 closing_next c Quit flick = None
 closing_next c Ended flick = None
 
--- what comes after that access
+-- the closing after that access
 abbrev pub closing_after : Call → Closing → Bool → Closing
 closing_after c (Withdraws w) flick = cond (is_last_written c (no_ticket c) w) Quit (Withdraws (write_moved c.setup.processes (no_ticket c) w))
 closing_after c (Settles field bit begun taken is t) flick =
@@ -107,7 +107,7 @@ closing_stage (Lowers w) = stage.Settling
 closing_stage Quit = stage.Idle
 closing_stage Ended = stage.Down
 
--- what is being done after so many accesses, made with these flicks, the newest first
+-- the closing after one access for each of these flicks, the newest flick first
 abbrev pub closing_of : Call → Closing → List Bool → Closing
 closing_of c start [] = start
 closing_of c start (flick ∷ flicks) = closing_after c (closing_of c start flicks) flick

@@ -1,4 +1,4 @@
--- What a failure finds at a place of a call or of a withdrawal: the torn bit, and the change that is pending.
+-- The torn bit and the pending change that a failure finds at a place of a call or of a withdrawal.
 use Rattle.std.specs.Prelude.{ℕ, ◌<◌, Bool, not, List, Option, None, Some, option_map}
 use Rattle.reader_copies.specs.Runs as copies
 use Rattle.record.specs.declared.access.Field.{Field}
@@ -26,7 +26,7 @@ abbrev pub torn_run : Call → Part → Run → Option TornBit
 torn_run c part (Writing w) = torn_in (written_at c part).0 w
 torn_run c part (Reading bits begun) = None
 
--- a torn bit that there is in this setup, of which a copy is left to settle
+-- a torn bit that exists in this setup, of which a copy is left to settle
 abbrev pub IsTornOf : Setup → TornBit → Type 0
 IsTornOf s t = (t.bit < width s t.field) × (t.torn.reader < s.processes)
 

@@ -1,4 +1,4 @@
--- Doorways, and who is before whom (Lamport 1974: first come, first served).
+-- Doorways, and the order of processes by their doorways (Lamport 1974: first come, first served).
 use Rattle.std.specs.Prelude.{ℕ, ◌==◌, nat_lt, Bool, true, false, ◌&&◌, List, [], ◌∷◌, length, filter, Option, None, Some}
 use Rattle.safe_bit.specs.{Move}
 use Rattle.safe_bit.specs.declared.Move.TheVariants.{BeginWrite}
@@ -20,7 +20,7 @@ raises _ _ = false
 abbrev pub begins_doorway : Entry → Bool
 begins_doorway e = elim e.access [ None ↦ false | Some a ↦ (a.reader == 0) && raises a.field a.how ]
 
--- the first of two numbers that is there
+-- the first of two optional numbers that exists
 abbrev pub first_of : Option ℕ → Option ℕ → Option ℕ
 first_of (Some k) more = Some k
 first_of None more = more
@@ -36,11 +36,11 @@ number_in_call p test (e ∷ past) = elim (e.process == p) [
   ]
 ]
 
--- where the doorway of p's last call began: the number of its first entry
+-- the begin of the doorway of p's last call: the number of its first entry
 abbrev pub doorway_begin : ℕ → Past → Option ℕ
 doorway_begin p = number_in_call p begins_doorway
 
--- where it was finished: the number of its last entry, with which p has a ticket
+-- the end of the doorway of p's last call: the number of its last entry, with which p has a ticket
 abbrev pub doorway_end : ℕ → Past → Option ℕ
 doorway_end p = number_in_call p (has is_waiting)
 
@@ -65,6 +65,6 @@ is_queued Doorway = true
 is_queued Waiting = true
 is_queued _ = false
 
--- those that wait and whose doorway is before that of p, ascending; none unless p is in its doorway or waits
+-- the processes that wait and whose doorway is before that of p, ascending; none unless p is in its doorway or waits
 abbrev pub ahead : Setup → ℕ → Past → List ℕ
 ahead s p past = elim (is_queued (stage p past)) [ true ↦ filter (λ j. is_ahead past j p) (processes s) | false ↦ [] ]

@@ -5,7 +5,7 @@ use Rattle.record.specs.declared.access.Access.{Access}
 use Rattle.record.specs.declared.marks.Mark.{Mark}
 use Rattle.record.specs.declared.marks.Mark.TheVariants.{Called, Waiting, Entered, Failed, Withdrew}
 
--- who did what: a process, at most one access, and the marks in their order
+-- an entry: a process, at most one access, and the marks in their order
 pub record Entry : Type 0 where
   pub process : ℕ
   pub access : Option Access
@@ -39,7 +39,7 @@ abbrev pub is_entered : Mark → Bool
 is_entered Entered = true
 is_entered _ = false
 
--- with these marks a process begins another program: its call's, that of a withdrawal, its memory unit's
+-- a mark with which a process begins another program: that of its call, that of a withdrawal, or that of its memory unit
 abbrev pub starts : Mark → Bool
 starts (Called c) = true
 starts Withdrew = true

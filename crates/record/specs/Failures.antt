@@ -1,4 +1,4 @@
--- The memory unit that a failure starts, by the place where it cuts a call or a withdrawal. It stands beside the look-back of the failure rule.
+-- The memory unit that a failure starts, by the place where it cuts a call or a withdrawal. This definition accompanies the look-back of the failure rule.
 use Rattle.std.specs.Prelude.{Bool, false, cond, slice_index_or, Option, None, Some, option_map}
 use Rattle.record.specs.declared.access.Field.{Field}
 use Rattle.record.specs.declared.access.TornBit.{TornBit}
@@ -15,11 +15,11 @@ abbrev pub begun_run : Call → Part → Run → Bool
 begun_run c part (Writing w) = slice_index_or (written_at c part).1 w.bit false
 begun_run c part (Reading bits begun) = false
 
--- the same at a place
+-- the value that is being written to the present bit at a place
 abbrev pub begun_at : Call → Place → Bool
 begun_at c at = begun_run c at.part at.run
 
--- and of a withdrawal
+-- the value that a withdrawal is writing to the present bit
 abbrev pub begun_closing : Call → Closing → Bool
 begun_closing c (Withdraws w) = slice_index_or (no_ticket c) w.bit false
 begun_closing c _ = false

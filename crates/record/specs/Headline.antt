@@ -1,4 +1,4 @@
--- The headline's statements, about the record of every list of events. They stand here to be proved, by the crates of laws above: nothing here claims them.
+-- The statements of the main theorem, about the record of every list of events. This file only defines them; the crates of laws above prove them.
 use Rattle.std.specs.Prelude.{◌≡◌, ◌↔◌, ℕ, suc, ◌+◌, ◌<◌, ◌==◌, nat_lt, Bool, true, false, ◌&&◌, ◌||◌, List, [], ◌∷◌, ◌++◌, length, map, take, slice_get, Option, None, Some, Ok, cond, IsTrue, IsFalse, Contains}
 use Rattle.std.specs.List.{list_any}
 use Rattle.safe_bit.specs.{Move, is_overlapped}
@@ -46,7 +46,7 @@ IsAlone past = (i j : ℕ) → IsTrue (inside i past) → IsTrue (inside j past)
 abbrev pub MutualExclusion : Type 0
 MutualExclusion = EachPast λ s past. IsAlone past
 
--- Who gets inside is not before anybody that waits and whose doorway is before its own: no call overtakes.
+-- First come, first served: when a process enters, no process is ahead of it.
 abbrev pub OvertakesNobody : Past → Entry → Type 0
 OvertakesNobody past e = IsTrue (has is_entered e) → (j : ℕ) → IsFalse (is_ahead past j e.process)
 
@@ -57,7 +57,7 @@ NoOvertaking = EachEntry λ s past e. OvertakesNobody past e
 abbrev pub call_of : Setup → Past → Entry → Call
 call_of s past e = last_call s e.process (own e.process past)
 
--- What is taken has its place in the history, and the one-thread store's reply there, to the call's command, process and number.
+-- Each command that is taken has the next position in the history, and the sequential store's reply there, to the call's command, process and number.
 abbrev pub TakesItsPlace : Setup → Past → Entry → Type 0
 TakesItsPlace s past e = (k : ℕ) (r : Reply) → Contains (takings e.marks) (k, r) →
     (k ≡ length (history s past)) × (r ≡ reply_to (store_after s (history s past)) (call_of s past e).command (caller (call_of s past e)))
@@ -70,11 +70,11 @@ abbrev pub IsAnswerTo : Answer → List (ℕ × Reply) → Type 0
 IsAnswerTo (answer.Reply r) taken = (k : ℕ) × (taken ≡ (k, r) ∷ [])
 IsAnswerTo _ taken = taken ≡ []
 
--- A store answer is the reply with which its call took its one command; the other answers stand in no history.
+-- A store answer is the reply with which its call took its one command. A call with another answer has taken no command.
 abbrev pub AnswersAreTaken : Type 0
 AnswersAreTaken = EachEntry λ s past e. (a : Answer) → Contains e.marks (Answered a) → IsAnswerTo a (all_takings (since is_called (own e.process (e ∷ past))))
 
--- What a call takes in all its entries is what it was answered, wherever among them the answer stands.
+-- In all its entries, before and after the answer, an answered call takes exactly what its answer states.
 abbrev pub CallsTakeWhatTheyAnswer : Past → Type 0
 CallsTakeWhatTheyAnswer past = (later earlier : Past) (e answering : Entry) (a : Answer) → past ≡ later ++ e ∷ earlier → IsTrue (has is_called e) →
     Contains (entries_of_call e.process later) answering → Contains answering.marks (Answered a) → IsAnswerTo a (takings_of_call e.process later)
@@ -82,12 +82,12 @@ CallsTakeWhatTheyAnswer past = (later earlier : Past) (e answering : Entry) (a :
 abbrev pub AnsweredCallsTakeNoMore : Type 0
 AnsweredCallsTakeNoMore = EachPast λ s past. CallsTakeWhatTheyAnswer past
 
--- the history has a command of this call at this place, with this reply, which is the one-thread store's there
+-- the history has a command of this call at this position, with this reply, which is the sequential store's reply there
 pub record StandsAt (s : Setup) (taken : List Taken) (c : Call) (r : Reply) (k : ℕ) : Type 0 where
   pub there : slice_get taken k ≡ Some (record { process = c.process; command = c.command; reply = r; number = c.number })
   pub reply : r ≡ reply_to (store_after s (take k taken)) c.command (caller c)
 
--- A store answer stands in the history.
+-- If a call is answered with a store reply, the history contains its command with this reply.
 abbrev pub StandsInHistory : Setup → Past → Entry → Type 0
 StandsInHistory s past e = (r : Reply) → Contains e.marks (Answered (answer.Reply r)) → (k : ℕ) × StandsAt s (history s (e ∷ past)) (call_of s past e) r k
 
@@ -108,7 +108,7 @@ AnswersNoCutCall past e = (a : Answer) → Contains e.marks (Answered a) → IsF
 abbrev pub CutCallsAreNotAnswered : Type 0
 CutCallsAreNotAnswered = EachEntry λ s past e. AnswersNoCutCall past e
 
--- Of two taken calls that do not overlap the earlier one has the lower place: the span of the one of x ends before that of y begins.
+-- If two taken calls do not overlap, the earlier one has the lower position: the span of the call of x ends before the span of the call of y begins.
 abbrev pub PlacesKeepOrder : Past → Type 0
 PlacesKeepOrder past = (newer between earlier : Past) (x y : Entry) → past ≡ newer ++ y ∷ between ++ x ∷ earlier →
     IsTrue (has is_called x) → IsTrue (has is_called y) → IsTrue (has_ended x.process between) →
@@ -117,7 +117,7 @@ PlacesKeepOrder past = (newer between earlier : Past) (x y : Entry) → past ≡
 abbrev pub KeepsOrder : Type 0
 KeepsOrder = EachPast λ s past. PlacesKeepOrder past
 
--- One history: these together.
+-- One history: these statements together.
 pub record OneHistory : Type 0 where
   pub taken : TakenInHistory
   pub answers : AnswersAreTaken
@@ -151,7 +151,7 @@ ReadsUnoverlapped past e = (a : Access) → e.access ≡ Some a → IsTrue (is_v
 abbrev pub VersionReadsAreUnoverlapped : Type 0
 VersionReadsAreUnoverlapped = EachEntry λ s past e. ReadsUnoverlapped past e
 
--- where an entry ends the read of an image, this holds of the bytes that its process has read
+-- if an entry ends the read of an image, the property holds of the bytes that its process has read
 abbrev pub OfImageRead : Setup → Past → Entry → (List ℕ → Type 0) → Type 0
 OfImageRead s past e P = (a : Access) → e.access ≡ Some a → IsTrue (is_image a.field) → IsTrue (ends_read a.how) → a.bit + 1 ≡ width s a.field →
     P (bytes_of_bits (image_bytes s) (last_read (read_so_far s (since is_called (own e.process (e ∷ past)))).finished))
@@ -200,14 +200,14 @@ abbrev pub before_image_read : ℕ → Past → Past
 before_image_read p [] = []
 before_image_read p (e ∷ past) = elim (ends_image_read p e) [ true ↦ past | false ↦ before_image_read p past ]
 
--- how many of these commands change the store, taken one after the other
+-- the number of these commands that change the store, taken one after the other
 abbrev pub count_changes : Contents → List Taken → ℕ
 count_changes store [] = 0
 count_changes store (t ∷ history) =
     let next = after store t.command (record { process = t.process; number = t.number }) in
     cond (changes store t.command) (suc (count_changes next history)) (count_changes next history)
 
--- `StampsFull` is answered only to a command that would change the store after the history when it was read, and only where as many changes were taken as the greatest stamp.
+-- `StampsFull` is answered only to a command that would change the store after the history when it was read. As many changes had then been taken as the greatest stamp.
 abbrev pub IsAfterAllChanges : Setup → Past → Entry → Type 0
 IsAfterAllChanges s past e = Contains e.marks (Answered answer.StampsFull) →
     let read = history s (before_image_read e.process past) in
@@ -216,11 +216,11 @@ IsAfterAllChanges s past e = Contains e.marks (Answered answer.StampsFull) →
 abbrev pub StampsFullAfterAllChanges : Type 0
 StampsFullAfterAllChanges = EachEntryGiven IsAfterAllChanges
 
--- While nobody is inside, the registers hold the image of the one-thread store after the history, call numbers too.
+-- While no process is inside, the registers hold the image of the sequential store after the history, call numbers included.
 abbrev pub NewestIsTheHistorys : Type 0
 NewestIsTheHistorys = EachPastGiven λ s past. IsFalse (is_somebody_inside s past) → newest_bytes s past ≡ image_of (store_after s (history s past))
 
--- While nobody is inside, no write of a version is open.
+-- While no process is inside, no write of a version is open.
 abbrev pub VersionsAreWholeOutside : Type 0
 VersionsAreWholeOutside = EachPast λ s past. IsFalse (is_somebody_inside s past) → (a : Access) → IsTrue (is_version a.field) → (cell_after s past a).writing ≡ false
 
@@ -230,7 +230,7 @@ latest_change p store [] last = last
 latest_change p store (t ∷ history) last =
     latest_change p (after store t.command (record { process = t.process; number = t.number })) history (cond ((t.process == p) && changes store t.command) t.number last)
 
--- `Ask` answers the number of the asker's latest change in the history before its place, or 0.
+-- `Ask` returns the number of the asker's latest change in the history before its position, or 0.
 abbrev pub AsksTheLatestChange : Setup → Past → Type 0
 AsksTheLatestChange s past = (k : ℕ) (t : Taken) → slice_get (history s past) k ≡ Some t → t.command ≡ Ask →
     t.reply ≡ Last (latest_change t.process (opening_store s) (take k (history s past)) 0)
@@ -245,7 +245,7 @@ has_change p test store (t ∷ history) =
     ((t.process == p) && test t.number && changes store t.command)
     || has_change p test (after store t.command (record { process = t.process; number = t.number })) history
 
--- In version 2, where `Ask` is answered and no change of its process that is later than its call number m stands before it, call m was taken as a change exactly if the answer is `Last(m)`.
+-- In version 2, let `Ask` be answered, and let no change of its process that is later than its call number m precede it. Then call m was taken as a change exactly if the answer is `Last(m)`.
 abbrev pub TellsOfCutCalls : Setup → Past → Type 0
 TellsOfCutCalls s past = s.version ≡ 2 → (k m : ℕ) (t : Taken) → slice_get (history s past) k ≡ Some t → t.command ≡ Ask → 0 < m → m < t.number →
     IsFalse (has_change t.process (nat_lt m) (opening_store s) (take k (history s past))) →
@@ -254,29 +254,29 @@ TellsOfCutCalls s past = s.version ≡ 2 → (k m : ℕ) (t : Taken) → slice_g
 abbrev pub AskTellsOfCutCalls : Type 0
 AskTellsOfCutCalls = EachPastGiven TellsOfCutCalls
 
--- The headline, of one entry and the past that it is added to: the processes go inside one at a time and in the order of their doorways; their replies are those of one thread that takes the commands of one history; what they read of the data is whole; and the answers `TicketsFull`, `StampsFull` and that to `Ask` tell what is so.
+-- The main theorem, of one entry and the past that it is added to. The processes go inside one at a time and in the order of their doorways. Their replies are those of one thread that takes the commands of one history. The data that they read is whole. The answers `TicketsFull`, `StampsFull` and the replies to `Ask` are true.
 pub record KeepsHeadline (s : Setup) (past : Past) (e : Entry) : Type 0 where
   pub alone : IsAlone (e ∷ past)  -- no two are inside together, a failed one among them until its unit lets go
-  pub overtakes : OvertakesNobody past e  -- nobody gets inside past one that waits and had finished its doorway before the other began its own
-  pub place : TakesItsPlace s past e  -- what is taken has its place, and the one-thread store's reply there
-  pub stands : StandsInHistory s past e  -- a store answer stands in the history, with its process, command, reply and number
+  pub overtakes : OvertakesNobody past e  -- no process enters past one that waits and had finished its doorway before the other began its own
+  pub place : TakesItsPlace s past e  -- a command that is taken has its position, and the sequential store's reply there
+  pub stands : StandsInHistory s past e  -- a store answer is in the history, with its process, command, reply and number
   pub answers : CallsTakeWhatTheyAnswer (e ∷ past)  -- it is the reply of the one command of its call
   pub cut : AnswersNoCutCall past e  -- a call that was cut is never answered
   pub once : CallsTakeOnce (e ∷ past)  -- and is taken at most once
   pub order : PlacesKeepOrder (e ∷ past)  -- places keep the order of calls that do not overlap
   pub unoverlapped : ReadsUnoverlapped past e  -- no read of a commit bit, a stamp or an image is overlapped
-  pub images : ReadsTheStore s past e  -- what is read as an image is that of the store after the history so far
-  pub waits : HasReadNoGreatest s past e  -- a doorway ends with a ticket only where no read of it gave the greatest one
-  pub tickets : NamesTheLowest s past e  -- and with `TicketsFull` only where one did, of the lowest process whose read did
+  pub images : ReadsTheStore s past e  -- an image that is read is that of the store after the history so far
+  pub waits : HasReadNoGreatest s past e  -- a doorway ends with a ticket only if no read of it gave the greatest one
+  pub tickets : NamesTheLowest s past e  -- and with `TicketsFull` only if one did, of the lowest process whose read did
   pub stamps : IsAfterAllChanges s past e  -- `StampsFull` is answered only to a change, after as many as the greatest stamp
-  pub asks : AsksTheLatestChange s (e ∷ past)  -- `Ask` answers the number of the asker's latest change before its place, or 0
-  pub tells : TellsOfCutCalls s (e ∷ past)  -- and so tells of a call that was cut whether it was taken as a change
+  pub asks : AsksTheLatestChange s (e ∷ past)  -- `Ask` returns the number of the asker's latest change before its position, or 0
+  pub tells : TellsOfCutCalls s (e ∷ past)  -- so `Ask` reports of a call that was cut whether it was taken as a change
 
--- The headline: each entry of every record keeps it.
+-- The main theorem: each entry of every record keeps it.
 abbrev pub Headline : Type 0
 Headline = EachEntryGiven KeepsHeadline
 
--- The headline of one past: each of its entries keeps it.
+-- The main theorem for one past: each of its entries keeps it.
 abbrev pub KeepsHeadlineThroughout : Setup → Past → Type 0
 KeepsHeadlineThroughout s past = (later earlier : Past) (e : Entry) → past ≡ later ++ e ∷ earlier → KeepsHeadline s earlier e
 

@@ -23,6 +23,6 @@ history s (e ∷ past) = elim (reply_taken e.marks) [
       history s past ++ record { process = e.process; command = c.command; reply = r; number = c.number } ∷ []
 ]
 
--- the one-thread store after the commands taken
+-- the sequential store after the commands taken
 abbrev pub store_after : Setup → List Taken → Contents
 store_after s = fold (λ store t. after store t.command (record { process = t.process; number = t.number })) (opening_store s)

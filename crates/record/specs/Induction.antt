@@ -5,13 +5,13 @@ use Rattle.record.specs.declared.events.Event.{Event}
 use Rattle.record.specs.Entries.{Entry, Past}
 use Rattle.record.specs.Records.{past_of, entry_of}
 
--- what holds of no entries, and with each entry that an event adds, holds of the past of every record
+-- if a property holds of no entries, and each entry that an event adds keeps it, then it holds of the past of every record
 abbrev pub PastInduction : (Setup → Past → Type 0) → Type 0
 PastInduction P = (s : Setup) → P s [] →
     ((events : List Event) (event : Event) (e : Entry) → entry_of s (past_of s events) event ≡ Some e → P s (past_of s events) → P s (e ∷ past_of s events)) →
     (events : List Event) → P s (past_of s events)
 
--- so it is for every P
+-- the induction holds for every P
 pub past-induction : (P : Setup → Past → Type 0) → PastInduction P
 past-induction P s none more [] = none
 past-induction P s none more (event ∷ events) = go (entry_of s (past_of s events) event) refl (past-induction P s none more events)

@@ -1,4 +1,4 @@
--- The laws of every record of a list of events, and of the place machine beside the script.
+-- The laws of every record of a list of events, and of the place machine next to the script.
 use Rattle.std.specs.Prelude.{◌≡◌, ◌≢◌, ℕ, ◌*◌, ◌<◌, Bool, true, false, List, [], ◌∷◌, ◌++◌, length, map, slice_index_or, fold, None, Some, Ok, option_map}
 use Rattle.safe_bit.specs.{AreWritesInTurn, is_write_open, last_written, read_answer, read_value}
 use Rattle.record.specs.declared.access.Access.{Access}
@@ -33,7 +33,7 @@ abbrev pub OwnEntry : Type 0
 OwnEntry = (s : Setup) → checked s ≡ Ok tt → (events : List Event) (event : Event) (e : Entry) →
     entry_of s (past_of s events) event ≡ Some e → e.process ≡ process_of event
 
--- it leaves the entries of each other process as they are
+-- an event leaves the entries of each other process as they are
 abbrev pub OthersStay : Type 0
 OthersStay = (s : Setup) → checked s ≡ Ok tt → (events : List Event) (event : Event) (q : ℕ) →
     q ≢ process_of event → own q (past_of s (event ∷ events)) ≡ own q (past_of s events)
@@ -48,7 +48,7 @@ abbrev pub RefusedAddsNothing : Type 0
 RefusedAddsNothing = (s : Setup) (events : List Event) (event : Event) →
     (refused s (past_of s events) event ≢ None) → past_of s (event ∷ events) ≡ past_of s events
 
--- every bit has one writer: who begins, ends or settles a write of it is its owner, or the owner's memory unit
+-- every bit has one writer: the process that begins, ends or settles a write of it is its owner, or the owner's memory unit
 abbrev pub SingleWriter : Type 0
 SingleWriter = (s : Setup) → checked s ≡ Ok tt → (events : List Event) (event : Event) (e : Entry) → entry_of s (past_of s events) event ≡ Some e →
     (a : Access) → e.access ≡ Some a → IsWrite a.how → a.owner ≡ e.process
@@ -58,13 +58,13 @@ abbrev pub PlaceTellsNext : Type 0
 PlaceTellsNext = (c : Call) → checked c.setup ≡ Ok tt → (accesses : List Access) → IsFollowed c accesses →
     option_map (λ (n : Next). n.access) (scripted c (reads_of c accesses).finished (length accesses)) ≡ next_access c (place_of c accesses)
 
--- and so are its marks, once the access is made
+-- the marks of the place machine are the script's, once the access is made
 abbrev pub PlaceTellsMarks : Type 0
 PlaceTellsMarks = (c : Call) → checked c.setup ≡ Ok tt → (accesses : List Access) → IsFollowed c accesses → (n : Next) (v : Bool) →
     scripted c (reads_of c accesses).finished (length accesses) ≡ Some n →
     marks_at (length accesses) (local_program c (reads_of c (ended_with v n.access ∷ accesses)).finished) ≡ marks_of c (place_of c accesses) (value_of (ended v n.access.how))
 
--- in every record, a process that runs its call goes on from its place: its stage is that of the place, and a step of it makes the place's access, with its marks
+-- in every record, a process that runs its call continues from its place: it has the place's stage, and a step of it makes the place's access, with its marks
 abbrev pub RunsFromItsPlace : Type 0
 RunsFromItsPlace = (s : Setup) → checked s ≡ Ok tt → (events : List Event) (p : ℕ) (command : Command) →
     let past : Past = past_of s events in
@@ -84,7 +84,7 @@ abbrev pub UnitTellsNext : Type 0
 UnitTellsNext = (c : Call) → checked c.setup ≡ Ok tt → (past : Past) (flicks : List Bool) (flick : Bool) →
     nth (length flicks) (unit_program c past (first_flick flicks flick)) ≡ closing_next c (closing_of c (failing c past) flicks) flick
 
--- in every record, a process that withdrew goes on from its place
+-- in every record, a process that withdrew continues from its place
 abbrev pub WithdrawsFromItsPlace : Type 0
 WithdrawsFromItsPlace = (s : Setup) → checked s ≡ Ok tt → (events : List Event) (p : ℕ) →
     let past : Past = past_of s events in
@@ -93,7 +93,7 @@ WithdrawsFromItsPlace = (s : Setup) → checked s ≡ Ok tt → (events : List E
     last_start (own p past) ≡ Some Withdrew → stage p past ≡ Leaving →
     (closing_stage at ≡ Leaving) × ((flick : Bool) → stepped s past p flick ≡ option_map (closing_entry s past p flick) (closing_next c at flick))
 
--- and so does the memory unit of one that failed
+-- in every record, the memory unit of a process that failed continues from its place
 abbrev pub UnitGoesOnFromItsPlace : Type 0
 UnitGoesOnFromItsPlace = (s : Setup) → checked s ≡ Ok tt → (events : List Event) (p : ℕ) →
     let past : Past = past_of s events in
@@ -102,11 +102,11 @@ UnitGoesOnFromItsPlace = (s : Setup) → checked s ≡ Ok tt → (events : List 
     last_start (own p past) ≡ Some Failed → stage p past ≡ Settling →
     (closing_stage at ≡ Settling) × ((flick : Bool) → stepped s past p flick ≡ option_map (closing_entry s past p flick) (closing_next c at flick))
 
--- and its marks lead to its stages
+-- the marks of the closing machine lead to its stages
 abbrev pub ClosingTellsStage : Type 0
 ClosingTellsStage = (c : Call) (at : Closing) (flick : Bool) (n : Next) → closing_next c at flick ≡ Some n → fold stage_after (closing_stage at) n.marks ≡ closing_stage (closing_after c at flick)
 
--- in every record, where a process fails that runs its call, its memory unit starts from what its place tells
+-- in every record, if a process fails that runs its call, its memory unit starts from the place of the call
 abbrev pub CallIsCutAtItsPlace : Type 0
 CallIsCutAtItsPlace = (s : Setup) → checked s ≡ Ok tt → (events : List Event) (p : ℕ) (command : Command) →
     let past : Past = past_of s events in
@@ -114,7 +114,7 @@ CallIsCutAtItsPlace = (s : Setup) → checked s ≡ Ok tt → (events : List Eve
     last_start (own p past) ≡ Some (Called command) → is_running (stage p past) ≡ true →
     failing c (own p past) ≡ cut_at c (place_of c (accesses_of (since starts (own p past)))) (inside p past)
 
--- so it does where one fails that withdrew
+-- in every record, if a process fails that withdrew, its memory unit starts from the place of the withdrawal
 abbrev pub WithdrawalIsCutAtItsPlace : Type 0
 WithdrawalIsCutAtItsPlace = (s : Setup) → checked s ≡ Ok tt → (events : List Event) (p : ℕ) →
     let past : Past = past_of s events in
@@ -122,14 +122,14 @@ WithdrawalIsCutAtItsPlace = (s : Setup) → checked s ≡ Ok tt → (events : Li
     last_start (own p past) ≡ Some Withdrew → stage p past ≡ Leaving →
     failing c (own p past) ≡ cut_closing c (closing_of c (withdrawing c) (map value_written (since starts (own p past)))) (inside p past)
 
--- and where one fails that is idle, nothing is unfinished
+-- in every record, if a process fails that is idle, nothing is unfinished
 abbrev pub RestIsNotCut : Type 0
 RestIsNotCut = (s : Setup) → checked s ≡ Ok tt → (events : List Event) (p : ℕ) →
     let past : Past = past_of s events in
     let c : Call = last_call s p (own p past) in
     stage p past ≡ Idle → failing c (own p past) ≡ freeing c (inside p past)
 
--- the torn bit of a call is one that there is
+-- the torn bit of a call exists
 abbrev pub TornBitOfCallIsThere : Type 0
 TornBitOfCallIsThere = (s : Setup) → checked s ≡ Ok tt → (events : List Event) (p : ℕ) (command : Command) (t : TornBit) →
     let past : Past = past_of s events in
@@ -145,7 +145,7 @@ TornCommitIsPending = (s : Setup) → checked s ≡ Ok tt → (events : List Eve
     last_start (own p past) ≡ Some (Called command) → is_running (stage p past) ≡ true → torn_at c at ≡ Some t → t.field ≡ Commit →
     (change : Change) × (pending_at c at.part ≡ Some change) × (begun_at c at ≡ change.2)
 
--- the torn bit of a withdrawal is there too
+-- the torn bit of a withdrawal exists too
 abbrev pub TornBitOfWithdrawalIsThere : Type 0
 TornBitOfWithdrawalIsThere = (c : Call) → checked c.setup ≡ Ok tt → (flicks : List Bool) (t : TornBit) → torn_closing (closing_of c (withdrawing c) flicks) ≡ Some t → IsTornOf c.setup t
 
@@ -165,17 +165,17 @@ UnoverlappedReadGivesTheBit = (s : Setup) (later past : Past) (owner : ℕ) (fie
 abbrev pub PlaceStartsClosed : Type 0
 PlaceStartsClosed = (c : Call) (a : Access) → open_place c (place_of c []) a ≡ false
 
--- and the next one comes in its turn: a write begins where none is open on its copy and ends where one is
+-- the next access of a call comes in its turn: a write begins if none is open on its copy, and ends if one is
 abbrev pub PlaceGoesInTurn : Type 0
 PlaceGoesInTurn = (c : Call) → checked c.setup ≡ Ok tt → (accesses : List Access) → IsFollowed c accesses → (v : Bool) → is_over (place_of c accesses).part ≡ false →
     Leads (open_place c (place_of c accesses)) (ended_with v (access_at c (place_of c accesses).part (place_of c accesses).run)) (open_place c (place_after c (place_of c accesses) v))
 
--- so do those of a withdrawal
+-- the accesses of a withdrawal come in their turn
 abbrev pub WithdrawalGoesInTurn : Type 0
 WithdrawalGoesInTurn = (c : Call) → checked c.setup ≡ Ok tt → (flicks : List Bool) (flick : Bool) (n : Next) → closing_next c (closing_of c (withdrawing c) flicks) flick ≡ Some n →
     Leads (open_closing c (closing_of c (withdrawing c) flicks)) n.access (open_closing c (closing_of c (withdrawing c) (flick ∷ flicks)))
 
--- and those of a memory unit, where the copy that its process wrote last is one that there is
+-- the accesses of a memory unit come in their turn, if the copy that its process wrote last exists
 abbrev pub UnitGoesInTurn : Type 0
 UnitGoesInTurn = (c : Call) → checked c.setup ≡ Ok tt → (past : Past) → ((a : Access) → last_write past ≡ Some a → a.reader < c.setup.processes) → (flicks : List Bool) (flick : Bool) (n : Next) →
     closing_next c (closing_of c (failing c past) flicks) flick ≡ Some n → Leads (open_closing c (closing_of c (failing c past) flicks)) n.access (open_closing c (closing_of c (failing c past) (flick ∷ flicks)))
@@ -184,12 +184,12 @@ UnitGoesInTurn = (c : Call) → checked c.setup ≡ Ok tt → (past : Past) → 
 abbrev pub WritesComeInTurn : Type 0
 WritesComeInTurn = (s : Setup) → checked s ≡ Ok tt → (events : List Event) (a : Access) → AreWritesInTurn (opening_bit s a) (moves_of a (past_of s events))
 
--- so the cell of each bit answers as the safe rule does
+-- so the cell of each bit gives the value of the safe rule
 abbrev pub CellsAnswerTheSafeRule : Type 0
 CellsAnswerTheSafeRule = (s : Setup) → checked s ≡ Ok tt → (events : List Event) (a : Access) (flick : Bool) →
     read_answer (cell_after s (past_of s events) a) flick ≡ read_value (opening_bit s a) (moves_of a (past_of s events)) flick
 
--- a write of bytes goes the way of a write of their bits
+-- a write of bytes takes the steps of a write of their bits
 abbrev pub WriteOfBytesGoesByBits : Type 0
 WriteOfBytesGoesByBits = (n : ℕ) (value : List ℕ) (w : NumberWrite) → w.bit < w.width →
     (next_of_write value w ≡ next_written (bits_in value w.width) w) × (number_write_after n value w ≡ write_moved n (bits_in value w.width) w)

@@ -41,7 +41,7 @@ abbrev pub ended : Bool → Move → Move
 ended v (EndRead _) = EndRead v
 ended v m = m
 
--- the same of an access
+-- an access; the end of a read gets the value v, any other move stays as it is
 abbrev pub ended_with : Bool → Access → Access
 ended_with v a = record a { how = ended v a.how }
 

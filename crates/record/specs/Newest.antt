@@ -45,10 +45,10 @@ newest_bytes s past =
     let newest = newest_process versions in
     bytes_of_bits (image_bytes s) (bits_held s past newest (image_field (version_of versions newest)) 0)
 
--- whether somebody is inside
+-- a process is inside
 abbrev pub is_somebody_inside : Setup → Past → Bool
 is_somebody_inside s past = list_any (λ p. inside p past) (processes s)
 
--- the image of the store after the history, while nobody is inside
+-- the image of the store after the history, while no process is inside
 abbrev pub newest : Setup → Past → Option (List ℕ)
 newest s past = cond (is_somebody_inside s past) None (Some (image_of (store_after s (history s past))))

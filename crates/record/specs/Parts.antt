@@ -1,4 +1,4 @@
--- Which number access of its call a process is making, and what it knows.
+-- The number access of its call that a process is making, and the values that it knows.
 use Rattle.std.specs.Prelude.{ℕ, ◌+◌, ◌==◌, Bool, true, false, cond, not, List, [], ◌∷◌, ◌++◌}
 use Rattle.record.specs.declared.access.Access.{Access}
 use Rattle.record.specs.declared.access.Field.{Field}
@@ -14,7 +14,7 @@ use Rattle.record.specs.Program.{Version, Wait, greatest, max_of, is_one, first_
 use Rattle.record.specs.Registers.{processes, others, write_of, read_of}
 use Rattle.record.specs.Scripts.{Call}
 
--- a number access of a call, with what the process knows when it makes it
+-- a number access of a call, with the values that the process knows when it makes it
 pub data Part : Type 0 where
   Raises : Part  -- A: writes `Choosing` 1
   Asks : (j : ℕ) (js : List ℕ) (tickets : List ℕ) → Part  -- B: reads j's ticket, then those of js; the tickets were read
@@ -53,7 +53,7 @@ abbrev pub is_over : Part → Bool
 is_over Over = true
 is_over _ = false
 
--- which register a part reads: whose, and which field
+-- the register that a part reads: its owner, and its field
 abbrev pub read_at : Call → Part → ℕ × Field
 read_at c (Asks j js ts) = (j, Ticket)
 read_at c (Waits t w ws) = w
@@ -62,7 +62,7 @@ read_at c (AsksStamp k ks vs b) = (k, stamp_field b)
 read_at c (AsksImage vs) = (newest_process vs, image_field (version_of vs (newest_process vs)))
 read_at c _ = (0, Choosing)
 
--- which own register a part writes, and its new bits
+-- the own register that a part writes, and its new bits
 abbrev pub written_at : Call → Part → Field × List Bool
 written_at c Raises = (Choosing, true ∷ [])
 written_at c (TakesTicket t) = (Ticket, bits_of_number c.setup.ticket_bits t)
@@ -78,12 +78,12 @@ written_at c _ = (Choosing, [])
 abbrev pub doing : Call → Part → List Access
 doing c part = cond (is_read part) (read_of c.setup c.process (read_at c part).0 (read_at c part).1) (write_of c.setup c.process (written_at c part).0 (written_at c part).1)
 
--- the marks on its first begin
+-- the marks on the first begin of a part
 abbrev pub first_marks : Part → List Mark
 first_marks (Clears a) = Left ∷ []
 first_marks _ = []
 
--- the marks on its last end, where these bits were read
+-- the marks on the last end of a part, after these bits were read
 abbrev pub last_marks : Call → Part → List Bool → List Mark
 last_marks c (Lowers t) value = Waiting t ∷ entered_if_none (waits_of c)
 last_marks c (Refuses f) value = Answered (answer.TicketsFull f) ∷ []

@@ -1,4 +1,4 @@
--- Where a process stands in its program: the machine beside the script. It is moved on by one access with its value, whatever memory serves it.
+-- The place of a process in its program: the machine next to the script. One access with its value advances it, whatever memory serves the access.
 use Rattle.std.specs.Prelude.{◌≡◌, ℕ, ◌+◌, ◌==◌, Bool, true, false, ◌&&◌, cond, List, [], ◌∷◌, ◌++◌, length, map, slice_index_or, Option, None, Some, is_none, unwrap_or}
 use Rattle.safe_bit.specs.{Move}
 use Rattle.safe_bit.specs.declared.Move.TheVariants.{EndRead}
@@ -21,17 +21,17 @@ use Rattle.record.specs.Records.{placed}
 use Rattle.record.specs.Registers.{width}
 use Rattle.record.specs.Scripts.{Call, Numbers, Next, nth}
 
--- how far a number access has come: a write by its cursor; a read by the bits that were read, and whether the read of the next one is open
+-- the progress of a number access: of a write by its cursor; of a read by the bits that were read, and whether the read of the next bit is open
 pub data Run : Type 0 where
   Writing : NumberWrite → Run
   Reading : (bits : List Bool) (begun : Bool) → Run
 
--- which number access of its call a process is making, and how far it has come
+-- the number access of its call that a process is making, and its progress
 pub record Place : Type 0 where
   pub part : Part
   pub run : Run
 
--- how far the write of the present bit has come
+-- the progress of the write of the present bit
 abbrev pub bit_written : List Bool → NumberWrite → copies.Writing
 bit_written bits w = unwrap_or w.run (record { value = slice_index_or bits w.bit false; made = 0; ended = false })
 
@@ -47,20 +47,20 @@ write_moved n bits w = write_on w (copies.write_after n (bit_written bits w))
 abbrev pub next_read : ℕ → List Bool → Bool → ℕ × Made
 next_read reader bits begun = (length bits, copies.next_read reader (record { begun = begun; value = None }) false)
 
--- a number access of which nothing is made
+-- a number access before its first access
 abbrev pub new_run : Call → Part → Run
 new_run c part = cond (is_read part) (Reading [] false) (Writing (new_write (width c.setup (written_at c part).0)))
 
--- a part of which nothing is made
+-- a part before its first access
 abbrev pub enter : Call → Part → Place
 enter c part = record { part = part; run = new_run c part }
 
--- nothing is made of the number access
+-- no access of the number access is made
 abbrev pub is_fresh : Run → Bool
 is_fresh (Writing w) = (w.bit == 0) && is_none w.run
 is_fresh (Reading bits begun) = cond begun false (length bits == 0)
 
--- the access that comes next, where the call is not over
+-- the next access, if the call is not over
 abbrev pub access_at : Call → Part → Run → Access
 access_at c part (Writing w) = access_of c.process (written_at c part).0 (next_written (written_at c part).1 w)
 access_at c part (Reading bits begun) = access_of (read_at c part).0 (read_at c part).1 (next_read c.process bits begun)
@@ -69,7 +69,7 @@ access_at c part (Reading bits begun) = access_of (read_at c part).0 (read_at c 
 abbrev pub next_access : Call → Place → Option Access
 next_access c at = cond (is_over at.part) None (Some (access_at c at.part at.run))
 
--- it is the last one of its number access
+-- the next access is the last one of its number access
 abbrev pub is_last : Call → Part → Run → Bool
 is_last c part (Writing w) = (write_moved c.setup.processes (written_at c part).1 w).bit == w.width
 is_last c part (Reading bits begun) = begun && (length bits + 1 == width c.setup (read_at c part).1)
@@ -111,7 +111,7 @@ abbrev pub accesses_of : Past → List Access
 accesses_of [] = []
 accesses_of (e ∷ past) = elim e.access [ None ↦ accesses_of past | Some a ↦ a ∷ accesses_of past ]
 
--- what was read with these accesses
+-- the numbers and bits that were read with these accesses
 abbrev pub reads_of : Call → List Access → ReadSoFar
 reads_of c [] = record { finished = []; bits = [] }
 reads_of c (a ∷ accesses) = with_access c.setup (Some a) (reads_of c accesses)
@@ -125,7 +125,7 @@ abbrev pub IsFollowed : Call → List Access → Type 0
 IsFollowed c [] = Unit {0}
 IsFollowed c (a ∷ accesses) = IsFollowed c accesses × ((n : Next) × (v : Bool) × (scripted c (reads_of c accesses).finished (length accesses) ≡ Some n) × (a ≡ ended_with v n.access))
 
--- the entry with which p goes on from its place
+-- the entry with which p continues from its place
 abbrev pub entry_at : Setup → Past → ℕ → Bool → Call → Place → Entry
 entry_at s past p flick c at =
     let a : Access = valued s past flick (access_at c at.part at.run) in

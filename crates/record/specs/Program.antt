@@ -66,7 +66,7 @@ newest_process versions = index_of (newest_stamp versions) (map (λ v. v.1) vers
 abbrev pub version_of : List Version → ℕ → Bool
 version_of versions k = slice_index_or (map (λ v. v.0) versions) k false
 
--- the store whose image was read; the empty one, where it is no image
+-- the store whose image was read; the empty store, if the bits are not an image
 abbrev pub store_read : Call → List Bool → Contents
 store_read c value = store_in c.setup.slots (callers_of c.setup) (bytes_of_bits (image_bytes c.setup) value)
 
@@ -110,7 +110,7 @@ part_e c (k ∷ ks) versions =
     then_read c k (stamp_field (is_one commit)) none λ stamp.
     part_e c ks (versions ++ (is_one commit, number_of_bits stamp) ∷ [])
 
--- D: what is waited for, a process and its register
+-- D: a wait, for a process and its register
 abbrev pub Wait : Type 0
 Wait = ℕ × Field
 
@@ -127,7 +127,7 @@ lets_by c ticket (j, _) value = (number_of_bits value == 0) || is_below ticket c
 abbrev pub waits_of : Call → List Wait
 waits_of c = flat_map (λ j. (j, Choosing) ∷ (j, Ticket) ∷ []) (others c.setup c.process)
 
--- who waits for nobody is inside
+-- a process that waits for no other process is inside
 abbrev pub entered_if_none : List Wait → List Mark
 entered_if_none [] = Entered ∷ []
 entered_if_none (w ∷ ws) = []

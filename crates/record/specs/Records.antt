@@ -55,7 +55,7 @@ entry_made s past p flick n =
 abbrev pub stepped : Setup → Past → ℕ → Bool → Option Entry
 stepped s past p flick = option_map (entry_made s past p flick) (nth (length (since starts (own p past))) (program s p flick (own p past)))
 
--- whose event it is
+-- the process of an event
 abbrev pub process_of : Event → ℕ
 process_of (Call p c) = p
 process_of (Step p flick) = p

@@ -13,7 +13,7 @@ use Rattle.store_image.specs.{image_of}
 abbrev pub processes : Setup → List ℕ
 processes s = range_with_len 0 s.processes
 
--- all but one, ascending
+-- all processes except p, ascending
 abbrev pub others : Setup → ℕ → List ℕ
 others s p = filter (λ j. not (j == p)) (processes s)
 
@@ -36,12 +36,12 @@ abbrev pub bytes_of_bits : ℕ → List Bool → List ℕ
 bytes_of_bits zero bits = []
 bytes_of_bits (suc k) bits = number_of_bits (take 8 bits) ∷ bytes_of_bits k (drop 8 bits)
 
--- what the registers open at: the first image of process 0 at the image of the opening store, each other one at 0
+-- the opening bits of a register: the first image of process 0 opens at the image of the opening store, each other register at 0
 abbrev pub opening_bits : Setup → ℕ → Field → List Bool
 opening_bits s zero Image0 = bits_in (image_of (opening_store s)) (width s Image0)
 opening_bits s owner field = []
 
--- what the bit of an access opens at
+-- the opening value of the bit of an access
 abbrev pub opening_bit : Setup → Access → Bool
 opening_bit s a = slice_index_or (opening_bits s a.owner a.field) a.bit false
 

@@ -35,7 +35,7 @@ singles = flat_map (λ q. single q.first q.last q.accesses)
 abbrev pub nth : ℕ → Script → Option Next
 nth k script = slice_get (singles script) k
 
--- its marks
+-- the marks of access number k of a script
 abbrev pub marks_at : ℕ → Script → List Mark
 marks_at k script = elim (nth k script) [ None ↦ [] | Some n ↦ n.marks ]
 
@@ -46,7 +46,7 @@ pub record Call : Type 0 where
   pub command : Command
   pub number : ℕ
 
--- who gives the call's command to the store
+-- the caller that gives the call's command to the store
 abbrev pub caller : Call → Caller
 caller c = record { process = c.process; number = c.number }
 

@@ -6,7 +6,7 @@ use Rattle.record.specs.declared.marks.Mark.{Mark}
 use Rattle.record.specs.declared.marks.Mark.TheVariants.{Taken, Answered, Down}
 use Rattle.record.specs.Entries.{Past, own, has, is_called}
 
--- with these marks the span of a call ends: it is answered, or its process is down
+-- a mark with which the span of a call ends: the call is answered, or its process is down
 abbrev pub ends_span : Mark → Bool
 ends_span (Answered a) = true
 ends_span Down = true
@@ -25,17 +25,17 @@ entries_of_call p later = until is_called (own p later)
 abbrev pub has_ended : ℕ → Past → Bool
 has_ended p later = list_any (has ends_span) (entries_of_call p later)
 
--- the places and replies that marks `Taken` tell
+-- the positions and replies of the marks `Taken`
 abbrev pub takings : List Mark → List (ℕ × Reply)
 takings [] = []
 takings (Taken k r ∷ marks) = (k, r) ∷ takings marks
 takings (_ ∷ marks) = takings marks
 
--- those of all these entries, the oldest first
+-- the positions and replies of the marks `Taken` of all these entries, the oldest first
 abbrev pub all_takings : Past → List (ℕ × Reply)
 all_takings [] = []
 all_takings (e ∷ past) = all_takings past ++ takings e.marks
 
--- those of a call of p
+-- the positions and replies of the marks `Taken` of a call of p
 abbrev pub takings_of_call : ℕ → Past → List (ℕ × Reply)
 takings_of_call p later = all_takings (entries_of_call p later)

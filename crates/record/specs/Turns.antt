@@ -1,4 +1,4 @@
--- Writes in their turn: which copies a process or its memory unit has open for writing, by its place.
+-- Writes in their turn: the copies that a process or its memory unit has open for writing, by its place.
 use Rattle.std.specs.Prelude.{◌≡◌, ℕ, ◌%◌, ◌==◌, nat_le, Bool, true, false, ◌&&◌, cond, List, [], ◌∷◌}
 use Rattle.safe_bit.specs.Cell.{Cell, cell_after, MayWrite}
 use Rattle.safe_bit.specs.{Move}
@@ -14,19 +14,19 @@ use Rattle.record.specs.Parts.{Part, written_at}
 use Rattle.record.specs.Places.{Run, Writing, Reading, Place, bit_written, next_written}
 use Rattle.record.specs.Scripts.{Call}
 
--- a bit, as far as its writes go
+-- a bit, reduced to its writes
 abbrev pub open_cell : Bool → Cell
 open_cell was = record { value = false; writing = was; reading = false; touched = false }
 
--- where a write of a bit was open or not, this move on it is in its turn
+-- a move on a bit is in its turn; `was` means that a write of the bit was open
 abbrev pub Turn : Bool → Move → Type 0
 Turn was move = MayWrite (open_cell was) move
 
--- whether its write is open after a move, which is on it or not
+-- the write of a bit is open after a move; `is_on` means that the move is on this bit
 abbrev pub open_after : Bool → Bool → Move → Bool
 open_after was is_on move = cond is_on (cell_after (open_cell was) move).writing was
 
--- an access in its turn leads from the copies that were open to those that are open then
+-- an access in its turn leads from the copies that were open to those that are open after it
 pub record Leads (was : Access → Bool) (x : Access) (then : Access → Bool) : Type 0 where
   pub turn : (a : Access) → same_bit a x ≡ true → Turn (was a) x.how
   pub after : (a : Access) → then a ≡ open_after (was a) (same_bit a x) x.how
@@ -39,7 +39,7 @@ open_written p f bits w a = same_bit a (access_of p f (next_written bits w)) && 
 abbrev pub open_copy : copies.Settling → ℕ → Bool
 open_copy t r = cond ((r == t.reader) && t.begun) true (nat_le t.reader r && copies.is_open_at t.made r)
 
--- the same of the bit of an access
+-- the copies of a bit of a register of p that its settling has open
 abbrev pub open_settled : ℕ → Field → ℕ → copies.Settling → Access → Bool
 open_settled p f bit t a = ((a.bit == bit) && (a.owner == p) && (field_number a.field == field_number f)) && open_copy t a.reader
 
@@ -48,11 +48,11 @@ abbrev pub open_run : Call → Part → Run → Access → Bool
 open_run c part (Writing w) a = open_written c.process (written_at c part).0 (written_at c part).1 w a
 open_run c part (Reading bits begun) a = false
 
--- the one that is open at a place
+-- the copy that is open at a place
 abbrev pub open_place : Call → Place → Access → Bool
 open_place c at a = open_run c at.part at.run a
 
--- those that a withdrawal or a memory unit has open
+-- the copies that a withdrawal or a memory unit has open
 abbrev pub open_closing : Call → Closing → Access → Bool
 open_closing c (Withdraws w) a = open_written c.process Ticket (no_ticket c) w a
 open_closing c (Settles field bit begun taken is t) a = open_settled c.process field bit t a

@@ -32,8 +32,8 @@ pub struct Access {
 }
 
 impl Access {
-    /// What is made of a bit of a register, as the next access of a read or a write tells it, as an access to
-    /// that register.
+    /// Returns the next access of a read or a write as an access to this register; `next` is the bit and what is
+    /// made of it.
     #[inline]
     pub fn of(owner: u8, field: Field, next: (u16, Made)) -> Access
         ensures { result ≡ access_of owner field next }
@@ -48,7 +48,7 @@ impl Access {
         }
     }
 
-    /// Whether both are accesses of one single-reader bit.
+    /// Returns whether both are accesses of one single-reader bit.
     #[inline]
     pub fn same_bit(&self, other: &Access) -> bool
         ensures { result ≡ same_bit self.now other.now }
@@ -66,6 +66,6 @@ pub struct TornBit {
     pub field: Field,
     /// The bit of the register, counted from 0, the least significant.
     pub bit: u16,
-    /// What is left to settle of it.
+    /// The settling of the bit that remains.
     pub torn: Torn,
 }

@@ -3,7 +3,7 @@ use crate::marks::Mark;
 use smallvec::SmallVec;
 use std::marker::Model;
 
-/// What one accepted event did: at most one access, and its marks, at most 3 in place. Contracts see the
+/// The effect of one accepted event: at most one access, and its marks, at most 3 in place. Contracts see the
 /// marks as their list.
 #[derive(Drop)]
 pub struct Act {

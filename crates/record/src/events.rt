@@ -4,7 +4,7 @@ ghost use Rattle.record.specs.Records.{process_of};
 
 use plain_store::Command;
 
-/// What may happen to a world. The first number is the process, from 0. It is accepted or refused as a
+/// An event of a world. The first number is the process, from 0. The event is accepted or refused as a
 /// whole: see `Refusal`.
 #[derive(Clone, Copy)]
 pub enum Event {
@@ -23,7 +23,7 @@ pub enum Event {
 }
 
 impl Event {
-    /// Whose event it is.
+    /// Returns the process of the event.
     pub fn process(&self) -> u8
         ensures { result ≡ process_of self.now }
     {
@@ -36,7 +36,7 @@ impl Event {
         }
     }
 
-    /// Does nothing. Its contract says that what the event calls is a command.
+    /// Does nothing. Its contract states that the command of an event that calls is a command.
     pub fn command_is_sound(&self)
         ensures { is_event self.now ≡ true }
     {

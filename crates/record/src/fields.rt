@@ -18,7 +18,7 @@ pub const FIELDS: [(Field, &str); 7] = [
     (Field::Image1, "image1"),
 ];
 
-/// The place of a register in their order, counted from 0.
+/// Returns the index of a register in their order, counted from 0.
 #[inline(always)]
 pub fn number_of_field(field: Field) -> usize
     ensures number { result ≡ field_number field }
@@ -35,7 +35,7 @@ pub fn number_of_field(field: Field) -> usize
     }
 }
 
-/// The register at a place in their order.
+/// Returns the register at an index in their order.
 pub fn field_numbered(number: usize) -> Field
     requires { number < 7 }
     ensures place { result ≡ slice_index_or fields number Field.Image1 }
@@ -44,7 +44,7 @@ pub fn field_numbered(number: usize) -> Field
     FIELDS[number].0
 }
 
-/// The bits of a register.
+/// Returns the number of bits of a register.
 #[inline]
 pub fn width_of(field: Field, setup: &Setup) -> u16
     requires { checked setup.now ≡ Ok tt }
@@ -60,7 +60,7 @@ pub fn width_of(field: Field, setup: &Setup) -> u16
     }
 }
 
-/// The bytes of an image: 23 a slot, and 2 a caller.
+/// Returns the number of bytes of an image: 23 for each slot, and 2 for each caller.
 #[inline]
 pub fn image_bytes(setup: &Setup) -> u16
     requires { checked setup.now ≡ Ok tt }

@@ -1,5 +1,5 @@
-//! What holds of every record of a list of events, and of the place machine beside the script. Each law is
-//! a function with nothing to do, whose contract is the law.
+//! The laws of every record of a list of events, and of the place machine next to the script. Each law is
+//! a function with an empty body, whose contract is the law.
 ghost use Rattle.record.specs.Laws.{OwnEntry, OthersStay, AcceptedAdds, RefusedAddsNothing, SingleWriter, PlaceTellsNext, PlaceTellsMarks, RunsFromItsPlace, WithdrawalTellsNext, UnitTellsNext, ClosingTellsStage, WithdrawsFromItsPlace, UnitGoesOnFromItsPlace, CallIsCutAtItsPlace, WithdrawalIsCutAtItsPlace, RestIsNotCut, TornBitOfCallIsThere, TornCommitIsPending, TornBitOfWithdrawalIsThere, UnoverlappedReadGivesTheBit, WriteOfBytesGoesByBits, BytesAreMadeByTheirBits, PlaceStartsClosed, PlaceGoesInTurn, WithdrawalGoesInTurn, UnitGoesInTurn, WritesComeInTurn, CellsAnswerTheSafeRule};
 
 /// An event adds to the entries of its own process alone. One that is not refused adds exactly one entry,
@@ -17,17 +17,17 @@ pub fn single_writer()
 {}
 
 /// For every call and every list of own accesses, the next access and the marks that the place machine
-/// tells are those of the script. In every record a process that runs its call goes on from its place.
+/// gives are those of the script. In every record a process that runs its call continues from its place.
 pub fn places_follow_scripts()
     ensures next { PlaceTellsNext }
     ensures marks { PlaceTellsMarks }
     ensures every_record { RunsFromItsPlace }
 {}
 
-/// For every call that was withdrawn, and every one that was cut by a failure, the next access and the
-/// marks that the closing machine tells are those of the withdrawal's script and of the memory unit's, and
-/// they lead to its stages. In every record a process that withdrew, and the memory unit of one that
-/// failed, goes on from its place.
+/// For every call that was withdrawn, the next access and the marks of the closing machine are those of the
+/// withdrawal's script. For every call that a failure cut, they are those of the memory unit's script. The marks
+/// lead to the machine's stages. In every record a process that withdrew, and the memory unit of one that
+/// failed, continues from its place.
 pub fn closings_follow_scripts()
     ensures withdrawal { WithdrawalTellsNext }
     ensures unit { UnitTellsNext }
@@ -36,10 +36,10 @@ pub fn closings_follow_scripts()
     ensures unit_in_record { UnitGoesOnFromItsPlace }
 {}
 
-/// In every record a failure finds its process at the place of its call or of its withdrawal: the memory
+/// In every record a failure finds its process at the place of its call or of its withdrawal. The memory
 /// unit that it starts, by the failure rule's look back over the process's own entries, is the one that
-/// settles the torn bit of that place, which is one that there is; a commit bit is that of the change that
-/// is pending. Where the process is idle there is nothing to settle.
+/// settles the torn bit of that place. This bit exists, and a torn commit bit is that of the pending change.
+/// If the process is idle, there is nothing to settle.
 pub fn failures_cut_at_the_place()
     ensures call { CallIsCutAtItsPlace }
     ensures withdrawal { WithdrawalIsCutAtItsPlace }
@@ -54,14 +54,14 @@ pub fn unoverlapped_reads_give_the_bits()
     ensures { UnoverlappedReadGivesTheBit }
 {}
 
-/// Registers are written and read as bytes, and the machines speak of bits: a write of bytes goes the way
+/// Registers are written and read as bytes, and the machines use bits. A write of bytes takes the steps
 /// of a write of their bits, and the bytes that were read are those that their bits make.
 pub fn bytes_go_by_their_bits()
     ensures write { WriteOfBytesGoesByBits }
     ensures read { BytesAreMadeByTheirBits }
 {}
 
-/// The accesses that the machines tell come in their turn: a write of a copy begins where none is open on
+/// The accesses of the machines come in their turn: a write of a copy begins where none is open on
 /// it, and ends or is settled where one is.
 pub fn machines_go_in_turn()
     ensures start { PlaceStartsClosed }
@@ -71,7 +71,7 @@ pub fn machines_go_in_turn()
 {}
 
 /// In every record the writes of each single-reader bit come in their turn. So the cell of the bit, which
-/// is a fold over its moves, answers as the safe rule does, which looks back.
+/// is a fold over its moves, gives the value of the safe rule, which looks back.
 pub fn cells_answer_the_safe_rule()
     ensures turns { WritesComeInTurn }
     ensures cells { CellsAnswerTheSafeRule }

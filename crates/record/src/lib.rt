@@ -1,4 +1,4 @@
-//! What a run is: events, the entries that they add, and the laws of every record of a list of events. The
+//! The parts of a run: events, the entries that they add, and the laws of every record of a list of events. The
 //! lock is Lamport's bakery (1974) on safe single-reader bits (1986a); the store and the failure rule are
 //! this project's own profile.
 #![tactic(auto)]

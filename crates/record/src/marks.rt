@@ -1,6 +1,6 @@
 use plain_store::{Answer, Command, Reply};
 
-/// What an entry marks, beside its access. The default stands in the unused places of an act's list alone.
+/// A mark of an entry, apart from its access. The default fills only the unused positions of an act's list.
 #[derive(Clone, Copy, Default, PartialEq, Eq)]
 pub enum Mark {
     /// A call began, with this command.
@@ -10,7 +10,7 @@ pub enum Mark {
     /// The process is inside the critical section from now on.
     #[default]
     Entered,
-    /// The command was taken: its place in the history, which is how many commands were taken before it,
+    /// The command was taken: its position in the history, which is the number of commands taken before it,
     /// and the store's reply.
     Taken(u64, Reply),
     /// The clearing of the ticket begins: the process is no longer inside.

@@ -1,4 +1,4 @@
-/// Why an event is refused. Where several apply, the first in this order is given. A refused event adds no
+/// The reason why an event is refused. If several apply, it is the first in this order. A refused event adds no
 /// entry.
 #[derive(Clone, Copy, Debug, PartialEq, Eq)]
 pub enum Refusal {
@@ -18,6 +18,6 @@ pub enum Refusal {
     NotDown,
     /// A call in version 2: the process has made 65,535 calls.
     CallsFull,
-    /// A call: the memory for it was refused. It is no part of what a record is.
+    /// A call: an allocation failed. This refusal is not part of the definition of a record.
     Memory,
 }

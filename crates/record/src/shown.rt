@@ -1,4 +1,4 @@
-//! How marks, refusals, stages and registers are printed, in replays and wherever else.
+//! The words and lines that print marks, refusals, stages and registers, in replays and elsewhere.
 ghost use Rattle.std.specs.Prelude.{◌≡◌, IfOk};
 ghost use Rattle.std.specs.String.{string_bytes};
 ghost use Rattle.record.specs.Shown.{field_word, mark_text, refusal_line as line_of_refusal, refusal_text, stage_word};
@@ -57,7 +57,7 @@ impl fmt::Display for Refusal {
 }
 
 impl Stage {
-    /// Its word.
+    /// Returns its word.
     pub fn word(self) -> &'static str
         ensures { result.now ≡ stage_word self }
     {
@@ -74,7 +74,7 @@ impl Stage {
 }
 
 impl Field {
-    /// Its word.
+    /// Returns its word.
     pub fn word(self) -> &'static str
         ensures { result.now ≡ field_word self }
     {
@@ -82,7 +82,11 @@ impl Field {
     }
 }
 
-/// The line that tells that a call, or another event, of a process is refused.
+/// Returns the line that reports that a call, or another event, of a process is refused.
+///
+/// # Errors
+///
+/// Returns [`AllocError`] if an allocation fails.
 #[tactic(auto, using(crate::proofs::RefusalLines::refusal_line_is))]
 pub fn refusal_line(alloc: Global, process: u8, refusal: &Refusal) -> Result<String, AllocError>
     ensures { IfOk result (λ line. string_bytes line ≡ line_of_refusal process refusal.now) }

@@ -1,4 +1,4 @@
-/// Where a process stands. It is running in the four stages from `Doorway` to `Leaving`.
+/// The stage of a process. It is running in the four stages from `Doorway` to `Leaving`.
 #[derive(Clone, Copy, PartialEq, Eq)]
 pub enum Stage {
     /// It has no call.

@@ -107,7 +107,7 @@ bits-number (b ∷ bits) =
     ap (λ x. x ∷ bits_of_number (length bits) (number_of_bits (b ∷ bits) / 2)) (lowest b (number_of_bits bits))
     ∙ ap (λ n. b ∷ bits_of_number (length bits) n) (others b (number_of_bits bits)) ∙ ap (λ bs. b ∷ bs) (bits-number bits)
 
--- and their number has that width
+-- the number of w bits is below 2 ^ w
 below_two : (b : Bool) → cond b 1 0 < 2
 below_two true = omega arith
 below_two false = omega arith

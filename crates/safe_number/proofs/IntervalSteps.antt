@@ -1,4 +1,4 @@
--- What a write, its settling and a read make of a register over whole intervals.
+-- The effect of a write, its settling and a read on a register, over whole intervals.
 use Rattle.std.proofs.Common.{◌≡◌, ◌≢◌, ℕ, ◌+◌, ◌<◌, ◌==◌, ◌||◌, List, [], ◌∷◌, Bool, true, false, cond, Option, Some, None, unwrap_or, length, refl, sym, ap, subst, ◌∙◌, arith, inl, inr}
 use Rattle.std.proofs.lemmas.Bool.{eqb-true, eq-eqb, cases_lt}
 use Rattle.reader_copies.specs.safe_bit.{Move}
@@ -9,7 +9,7 @@ use Rattle.reader_copies.proofs.Steps.{settle_starts, settle_on, settle_done}
 use Rattle.safe_number.specs.{IsSettleInterval, IsSettling, IsUndisturbed, IsUndisturbedInterval, IsWriteInterval, IsWriting, Moment, NumberRead, NumberWrite, Other, Own, ReadState, SettleState, WriteState, bit_in, bit_read, bit_write, first_bits, first_given, loaded, new_read, read_interval, read_moment, reader_of, settle_interval, settle_moment, torn_bit, torn_run, torn_with, write_interval}
 use Rattle.safe_number.proofs.WrittenSteps.{shape_after, has_cell, writing-on, undisturbed-start, undisturbed-on, undisturbed-apart, read_keeps}
 
--- the settling of a write that was cut after so many accesses, before its first access
+-- the settling of a write that was cut after `made` accesses, before its first access
 abbrev torn_at : ℕ → Settling
 torn_at made = record { made = made; reader = 0; begun = false; value = None }
 
@@ -25,7 +25,7 @@ length_call : (row : List (List Cell)) (call : RowCall) → length (row_after_ca
 length_call row (MakesAt bit made) = length-row_with_cell row bit made.reader (cell_after (cell_at row bit made.reader) made.how)
 length_call row (DropsAt bit reader) = length-row_with_cell row bit reader (without_read (cell_at row bit reader))
 
--- what others read leaves a write where it is
+-- reads of others leave a write where it is
 writing_call : (row : List (List Cell)) (old : ℕ → Bool) (value : List ℕ) (w : NumberWrite) (call : RowCall) → IsReadCall row call → IsWriting row old value w → IsWriting (row_after_call row call) old value w
 writing_call row old value w call reads is = record {
   shape = shape_call row call w.width is.shape;
@@ -47,7 +47,7 @@ writing-interval old value s (Other call ∷ moments) is turns =
     let t : WriteState = write_interval value s moments in
     writing_call t.row old value t.run call turns.0 (writing-interval old value s moments is turns.1)
 
--- a write without a torn bit stands between two bits
+-- a write without a torn bit is between two bits
 between_as : (k : ℕ) (run : Writing) (unbegun : Bool) → (run.made == 0) ≡ unbegun → run.ended ≡ false → torn_with k (cond (unbegun || run.ended) None (Some (torn_at run.made))) ≡ None → run.made ≡ 0
 between_as k run true e unended none = eqb-true run.made 0 e
 between_as k run false e unended none =
@@ -75,7 +75,7 @@ torn_is : (k : ℕ) (run : Option Writing) (fresh : Writing) (b : ℕ) (torn : S
 torn_is k None fresh b torn e = absurd (cc)
 torn_is k (Some run) fresh b torn e = torn_as k run.made (run.made == 0 || run.ended) b torn e
 
--- what one access makes of a settling
+-- the effect of one access on a settling
 made-settle : (t : Settling) (v : Bool) → (settle_after t v).made ≡ t.made
 made-settle t v = elim (t.begun || is_open_at t.made t.reader) as (λ b. (cond {A = Settling} b (record { made = t.made; reader = t.reader + 1; begun = false; value = Some v }) (record { made = t.made; reader = t.reader; begun = true; value = Some v })).made ≡ t.made) [ true ↦ refl | false ↦ refl ]
 
@@ -90,7 +90,7 @@ settled_twice (Some v) x = refl
 pub settling-can : (row : List (List Cell)) (others : ℕ → Bool) (b : ℕ) (t : Settling) (x : Bool) → HasCell row b t.reader → IsSettling row others b t → CanMake row b (next_settle t (settled_at t x))
 settling-can row others b t x there is = (settle_on row others b (settled_at t x) t.made t.reader t.begun t.value there (is.partly (settled_at t x) (settled_twice t.value x))).0
 
--- and brings it one further
+-- the next access of a settling brings it one further
 pub settling-on : (row : List (List Cell)) (others : ℕ → Bool) (b : ℕ) (t : Settling) (x : Bool) → HasCell row b t.reader → IsSettling row others b t → IsSettling (row_after row b (next_settle t (settled_at t x))) others b (settle_after t (settled_at t x))
 settling-on row others b t x there is =
     let v : Bool = settled_at t x in
@@ -109,7 +109,7 @@ settling-on row others b t x there is =
 pub settled-stays : (t : Settling) (v : Bool) → settled_at t v ≡ v → settled_at (settle_after t (settled_at t v)) v ≡ v
 settled-stays t v e = ap (λ o. unwrap_or o v) (value-settle t (settled_at t v)) ∙ e
 
--- what others read leaves it where it is
+-- reads of others leave a settling where it is
 settling_call : (row : List (List Cell)) (others : ℕ → Bool) (b : ℕ) (t : Settling) (call : RowCall) → IsReadCall row call → IsSettling row others b t → IsSettling (row_after_call row call) others b t
 settling_call row others b t call reads is = record {
   partly = λ w e. partly_settled-kept row (row_after_call row call) others b t.made w t.reader t.begun (call-keeps row call reads) (is.partly w e);
@@ -127,7 +127,7 @@ settling-end row others b t v is e all =
       rest = so.rest;
     })
 
--- a cut write is settled from its first copy on
+-- a write that was cut is settled from its first copy on
 pub settling-start : (row : List (List Cell)) (old : ℕ → Bool) (value : List ℕ) (w : NumberWrite) (b : ℕ) (torn : Settling) → IsWriting row old value w → torn_bit w ≡ Some (b, torn) → IsSettling row (cut_values old (bit_in value) b) b torn
 settling-start row old value w b torn is cut =
     let which = torn_is w.bit w.run (record { value = bit_in value w.bit; made = 0; ended = false }) b torn cut in
@@ -141,7 +141,7 @@ torn-start value w b torn cut =
     let which = torn_is w.bit w.run (record { value = bit_in value w.bit; made = 0; ended = false }) b torn cut in
     (which.0, ap (λ (t : Settling). t.value) (sym which.1), ap (λ (t : Settling). t.reader) (sym which.1))
 
--- and stands in the register
+-- the torn bit is a bit of the register
 not_torn : (k : ℕ) (run : Option Writing) (fresh : Writing) (b : ℕ) (torn : Settling) → (unwrap_or run fresh).made ≡ 0 → torn_run k run ≡ Some (b, torn) → ⊥
 not_torn k None fresh b torn none cut = cc
 not_torn k (Some run) fresh b torn none cut =

@@ -12,7 +12,7 @@ use Rattle.safe_number.specs.{NumberRead, bit_in, bits_in, little_endian, number
 abbrev read-with : NumberRead → List Bool → Bool → NumberRead
 read-with r bits begun = record { width = r.width; bits = bits; begun = begun; room = r.room }
 
--- zeros behind a number change nothing
+-- zeros after a number change nothing
 little_endian-zeros : (n : ℕ) → little_endian (replicate n 0) ≡ 0
 little_endian-zeros zero = refl
 little_endian-zeros (suc n) = omega (arith, little_endian-zeros n)
@@ -41,7 +41,7 @@ bit_in-set_below bytes k j before w inside read below less = elim (cases_eq (j /
   | inr e ↦ ap (λ x. bit_at x (j % 8) == 1) (get_or-set_other bytes (k / 8) (j / 8) w 0 e)
 ]
 
--- and those above it 0
+-- the bits above bit k in its byte are 0
 pub bit_in-set_above : (bytes : List ℕ) (k j w : ℕ) → k < 8 * length bytes → ((i : ℕ) → i < 8 → k % 8 < i → bit_at w i ≡ 0) → k < j → j / 8 < (k + 1 + 7) / 8 → bit_in (set bytes (k / 8) w) j ≡ false
 bit_in-set_above bytes k j w inside above more near =
     let e : j / 8 ≡ k / 8 = omega arith in

@@ -1,4 +1,4 @@
--- The accesses that a write and a read tell, one after another.
+-- The accesses of a write and a read, one after another.
 use Rattle.std.proofs.Common.{◌≡◌, ℕ, zero, suc, ◌+◌, ◌-◌, ◌*◌, ◌<◌, ◌≤◌, ◌==◌, List, [], ◌∷◌, ◌++◌, Bool, true, false, cond, Some, None, drop, length, map, refl, sym, ap, ◌∙◌, append-nil, append_assoc, arith, inl, inr}
 use Rattle.std.proofs.Math.Nat.{mul-suc, mul-zero}
 use Rattle.std.proofs.lemmas.Bool.{cases_lt, eqb-true, eqb-false}
@@ -22,7 +22,7 @@ drop_past [] (suc k) h = refl
 drop_past (x ∷ xs) zero h = absurd (omega arith)
 drop_past (x ∷ xs) (suc k) h = drop_past xs k (omega arith)
 
--- what is left when the next bit comes
+-- the accesses left when the next bit comes
 next_bit_rest : (n : ℕ) (value : List ℕ) (width bit m : ℕ) → rest_of_bits n value (record { width = width; bit = bit; run = None }) m ≡ writes_from n bit (map (bit_in value) (range_with_len bit m))
 next_bit_rest n value width bit zero = refl
 next_bit_rest n value width bit (suc m) = refl
@@ -71,7 +71,7 @@ goes-on n value w some on inside =
 pub rest-done : (n : ℕ) (value : List ℕ) (w : NumberWrite) → w.bit ≡ w.width → rest_of_number_write n value w ≡ []
 rest-done n value w all = let none : w.width - w.bit ≡ 0 = omega arith in ap (rest_of_bits n value w) none
 
--- so it tells exactly the accesses that are left
+-- so a write makes exactly the accesses that are left
 pub told-rest : (k n : ℕ) (value : List ℕ) (w : NumberWrite) → 0 < n → GoesOn n value w → length (rest_of_number_write n value w) ≡ k → (told_by_write k n value w ≡ rest_of_number_write n value w) × ((write_after_steps k n value w).bit ≡ (write_after_steps k n value w).width)
 told-rest zero n value w some on len = elim (cases_lt w.bit w.width) [
   | inl inside ↦ absurd (omega (arith, ap length (rest-next n value w on inside)))

@@ -63,7 +63,7 @@ row-shape value k width row after is shape = record {
       ∙ length-map-range_with_len (cell_below value k (get_or row r [])) 0 (length (get_or row r [])) ∙ shape.widths r inside;
 }
 
--- and its bits from k on
+-- such a row keeps its bits from k on
 pub row-rest : (value : List ℕ) (k width r : ℕ) (row after : List (List Cell)) → after ≡ map (preset_below value k) row → IsRow row width → k < width → r < length row → cell_at after k r ≡ cell_at row k r
 row-rest value k width r row after is shape inside there =
     ap (λ xs. cell_in (get_or xs r []) k) is

@@ -1,4 +1,4 @@
--- The accesses of a whole number, in their order: bits ascending; of a write of a bit the copies ascending, of each copy begin and end; of a read of a bit begin and end of the reader's own copy.
+-- The accesses of a whole number, in their order, with the bits ascending. A write of a bit takes the copies ascending, with begin and end of each. A read of a bit has begin and end of the reader's own copy.
 use Rattle.std.specs.Prelude.{ℕ, zero, suc, ◌+◌, ◌-◌, Bool, List, [], ◌∷◌, ◌++◌, map, length, if◌then◌else◌}
 use Rattle.std.specs.List.{range_with_len}
 use Rattle.reader_copies.specs.safe_bit.declared.Move.TheVariants.{BeginRead, EndRead}
@@ -29,7 +29,7 @@ reads_from reader k (b ∷ bits) =
 abbrev pub number_reads : ℕ → List Bool → List (ℕ × Made)
 number_reads reader bits = reads_from reader 0 bits
 
--- the accesses that are left of a write with so many bits to go
+-- the accesses that are left of a write, of which this number of bits is still to be written
 abbrev pub rest_of_bits : ℕ → List ℕ → NumberWrite → ℕ → List (ℕ × Made)
 rest_of_bits n value w zero = []
 rest_of_bits n value w (suc m) = map (at_bit w.bit) (rest_of_write n (bit_write value w)) ++ writes_from n (w.bit + 1) (map (bit_in value) (range_with_len (w.bit + 1) m))
@@ -38,7 +38,7 @@ rest_of_bits n value w (suc m) = map (at_bit w.bit) (rest_of_write n (bit_write 
 abbrev pub rest_of_number_write : ℕ → List ℕ → NumberWrite → List (ℕ × Made)
 rest_of_number_write n value w = rest_of_bits n value w (w.width - w.bit)
 
--- the next k accesses that a write tells
+-- the next k accesses of a write
 abbrev pub told_by_write : ℕ → ℕ → List ℕ → NumberWrite → List (ℕ × Made)
 told_by_write zero n value w = []
 told_by_write (suc k) n value w = next_of_write value w ∷ told_by_write k n value (number_write_after n value w)
@@ -52,7 +52,7 @@ write_after_steps (suc k) n value w = write_after_steps k n value (number_write_
 abbrev pub made_by_read : ℕ → NumberRead → List (ℕ × Made)
 made_by_read reader r = number_reads reader r.bits ++ (if r.begun then at_bit (length r.bits) (record { reader = reader; how = BeginRead }) ∷ [] else [])
 
--- the next accesses that a read tells, one for each value that is handed in
+-- the next accesses of a read, one for each value that is handed in
 abbrev pub told_by_read : ℕ → NumberRead → List Bool → List (ℕ × Made)
 told_by_read reader r [] = []
 told_by_read reader r (v ∷ values) = next_of_read reader r v ∷ told_by_read reader (number_read_after r v) values

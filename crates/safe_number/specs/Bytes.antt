@@ -12,7 +12,7 @@ little_endian (byte ∷ bytes) = byte + 256 * little_endian bytes
 abbrev pub AreBytes : List ℕ → Type 0
 AreBytes bytes = (k : ℕ) → slice_index_or bytes k 0 < 256
 
--- bit k stands in bit k % 8 of byte k / 8
+-- bit k of bytes is bit k % 8 of byte k / 8
 abbrev pub bit_in : List ℕ → ℕ → Bool
 bit_in bytes k = bit_at (slice_index_or bytes (k / 8) 0) (k % 8) == 1
 

@@ -1,11 +1,11 @@
--- What happens to a register while an access to it goes on: the access's own steps, and between them what others do.
+-- The moments of a register during an access to it: the access's own steps, and the calls of others between them.
 use Rattle.std.specs.Prelude.{◌≢◌, ℕ, ◌<◌, Bool, List, [], ◌∷◌, length, Option, Some, None, unwrap_or}
 use Rattle.reader_copies.specs.safe_bit.Cell.{Cell}
 use Rattle.reader_copies.specs.{DropsAt, IsReadCall, MakesAt, RowCall, Settling, next_settle, row_after, row_after_call, settle_after, settled_at}
 use Rattle.safe_number.specs.Runs.{NumberWrite, NumberRead, number_write_after, number_read_after, register_written}
 use Rattle.safe_number.specs.Written.{loaded, register_read}
 
--- a moment of an interval: the access's own next step, with the bit that is handed in, or a call of somebody else
+-- a moment of an interval: the access's own next step, with the bit that is handed in, or a call of another caller
 pub data Moment : Type 0 where
   Own : Bool → Moment
   Other : RowCall → Moment
@@ -25,12 +25,12 @@ abbrev pub write_interval : List ℕ → WriteState → List Moment → WriteSta
 write_interval value s [] = s
 write_interval value s (m ∷ moments) = write_moment value (write_interval value s moments) m
 
--- the write goes on while bits are left, and others only read
+-- a write's own step needs a bit that is left, and the other calls only read
 abbrev pub IsWriteMoment : WriteState → Moment → Type 0
 IsWriteMoment s (Own x) = s.run.bit < s.run.width
 IsWriteMoment s (Other call) = IsReadCall s.row call
 
--- so it is at each of these moments
+-- `IsWriteMoment` holds at each of these moments
 abbrev pub IsWriteInterval : List ℕ → WriteState → List Moment → Type 0
 IsWriteInterval value s [] = Unit {0}
 IsWriteInterval value s (m ∷ moments) = IsWriteMoment (write_interval value s moments) m × IsWriteInterval value s moments
@@ -50,12 +50,12 @@ abbrev pub settle_interval : ℕ → SettleState → List Moment → SettleState
 settle_interval b s [] = s
 settle_interval b s (m ∷ moments) = settle_moment b (settle_interval b s moments) m
 
--- the settling goes on while copies are left, and others only read
+-- a settling's own step needs a copy that is left, and the other calls only read
 abbrev pub IsSettleMoment : SettleState → Moment → Type 0
 IsSettleMoment s (Own x) = s.torn.reader < length s.row
 IsSettleMoment s (Other call) = IsReadCall s.row call
 
--- so it is at each of these moments
+-- `IsSettleMoment` holds at each of these moments
 abbrev pub IsSettleInterval : ℕ → SettleState → List Moment → Type 0
 IsSettleInterval b s [] = Unit {0}
 IsSettleInterval b s (m ∷ moments) = IsSettleMoment (settle_interval b s moments) m × IsSettleInterval b s moments
@@ -89,12 +89,12 @@ abbrev pub reader_of : RowCall → ℕ
 reader_of (MakesAt bit made) = made.reader
 reader_of (DropsAt bit reader) = reader
 
--- the read goes on while bits are left, and others only read their own copies: no write meets the interval
+-- no write meets the moment: the read's own step needs a bit that is left, and the others only read their own copies
 abbrev pub MeetsNoWrite : ℕ → ReadState → Moment → Type 0
 MeetsNoWrite reader s (Own flick) = length s.run.bits < s.run.width
 MeetsNoWrite reader s (Other call) = IsReadCall s.row call × (reader_of call ≢ reader)
 
--- so it is at each of these moments
+-- `MeetsNoWrite` holds at each of these moments
 abbrev pub IsUndisturbedInterval : ℕ → ReadState → List Moment → Type 0
 IsUndisturbedInterval reader s [] = Unit {0}
 IsUndisturbedInterval reader s (m ∷ moments) = MeetsNoWrite reader (read_interval reader s moments) m × IsUndisturbedInterval reader s moments

@@ -1,9 +1,9 @@
--- What the fields of a read keep.
+-- The invariant of the fields of a read.
 use Rattle.std.specs.Prelude.{◌≡◌, ℕ, ◌+◌, ◌/◌, ◌<◌, ◌≤◌, List, false, None, length}
 use Rattle.reader_copies.specs.{Reading}
 use Rattle.safe_number.specs.Bytes.{bit_in}
 
--- a read has come to a bit, and the bits below it stand in the bytes
+-- a read has come to a bit, and the bytes contain the bits below it
 pub record KeepsBits (width bit : ℕ) (run : Reading) (bytes : List ℕ) (room : ℕ) : Type 0 where
   pub bit_in_width : bit ≤ width
   pub width_in_room : width ≤ room

@@ -33,7 +33,7 @@ bit_write value w = unwrap_or w.run (record { value = bit_in value w.bit; made =
 abbrev pub next_of_write : List ℕ → NumberWrite → ℕ × Made
 next_of_write value w = (w.bit, next_write (bit_write value w))
 
--- its next access is there, with so many copies of each bit
+-- the write has a next access, if each bit has this number of copies
 abbrev pub IsGoing : List ℕ → NumberWrite → ℕ → Type 0
 IsGoing value w readers = w.bit < w.width × (bit_write value w).made < 2 * readers
 
@@ -56,12 +56,12 @@ abbrev pub torn_with : ℕ → Option Settling → Option (ℕ × Settling)
 torn_with k None = None
 torn_with k (Some torn) = Some (k, torn)
 
--- the same of a bit whose write has begun, or of none
+-- bit k and the settling that its write needs, if this write has begun and has not ended on every copy
 abbrev pub torn_run : ℕ → Option Writing → Option (ℕ × Settling)
 torn_run k None = None
 torn_run k (Some run) = torn_with k (torn_of run)
 
--- the same of a write of a register
+-- the number of the unfinished bit of a write of a register, and the settling that it needs
 abbrev pub torn_bit : NumberWrite → Option (ℕ × Settling)
 torn_bit w = torn_run w.bit w.run
 

@@ -1,4 +1,4 @@
--- What a write and an undisturbed read make of a register.
+-- The effect of a write on a register, and the bits of an undisturbed read.
 use Rattle.std.specs.Prelude.{◌≡◌, ◌≢◌, ℕ, ◌*◌, ◌<◌, ◌≤◌, List, Bool, true, false, length, map}
 use Rattle.std.specs.List.{range_with_len}
 use Rattle.reader_copies.specs.safe_bit.Cell.{Cell, read_answer}
@@ -35,7 +35,7 @@ pub record IsUndisturbed (row : List (List Cell)) (v : ℕ → Bool) (reader : �
   pub so_far : r.bits ≡ first_bits v (length r.bits)
   pub untouched : HasCell row (length r.bits) reader → r.begun ≡ true → (cell_at row (length r.bits) reader).touched ≡ false
 
--- what the present bit's read would end with
+-- the value with which the read of the present bit would end
 abbrev pub loaded : List (List Cell) → ℕ → NumberRead → Bool → Bool
 loaded row reader r flick = read_answer (cell_at row (length r.bits) reader) flick
 

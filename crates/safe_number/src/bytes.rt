@@ -3,14 +3,14 @@ ghost use Rattle.std.specs.Prelude.{◌≡◌, ◌≤◌, ◌<◌, ◌*◌, ◌=
 ghost use Rattle.std.specs.Int.{bit_at};
 ghost use Rattle.safe_number.specs.Bytes.{bit_in, little_endian};
 
-/// The bytes of a number: bit `k` of the number is bit `k % 8` of byte `k / 8`, the least significant first.
+/// Returns the bytes of a number: bit `k` of the number is bit `k % 8` of byte `k / 8`, the least significant first.
 pub fn bits_of(number: u64) -> [u8; 8]
     ensures { little_endian result ≡ number }
 {
     number.to_le_bytes()
 }
 
-/// The number that at most 8 bytes make, the least significant first. So `number_of(&bits_of(n))` is `n`.
+/// Returns the number that at most 8 bytes make, the least significant first. So `number_of(&bits_of(n))` is `n`.
 pub fn number_of(bytes: &[u8]) -> u64
     requires { length bytes.now ≤ 8 }
     ensures { result ≡ little_endian bytes.now }
@@ -22,14 +22,14 @@ pub fn number_of(bytes: &[u8]) -> u64
     number_of_all(all)
 }
 
-/// The number that 8 bytes make.
+/// Returns the number that 8 bytes make.
 fn number_of_all(bytes: [u8; 8]) -> u64
     ensures { result ≡ little_endian bytes }
 {
     u64::from_le_bytes(bytes)
 }
 
-/// A bit of bytes, or false where there is none.
+/// Returns a bit of bytes, or false if they have no such bit.
 #[inline]
 pub fn bit_of(bytes: &[u8], k: u16) -> bool
     ensures { result ≡ bit_in bytes.now k }
@@ -38,7 +38,7 @@ pub fn bit_of(bytes: &[u8], k: u16) -> bool
     k / 8 < bytes.len() && bit(bytes, k)
 }
 
-/// Bit `k` of bytes.
+/// Returns bit `k` of bytes.
 #[inline]
 pub(crate) fn bit(bytes: &[u8], k: usize) -> bool
     requires { k < 8 * length bytes.now }
@@ -47,7 +47,7 @@ pub(crate) fn bit(bytes: &[u8], k: usize) -> bool
     (bytes[k / 8] >> (k % 8)) & 1 == 1
 }
 
-/// A byte whose bits below `k` were read and whose bit `k` is read now: those above it are 0.
+/// Returns a byte whose bits below `k` were read and whose bit `k` is read now; the bits above it are 0.
 #[inline]
 pub(crate) fn with_next_bit(byte: u8, k: usize, value: bool) -> u8
     requires { k < 8 }
@@ -59,7 +59,7 @@ pub(crate) fn with_next_bit(byte: u8, k: usize, value: bool) -> u8
     if value { below | (1 << k) } else { below }
 }
 
-/// The `k` lowest bits of a byte.
+/// Returns the `k` lowest bits of a byte.
 #[inline]
 fn low_bits(byte: u8, k: usize) -> u8
     requires { k < 8 }

@@ -4,13 +4,13 @@ ghost use Rattle.safe_number.specs.declared.fault.NumberFault.TheVariants.{Memor
 use std::alloc::AllocError;
 use thiserror::Error;
 
-/// Why no register or read was made.
+/// The reason why a register or a read was not made.
 #[derive(Clone, Copy, Debug, Error)]
 pub enum NumberFault {
     /// The width is 0 or above the greatest.
     #[error("the width is 0 or too great")]
     Width,
-    /// A growth was refused.
+    /// An allocation failed.
     #[error("out of memory")]
     Memory,
 }

@@ -1,4 +1,4 @@
-//! What holds of registers over any accesses. Each law is a function with nothing to do, whose contract is
+//! The laws of registers over any accesses. Each law is a function with an empty body, whose contract is
 //! the law.
 ghost use Rattle.safe_number.specs.Laws.{WriteBegins, WriteMayGoOn, WriteGoesOn, WriteEnds, WriteIsCut, WriteOverInterval, SettlingBegins, SettlingIsNew, TornBitIsInside, SettlingMayGoOn, SettlingGoesOn, SettledValueStays, SettlingEnds, CutWriteIsSettled, WholeWrite, WriteCount, NextOfWrite, RestOfNewWrite, RestOfDoneWrite, WholeRead, NextOfRead};
 ghost use Rattle.safe_number.specs.Laws.{ReadBegins, ReadGoesOn, ReadIsApart, UndisturbedBegins, UndisturbedGoesOn, UndisturbedIsApart, UndisturbedOverInterval, WrittenOverInterval, PresetIsWritten};
@@ -14,8 +14,8 @@ pub fn writes_give_the_number()
     ensures ends { WriteEnds }
 {}
 
-/// A write that is cut leaves the value's bits below and the old ones above, and between them the torn bit,
-/// if there is one, which its settling gives the bit that is handed in first.
+/// A write that is cut leaves the value's bits below and the old bits above. Between them is the torn bit, if
+/// there is one. Its settling gives it the bit that is handed in first.
 pub fn cut_writes_are_settled()
     ensures cut { WriteIsCut }
     ensures begins { SettlingBegins }
@@ -28,9 +28,9 @@ pub fn cut_writes_are_settled()
     ensures settled { CutWriteIsSettled }
 {}
 
-/// A whole write with `n` readers makes exactly its `2 * n * width` accesses and a whole read its `2 *
-/// width`, in their order: bits ascending, of each written bit the copies ascending, of each copy begin and
-/// end. So any finished read gives some number of that width.
+/// A whole write with `n` readers makes exactly its `2 * n * width` accesses, and a whole read its `2 * width`.
+/// Bits ascend, and so do the copies of each written bit; each copy has its begin and its end. So any finished
+/// read gives some number of that width.
 pub fn accesses_go_in_order()
     ensures whole_write { WholeWrite }
     ensures count { WriteCount }
@@ -41,7 +41,7 @@ pub fn accesses_go_in_order()
     ensures next_of_read { NextOfRead }
 {}
 
-/// A read goes on by its own accesses, in their turn. What happens to the other readers' copies leaves it
+/// A read continues by its own accesses, in their turn. Changes of the other readers' copies leave it
 /// as it is.
 pub fn reads_take_turns()
     ensures begins { ReadBegins }
@@ -63,7 +63,7 @@ pub fn presets_give_the_number()
     ensures { PresetIsWritten }
 {}
 
-/// Numbers, their bits and their bytes tell the same.
+/// Numbers, their bits and their bytes agree.
 pub fn numbers_are_their_bits()
     ensures number { NumberOfItsBits }
     ensures bits { BitsOfTheirNumber }

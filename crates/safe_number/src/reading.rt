@@ -9,19 +9,19 @@ use reader_copies::{CopyRead, MAX_WIDTH, Made, Progress};
 use std::alloc::{AllocError, Global};
 use std::marker::Model;
 
-/// A read of a register by one reader: of each bit begin and end on the reader's own copy, bit 0 first. It
+/// A read of a register by one reader: begin and end on the reader's own copy of each bit, bit 0 first. It
 /// belongs to that reader.
 ///
-/// It is made once with room for the widest register that it is to read, and begun anew by `reset`.
+/// It is made once with room for the widest register that it is to read, and `reset` begins it anew.
 #[derive(Drop)]
 pub struct ReadRun {
     width: u16,
-    /// The bit that is read now, and how far its read has come.
+    /// The bit that is read now, and the progress of its read.
     bit: u16,
     run: CopyRead,
-    /// The bits below that bit; what stands past the byte that it is in is of no meaning.
+    /// The bits below that bit. The bytes after the byte that contains it have no meaning.
     bytes: Vec<u8>,
-    /// The greatest width that there is room for.
+    /// The greatest width for which there is room.
     room: u16,
 }
 
@@ -39,8 +39,12 @@ impl Model for ReadRun {
 
 #[tactic(auto, using(crate::proofs::Numbers::length_bits))]
 impl ReadRun {
-    /// Room for a read of `width` bits, of which no access was made. A width of 0 or above [`MAX_WIDTH`] is
-    /// `Width`; the only other fault is want of memory.
+    /// Creates a read of `width` bits, before its first access, with room for this width.
+    ///
+    /// # Errors
+    ///
+    /// Returns [`NumberFault::Width`] if the width is 0 or above [`MAX_WIDTH`], and [`NumberFault::Memory`] if an
+    /// allocation fails.
     pub fn new(alloc: Global, width: u16) -> Result<ReadRun, NumberFault>
         ensures width { IsErrOf result NumberFault.Width ↔ IsBadWidth width }
         ensures run { IfOk result (λ run. run ≡ new_read width width) }
@@ -58,8 +62,8 @@ impl ReadRun {
         })
     }
 
-    /// Begins anew, for a register of this width: at most the width that there is room for. What was read
-    /// is forgotten.
+    /// Begins a new read, of a register of `width` bits, at most the greatest width for which there is room. The bits
+    /// read before are forgotten.
     pub fn reset(&mut self, width: u16)
         requires { width ≤ self.old.room }
         ensures { self.new ≡ new_read width self.old.room }
@@ -69,8 +73,8 @@ impl ReadRun {
         self.run = CopyRead::new();
     }
 
-    /// The bits read so far as bytes: bit `k` is bit `k % 8` of byte `k / 8`, the least significant first.
-    /// So a number stands little-endian. Past the last bit read the last byte has 0.
+    /// Returns the bits read so far as bytes: bit `k` is bit `k % 8` of byte `k / 8`, the least significant first.
+    /// So a number is little-endian. In the last byte the bits after the last bit read are 0.
     pub fn bytes(&self) -> &[u8]
         ensures len { length result.now ≡ (length self.now.bits + 7) / 8 }
         ensures bits { IsBytesOf self.now.bits result.now }
@@ -78,7 +82,7 @@ impl ReadRun {
         &self.bytes[..(self.bit as usize).div_ceil(8)]
     }
 
-    /// The next access of this reader's read: its bit and the begin, and then the end, which gives `value`.
+    /// Returns the next access of this reader's read: its bit and the begin, and then the end, which gives `value`.
     #[inline]
     pub fn next(&self, reader: u8, value: bool) -> (u16, Made)
         ensures { result ≡ next_of_read reader self.now value }
@@ -86,7 +90,7 @@ impl ReadRun {
         (self.bit, self.run.next(reader, value))
     }
 
-    /// Goes on by that access. The end keeps `value` as the bit; at the begin `value` is not looked at. The
+    /// Advances the read by that access. The end stores `value` as the bit; the begin ignores `value`. The
     /// read is done once all bits are read.
     #[inline]
     pub fn advance(&mut self, value: bool) -> Progress
@@ -108,7 +112,7 @@ impl ReadRun {
         }
     }
 
-    /// The bit that is read now.
+    /// Returns the number of the bit that is read now.
     #[inline]
     pub(crate) fn bit(&self) -> u16
         ensures { result ≡ length self.now.bits }

@@ -37,8 +37,12 @@ impl Model for Register {
 }
 
 impl Register {
-    /// A register of `width` bits that open at 0, for readers 0 to `readers - 1`. A width of 0 or above
-    /// [`MAX_WIDTH`] is `Width`; the only other fault is want of memory.
+    /// Creates a register of `width` bits that open at 0, for readers 0 to `readers - 1`.
+    ///
+    /// # Errors
+    ///
+    /// Returns [`NumberFault::Width`] if the width is 0 or above [`MAX_WIDTH`], and [`NumberFault::Memory`] if an
+    /// allocation fails.
     pub fn new(alloc: Global, width: u16, readers: u8) -> Result<Register, NumberFault>
         requires { 1 ≤ readers × readers ≤ 16 }
         ensures width { IsErrOf result NumberFault.Width ↔ IsBadWidth width }
@@ -53,7 +57,7 @@ impl Register {
         })
     }
 
-    /// Makes one access to a bit, in its turn. Whatever cursor told the access, this is what it does to memory.
+    /// Makes one access to a bit, in its turn. Its effect on memory does not depend on the cursor that gave it.
     #[inline]
     pub fn apply(&mut self, bit: u16, made: Made)
         requires { CanMake self.old bit made }
@@ -62,8 +66,8 @@ impl Register {
         self.row.apply(bit, made);
     }
 
-    /// What the end of a reader's open read of a bit gives: `flick` if a write of the reader's copy was
-    /// open at some time during the read, and else the copy's value.
+    /// Returns the value with which a reader's open read of a bit ends: `flick` if a write of the reader's copy was
+    /// open at some time during the read, and otherwise the copy's value.
     #[inline]
     pub fn answer(&self, bit: u16, reader: u8, flick: bool) -> bool
         requires { HasCell self.now bit reader }
@@ -72,8 +76,8 @@ impl Register {
         self.row.answer(bit, reader, flick)
     }
 
-    /// Makes the next access of a write of `value` by the writer, and answers its bit: 2 for each bit and
-    /// reader in all.
+    /// Makes the next access of a write of `value` by the writer. Returns its bit, the access and the progress. A
+    /// write makes 2 accesses for each bit and reader.
     #[inline]
     pub fn write_step(&mut self, run: &mut WriteRun, value: &[u8]) -> (u16, Made, Progress)
         requires going { IsGoing value.now run.old (length self.old) }
@@ -91,8 +95,9 @@ impl Register {
         (bit, made, run.advance(readers, value))
     }
 
-    /// Makes the next access of a read by its reader, and answers its bit: 2 for each bit in all. The end
-    /// of a bit's read gives `flick` if a write of the reader's copy was open at some time during it.
+    /// Makes the next access of a read by its reader. Returns its bit, the access and the progress. A read makes 2
+    /// accesses for each bit. The end of a bit's read gives `flick` if a write of the reader's copy was open at some
+    /// time during it.
     #[inline]
     pub fn read_step(&mut self, reader: u8, run: &mut ReadRun, flick: bool) -> (u16, Made, Progress)
         requires going { length run.old.bits < run.old.width }
@@ -110,8 +115,8 @@ impl Register {
         (bit, made, run.advance(value))
     }
 
-    /// Makes the next access that settles the torn bit of a cut write, in the writer's stead, and answers
-    /// the bit: all copies at the `value` of the first such step.
+    /// Makes the next access that settles the torn bit of a write that was cut, in place of the writer. Returns the
+    /// bit, the access and the progress. All copies get the `value` of the first such step.
     #[inline]
     pub fn settle_step(&mut self, bit: u16, torn: &mut Torn, value: bool) -> (u16, Made, Progress)
         requires going { torn.old.reader < length self.old }
@@ -126,8 +131,8 @@ impl Register {
         (bit, made, progress)
     }
 
-    /// Drops the open read of a reader: it ends without a value. It clears a word for each 64 bits, and
-    /// does not go over the bits.
+    /// Drops the open read of a reader, which ends without a value. It clears one word for each 64 bits, and
+    /// does not loop over the bits.
     pub fn drop_read(&mut self, reader: u8)
         requires { reader < length self.old }
         ensures { self.new ≡ without_reads self.old reader }
@@ -135,7 +140,7 @@ impl Register {
         self.row.drop_reads(reader);
     }
 
-    /// Bit `k`, as reader 0 has it, while no write of its copy is open.
+    /// Returns bit `k`, as reader 0 has it, while no write of its copy is open.
     pub fn bit(&self, k: u16) -> bool
         requires there { HasCell self.now k 0 }
         requires closed { (cell_at self.now k 0).writing ≡ false }

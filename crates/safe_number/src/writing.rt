@@ -6,15 +6,15 @@ use crate::bytes;
 use reader_copies::{CopyWrite, Made, Progress, Torn};
 use std::marker::Model;
 
-/// A write of a register: all bits, bit 0 first, and of each bit begin and end on each copy, reader 0
+/// A write of a register: begin and end on each copy of each bit, bit 0 first, and of each bit reader 0
 /// first. It belongs to the register's one writer.
 ///
-/// The value is handed in at each access, as bytes: bit `k` is bit `k % 8` of byte `k / 8`. A bit is looked
-/// at when its first copy begins.
+/// The value is passed at each access, as bytes: bit `k` is bit `k % 8` of byte `k / 8`. A bit is read
+/// when its first copy begins.
 #[derive(Clone, Copy)]
 pub struct WriteRun {
     width: u16,
-    /// The bit that is written now, and how far its write has come, once it has begun.
+    /// The bit that is written now, and the progress of its write, once it has begun.
     bit: u16,
     run: Option<CopyWrite>,
 }
@@ -30,7 +30,7 @@ impl Model for WriteRun {
 }
 
 impl WriteRun {
-    /// A write of a register of `width` bits, of which no access was made.
+    /// Creates a write of a register of `width` bits, before its first access.
     pub fn new(width: u16) -> Self
         ensures { result ≡ new_write width }
     {
@@ -41,8 +41,8 @@ impl WriteRun {
         }
     }
 
-    /// The unfinished bit's number, and what is left to settle of it: a bit whose write has begun and has
-    /// not ended on every copy.
+    /// Returns the number of the unfinished bit, and the settling that it needs. A bit is unfinished if its write
+    /// has begun and has not ended on every copy.
     pub fn torn(&self) -> Option<(u16, Torn)>
         ensures { result ≡ torn_bit self.now }
     {
@@ -55,7 +55,7 @@ impl WriteRun {
         }
     }
 
-    /// The next access of a write of `value`: its bit, and what is made of it.
+    /// Returns the next access of a write of `value`: its bit, and what is made of it.
     #[inline]
     pub fn next(&self, value: &[u8]) -> (u16, Made)
         requires { self.now.bit < 8 * length value.now }
@@ -64,7 +64,7 @@ impl WriteRun {
         (self.bit, self.bit_write(value).next())
     }
 
-    /// Goes on by that access, of a register with copies for `readers` readers. The write is done once all
+    /// Advances the write by that access, of a register with copies for `readers` readers. The write is done once all
     /// bits have ended on every copy.
     #[inline]
     pub fn advance(&mut self, readers: u8, value: &[u8]) -> Progress
@@ -92,7 +92,7 @@ impl WriteRun {
         }
     }
 
-    /// How far the write of the present bit of `value` has come.
+    /// Returns the progress of the write of the present bit of `value`.
     #[inline]
     fn bit_write(&self, value: &[u8]) -> CopyWrite
         requires { self.now.bit < 8 * length value.now }

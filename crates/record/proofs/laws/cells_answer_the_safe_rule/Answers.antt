@@ -1,4 +1,4 @@
--- The cells of a record answer the safe rule.
+-- The cells of a record give the values of the safe rule.
 use Rattle.safe_bit.specs.{cell_of}
 use Rattle.safe_bit.proofs.Showing.{shows_moves, answer-shows}
 use Rattle.record.specs.{moves_of, opening_bit, past_of}

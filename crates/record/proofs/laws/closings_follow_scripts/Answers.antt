@@ -1,4 +1,4 @@
--- The closing machine tells what the scripts tell.
+-- The closing machine follows the scripts.
 use Rattle.record.proofs.ClosingScripts.{withdrawal-tells, unit-tells, closing-stages}
 use Rattle.record.proofs.ClosingStanding.{withdrawn_stands, unit_stands}
 use Rattle.record.proofs.Width.{is_good}

@@ -1,4 +1,4 @@
--- What an event adds.
+-- The entries that an event adds.
 use Rattle.std.specs.Prelude.{◌≡◌, ◌≢◌, refl, ℕ, List, ◌∷◌, Option, None, Some, cond, ◌==◌}
 use Rattle.std.proofs.Common.{sym, ◌∙◌, ap, ne_eqb}
 use Rattle.plain_store.specs.{Setup}

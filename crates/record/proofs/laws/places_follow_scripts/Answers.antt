@@ -1,4 +1,4 @@
--- The place machine tells what the script tells.
+-- The place machine follows the script.
 use Rattle.record.proofs.Standing.{place-next, place-marks, running_stands}
 use Rattle.record.proofs.Width.{is_good}
 use Rattle.record.proofs.laws.places_follow_scripts.Goals as goal

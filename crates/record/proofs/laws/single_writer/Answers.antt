@@ -1,4 +1,4 @@
--- Who writes a bit owns it.
+-- The writer of a bit owns it.
 use Rattle.std.proofs.Common.{sym, ◌∙◌}
 use Rattle.record.specs.{past_of, process_of}
 use Rattle.record.proofs.Singles.{is_write-true}

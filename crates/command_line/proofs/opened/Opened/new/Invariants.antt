@@ -3,7 +3,7 @@ use Rattle.std.specs.Io.KnownBytes.{IsAtEnd, Keeps, prepend_known}
 use Rattle.files.specs.{input_limit}
 use Rattle.command_line.proofs.opened.Opened.new.Given as goal
 
--- the bytes to come are the same, none is left behind the end, what is asked for is no more than counts, and no call has
+-- the bytes to come are the same, none is left after the end, no more bytes are requested than count, and no call has
 -- failed
 abbrev pub invariant-blocks-2 : goal.invariant-blocks-2
 invariant-blocks-2 g l = record {
