@@ -13,18 +13,18 @@ appends_more (Some xs) (Some ys) (Some zs) bytes at n first next = next ∙ ap (
 appends_more (Some xs) (Some ys) None bytes at n first next = next
 appends_more (Some xs) None c bytes at n first next = elim first [ ]
 
--- what was taken is a front of the bytes
+-- the bytes that were taken are a prefix of the bytes
 pub front_of : (a b : Option (List ℕ)) (bytes : List ℕ) (at : ℕ) → Appends a b (take at bytes) → WritesFront a b bytes
 front_of a b bytes at taken = record { count = at; front = taken }
 
--- and stays so after a call that took none
+-- they are still a prefix after a call that took none
 pub front_kept : (a b c : Option (List ℕ)) (bytes : List ℕ) (at : ℕ) → Appends a b (take at bytes) → Keeps b c → WritesFront a c bytes
 front_kept None b c bytes at taken kept = record { count = at; front = tt }
 front_kept (Some xs) (Some ys) (Some zs) bytes at taken kept = record { count = at; front = kept ∙ taken }
 front_kept (Some xs) (Some ys) None bytes at taken kept = elim kept [ ]
 front_kept (Some xs) None c bytes at taken kept = elim taken [ ]
 
--- all of them, at the end
+-- all bytes were taken, at the end
 pub whole_of : (a b : Option (List ℕ)) (bytes : List ℕ) (at : ℕ) → length bytes ≤ at → Appends a b (take at bytes) → Appends a b bytes
 whole_of a b bytes at done taken = rw (take_all at bytes done) at taken
 
@@ -38,7 +38,7 @@ front_more (Some xs) None c bytes byte so_far next = elim so_far [ ]
 pub front_read : (a b c : Option (List ℕ)) (bytes : List ℕ) (byte : ℕ) → length bytes < input_limit → Consumes a b bytes → Consumes b c (byte ∷ []) → ReadsFront a c
 front_read a b c bytes byte early so_far next = record { bytes = bytes ++ byte ∷ []; front = front_more a b c bytes byte so_far next; within = let more = length-append bytes (byte ∷ []) in omega (arith, more, early) }
 
--- or none more
+-- the bytes so far, and no more
 pub front_still : (a b c : Option (List ℕ)) (bytes : List ℕ) → Consumes a b bytes → Consumes b c [] → Consumes a c bytes
 front_still None b c bytes so_far none = tt
 front_still (Some xs) (Some ys) (Some zs) bytes so_far none = so_far ∙ ap (λ rest. bytes ++ rest) none
@@ -56,7 +56,7 @@ pub pushed : {X E : Type 0} (r : Result X E) (items longer : List ℕ) (byte : �
 pushed (Ok x) items longer byte done is = is
 pushed (Err e) items longer byte done is = absurd (cc)
 
--- One byte that came, where it stands at the front of a buffer.
+-- One byte that came, at the start of a buffer.
 pub byte_set : (a c : Option (List ℕ)) (buffer : List ℕ) (byte : ℕ) → 0 < length buffer → Consumes a c (byte ∷ []) → Consumes a c (take 1 (slice_set buffer 0 byte))
 byte_set a c [] byte some came = absurd (omega (arith, some))
 byte_set a c (b ∷ bs) byte some came = came

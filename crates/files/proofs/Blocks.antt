@@ -10,22 +10,22 @@ use Rattle.std.specs.Io.KnownBytes.{Consumes, IsAtEnd, ReadConsumes, prepend_kno
 use Rattle.std.specs.List.{list_all, position, position_or_len}
 use Rattle.files.specs.{ComesToEnd, Failed, MovesAll, MovesEnded, Stays, coming, ends_line, is_inner, without_return}
 
--- Of the bytes that wait.
+-- The waiting bytes.
 
--- no 0x0A stands before the first
+-- there is no 0x0A before the first
 inner_before : (bs : List ℕ) (k : ℕ) → ((j : ℕ) → j < k → ends_line (get_or bs j 0) ≡ false) → list_all is_inner (take k bs) ≡ true
 inner_before [] zero none = refl
 inner_before [] (suc k) none = refl
 inner_before (b ∷ bs) zero none = refl
 inner_before (b ∷ bs) (suc k) none = and_from (is_inner b) (list_all is_inner (take k bs)) (ap not (none 0 (omega arith))) (inner_before bs k (λ j below. none (suc j) (omega (arith, below))))
 
--- they are cut at the first
+-- bytes are cut at the first 0x0A
 cut_at : (bs : List ℕ) (k : ℕ) → k < length bs → ends_line (get_or bs k 0) ≡ true → bs ≡ take k bs ++ 10 ∷ drop (k + 1) bs
 cut_at bs k within ends =
     let here : get_or bs k 0 ≡ 10 = grind (arith, nat_tests) in
     sym (take-append-drop k bs) ∙ ap (λ l. take k bs ++ l) (drop_more bs k 0 within ∙ ap (λ b. b ∷ drop (k + 1) bs) here)
 
--- or there is none
+-- bytes without a 0x0A
 none_in : (bs : List ℕ) → position ends_line bs ≡ None → list_all is_inner bs ≡ true
 none_in bs at = by (nat_lt (position_or_len ends_line bs) (length bs)) refl at
   where
@@ -35,7 +35,7 @@ none_in bs at = by (nat_lt (position_or_len ends_line bs) (length bs)) refl at
         let all : length bs ≤ position_or_len ends_line bs = grind (arith, nat_tests) in
         ap (list_all is_inner) (sym (take_all (length bs) bs (omega arith))) ∙ inner_before bs (length bs) (λ j below. fails_before_first ends_line bs j 0 (omega (arith, all, below)))
 
--- those before the first were moved
+-- the bytes before the first 0x0A were moved
 pub moves_ended : (items : List ℕ) (at count : ℕ) (line longer : List ℕ) → position ends_line (take (length items - at) (drop at items)) ≡ Some count → longer ≡ line ++ take count (take (length items - at) (drop at items)) → MovesEnded (drop at items) (drop (at + (count + 1)) items) line longer
 moves_ended items at count line longer place moved =
     let bs = drop at items in
@@ -48,14 +48,14 @@ moves_ended items at count line longer place moved =
       moved = moved ∙ ap (λ l. line ++ take count l) whole;
     }
 
--- of a line that was found, the bytes without its end
+-- the bytes of a line that was found, without its end
 pub found_line : (items : List ℕ) (at count inner : ℕ) (line : List ℕ) → take (length items - at) (drop at items) ≡ line → inner ≤ length (take count line) → take inner (take count line) ≡ without_return (take count line) → take (at + inner - at) (drop at items) ≡ without_return (take count line)
 found_line items at count inner line is within same =
     let less : at + inner - at ≡ inner = omega arith in
     let few : inner ≤ count = omega (arith, within, length-take count line) in
     ap (λ n. take n (drop at items)) less ∙ ap (take inner) (sym (take_rest items at) ∙ is) ∙ sym (take-take inner count line few) ∙ same
 
--- or all
+-- all bytes were moved, without a 0x0A
 pub moves_all : (items : List ℕ) (at end : ℕ) (line longer : List ℕ) → length items ≤ end → position ends_line (take (length items - at) (drop at items)) ≡ None → longer ≡ line ++ take (length items - at) (drop at items) → MovesAll (drop at items) (drop end items) line longer
 moves_all items at end line longer behind place moved =
     let whole : take (length items - at) (drop at items) ≡ drop at items = take_rest items at in
@@ -65,9 +65,9 @@ moves_all items at end line longer behind place moved =
       moved = moved ∙ ap (λ l. line ++ l) whole;
     }
 
--- Of the bytes to come.
+-- The bytes to come.
 
--- where some wait all stays
+-- the bytes to come stay while some wait
 pub stays : (o : Option (List ℕ)) → Stays o o
 stays None = tt
 stays (Some xs) = refl
@@ -75,7 +75,7 @@ stays (Some xs) = refl
 pub some_left : (items : List ℕ) (at : ℕ) → at < length items → 0 < length (drop at items)
 some_left items at some = let left = length-drop at items in omega (arith, left, some)
 
--- a block of them came
+-- a block of bytes came
 pub more_come : (items : List ℕ) (at : ℕ) (told : Bool) (old new : Option (List ℕ)) (r : Result ℕ Failed) (buffer block : List ℕ) (count : ℕ) → told ≡ false → length items ≤ at → r ≡ Ok count → ReadConsumes old new r buffer → block ≡ take count buffer →
     Stays (coming (record { bytes = drop at items; ended = told }) old) (coming (record { bytes = block; ended = told }) new)
 more_come items at told old new r buffer block count open_yet none is came moved =
@@ -93,7 +93,7 @@ some_came buffer block r count is within some moved =
     let long : length block ≡ count = ap length moved ∙ length-take-le count buffer within.0 in
     omega (arith, long, some)
 
--- or the source told its end
+-- the source reported its end
 pub at_its_end : (old new : Option (List ℕ)) (r : Result ℕ Failed) (buffer : List ℕ) → r ≡ Ok 0 → 0 < length buffer → ReadConsumes old new r buffer → IsAtEnd old × IsAtEnd new
 at_its_end old new r buffer is room came =
     let came : ReadConsumes {E = Failed} old new (Ok 0) buffer = subst (λ (r : Result ℕ Failed). ReadConsumes old new r buffer) is came in
@@ -114,7 +114,7 @@ none_come items at told old new r buffer open_yet none is room came =
     by None end = tt
     by (Some text) end = end
 
--- or had told it before
+-- the source had reported its end before
 pub none_left : (items : List ℕ) (at : ℕ) (told : Bool) (old : Option (List ℕ)) → told ≡ true → length items ≤ at → ComesToEnd (coming (record { bytes = drop at items; ended = told }) old) (coming (record { bytes = drop at items; ended = told }) old)
 none_left items at told old is none =
     subst (λ (t : Bool). ComesToEnd (coming (record { bytes = drop at items; ended = t }) old) (coming (record { bytes = drop at items; ended = t }) old)) (sym is)

@@ -3,12 +3,12 @@ use Rattle.std.proofs.Common.{◌≡◌, ℕ, ◌+◌, ◌<◌, List, length, ta
 use Rattle.std.specs.Io.KnownBytes.{Consumes, ReadConsumes}
 use Rattle.files.specs.{Failed, Fault, GivesByte, IsReadFault, failed_reading}
 
--- an error is no value
+-- an error is not a value
 pub no_value : {A E : Type 0} (r : Result A E) (e : E) (P : A → Type 0) → IsErrAnd r (λ x. x ≡ e) → IfOk r P
 no_value (Ok a) e P is = absurd is
 no_value (Err x) e P is = tt
 
--- and is told as it is
+-- such an error is a fault of reading, if e is one
 pub tells_fault : {A : Type 0} (r : Result A Fault) (e : Fault) → IsErrAnd r (λ x. x ≡ e) → IsReadFault e → IfErr r IsReadFault
 tells_fault (Ok a) e is fault = absurd is
 tells_fault (Err x) e is fault = subst IsReadFault (sym is) fault

@@ -23,7 +23,7 @@ record Goes (k : ℕ) (known : List (List ℕ)) : Type 0 where
   is : known ≡ line ∷ rest
   long : k ≤ length line + 1
 
--- the lines of a byte and those behind it, by what it is
+-- the lines of a byte and those after it, by the byte
 at_feed : (b : ℕ) (bs : List ℕ) → (b == 10) ≡ true → lines (b ∷ bs) ≡ [] ∷ lines bs
 at_feed b bs feeds = ap (λ s. if s then [] ∷ lines bs else if (b == 13) && begins_with 10 bs then lines bs else onto b (lines bs)) feeds
 
@@ -33,7 +33,7 @@ at_return b bs feeds returns = ap (λ s. if s then [] ∷ lines bs else if (b ==
 at_other : (b : ℕ) (bs : List ℕ) → (b == 10) ≡ false → ((b == 13) && begins_with 10 bs) ≡ false → lines (b ∷ bs) ≡ onto b (lines bs)
 at_other b bs feeds returns = ap (λ s. if s then [] ∷ lines bs else if (b == 13) && begins_with 10 bs then lines bs else onto b (lines bs)) feeds ∙ ap (λ s. if s then lines bs else onto b (lines bs)) returns
 
--- one of two
+-- either of two lists has a first line
 pick : (t : Bool) (xs ys : List (List ℕ)) → Goes 0 xs → Goes 0 ys → Goes 0 (if t then xs else ys)
 pick true xs ys g h = g
 pick false xs ys g h = h
@@ -52,15 +52,15 @@ some_line b [] = pick (b == 10) ([] ∷ []) (if (b == 13) && false then [] else 
 some_line b (c ∷ cs) = pick (b == 10) ([] ∷ lines (c ∷ cs)) (if (b == 13) && (c == 10) then lines (c ∷ cs) else onto b (lines (c ∷ cs))) (record { line = []; rest = lines (c ∷ cs); is = refl; long = omega arith })
     (pick ((b == 13) && (c == 10)) (lines (c ∷ cs)) (onto b (lines (c ∷ cs))) (some_line c cs) (some_onto b (lines (c ∷ cs))))
 
--- a byte more at the front of a first line
+-- one more byte at the start of a first line
 longer : (k b : ℕ) (known : List (List ℕ)) → Goes k known → Goes (suc k) (onto b known)
 longer k b known g = record { line = b ∷ g.line; rest = g.rest; is = ap (onto b) g.is; long = let h : k ≤ length g.line + 1 = g.long in omega arith }
 
--- the first line ends within k bytes, or has k - 1 bytes or more, also where only m bytes are there
+-- the first line ends within k bytes, or has at least k - 1 bytes, both in all bytes and in the first m bytes
 Split : ℕ → ℕ → List ℕ → Type 0
 Split k m bs = Ends k m bs ⊎ (Goes k (lines bs) × Goes k (lines (take m bs)))
 
--- by the first byte, where it is none of a line's end
+-- by the first byte, if it does not belong to the end of a line
 split_on : (k m b : ℕ) (bs : List ℕ) → (b == 10) ≡ false → ((b == 13) && begins_with 10 bs) ≡ false → ((b == 13) && begins_with 10 (take m bs)) ≡ false → Split k m bs → Split (suc k) (suc m) (b ∷ bs)
 unfolding Split
 split_on k m b bs feeds returns cut_returns (inl e) = inl (record {
@@ -79,7 +79,7 @@ split_on k m b bs feeds returns cut_returns (inr (g, h)) = inr (goes (at_other b
     goes : {xs ys : List (List ℕ)} → xs ≡ onto b ys → Goes k ys → Goes (suc k) xs
     goes is g = subst (Goes (suc k)) (sym is) (longer k b _ g)
 
--- by the first byte, where it is a 0x0A
+-- by the first byte, if it is a 0x0A
 split_feed : (k m b : ℕ) (bs : List ℕ) → (b == 10) ≡ true → Split (suc k) (suc m) (b ∷ bs)
 unfolding Split
 split_feed k m b bs feeds = inl (record {
@@ -94,7 +94,7 @@ split_feed k m b bs feeds = inl (record {
     less : (m : ℕ) → m ≡ suc m - 1
     less m = omega arith
 
--- by the first bytes, where they are 0x0D and 0x0A
+-- by the first bytes, if they are 0x0D and 0x0A
 split_return : (k m b c : ℕ) (cs : List ℕ) → (b == 10) ≡ false → ((b == 13) && (c == 10)) ≡ true → Split (suc k) (suc (suc m)) (b ∷ c ∷ cs)
 unfolding Split
 split_return zero m b c cs feeds returns = inr (empty cs, empty (take m cs))
@@ -139,7 +139,7 @@ split_at (suc k) (suc (suc m)) (b ∷ c ∷ cs) early there = by (b == 10) refl 
 line_fault : {S : Type 0} (g : Grammar S) (n : ℕ) (line : List ℕ) (rest : List (List ℕ)) (before : Option S) (kind : FaultKind) (ls : List (List ℕ)) → ls ≡ line ∷ rest → line_read g n line before ≡ Err kind → lines_read g n ls before ≡ Err (record { line = n; kind = kind })
 line_fault g n line rest before kind ls is fault = ap (λ l. lines_read g n l before) is ∙ ap (λ r. at_line n r >>= lines_read g (n + 1) rest) fault
 
--- a line without one goes on to the next
+-- after a line without a fault, the next line is read
 line_goes : {S : Type 0} (g : Grammar S) (n : ℕ) (line : List ℕ) (rest : List (List ℕ)) (before after : Option S) (ls : List (List ℕ)) → ls ≡ line ∷ rest → line_read g n line before ≡ Ok after → lines_read g n ls before ≡ lines_read g (n + 1) rest after
 line_goes g n line rest before after ls is ok = ap (λ l. lines_read g n l before) is ∙ ap (λ r. at_line n r >>= lines_read g (n + 1) rest) ok
 
@@ -156,11 +156,11 @@ too_late g n line before late = ap (λ t. if t then Err TooLong else words_read 
     both : (nat_lt 4096 n || nat_lt 128 (length line)) ≡ true
     both = grind (arith, nat_tests)
 
--- the same fault, by reading on in two texts
+-- two texts have a fault in common, if reading on in them has it in common
 read_on : {S : Type 0} {a b c d : Result S LineFault} → a ≡ c → b ≡ d → HaveSameFault c d → HaveSameFault a b
 read_on p q h = record { fault = h.fault; left = p ∙ h.left; right = q ∙ h.right }
 
--- Of m bytes, so many that the lines before line 4,097 don't hold them, the lines have the fault that all lines have.
+-- The lines of the first m bytes have the fault that all lines have, if the lines before line 4,097 cannot hold m bytes.
 tells_from : {S : Type 0} (g : Grammar S) (left n m : ℕ) (bs : List ℕ) (before : Option S) → n + left ≡ 4097 → left * 130 + 1 ≤ m → m ≤ length bs → HaveSameFault (lines_read g n (lines (take m bs)) before) (lines_read g n (lines bs) before)
 unfolding Split
 tells_from g zero n zero bs before number many there = absurd (omega arith)
@@ -194,7 +194,7 @@ tells_from {S} g (suc left) n m bs before number many there = by (split_at 130 m
           right = line_fault g n whole.line whole.rest before TooLong (lines bs) whole.is (too_long g n whole.line before (omega (arith, whole_long)));
         }
 
--- what is done with what was read keeps the fault
+-- a fault in common is kept by further steps on the values
 fault_passes : {A B : Type 0} {a b : Result A LineFault} (f h : A → Result B LineFault) → HaveSameFault a b → HaveSameFault (a >>= f) (b >>= h)
 fault_passes f h same = record { fault = same.fault; left = ap (λ r. r >>= f) same.left; right = ap (λ r. r >>= h) same.right }
 
@@ -202,11 +202,11 @@ fault_passes f h same = record { fault = same.fault; left = ap (λ r. r >>= f) s
 pub tells_at_limit : {S : Type 0} (g : Grammar S) (text : List ℕ) → input_limit ≤ length text → TellsAtLimit (file_of g) text
 tells_at_limit g text long = fault_passes (begun (length (lines (take input_limit text)) + 1)) (begun (length (lines text) + 1)) (tells_from g 4096 1 input_limit text None (omega arith) (omega arith) long)
 
--- So has a reading that goes on from the grammar's.
+-- A reading that continues that of the grammar has the same fault too.
 pub tells_at_limit_then : {S T : Type 0} (g : Grammar S) (f : S → Result T LineFault) (text : List ℕ) → input_limit ≤ length text → TellsAtLimit (λ bytes. file_of g bytes >>= f) text
 tells_at_limit_then g f text long = fault_passes f f (tells_at_limit g text long)
 
--- what is read of an input: all of it, or as many bytes as the limit
+-- the bytes that are read of an input: all of it, or as many bytes as the limit
 whole_or_cut : (text bytes : List ℕ) (rest : Option (List ℕ)) → ReadsInput (Some text) rest bytes → ((bytes ≡ text) × IsAtEnd rest) ⊎ ((input_limit ≤ length text) × (bytes ≡ take input_limit text))
 whole_or_cut text bytes None read = absurd read.front
 whole_or_cut text bytes (Some left) read = by (nat_lt (length bytes) input_limit) refl
@@ -221,7 +221,7 @@ whole_or_cut text bytes (Some left) read = by (nat_lt (length bytes) input_limit
         let size : length text ≡ length bytes + length left = ap length read.front ∙ length-append bytes left in
         inr (omega (arith, full, size), sym (ap (take input_limit) read.front ∙ take_at bytes left input_limit full))
 
--- What is read of an input says what the whole input says, by any reading that tells at the limit,
+-- The bytes that are read of an input have the result of the whole input, by any reading that finds a fault at the limit.
 pub input_tells : {S : Type 0} (reading : List ℕ → Result S LineFault) (text bytes : List ℕ) (rest : Option (List ℕ)) → ((text : List ℕ) → input_limit ≤ length text → TellsAtLimit reading text) → ReadsInput (Some text) rest bytes → reading bytes ≡ reading text
 input_tells reading text bytes rest tells read = by (whole_or_cut text bytes rest read)
   where
@@ -229,7 +229,7 @@ input_tells reading text bytes rest tells read = by (whole_or_cut text bytes res
     by (inl (all, ended)) = ap reading all
     by (inr (long, cut)) = let same = tells text long in ap reading cut ∙ same.left ∙ sym same.right
 
--- and where it has no fault, the input was read to its end.
+-- If the bytes that are read have no fault, the input was read to its end.
 pub input_ended : {S : Type 0} (reading : List ℕ → Result S LineFault) (text bytes : List ℕ) (rest : Option (List ℕ)) (said : S) → ((text : List ℕ) → input_limit ≤ length text → TellsAtLimit reading text) → ReadsInput (Some text) rest bytes → reading bytes ≡ Ok said → IsAtEnd rest
 input_ended reading text bytes rest said tells read good = by (whole_or_cut text bytes rest read)
   where

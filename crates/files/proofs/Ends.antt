@@ -9,7 +9,7 @@ use Rattle.files.specs.{lines, onto}
 abbrev cut_return : Bool → ℕ → List ℕ → List ℕ
 cut_return some k xs = cond (some && slice_index xs k == 13) (take k xs) xs
 
--- a byte at the front of at least one
+-- a byte before at least one other
 return_kept : (b c : ℕ) (ys : List ℕ) → no_cr (b ∷ c ∷ ys) ≡ b ∷ no_cr (c ∷ ys)
 return_kept b c ys =
     let some : nat_lt 0 (length (b ∷ c ∷ ys)) ≡ true = grind (arith, nat_tests) in
@@ -29,7 +29,7 @@ return_kept b c ys =
 abbrev cut_end : Bool → ℕ → List ℕ → List ℕ
 cut_end some k xs = cond (some && slice_index xs k == 10) (no_cr (take k xs)) xs
 
--- a byte at the front of a line stays, unless it is the 0x0D of the line's end
+-- a byte at the start of a line stays, unless it is the 0x0D of the line's end
 byte_kept : (b c : ℕ) (ys : List ℕ) → (b == 13) && (c == 10) ≡ false → without_terminator (b ∷ c ∷ ys) ≡ b ∷ without_terminator (c ∷ ys)
 byte_kept b c ys other =
     let some : nat_lt 0 (length (b ∷ c ∷ ys)) ≡ true = grind (arith, nat_tests) in
@@ -52,7 +52,7 @@ byte_kept b c ys other =
     by (d ∷ zs) true is = return_kept b c (take (length zs) (d ∷ zs))
     by (d ∷ zs) false is = refl
 
--- how many bytes of a line stand behind its first
+-- the number of bytes of a line after its first byte
 abbrev more : ℕ → List ℕ → ℕ
 more b bs = cond (b == 10) 0 (line_len bs)
 
@@ -71,11 +71,11 @@ end_is_empty b is = ap (λ t. cond t [] (b ∷ [])) is
 other_byte : (b : ℕ) → (b == 10) ≡ false → without_terminator (b ∷ []) ≡ b ∷ []
 other_byte b is = ap (λ t. cond t [] (b ∷ [])) is
 
--- the lines of `b ∷ bs`, by two tests of b and bs, and by how many bytes of the first stand behind b
+-- the lines of `b ∷ bs`, by two tests of b and bs, and by the number of bytes of the first line after b
 FirstLine : ℕ → List ℕ → Bool → Bool → ℕ → Type 0
 FirstLine b bs feeds returns n = (if feeds then [] ∷ lines bs else if returns then lines bs else onto b (lines bs)) ≡ without_terminator (b ∷ take n bs) ∷ lines (drop n bs)
 
--- where b is no 0x0A, and there are bytes behind it
+-- b is not 0x0A, and there are bytes after it
 longer : (b c : ℕ) (cs : List ℕ) (t : Bool) → ((b == 13) && (c == 10)) ≡ t → lines (c ∷ cs) ≡ without_terminator (c ∷ take (more c cs) cs) ∷ lines (drop (more c cs) cs) → FirstLine b (c ∷ cs) false t (suc (more c cs))
 unfolding FirstLine
 longer b c cs true ends others =
@@ -90,7 +90,7 @@ longer b c cs false ends others =
     ap (onto b) others
     ∙ ap (λ line. line ∷ lines (drop (more c cs) cs)) (sym (byte_kept b c (take (more c cs) cs) ends))
 
--- where b is a 0x0A, and where it is not
+-- b is a 0x0A or not
 by_feed : (b : ℕ) (bs : List ℕ) (s t : Bool) (n : ℕ) → (b == 10) ≡ s → FirstLine b bs false t n → FirstLine b bs s t (cond s 0 n)
 unfolding FirstLine
 by_feed b bs true t n is other = ap (λ line. line ∷ lines bs) (sym (end_is_empty b is))

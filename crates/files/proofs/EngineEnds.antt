@@ -1,4 +1,4 @@
--- How an engine ends that reads its input, by any grammar that tells the fault of a long input, and then writes.
+-- The end of an engine that reads its input, by any grammar that finds the fault of a long input, and then writes.
 use Rattle.std.proofs.Common.{◌≡◌, ℕ, ◌<◌, ◌≤◌, Bool, true, false, nat_lt, List, Option, Some, None, length, Result, Ok, Err, IfSome, IsErrAnd, OnOk, OnErr, subst, ◌+◌, refl, ap, sym, ◌∙◌, arith}
 use Rattle.std.proofs.lemmas.Bool.Decides.{nat_tests}
 use Rattle.std.specs.Io.KnownBytes.{Appends, IsAtEnd, Keeps}
@@ -8,7 +8,7 @@ use Rattle.files.specs.declared.faults.Fault.TheVariants.{Line, Write}
 use Rattle.files.specs.declared.faults.FaultKind.TheVariants.{NotFirst, Unknown, Words, Number, BadName, BadValue, BadSetup, TooLong, Memory}
 use Rattle.files.specs.Engines.{Streams, Ran, text_by}
 
--- what follows from a fact that is known unless memory ran out
+-- a consequence of a fact that holds unless memory ran out
 unless-then : (kind : FaultKind) {P Q : Type 0} → (P → Q) → UnlessMemory kind P → UnlessMemory kind Q
 unless-then NotFirst then p = then p
 unless-then Unknown then p = then p
@@ -20,20 +20,20 @@ unless-then BadSetup then p = then p
 unless-then TooLong then p = then p
 unless-then Memory then p = p
 
--- bytes that nobody wrote stay
+-- bytes are kept if no byte was written
 pub kept : (taken : Option (List ℕ)) → Keeps taken taken
 kept None = tt
 kept (Some bytes) = refl
 
 module _ {S : Type 0} (reading : List ℕ → Result S LineFault) (printed : S → List ℕ) (tells : (text : List ℕ) → input_limit ≤ length text → TellsAtLimit reading text) where
-  -- the fault of what was read is the fault of the whole input
+  -- the fault of the bytes that were read is the fault of the whole input
   pub line_told : (old new : Option (List ℕ)) (bytes : List ℕ) (fault : LineFault) → ReadsInput old new bytes → UnlessMemory fault.kind (reading bytes ≡ Err fault) → IfSome old (λ input. UnlessMemory fault.kind (text_by reading printed input ≡ Err fault))
   line_told None new bytes fault read told = tt
   line_told (Some input) new bytes fault read told =
       let same : reading bytes ≡ reading input = input_tells reading input bytes new tells read in
       unless-then fault.kind (λ is. ap (λ r. r >>= λ said. Ok (printed said)) (sym same ∙ is)) told
 
-  -- what has no fault is shorter than the limit
+  -- an input without a fault is shorter than the limit
   in_time : (bytes : List ℕ) (said : S) → reading bytes ≡ Ok said → length bytes < input_limit
   in_time bytes said good = by (nat_lt (length bytes) input_limit) refl
     where
@@ -43,25 +43,25 @@ module _ {S : Type 0} (reading : List ℕ → Result S LineFault) (printed : S �
           let same = tells bytes (grind (arith, nat_tests)) in
           let two : Err same.fault ≡ Ok said = sym same.right ∙ good in absurd (cc)
 
-  -- so the input was read to its end
+  -- an input without a fault was read to its end
   pub read_to_end : (old new : Option (List ℕ)) (bytes : List ℕ) (said : S) → ReadsInput old new bytes → reading bytes ≡ Ok said → IsAtEnd new
   read_to_end old new bytes said read good = read.whole (in_time bytes said good)
 
-  -- and the text of what was read is the text of the whole input
+  -- the text of the bytes that were read is the text of the whole input
   pub text_told : (old new : Option (List ℕ)) (bytes : List ℕ) (said : S) (P : List ℕ → Type 0) → ReadsInput old new bytes → reading bytes ≡ Ok said → P (printed said) → IfSome old (λ input. (text : List ℕ) × (text_by reading printed input ≡ Ok text) × P text)
   text_told None new bytes said P read good written = tt
   text_told (Some input) new bytes said P read good written =
       let same : reading bytes ≡ reading input = input_tells reading input bytes new tells read in
       (printed said, ap (λ r. r >>= λ s. Ok (printed s)) (sym same ∙ good), written)
 
-  -- an engine that tells the fault of a line has written nothing
+  -- an engine that returns the fault of a line has written nothing
   pub ran_to_line : (result : Result (Unit {0}) Fault) (fault : LineFault) (bytes : List ℕ) (old new : Streams) → IsErrAnd result (λ told. told ≡ Line fault) → ReadsInput old.to_come new.to_come bytes → UnlessMemory fault.kind (reading bytes ≡ Err fault) → Keeps old.taken new.taken → Ran (text_by reading printed) result old new
   ran_to_line (Ok done) fault bytes old new is read told kept = absurd is
   ran_to_line (Err e) fault bytes old new is read told kept =
       let P : Fault → Type 0 = λ e. Ran (text_by reading printed) (Err e) old new in
       subst P (sym is) (line_told old.to_come new.to_come bytes fault read told, kept)
 
-  -- an engine that writes the text of what was read has written all of it, or a front where a call failed
+  -- an engine that writes the text of the bytes that were read has written all of it, or a prefix if a call failed
   pub ran_to_end : (result : Result (Unit {0}) Fault) (bytes : List ℕ) (said : S) (old new : Streams) → ReadsInput old.to_come new.to_come bytes → reading bytes ≡ Ok said → OnOk result (Appends old.taken new.taken (printed said)) → WritesFront old.taken new.taken (printed said) → OnErr result (result ≡ Err Write) → new.write_failures ≡ old.write_failures + failed_writing result → Ran (text_by reading printed) result old new
   ran_to_end (Ok done) bytes said old new read good written front fault failures = (text_told old.to_come new.to_come bytes said (λ text. Appends old.taken new.taken text) read good written, read_to_end old.to_come new.to_come bytes said read good)
   ran_to_end (Err e) bytes said old new read good written front fault failures =

@@ -10,11 +10,11 @@ use Rattle.files.specs.declared.faults.Fault.TheVariants.{Line, Read, Write, Mem
 use Rattle.files.specs.declared.faults.FaultKind.TheVariants.{TooLong}
 use Rattle.files.proofs.Blocks.{stays}
 
--- the lines of a byte and those behind it, where it is no 0x0A
+-- the lines of a byte and those after it, if the byte is not 0x0A
 behind : (b : ℕ) (bs : List ℕ) → (b == 10) ≡ false → lines (b ∷ bs) ≡ (if (b == 13) && begins_with 10 bs then lines bs else onto b (lines bs))
 behind b bs inner = ap (λ s. if s then [] ∷ lines bs else if (b == 13) && begins_with 10 bs then lines bs else onto b (lines bs)) inner
 
--- and where there is none behind it either
+-- neither the byte nor the next one is 0x0A
 behind_two : (b c : ℕ) (bs : List ℕ) → (b == 10) ≡ false → (c == 10) ≡ false → lines (b ∷ c ∷ bs) ≡ onto b (lines (c ∷ bs))
 behind_two b c bs inner next = behind b (c ∷ bs) inner ∙ ap (λ s. if (b == 13) && s then lines (c ∷ bs) else onto b (lines (c ∷ bs))) next ∙ by (b == 13)
   where
@@ -60,13 +60,13 @@ record Begins (n : ℕ) (known : List (List ℕ)) : Type 0 where
   is : known ≡ line ∷ others
   long : n ≤ length line + 1
 
--- with a byte more at its front
+-- a first line with one more byte at its start
 onto_begins : (n b : ℕ) (known more : List (List ℕ)) → more ≡ onto b known → Begins n known → Begins (n + 1) more
 onto_begins n b known more same begins =
     let long : n ≤ length begins.line + 1 = begins.long in
     record { line = b ∷ begins.line; others = begins.others; is = same ∙ ap (onto b) begins.is; long = omega (arith, long) }
 
--- a byte that is no 0x0A begins one
+-- a byte other than 0x0A begins a line
 one_byte : (b : ℕ) (rest : List ℕ) → (b == 10) ≡ false → Begins 1 (lines (b ∷ rest))
 one_byte b [] inner = let whole : lines (b ∷ []) ≡ (b ∷ []) ∷ [] = line_last b [] (ap (λ t. not t && true) inner) in record { line = b ∷ []; others = []; is = whole; long = omega arith }
 one_byte b (c ∷ cs) inner = by ((b == 13) && (c == 10)) refl
@@ -96,7 +96,7 @@ begins_with_bytes b (c ∷ cs) rest all =
     let long : length (c ∷ cs) + 1 ≤ length k.line + 1 = k.long in
     record { line = k.line; others = k.others; is = k.is; long = omega (arith, long) }
 
--- so the line that 130 such bytes begin is too long
+-- a line that begins with 130 such bytes is too long
 pub too_long : (xs rest : List ℕ) → list_all is_inner xs ≡ true → 130 ≤ length xs → IsTooLong (xs ++ rest)
 too_long [] rest all many = absurd (omega (arith, many))
 too_long (b ∷ bs) rest all many =
@@ -104,9 +104,9 @@ too_long (b ∷ bs) rest all many =
     let long : length (b ∷ bs) ≤ length k.line + 1 = k.long in
     record { line = k.line; others = k.others; is = k.is; long = omega (arith, long, many) }
 
--- The first line of what comes of a source: some bytes of it were taken, without a 0x0A.
+-- The first line of the bytes that come from a source: some of its bytes were taken, without a 0x0A.
 
--- a 0x0A came behind them
+-- a 0x0A came after them
 pub fed : (a b : Option (List ℕ)) (ahead rest : Given) (to_come : Option (List ℕ)) (xs line : List ℕ) → list_all is_inner xs ≡ true → Consumes a b xs → Stays b (coming ahead to_come) → MovesEnded ahead.bytes rest.bytes xs line → rest.ended ≡ ahead.ended →
     Told a (coming rest to_come) (λ text left. TakesLine text (without_return line) left)
 fed a b ahead rest to_come xs line all front stays ends same =
@@ -127,7 +127,7 @@ fed a b ahead rest to_come xs line all front stays ends same =
         ∙ line_ended (xs ++ ends.part) (rest.bytes ++ more) inner
         ∙ ap (λ l. without_return l ∷ lines (rest.bytes ++ more)) (sym ends.moved)
 
--- none came behind them so far: all are taken
+-- no 0x0A came after them so far: all bytes are taken
 pub fed_all : (a b : Option (List ℕ)) (ahead rest : Given) (to_come : Option (List ℕ)) (xs line : List ℕ) → Consumes a b xs → Stays b (coming ahead to_come) → MovesAll ahead.bytes rest.bytes xs line → rest.ended ≡ ahead.ended → Consumes a (coming rest to_come) line
 fed_all a b ahead rest to_come xs line front stays moves same =
     subst (λ (t : Bool). Consumes a (prepend_known rest.bytes (unless_ended t to_come)) line) (sym same)
@@ -142,13 +142,13 @@ fed_all a b ahead rest to_come xs line front stays moves same =
 pub all_inner : (old new xs line : List ℕ) → list_all is_inner xs ≡ true → MovesAll old new xs line → list_all is_inner line ≡ true
 all_inner old new xs line inner moves = ap (list_all is_inner) moves.moved ∙ list_all-append is_inner xs old ∙ and_from (list_all is_inner xs) (list_all is_inner old) inner moves.inner
 
--- and they are too many
+-- the bytes are too many for a line
 pub fed_long : (a c : Option (List ℕ)) (line : List ℕ) → Told a c (λ text left. TakesLine text line left) → 128 < length line → IfSome a IsTooLong
 fed_long None c line told long = tt
 fed_long (Some text) None line told long = absurd told
 fed_long (Some text) (Some rest) line told long = record { line = line; others = lines rest; is = told; long = long }
 
--- none came behind them, at the end
+-- no 0x0A came after them, at the end
 at_end : (a b c : Option (List ℕ)) (xs : List ℕ) → Consumes a b xs → ComesToEnd b c → Told a c (λ text rest. (text ≡ xs) × (rest ≡ []))
 at_end a b c xs front end = subst (λ (c : Option (List ℕ)). Told a c (λ text rest. (text ≡ xs) × (rest ≡ []))) (sym end.1) (by a b front end.0)
   where
@@ -186,14 +186,14 @@ pub none_taken : (a : Option (List ℕ)) → Consumes a a []
 none_taken None = tt
 none_taken (Some text) = refl
 
--- a line that was found where it stands
+-- a line that was found in its place
 pub found_first : (old new : Held) (to_come : Option (List ℕ)) (b : Bool) (moved : List ℕ) → b ≡ true → FindsLine old new → new.given.ended ≡ old.given.ended → Told (coming old.given to_come) (coming new.given to_come) (λ text left. TakesLine text (shown_line b new moved) left)
 found_first old new to_come true moved is found same =
     let all = coming old.given to_come in
     subst (λ (l : List ℕ). Told all (coming new.given to_come) (λ text left. TakesLine text l left)) (sym found.line) (fed all all old.given new.given to_come [] found.whole refl (none_taken all) (stays all) found.ends same)
 found_first old new to_come false moved is found same = absurd (cc)
 
--- a call that fails goes no further
+-- a call that fails takes no line
 pub stops : (r : Result Bool Fault) (e : Fault) (old new : LineState) (to_come rest : Option (List ℕ)) → IsErrAnd r (λ x. x ≡ e) → IsReadFault e → GoesOn r old to_come new rest
 stops (Ok some) e old new to_come rest is fault = absurd is
 stops (Err x) e old new to_come rest is fault = by x (subst IsReadFault (sym is) fault)
@@ -204,6 +204,6 @@ stops (Err x) e old new to_come rest is fault = by x (subst IsReadFault (sym is)
     by Write read = absurd read
     by Memory read = tt
 
--- and a line that is too long is told
+-- a line that is too long is reported
 pub tells_long : (e : Fault) (old new : LineState) (to_come rest : Option (List ℕ)) → e ≡ Line (record { line = new.taken + 1; kind = TooLong }) → new.taken ≡ old.taken → IfSome (coming old.ahead to_come) IsTooLong → GoesOn (Err e) old to_come new rest
 tells_long e old new to_come rest is same long = subst (λ e. GoesOn (Err e) old to_come new rest) (sym is) (ap (λ (n : ℕ). record { line = n + 1; kind = TooLong }) same, long)

@@ -9,7 +9,7 @@ use Rattle.std.specs.List.{after_first, before_first, position, position_or_len,
 use Rattle.std.specs.Option.{unwrap_or}
 use Rattle.files.specs.{is_blank, texts, words_of}
 
--- the place of the first blank; where there is none, how many bytes there are
+-- the position of the first blank, or the number of bytes if there is no blank
 pub place_or_all : (line : List ℕ) (place : Option ℕ) → place ≡ position is_blank line → unwrap_or place (length line) ≡ position_or_len is_blank line
 place_or_all line place found = ap (λ o. unwrap_or o (length line)) found ∙ by (nat_lt (position_or_len is_blank line) (length line)) refl
   where
@@ -23,7 +23,7 @@ place_or_all line place found = ap (λ o. unwrap_or o (length line)) found ∙ b
 abbrev has_byte : List ℕ → Bool
 has_byte word = not (length word == 0)
 
--- a line with a blank is cut at the first of them,
+-- a line with a blank is cut at the first blank
 cut : (line : List ℕ) → position_or_len is_blank line < length line → words_of line ≡ filter has_byte (before_first is_blank line ∷ []) ++ words_of (after_first is_blank line)
 cut line within = ap (filter has_byte) (slice_split_first is_blank line 0 within) ∙ onto (has_byte (before_first is_blank line))
   where
@@ -31,7 +31,7 @@ cut line within = ap (filter has_byte) (slice_split_first is_blank line 0 within
     onto true = refl
     onto false = refl
 
--- and another one is a word, unless it is empty
+-- a line without a blank is one word, unless it is empty
 uncut : (line : List ℕ) → length line ≤ position_or_len is_blank line → words_of line ≡ filter has_byte (before_first is_blank line ∷ []) ++ words_of (after_first is_blank line)
 uncut line all =
     let one : slice_split is_blank line ≡ line ∷ [] = slice_split_none is_blank line (λ j d below. fails_before_first is_blank line j d (omega (arith, all, below))) in
@@ -41,7 +41,7 @@ uncut line all =
     ∙ ap (λ word. filter has_byte (word ∷ []) ++ []) (sym (take_all (position_or_len is_blank line) line all))
     ∙ ap (λ rest. filter has_byte (before_first is_blank line ∷ []) ++ words_of rest) (sym none)
 
--- so the words are the first part, unless it is empty, and the words behind it
+-- the words are the first part, unless it is empty, and the words after it
 words_cut : (line : List ℕ) → words_of line ≡ filter has_byte (before_first is_blank line ∷ []) ++ words_of (after_first is_blank line)
 words_cut line = by (nat_lt (position_or_len is_blank line) (length line)) refl
   where
@@ -61,12 +61,12 @@ one_more found word line first some =
     kept : (w : List ℕ) → has_byte w ≡ true → filter has_byte (w ∷ []) ≡ w ∷ []
     kept w some = ap (λ b. cond b (w ∷ []) []) some
 
--- and an empty one is none
+-- an empty part is not a word
 pub none_more : (word line : List ℕ) → word ≡ before_first is_blank line → has_byte word ≡ false → words_of (after_first is_blank line) ≡ words_of line
 none_more word line first none =
     sym (words_cut line ∙ ap (λ w. filter has_byte (w ∷ []) ++ words_of (after_first is_blank line)) (sym first) ∙ ap (λ b. cond b (word ∷ []) [] ++ words_of (after_first is_blank line)) none)
 
--- there are fewer bytes behind it
+-- fewer bytes remain after it
 pub fewer_left : (line rest : List ℕ) → false ≡ (length line == 0) → rest ≡ after_first is_blank line → length rest < length line
 fewer_left [] rest some is = absurd (cc)
 fewer_left (b ∷ bs) rest some is =

@@ -4,7 +4,7 @@ use Rattle.std.specs.Map.{lookup}
 use Rattle.std.specs.Str.{bytes_eq}
 use Rattle.files.specs.{KeyWord, rows_of}
 
--- what the first row says that has the word
+-- the meaning in the first row that has the word
 pub by_row : {M : Type 0} (word : List ℕ) (table : List (KeyWord M)) → option_map (λ (row : KeyWord M). row.1) (find (λ (row : KeyWord M). bytes_eq word row.0.now) table) ≡ lookup (bytes_eq word) (rows_of table)
 by_row word [] = refl
 by_row {M} word (row ∷ rows) = elim (bytes_eq word row.0.now) as (λ b. option_map (λ (r : KeyWord M). r.1) (cond b (Some row) (find (λ (r : KeyWord M). bytes_eq word r.0.now) rows)) ≡ cond b (Some row.1) (lookup (bytes_eq word) (rows_of rows)))

@@ -2,7 +2,7 @@
 pub mod Appending
 pub mod CallEnds
 pub mod Passing
--- Lines of a text, and what is read of them
+-- Lines of a text, and reading them
 pub mod Ends
 pub mod Said
 pub mod Numbers

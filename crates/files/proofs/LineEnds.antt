@@ -1,4 +1,4 @@
--- Where the first 0x0A stands.
+-- The position of the first 0x0A.
 use Rattle.std.proofs.Common.{◌≡◌, ◌+◌, ◌%◌, ◌^◌, ◌<◌, ◌≤◌, ℕ, eqb, nat_lt, Bool, true, false, not, cond, List, get_or, length, map, replicate, take, Option, Some, None, w8, refl, ap, sym, subst, ◌∙◌, arith, inl, inr}
 use Rattle.std.proofs.lemmas.Bool.{cases_eq, false≢true}
 use Rattle.std.proofs.lemmas.Bool.Decides.{nat_tests}
@@ -15,7 +15,7 @@ no_true : (b : Bool) → ¬ (b ≡ true) → b ≡ false
 no_true true not = absurd (not refl)
 no_true false not = refl
 
--- the first byte that is one
+-- the first byte that is 0x0A
 pub place_is : (bytes : List ℕ) (place : Option ℕ) → IsFirstByte (is_byte 10) bytes place → place ≡ position ends_line bytes
 place_is bytes None none =
     let all : position_or_len ends_line bytes ≡ length bytes = position_or_len_is ends_line bytes (length bytes) 0 (omega arith) (λ k below. no_true _ (none k (omega arith) below)) (λ within. absurd (omega (arith, within))) in
@@ -27,7 +27,7 @@ place_is bytes (Some k) found =
     let within : nat_lt (position_or_len ends_line bytes) (length bytes) ≡ true = grind (arith, nat_tests) in
     ap (λ (j : ℕ). Some j) (sym first) ∙ ap (λ (b : Bool). cond b (Some (position_or_len ends_line bytes)) None) (sym within)
 
--- The first 32 bytes, looked at at once: the bits of those that are one.
+-- The first 32 bytes, compared at once: the bits of the bytes that are 0x0A.
 abbrev near_ends : List ℕ → ℕ
 near_ends bytes = mask_l (map (top 7) (zip2 (λ a b. cond (eqb a b) 255 0) (take 32 bytes) (replicate 32 10))) % 2 ^ 64
 

@@ -10,14 +10,14 @@ numbers_on n line rest = by (is_said (words_of line))
     by true = refl
     by false = refl
 
--- with the number of one more line, those that are left follow
+-- after the number of one more line, the numbers of the remaining lines follow
 pub numbers_more : (before now : List ℕ) (n : ℕ) (line : List ℕ) (rest : List (List ℕ)) → now ≡ before ++ said_numbers n (line ∷ []) → now ++ said_numbers (n + 1) rest ≡ before ++ said_numbers n (line ∷ rest)
 numbers_more before now n line rest is =
     ap (λ ns. ns ++ said_numbers (n + 1) rest) is
     ∙ append_assoc before (said_numbers n (line ∷ [])) (said_numbers (n + 1) rest)
     ∙ ap (λ ns. before ++ ns) (numbers_on n line rest)
 
--- each line that is not skipped has one
+-- each line that is not skipped has a number
 pub numbers_many : (n : ℕ) (ls : List (List ℕ)) → length (said_numbers n ls) ≡ length (filter is_said (map words_of ls))
 numbers_many n [] = refl
 numbers_many n (line ∷ rest) = by (is_said (words_of line)) (numbers_many (n + 1) rest)

@@ -20,7 +20,7 @@ pub with_return : (xs : List ℕ) → slice_get xs (length xs - 1) ≡ Some 13 �
 with_return [] last = absurd (cc)
 with_return (b ∷ bs) last = dropped_at (length (b ∷ bs) - 1) (b ∷ bs) (omega arith) last
 
--- and any other one stays
+-- a last byte other than 0x0D stays
 kept_at : (n : ℕ) (xs : List ℕ) → length xs ≡ suc n → (slice_get xs n ≡ Some 13 → ⊥) → xs ≡ without_return xs
 kept_at n [] is other = refl
 kept_at zero (b ∷ []) is other = by (b == 13) refl

@@ -1,4 +1,4 @@
--- What is read of a text is what is read of the lines that are not skipped, if the text is within the limits.
+-- A text within the limits has the value of its lines that are not skipped.
 use Rattle.std.proofs.Common.{◌≡◌, ℕ, ◌+◌, ◌≤◌, ◌||◌, not, nat_lt, Bool, true, false, cond, if◌then◌else◌, List, [], ◌∷◌, length, map, filter, Option, Some, None, Result, Ok, Err, refl, ap, ◌∙◌, arith}
 use Rattle.std.proofs.lemmas.Bool.{and_from, and_parts}
 use Rattle.std.proofs.lemmas.Bool.Decides.{nat_tests}
@@ -7,12 +7,12 @@ use Rattle.files.specs.{FaultKind, Grammar, IsWithinLimits, at_line, begins_with
 use Rattle.files.specs.declared.faults.FaultKind.TheVariants.{NotFirst, TooLong}
 use Rattle.files.proofs.Passing.{Passed, passed}
 
--- a line by its words, where it is not skipped
+-- a line by its words, if it is not skipped
 abbrev pub said_line : {S : Type 0} → Grammar S → List (List ℕ) → Option S → Result (Option S) FaultKind
 said_line g [] before = Err NotFirst
 said_line g (first ∷ words) before = statement_read g first words before
 
--- such lines, one after another
+-- lines that are not skipped, one after another
 abbrev pub said_read : {S : Type 0} → Grammar S → List (List (List ℕ)) → Option S → Result (Option S) FaultKind
 said_read g [] before = Ok before
 said_read g (words ∷ more) before = said_line g words before >>= said_read g more
@@ -30,7 +30,7 @@ line_was_read {S} g n line before mid read = by (nat_lt 4096 n || nat_lt 128 (le
     by true is read = absurd (cc)
     by false is read = record { early = grind (arith, nat_tests); short = grind (arith, nat_tests); read = read }
 
--- and such a line is read
+-- a line within the limits is read
 line_is_read : {S : Type 0} (g : Grammar S) (n : ℕ) (line : List ℕ) (before mid : Option S) → LineRead g n line before mid → line_read g n line before ≡ Ok mid
 line_is_read g n line before mid is =
     let early : n ≤ 4096 = is.early in
@@ -38,7 +38,7 @@ line_is_read g n line before mid is =
     let test : (nat_lt 4096 n || nat_lt 128 (length line)) ≡ false = grind (arith, nat_tests) in
     ap (λ t. if t then Err TooLong else words_read g (words_of line) before) test ∙ is.read
 
--- one more line in front
+-- one more line before the others
 one_said : {S : Type 0} (g : Grammar S) (ws : List (List ℕ)) (rest : List (List (List ℕ))) (before mid after : Option S) → words_read g ws before ≡ Ok mid → said_read g (filter is_said rest) mid ≡ Ok after → said_read g (filter is_said (ws ∷ rest)) before ≡ Ok after
 one_said g [] rest before mid after read others = let same : before ≡ mid = cc in ap (said_read g (filter is_said rest)) same ∙ others
 one_said {S} g (first ∷ words) rest before mid after read others = by (begins_with 35 first) read
@@ -47,7 +47,7 @@ one_said {S} g (first ∷ words) rest before mid after read others = by (begins_
     by true read = let same : before ≡ mid = cc in ap (said_read g (filter is_said rest)) same ∙ others
     by false read = ap (λ r. r >>= said_read g (filter is_said rest)) read ∙ others
 
--- and the other way round: the front line was read, and then the others
+-- the converse: the first line was read, and then the others
 one_read : {S : Type 0} (g : Grammar S) (ws : List (List ℕ)) (rest : List (List (List ℕ))) (before after : Option S) → said_read g (filter is_said (ws ∷ rest)) before ≡ Ok after → Passed (words_read g ws before) (said_read g (filter is_said rest)) after
 one_read g [] rest before after read = record { value = before; first = refl; next = read }
 one_read {S} g (first ∷ words) rest before after read = by (begins_with 35 first) read
@@ -56,7 +56,7 @@ one_read {S} g (first ∷ words) rest before after read = by (begins_with 35 fir
     by true read = record { value = before; first = refl; next = read }
     by false read = passed (statement_read g first words before) (said_read g (filter is_said rest)) after read
 
--- lines from number n on, within the limits, and what is read of those that are not skipped
+-- lines from number n on, within the limits, and the value of those that are not skipped
 record LinesSaid {S : Type 0} (g : Grammar S) (n : ℕ) (ls : List (List ℕ)) (before after : Option S) : Type 0 where
   few : n + length ls ≤ 4097
   short : list_all is_short ls ≡ true
@@ -89,7 +89,7 @@ lines_are_read g n (line ∷ rest) before after is =
     ap (λ r. at_line n r >>= lines_read g (n + 1) rest) (line_is_read g n line before a.value (record { early = omega (arith, few); short = short.0; read = a.first }))
     ∙ lines_are_read g (n + 1) rest a.value after (record { few = omega (arith, few); short = short.1; read = a.next })
 
--- A text that was read is within the limits, and what it says is read of its lines that are not skipped.
+-- A text that was read is within the limits, and has the value of its lines that are not skipped.
 pub text_said : {S : Type 0} (g : Grammar S) (text : List ℕ) (s : S) → file_of g text ≡ Ok s → IsWithinLimits text × (said_read g (said_words text) None ≡ Ok (Some s))
 text_said {S} g text s read =
     let a = passed (lines_read g 1 (lines text) None) (begun (length (lines text) + 1)) s read in
@@ -101,13 +101,13 @@ text_said {S} g text s read =
     begun_with None is = absurd (cc)
     begun_with (Some q) is = let same : q ≡ s = cc in ap (λ r. Some r) same
 
--- And the other way round.
+-- The converse: a text within the limits is read as the value of its lines that are not skipped.
 pub text_is_read : {S : Type 0} (g : Grammar S) (text : List ℕ) (s : S) → IsWithinLimits text → said_read g (said_words text) None ≡ Ok (Some s) → file_of g text ≡ Ok s
 text_is_read g text s limits read =
     let few : length (lines text) ≤ 4096 = limits.few in
     ap (λ r. r >>= begun (length (lines text) + 1)) (lines_are_read g 1 (lines text) None (Some s) (record { few = omega (arith, few); short = limits.short; read = read }))
 
--- The first of some lines was read, and then the others: as a later line,
+-- The first of some lines was read as a later line, and then the others.
 pub later_then : {S : Type 0} (g : Grammar S) (first : List ℕ) (words : List (List ℕ)) (more : List (List (List ℕ))) (before : S) (after : Option S) → said_read g ((first ∷ words) ∷ more) (Some before) ≡ Ok after → Passed (g.later first words before) (λ s. said_read g more (Some s)) after
 later_then {S} g first words more before after read = by (g.later first words before) read
   where
@@ -115,7 +115,7 @@ later_then {S} g first words more before after read = by (g.later first words be
     by (Ok s) read = record { value = s; first = refl; next = read }
     by (Err kind) read = absurd (cc)
 
--- or as the first of all.
+-- The first of some lines was read as the first of all, and then the others.
 pub first_then : {S : Type 0} (g : Grammar S) (first : List ℕ) (words : List (List ℕ)) (more : List (List (List ℕ))) (after : Option S) → said_read g ((first ∷ words) ∷ more) None ≡ Ok after → Passed (g.first first words) (λ s. said_read g more (Some s)) after
 first_then {S} g first words more after read = by (g.first first words) read
   where

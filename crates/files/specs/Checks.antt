@@ -13,7 +13,7 @@ abbrev pub ◌>>=◌ : {A B E : Type 0} → Result A E → (A → Result B E) �
 abbrev pub fault_if : Bool → FaultKind → Result (Unit {0}) FaultKind
 fault_if test fault = if test then Err fault else Ok tt
 
--- what a key word means, if it is in the table
+-- the meaning of a key word, or a fault if the word is not in the table
 abbrev pub known : {A : Type 0} → Option A → Result A FaultKind
 known None = Err Unknown
 known (Some x) = Ok x
@@ -22,6 +22,6 @@ known (Some x) = Ok x
 abbrev pub counted : ℕ → List (List ℕ) → Result (Unit {0}) FaultKind
 counted n words = fault_if (not (length words == n)) Words
 
--- the word at a place
+-- the word at a position
 abbrev pub word : ℕ → List (List ℕ) → List ℕ
 word i words = slice_index_or words i []

@@ -2,7 +2,7 @@
 use Rattle.std.specs.Prelude.{◌≡◌, ℕ, List, take, Result, Err}
 use Rattle.files.specs.declared.faults.LineFault.{LineFault}
 
--- How many bytes an engine reads at most: 4,096 lines of 128 bytes with two bytes of end, and one more.
+-- The most bytes that an engine reads: 4,096 lines of 128 bytes with two bytes of end, and one more.
 abbrev pub input_limit : ℕ
 input_limit = 532481
 

@@ -1,4 +1,4 @@
--- What an engine that prints a text for a file has read and written.
+-- The effect of an engine that prints a text for a file: the bytes that it has read and written.
 use Rattle.std.specs.Prelude.{◌≡◌, ℕ, ◌<◌, List, Option, [], IfSome, Result, Ok, Err}
 use Rattle.std.specs.Io.KnownBytes.{Appends, IsAtEnd, Keeps}
 use Rattle.files.specs.Checks.{◌>>=◌}
@@ -10,14 +10,14 @@ use Rattle.files.specs.declared.faults.LineFault.{LineFault}
 use Rattle.files.specs.declared.streams.Sink as sink
 use Rattle.files.specs.declared.streams.Source as source
 
--- a source and a sink at one moment: their bytes, where they are told, and their failures
+-- a source and a sink at one moment: their bytes, as far as they are known, and their failures
 pub record Streams : Type 0 where
   pub to_come : Option (List ℕ)
   pub taken : Option (List ℕ)
   pub read_failures : ℕ
   pub write_failures : ℕ
 
--- what is told of a source and a sink
+-- the known bytes of a source and a sink, and their failures
 abbrev pub streams : {R W : Type 0} → source.Ghosts R → sink.Ghosts W → R → W → Streams
 streams told_of_source told_of_sink r w = record {
   to_come = told_of_source.to_come r;
@@ -26,7 +26,7 @@ streams told_of_source told_of_sink r w = record {
   write_failures = told_of_sink.failures w;
 }
 
--- the text that an engine prints for what a file says
+-- the text that an engine prints for the value of a file
 abbrev pub text_by : {S : Type 0} → (List ℕ → Result S LineFault) → (S → List ℕ) → List ℕ → Result (List ℕ) LineFault
 text_by reading printed input = reading input >>= λ said. Ok (printed said)
 
@@ -40,15 +40,15 @@ module _ (text_of : List ℕ → Result (List ℕ) LineFault) where
   abbrev pub WritesAll : Streams → Streams → Type 0
   WritesAll old new = IfSome old.to_come (λ input. (text : List ℕ) × (text_of input ≡ Ok text) × Appends old.taken new.taken text) × IsAtEnd new.to_come
 
-  -- a front of the text was written
+  -- a prefix of the text was written
   abbrev pub WritesSome : Streams → Streams → Type 0
   WritesSome old new = IfSome old.to_come (λ input. (text : List ℕ) × (text_of input ≡ Ok text) × WritesFront old.taken new.taken text)
 
-  -- a front of the text was written, of which there is none where the input has a fault
+  -- a prefix of the text was written, and no byte if the input has a fault
   abbrev pub WritesFrontIfAny : Streams → Streams → Type 0
   WritesFrontIfAny old new = IfSome old.to_come (λ input. WritesFront old.taken new.taken (text_or_none (text_of input)))
 
-  -- How an engine ends: each fault has its cause, and after a fault of the input nothing was written.
+  -- The ends of an engine: each fault has its cause, and after a fault of the input nothing was written.
   abbrev pub Ran : Result (Unit {0}) Fault → Streams → Streams → Type 0
   Ran (Ok done) old new = WritesAll old new
   Ran (Err (fault.Line f)) old new = IfSome old.to_come (λ input. UnlessMemory f.kind (text_of input ≡ Err f)) × Keeps old.taken new.taken

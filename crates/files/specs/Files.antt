@@ -1,6 +1,6 @@
--- Files of lines: what all their grammars have in common.
--- The first line with a fault is told, and of its faults the first in their order: a line is too long or comes too late;
--- then those of the grammar; at last, one line too many is kept.
+-- Files of lines: the part that all their grammars have in common.
+-- The fault of a file is that of the first line with a fault. The faults of a line come in this order: a line that is too
+-- long or comes too late, the faults of the grammar, and one line too many to keep.
 use Rattle.std.specs.Prelude.{ℕ, ◌+◌, ◌||◌, nat_lt, if◌then◌else◌, List, [], ◌∷◌, ◌++◌, length, Option, Some, None, Result, Ok, Err}
 use Rattle.files.specs.Checks.{◌>>=◌}
 use Rattle.files.specs.Words.{lines, words_of, begins_with}
@@ -8,8 +8,8 @@ use Rattle.files.specs.declared.faults.FaultKind.{FaultKind}
 use Rattle.files.specs.declared.faults.FaultKind.TheVariants.{NotFirst, TooLong}
 use Rattle.files.specs.declared.faults.LineFault.{LineFault}
 
--- A grammar of lines: what is read at the first line, and at a later one after what was read before.
--- It sees a line as its first word and the words behind it.
+-- A grammar of lines: the value after the first line, and after a later line, given the value before it.
+-- It sees a line as its first word and the words after it.
 pub record Grammar (S : Type 0) : Type 0 where
   pub first : List ℕ → List (List ℕ) → Result S FaultKind
   pub later : List ℕ → List (List ℕ) → S → Result S FaultKind
@@ -43,7 +43,7 @@ abbrev pub begun : {S : Type 0} → ℕ → Option S → Result S LineFault
 begun n None = Err (record { line = n; kind = NotFirst })
 begun n (Some s) = Ok s
 
--- what a whole text says, or its first fault
+-- the value of a whole text, or its first fault
 abbrev pub file_of : {S : Type 0} → Grammar S → List ℕ → Result S LineFault
 file_of g text = lines_read g 1 (lines text) None >>= begun (length (lines text) + 1)
 

@@ -12,7 +12,7 @@ is_said (first ∷ words) = not (begins_with 35 first)
 abbrev pub said_words : List ℕ → List (List (List ℕ))
 said_words text = filter is_said (map words_of (lines text))
 
--- The numbers of the lines that are not skipped, where the first of all these lines has number n.
+-- The numbers of the lines that are not skipped, if the first of all these lines has number n.
 abbrev pub said_numbers : ℕ → List (List ℕ) → List ℕ
 said_numbers n [] = []
 said_numbers n (line ∷ rest) = if is_said (words_of line) then n ∷ said_numbers (n + 1) rest else said_numbers (n + 1) rest

@@ -7,18 +7,18 @@ use Rattle.files.specs.Words.{lines}
 abbrev pub ends_line : ℕ → Bool
 ends_line b = b == 10
 
--- whether a byte is no 0x0A
+-- a byte other than 0x0A
 abbrev pub is_inner : ℕ → Bool
 is_inner b = not (b == 10)
 
--- the bytes before the first 0x0A, of those that wait, were moved behind a line, and those behind it wait on
+-- the waiting bytes before the first 0x0A were appended to a line, and the bytes after it still wait
 pub record MovesEnded (old new : List ℕ) (line longer : List ℕ) : Type 0 where
   pub part : List ℕ
   pub inner : list_all is_inner part ≡ true
   pub split : old ≡ part ++ 10 ∷ new
   pub moved : longer ≡ line ++ part
 
--- there is no 0x0A among those that wait, and all were moved
+-- the waiting bytes contain no 0x0A, and all of them were appended to a line
 pub record MovesAll (old new : List ℕ) (line longer : List ℕ) : Type 0 where
   pub inner : list_all is_inner old ≡ true
   pub none : new ≡ []

@@ -1,4 +1,4 @@
--- What a call answered, beside what the grammar says.
+-- The result of a call that reads, compared with that of the grammar.
 use Rattle.std.specs.Prelude.{◌≡◌, Result, Ok, Err}
 use Rattle.files.specs.declared.faults.FaultKind.{FaultKind}
 use Rattle.files.specs.declared.faults.FaultKind.TheVariants.{Memory}
@@ -9,17 +9,17 @@ abbrev pub UnlessMemory : FaultKind → Type 0 → Type 0
 UnlessMemory Memory P = Unit {0}
 UnlessMemory kind P = P
 
--- what was made is what the grammar says, and so is the fault, unless memory ran out
+-- the value that was made is that of the grammar, and the fault is that of the grammar too, unless memory ran out
 abbrev pub Makes : {A : Type 0} → Result A FaultKind → Result A FaultKind → Type 0
 Makes (Ok made) said = said ≡ Ok made
 Makes (Err kind) said = UnlessMemory kind (said ≡ Err kind)
 
--- the same of a call that changes what was there
+-- a call changes a value to that of the grammar, or returns the grammar's fault, unless memory ran out
 abbrev pub Takes : {A : Type 0} → Result (Unit {0}) FaultKind → Result A FaultKind → A → Type 0
 Takes (Ok done) said new = said ≡ Ok new
 Takes (Err kind) said new = UnlessMemory kind (said ≡ Err kind)
 
--- the same of a whole file
+-- the value of a whole file is that of the grammar, and the fault is that of the grammar too, unless memory ran out
 abbrev pub MakesFile : {A : Type 0} → Result A LineFault → Result A LineFault → Type 0
 MakesFile (Ok made) said = said ≡ Ok made
 MakesFile (Err fault) said = UnlessMemory fault.kind (said ≡ Err fault)

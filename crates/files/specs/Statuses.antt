@@ -5,7 +5,7 @@ use Rattle.files.specs.declared.faults.Fault.TheVariants.{Line, Read, Write, Mem
 use Rattle.files.specs.declared.faults.FaultKind.{FaultKind}
 use Rattle.files.specs.declared.faults.FaultKind.TheVariants as kind
 
--- 4 for want of memory, 1 for any other fault of a line
+-- 4 if memory ran out, 1 for any other fault of a line
 abbrev pub status_of_kind : FaultKind → ℕ
 status_of_kind kind.Memory = 4
 status_of_kind kind.NotFirst = 1
@@ -17,7 +17,7 @@ status_of_kind kind.BadValue = 1
 status_of_kind kind.BadSetup = 1
 status_of_kind kind.TooLong = 1
 
--- 4 for want of memory, 1 for any other fault
+-- 4 if memory ran out, 1 for any other fault
 abbrev pub status_of_fault : Fault → ℕ
 status_of_fault Memory = 4
 status_of_fault (Line f) = status_of_kind f.kind

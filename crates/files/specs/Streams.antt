@@ -1,4 +1,4 @@
--- What calls of a source and a sink do to the bytes that are told.
+-- The effect of calls of a source and a sink on the known bytes.
 use Rattle.std.specs.Prelude.{◌≡◌, ◌<◌, ◌≤◌, ℕ, ◌==◌, not, ◌&&◌, if◌then◌else◌, List, length, take, Option, None, Result, Ok, Err, IfOk, MatchResult}
 use Rattle.std.specs.Global.{Vec}
 use Rattle.std.specs.Option.{option_to_list}
@@ -8,7 +8,7 @@ use Rattle.files.specs.declared.faults.Fault.{Fault}
 use Rattle.files.specs.declared.faults.Fault.TheVariants.{Line, Read, Write, Memory}
 use Rattle.files.specs.declared.streams.Failed.{Failed}
 
--- a byte comes from the front of those to come; there is none only at the end; a call that fails takes none
+-- a call takes the first byte of those to come, and no byte only at the end; a failed call takes no byte
 abbrev pub GivesByte : Option (List ℕ) → Option (List ℕ) → Result (Option ℕ) Failed → Type 0
 GivesByte old new r = MatchResult r (λ byte. Consumes old new (option_to_list byte) × (byte ≡ None → IsAtEnd new)) (λ _. Keeps old new)
 
@@ -28,7 +28,7 @@ pub record ReadsInput (old new : Option (List ℕ)) (bytes : List ℕ) : Type 0 
   pub within : length bytes ≤ input_limit
   pub whole : length bytes < input_limit → IsAtEnd new
 
--- a call gives them, unless it fails
+-- a call returns these bytes, unless it fails
 abbrev pub GivesInput : {E : Type 0} → Result (Vec ℕ) E → Option (List ℕ) → Option (List ℕ) → Type 0
 GivesInput result old new = IfOk result (λ (bytes : Vec ℕ). ReadsInput old new bytes.items)
 
@@ -48,7 +48,7 @@ abbrev pub failed_reading : {A : Type 0} → Result A Fault → ℕ
 failed_reading (Err Read) = 1
 failed_reading r = 0
 
--- reading ends early only by a call that failed, or for want of memory
+-- reading ends early only by a call that failed, or because memory ran out
 abbrev pub IsReadFault : Fault → Type 0
 IsReadFault Read = Unit {0}
 IsReadFault Memory = Unit {0}

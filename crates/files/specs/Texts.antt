@@ -3,7 +3,7 @@ use Rattle.std.specs.Prelude.{◌≡◌, ℕ, List, ◌++◌, Result, IfOk}
 use Rattle.std.specs.String.{string_bytes}
 use Rattle.std.specs.declared.string.String.{String}
 
--- a call gives this text, unless memory is wanting
+-- a call returns this text, unless memory runs out
 abbrev pub GivesText : {Z E : Type 0} → Result (String Z) E → List ℕ → Type 0
 GivesText result bytes = IfOk result (λ text. string_bytes text ≡ bytes)
 

@@ -8,7 +8,7 @@ abbrev pub begins_with : ℕ → List ℕ → Bool
 begins_with b [] = false
 begins_with b (c ∷ cs) = c == b
 
--- some lines with a byte more at the front of the first
+-- lines, with one more byte at the start of the first line
 abbrev pub onto : ℕ → List (List ℕ) → List (List ℕ)
 onto b [] = (b ∷ []) ∷ []
 onto b (line ∷ rest) = (b ∷ line) ∷ rest
@@ -17,7 +17,7 @@ onto b (line ∷ rest) = (b ∷ line) ∷ rest
 abbrev pub lines_with : ℕ → List ℕ → List (List ℕ) → List (List ℕ)
 lines_with b bs known = if b == 10 then [] ∷ known else if (b == 13) && begins_with 10 bs then known else onto b known
 
--- The lines of a text, without their ends. Behind the last 0x0A there is a line only if there is a byte.
+-- The lines of a text, without their ends. After the last 0x0A there is a line only if there is a byte.
 abbrev pub lines : List ℕ → List (List ℕ)
 lines [] = []
 lines (b ∷ bs) = lines_with b bs (lines bs)
@@ -30,6 +30,6 @@ is_blank b = (b == 32) || (b == 9)
 abbrev pub words_of : List ℕ → List (List ℕ)
 words_of line = filter (λ word. not (length word == 0)) (slice_split is_blank line)
 
--- words, without where they lie
+-- words, as lists of bytes
 abbrev pub texts : List (Bor (List ℕ)) → List (List ℕ)
 texts = map (λ word. word.now)

@@ -1,30 +1,30 @@
-//! What can be wrong with a file.
+//! The faults of a file.
 ghost use Rattle.std.specs.Prelude.{◌≡◌};
 
 use std::alloc::AllocError;
 use std::fmt;
 use thiserror::Error;
 
-/// What is wrong with a line.
+/// The kinds of faults of a line.
 #[derive(Clone, Copy, Debug, PartialEq, Eq, Error)]
 pub enum FaultKind {
-    /// The line stands where no line of its kind may stand, or is not the first line that the file must have.
+    /// The line appears where no line of its kind may appear, or is not the first line that the file must have.
     NotFirst,
     /// A key word is not in the table.
     Unknown,
-    /// The number of words is another one.
+    /// The number of words is wrong.
     Words,
-    /// An operand is no number, or out of its range.
+    /// An operand is not a number, or is out of its range.
     Number,
-    /// An operand is no name.
+    /// An operand is not a name.
     BadName,
-    /// An operand is no value.
+    /// An operand is not a value.
     BadValue,
     /// No such setup is in the file's version.
     BadSetup,
     /// The line has more than 128 bytes, or there are too many lines.
     TooLong,
-    /// A growth was refused.
+    /// A memory allocation failed.
     Memory,
 }
 
@@ -52,7 +52,7 @@ pub struct LineFault {
     pub kind: FaultKind,
 }
 
-/// Why an engine ended early.
+/// The reason why an engine ended early.
 #[derive(Clone, Copy, Debug, Error)]
 pub enum Fault {
     #[error(transparent)]

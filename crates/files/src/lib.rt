@@ -1,6 +1,6 @@
-//! A file while it is read and written: its lines and their words, read by any grammar, whole or line by line from a
-//! source; its key words, in tables; the faults that it can have; the streams that engines read and write, how far they
-//! are, and the statuses that they end with.
+//! Reading and writing files. A grammar reads the lines of a file and their words, whole or line by line from a source. The
+//! crate also has tables of key words, the faults of a file, the streams that engines read and write, the progress of
+//! engines, and their exit statuses.
 #![tactic(auto)]
 
 mod faults;

@@ -1,25 +1,25 @@
-//! How far an engine is: it tells an onlooker, which is no part of what it writes, and of which no contract speaks.
+//! The progress of an engine: it is reported to an onlooker, which does not change the output, and is in no contract.
 //!
 //! ```rust
 //! onlooker.reached(place.begin_line(summary.events));
 //! ```
 
-/// How far an engine is.
+/// The progress of an engine.
 #[derive(Clone, Copy)]
 pub enum Reached<'a> {
     /// A line of the file is to be run.
     Line(LinePlace<'a>),
-    /// A sweep has gone along so many of its events.
+    /// A sweep has passed `events` of its `of` events.
     Swept { events: u64, of: u64 },
 }
 
-/// Who looks on while an engine runs.
+/// An observer of the progress of an engine.
 pub trait Onlooker {
-    /// The engine has come so far.
+    /// Observes that the engine has come this far.
     fn reached(&mut self, reached: Reached<'_>);
 }
 
-/// Nobody looks on.
+/// An observer that does nothing.
 #[derive(Drop)]
 pub struct Nobody;
 
@@ -27,16 +27,16 @@ impl Onlooker for Nobody {
     fn reached(&mut self, _reached: Reached<'_>) {}
 }
 
-/// Who looks on while a file is run for the second time. It hears of the events of both runs together.
+/// An observer of the second run of a file. It counts the events of both runs together.
 #[derive(Drop)]
 pub struct Again<'l, L> {
     onlooker: &'l mut L,
-    /// How many events were accepted the first time.
+    /// The number of events that the first run accepted.
     earlier: u64,
 }
 
 impl<'l, L: Onlooker> Again<'l, L> {
-    /// Of an onlooker, behind a run that accepted so many events.
+    /// Creates the observer of the run after one that accepted `earlier` events. It reports to `onlooker`.
     pub fn new(onlooker: &'l mut L, earlier: u64) -> Again<'l, L> {
         Again { onlooker, earlier }
     }
@@ -52,20 +52,20 @@ impl<'l, L: Onlooker> Onlooker for Again<'l, L> {
     }
 }
 
-/// A line of a file that is run, or the place before the first one.
+/// A line of a file that is run, or the position before the first line.
 #[derive(Clone, Copy)]
 pub struct LinePlace<'a> {
     number: u16,
     /// The numbers of the lines that come after it.
     later: &'a [u16],
-    /// How many events were accepted before it.
+    /// The number of events that were accepted before it.
     events: u64,
-    /// Whether the file was run before, and those events are among them.
+    /// Whether this is the second run of the file. Then the events of the first run are counted too.
     is_again: bool,
 }
 
 impl<'a> LinePlace<'a> {
-    /// Creates the place before the first of the lines that are run, which have these numbers.
+    /// Creates the position before the first of the lines that are run, which have these numbers.
     pub fn before(numbers: &'a [u16]) -> LinePlace<'a> {
         LinePlace {
             number: 0,
@@ -75,7 +75,7 @@ impl<'a> LinePlace<'a> {
         }
     }
 
-    /// The same place, where the file was run before and accepted so many events.
+    /// Returns this position in a second run of the file, whose first run accepted `earlier` events.
     fn after(self, earlier: u64) -> LinePlace<'a> {
         LinePlace {
             events: self.events.saturating_add(earlier),
@@ -84,7 +84,7 @@ impl<'a> LinePlace<'a> {
         }
     }
 
-    /// The next line is to be run, after so many events.
+    /// Begins the next line, after `events` accepted events.
     pub fn begin_line(&mut self, events: u64) -> Reached<'a> {
         if let Some((number, later)) = self.later.split_first() {
             self.number = *number;
@@ -94,12 +94,12 @@ impl<'a> LinePlace<'a> {
         Reached::Line(*self)
     }
 
-    /// How many events were accepted before the line, those of an earlier run of the file among them.
+    /// Returns the number of events that were accepted before the line, including those of an earlier run of the file.
     pub fn events(&self) -> u64 {
         self.events
     }
 
-    /// Whether the file is run for the second time.
+    /// Returns whether the file is run for the second time.
     pub fn is_again(&self) -> bool {
         self.is_again
     }

@@ -17,18 +17,26 @@ const MOST_LINES: u64 = 4096;
 /// The most bytes of a line, without its end.
 pub(crate) const MOST_BYTES: usize = 128;
 
-/// The most lines that a file has behind its headings.
+/// The most lines that a file has after its headings.
 const MOST_KEPT: usize = 4000;
 
-/// What is read line by line, by a grammar of its own. A line is its first word and the words behind it.
+/// A value that is read line by line, by a grammar of its own. A line is its first word and the words after it.
 pub trait FromLines: Sized + Drop {
     ghost grammar: { Grammar Self };
 
     /// Reads the first line that is not skipped.
+    ///
+    /// # Errors
+    ///
+    /// Returns the fault that the grammar gives, or [`FaultKind::Memory`] if memory runs out.
     fn first(alloc: Global, word: &[u8], words: &[&[u8]]) -> Result<Self, FaultKind>
         ensures { Makes result (grammar.first word.now (texts words.now)) };
 
     /// Reads a later line. After an `Err` no more is read.
+    ///
+    /// # Errors
+    ///
+    /// Returns the fault that the grammar gives, or [`FaultKind::Memory`] if memory runs out.
     fn later(&mut self, word: &[u8], words: &[&[u8]]) -> Result<(), FaultKind>
         ensures { Takes result (grammar.later word.now (texts words.now) self.old) self.new };
 }
@@ -63,7 +71,7 @@ pub fn read_file<T: FromLines>(
     })
 }
 
-/// Reads one line after what was read before, and adds its number unless it is skipped.
+/// Reads one line after the lines before it, and adds its number unless it is skipped.
 fn read_line<T: FromLines>(
     alloc: Global,
     number: u64,
@@ -75,7 +83,7 @@ fn read_line<T: FromLines>(
     ensures numbers { OnOk result
         (numbers.new.items ≡ numbers.old.items ++ said_numbers number (line.now ∷ [])) }
 {
-    // (one condition: the proof answers it as it stands here, and as the wrong body in must-fail/ has it)
+    // (one condition: the proof answers this one, and that of the mutant in must-fail/)
     let is_beyond = (number > MOST_LINES) | (line.len() > MOST_BYTES);
     if is_beyond {
         return Err(FaultKind::TooLong);
@@ -98,7 +106,7 @@ fn add_number(words: &[&[u8]], number: u64, numbers: &mut Vec<u16>) -> Result<()
     Ok(())
 }
 
-/// Whether reading does not skip a line of these words.
+/// Returns whether reading does not skip a line of these words.
 fn is_said(words: &[&[u8]]) -> bool
     ensures { result ≡ said (texts words.now) }
 {
@@ -108,8 +116,12 @@ fn is_said(words: &[&[u8]]) -> bool
     first.first() != Some(&b'#')
 }
 
-/// Reads one line after what was read before, however long it is and whatever its number is: for who has limits of
-/// his own.
+/// Reads one line after the lines before it, of any length and any number. It is for a caller that has limits of
+/// its own.
+///
+/// # Errors
+///
+/// Returns the fault that the grammar gives, or [`FaultKind::Memory`] if memory runs out.
 pub fn read_any_line<T: FromLines>(
     alloc: Global,
     line: &[u8],
@@ -156,8 +168,13 @@ fn read_statement<T: FromLines>(
     }
 }
 
-/// Keeps one more line behind the headings, of which a file has at most 4,000. After an `Err` the lines are
-/// as they were.
+/// Keeps one more line after the headings.
+/// A file has at most 4,000 such lines.
+///
+/// # Errors
+///
+/// Returns [`FaultKind::TooLong`] if there are 4,000 lines already, or [`FaultKind::Memory`] if memory runs out. The
+/// lines are then unchanged.
 pub fn keep_line<T: Drop>(lines: &mut Vec<T>, line: T) -> Result<(), FaultKind>
     ensures value { Takes result (one_more lines.old.items line) lines.new.items }
     ensures ok { OnOk result (lines.new.items ≡ lines.old.items ++ line ∷ []) }

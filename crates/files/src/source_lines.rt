@@ -16,15 +16,15 @@ use std::marker::Model;
 /// The most bytes of a line with its end, which are 0x0D and 0x0A.
 const MOST_WITH_END: usize = MOST_BYTES + 2;
 
-/// As many lines as 64 bits can number, and the line behind them too.
+/// One more than the most lines that a source may have: the line after the last has a number of 64 bits too.
 const MOST_LINES: u64 = u64::MAX - 1;
 
-/// The lines of a source: how many were taken, and the bytes of the last one. The source is asked for blocks, so bytes
-/// behind that line may have left it. However long a line is, no more of it is held than two blocks of 8 kilobytes.
+/// The lines of a source: the number of lines that were taken, and the bytes of the last one. The source gives blocks, so
+/// it may have given bytes after that line. At most two blocks of 8 kilobytes of a line are held, however long it is.
 #[derive(Drop)]
 pub struct Lines {
     taken: u64,
-    /// Whether the last line stands where it was found. One that a block cuts was moved together.
+    /// Whether the last line is read where it was found. A line across two blocks was moved together.
     in_place: bool,
     bytes: Vec<u8>,
     ahead: Ahead,
@@ -42,7 +42,7 @@ impl Model for Lines {
 }
 
 impl Lines {
-    /// No line yet.
+    /// Creates the lines of a source before the first one.
     pub fn new(alloc: Global) -> Lines
         ensures taken { result.taken ≡ 0 }
         ensures ahead { result.ahead.bytes ≡ [] }
@@ -56,7 +56,7 @@ impl Lines {
         }
     }
 
-    /// How many lines were taken, which is the number of the last one.
+    /// Returns the number of lines that were taken, which is the number of the last one.
     pub fn taken(&self) -> u64
         ensures taken { result ≡ self.now.taken }
         ensures few { result < 2 ^ 64 - 1 }
@@ -64,7 +64,7 @@ impl Lines {
         self.taken
     }
 
-    /// The bytes of the line that was taken last, without its end.
+    /// Returns the bytes of the line that was taken last, without its end.
     #[inline(always)]
     pub fn line(&self) -> &[u8]
         ensures { result.now ≡ self.now.line }
@@ -76,11 +76,16 @@ impl Lines {
         }
     }
 
-    /// Takes the next line; `false` if there is none. A line of more than 128 bytes is a fault. A file of 2^64 - 1 lines
-    /// or more, whose numbers want more than 64 bits, ends with `Memory`. After an `Err` no more is to be taken. Once the
-    /// source has told its end it is not asked again, so a last line without an end asks a terminal no more than once. It
-    /// stands in its caller's loop, and a line where it was read, since lines are short: calls and moving the bytes would
-    /// cost as much as reading them.
+    /// Takes the next line, or returns `false` if there is none. A line of more than 128 bytes is a fault. A file of 2^64 - 2
+    /// lines or more ends with `Memory`, so that line numbers have 64 bits. After an `Err` the caller takes no more lines.
+    /// A source that has reported its end is not asked again, so a last line without an end asks a terminal only once. The
+    /// function is inlined into its caller's loop, and a line is read in place. Lines are short, so calls and moving the
+    /// bytes would cost as much as reading them.
+    ///
+    /// # Errors
+    ///
+    /// Returns a [`Fault::Line`] of the kind `TooLong` for a line of more than 128 bytes, and [`Fault::Read`] if a call
+    /// of the source failed. Returns [`Fault::Memory`] if memory runs out, or for a file of 2^64 - 2 lines or more.
     #[inline(always)]
     pub fn next<R: Source>(&mut self, input: &mut R) -> Result<bool, Fault>
         requires { R.failures input.old < 2 ^ 64 - 1 }
@@ -126,7 +131,7 @@ impl Lines {
         take_line(input, &mut self.ahead, &mut self.bytes)
     }
 
-    /// A fault of the line that was taken last.
+    /// Returns a fault of the line that was taken last.
     pub fn here(&self, kind: FaultKind) -> Fault
         ensures { result ≡ Fault.Line (record { line = self.now.taken; kind = kind }) }
     {
@@ -136,7 +141,7 @@ impl Lines {
         })
     }
 
-    /// A fault of the line behind it.
+    /// Returns a fault of the line after the one that was taken last.
     pub fn behind(&self, kind: FaultKind) -> Fault
         ensures { result ≡ Fault.Line (record { line = self.now.taken + 1; kind = kind }) }
     {
@@ -147,8 +152,8 @@ impl Lines {
     }
 }
 
-/// Moves the bytes of the first line together, without its end, or more than 128 of them; `false` if there is no line. Few
-/// lines come to it.
+/// Moves the bytes of the first line together, without its end, or more than 128 of them. Returns `false` if there is no line.
+/// Few lines need it.
 #[inline(never)]
 fn take_line<R: Source>(input: &mut R, ahead: &mut Ahead, line: &mut Vec<u8>) -> Result<bool, Fault>
     requires { R.failures input.old < 2 ^ 64 - 1 }

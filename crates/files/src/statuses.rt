@@ -4,23 +4,23 @@ ghost use Rattle.files.specs.Statuses.{status_of_fault};
 
 use crate::faults::{Fault, FaultKind};
 
-/// The exit status where all that was asked for is done.
+/// The exit status of a program that did everything that was asked for.
 pub const DONE: u8 = 0;
 
-/// What an engine answers where it has met no fault. It decides the exit status, so each type that an engine
-/// may answer says here which status its values stand for.
+/// The value that an engine returns if it has met no fault. The value decides the exit status, so each type that an engine
+/// may return defines the status of its values.
 pub trait Ending {
     ghost use Rattle.std.specs.Prelude.{ℕ, ◌≡◌};
 
-    // The status that a value stands for.
+    // The status that a value means.
     ghost status_of_end: { Self → ℕ };
 
-    /// The exit status.
+    /// Returns the exit status.
     fn status(&self) -> u8
         ensures { result ≡ status_of_end self.now };
 }
 
-/// An engine that answers nothing has done what was asked for.
+/// An engine that returns no value has done everything that was asked for.
 impl Ending for () {
     ghost status_of_end = { λ _. 0 };
 
@@ -29,7 +29,7 @@ impl Ending for () {
     }
 }
 
-/// The exit status that an engine's end stands for, where it has met no fault.
+/// Returns the exit status of an engine that has met no fault, or its fault.
 pub fn exit_status<E: Ending + Drop>(ran: Result<E, Fault>) -> Result<u8, Fault>
     ensures { MatchResult ran (λ end. result ≡ Ok (E.status_of_end end)) (λ e. result ≡ Err e) }
 {
@@ -39,7 +39,7 @@ pub fn exit_status<E: Ending + Drop>(ran: Result<E, Fault>) -> Result<u8, Fault>
     }
 }
 
-/// The exit status where a fault is told: 4 for want of memory, of a line too, else 1.
+/// Returns the exit status for a fault: 4 if memory ran out, in a line too, otherwise 1.
 pub fn fault_status(fault: &Fault) -> u8
     ensures { result ≡ status_of_fault fault.now }
 {

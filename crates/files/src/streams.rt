@@ -1,4 +1,4 @@
-//! Bytes that come, one by one or in blocks, and bytes that go.
+//! Bytes that an engine reads, one by one or in blocks, and bytes that it writes.
 ghost use Rattle.std.specs.Prelude.{◌≡◌, ℕ, ◌+◌, ◌-◌, ◌^◌, ◌<◌, List, Option, Result, Ok, Err, IsErr, IfErr, IfOk, OnOk, OnErr};
 ghost use Rattle.std.specs.Io.{ReadsAtMost, WritesAtMost};
 ghost use Rattle.std.specs.Io.KnownBytes.{Appends, ReadConsumes, WriteAppends};
@@ -8,26 +8,26 @@ use crate::faults::Fault;
 use std::alloc::Global;
 use std::io::{self, Read, Write};
 
-/// A call that failed, for whatever reason.
+/// The error of a call that failed, for any reason.
 #[derive(Clone, Copy)]
 pub struct Failed;
 
-/// Where an engine's bytes come from.
+/// The origin of an engine's input.
 pub trait Source {
-    /// The bytes to come, where they are told.
+    /// The bytes to come, if they are known.
     ghost to_come: { Self → Option (List ℕ) };
 
-    /// How many calls have failed.
+    /// The number of calls that have failed.
     ghost failures: { Self → ℕ };
 
-    /// The next byte, or `None` at the end. An `Err` takes no byte.
+    /// Returns the next byte, or `None` at the end. An `Err` takes no byte.
     fn next_byte(&mut self) -> Result<Option<u8>, Failed>
         requires { failures self.old < 2 ^ 64 - 1 }
         ensures byte { GivesByte (to_come self.old) (to_come self.new) result }
         ensures failures { failures self.new ≡ failures self.old + failed_read result };
 
-    /// Takes bytes from the front into a buffer, and says how many: none only at the end, or where the buffer has no
-    /// room. An `Err` takes none.
+    /// Takes the first bytes into a buffer, and returns their number: 0 only at the end, or if the buffer has no
+    /// room. An `Err` takes no byte.
     fn next_bytes(&mut self, buffer: &mut [u8]) -> Result<usize, Failed>
         requires { failures self.old < 2 ^ 64 - 1 }
         ensures count { ReadsAtMost result buffer.new }
@@ -47,15 +47,15 @@ pub trait Source {
     }
 }
 
-/// Where an engine's bytes go.
+/// The destination of an engine's output.
 pub trait Sink {
-    /// The bytes that were taken, where they are told.
+    /// The bytes that were taken, if they are known.
     ghost taken: { Self → Option (List ℕ) };
 
-    /// How many calls have failed, or took none of some bytes.
+    /// The number of calls that have failed, or that took none of some bytes.
     ghost failures: { Self → ℕ };
 
-    /// Takes bytes from the front, and says how many. After an `Err` none of them is taken.
+    /// Takes the first of these bytes, and returns their number. After an `Err` no byte is taken.
     fn put(&mut self, bytes: &[u8]) -> Result<usize, Failed>
         requires { failures self.old < 2 ^ 64 - 1 }
         ensures count { WritesAtMost result bytes.now }
@@ -63,7 +63,7 @@ pub trait Sink {
         ensures failures { failures self.new ≡ failures self.old + failed_put result bytes.now };
 }
 
-/// What a call of std's comes to: an error of any kind is a failed call.
+/// Returns the result of a call of std: an error of any kind is a failed call.
 fn counted(ended: io::Result<usize>, failures: &mut u64) -> Result<usize, Failed>
     requires { failures.old < 2 ^ 64 - 1 }
     ensures ok { IfOk ended (λ count. result ≡ Ok count) }
@@ -89,7 +89,7 @@ pub struct FromRead<R: Read> {
 }
 
 impl<R: Read> FromRead<R> {
-    /// The bytes that a reader has, and no failures yet.
+    /// Creates a source of the bytes that a reader has, without failures.
     pub fn new(reader: R) -> FromRead<R>
         ensures bytes { ⟦<FromRead<R> as Source>⟧.to_come result ≡ R.remaining reader }
         ensures failures { ⟦<FromRead<R> as Source>⟧.failures result ≡ 0 }
@@ -128,7 +128,7 @@ pub struct IntoWrite<W: Write> {
 }
 
 impl<W: Write> IntoWrite<W> {
-    /// What a writer took, and no failures yet.
+    /// Creates a sink with the bytes that a writer took, without failures.
     pub fn new(writer: W) -> IntoWrite<W>
         ensures bytes { ⟦<IntoWrite<W> as Sink>⟧.taken result ≡ W.contents writer }
         ensures failures { ⟦<IntoWrite<W> as Sink>⟧.failures result ≡ 0 }
@@ -154,12 +154,12 @@ impl<W: Write> Sink for IntoWrite<W> {
     }
 }
 
-/// How many bytes an engine reads of its input at most: 4,096 lines of 128 bytes with two bytes of end, and
+/// The most bytes that an engine reads of its input: 4,096 lines of 128 bytes with two bytes of end, and
 /// one more. A longer input has its fault among them.
 pub const INPUT_LIMIT: usize = 532_481;
 
-/// The bytes to come, up to the end or to `INPUT_LIMIT` of them. It fails with `Read` where a call failed,
-/// and with `Memory`; then too only bytes from the front are gone, no more than `INPUT_LIMIT`.
+/// Reads the bytes to come, up to the end or to [`INPUT_LIMIT`] of them. It fails with `Read` if a call failed, and with
+/// `Memory` if memory ran out. In both cases it has taken at most [`INPUT_LIMIT`] bytes, from the front.
 pub fn read_input<R: Source>(alloc: Global, input: &mut R) -> Result<Vec<u8>, Fault>
     requires { R.failures input.old < 2 ^ 64 - 1 }
     ensures ok { GivesInput result (R.to_come input.old) (R.to_come input.new) }
@@ -182,8 +182,12 @@ pub fn read_input<R: Source>(alloc: Global, input: &mut R) -> Result<Vec<u8>, Fa
     Ok(bytes)
 }
 
-/// Writes all the bytes. It fails with `Write` where a call failed or took none of some bytes; then some
-/// bytes from the front were written.
+/// Writes all the bytes, in as many calls as the sink needs.
+/// A call may take only some of the bytes.
+///
+/// # Errors
+///
+/// Returns [`Fault::Write`] if a call failed or took none of some bytes. Some bytes from the front were then written.
 pub fn write_all<W: Sink>(output: &mut W, bytes: &[u8]) -> Result<(), Fault>
     requires { W.failures output.old < 2 ^ 64 - 1 }
     ensures ok { OnOk result (Appends (W.taken output.old) (W.taken output.new) bytes.now) }

@@ -10,7 +10,11 @@ use std::alloc::AllocError;
 /// have would be cleared for each of them.
 pub type Words<'a> = SmallVec<&'a [u8], 8>;
 
-/// Adds the words of a line, which spaces and tabs separate. They are not handed out, since their room would be moved.
+/// Adds the words of a line, which spaces and tabs separate. They are not returned, because their room would be moved.
+///
+/// # Errors
+///
+/// Returns [`AllocError`] if memory runs out. Some of the words may then have been added.
 pub fn add_words<'a>(line: &'a [u8], words: &mut Words<'a>) -> Result<(), AllocError>
     ensures { OnOk result (texts words.new.items ≡ texts words.old.items ++ words_of line.now) }
 {
@@ -25,7 +29,7 @@ pub fn add_words<'a>(line: &'a [u8], words: &mut Words<'a>) -> Result<(), AllocE
     Ok(())
 }
 
-/// The bytes before the first blank, and those behind it.
+/// Returns the bytes before the first blank, and the bytes after it.
 #[tactic(auto, using(crate::proofs::FoundWords::place_or_all, std::proofs::lemmas::List::drop_min, std::proofs::lemmas::List::take_rest))]
 fn cut_at_blank(line: &[u8]) -> (&[u8], &[u8])
     ensures before { result.0.now ≡ before_first blank line.now }
@@ -35,7 +39,7 @@ fn cut_at_blank(line: &[u8]) -> (&[u8], &[u8])
     (&line[..at], &line[(at + 1).min(line.len())..])
 }
 
-/// How many bytes stand before the first blank, if there is one.
+/// Returns the number of bytes before the first blank, if there is one.
 fn place_of_blank(line: &[u8]) -> Option<usize>
     ensures place { result ≡ position blank line.now }
     ensures within { IfSome result (λ at. at < length line.now) }

@@ -1,4 +1,4 @@
--- What is written part by part.
+-- Text that is written part by part.
 use Rattle.std.proofs.Common.{◌≡◌, ℕ, List, ◌∷◌, ◌++◌, codes, ap, append_assoc, sym}
 use Rattle.std.specs.Fmt.{decimal}
 use Rattle.markup.specs.{Attribute, Tag, attributes_text, entering, escaped, lowering, marking, noting, standing, tag_end, tag_name, telling}

@@ -1,4 +1,4 @@
--- What the tags are that are written, and what they leave open.
+-- The kinds of the tags that are written, and the elements that they leave open.
 use Rattle.std.proofs.Common.{◌≡◌, ℕ, ◌==◌, ◌||◌, Bool, true, false, cond, List, [], ◌∷◌, ◌++◌, codes, flat_map, Some, refl, ap, sym, ◌∙◌, append_assoc, append-nil}
 use Rattle.std.specs.Fmt.{decimal}
 use Rattle.markup.specs.{Attribute, Begins, Ends, Stack, Stands, Tag, after_kind, after_tags, attribute_text, begun, entering, escaped, group, input_field, is_among, key_name, kind_by, kind_of, last_byte, lowering, marking, meant, noting, opens_in, standing, tag_name, telling, text_names}
@@ -11,7 +11,7 @@ last_on : (b : ℕ) (xs ys : List ℕ) → last_byte b (xs ++ ys) ≡ last_byte 
 last_on b [] ys = refl
 last_on b (x ∷ xs) ys = last_on x xs ys
 
--- an attribute behind its space
+-- an attribute after its space
 abbrev tail_of : Attribute → List ℕ
 tail_of a = key_name a.key ++ codes "=\"" ++ escaped (meant a.meaning) ++ codes "\""
 
@@ -38,7 +38,7 @@ kind_with tag.Desc rest = refl
 kind_with tag.Heading rest = refl
 kind_with tag.Item rest = refl
 
--- and one without
+-- a tag without attributes
 kind_bare : (t : Tag) → kind_by (Some (tag_name t ++ [])) ≡ Begins (tag_name t)
 kind_bare tag.Svg = refl
 kind_bare tag.Path = refl
@@ -86,7 +86,7 @@ kind_end tag.Desc = refl
 kind_end tag.Heading = refl
 kind_end tag.Item = refl
 
--- none is of text alone
+-- no tag is of text alone
 pub no_text : (t : Tag) → is_among text_names (tag_name t) ≡ false
 no_text tag.Svg = refl
 no_text tag.Path = refl
@@ -98,7 +98,7 @@ no_text tag.Desc = refl
 no_text tag.Heading = refl
 no_text tag.Item = refl
 
--- what each leaves open
+-- the elements that each tag leaves open
 pub standing_opens : (t : Tag) (attributes : List Attribute) (s : Stack) → opens_in (standing t attributes) s ≡ s
 standing_opens t attributes s =
     ap (λ tags. after_tags tags s) (tag_alone (body_of t attributes (codes "/>\n")) (none_body t attributes (codes "/>\n") refl))
@@ -135,11 +135,11 @@ marking_opens attributes title s =
     ∙ titled title (after_kind (kind_of (mark_body attributes ++ [])) s)
     ∙ ap (λ k. after_kind k s) (begins_mark attributes)
 
--- a group that is no mark
+-- a group other than a mark
 pub noting_opens : (title : List ℕ) (s : Stack) → opens_in (noting title) s ≡ begun group s
 noting_opens title s = ap (λ tags. after_tags tags s) (noted_tags title) ∙ titled title (begun group s)
 
--- a group that stands lower
+-- a group that is moved down
 pub lowering_opens : (by : ℕ) (s : Stack) → opens_in (lowering by) s ≡ begun group s
 lowering_opens by s =
     ap (λ tags. after_tags tags s) (lowered_tags by)

@@ -1,21 +1,21 @@
--- Markup at rest goes on, and its lines stay as they are.
+-- Markup at rest continues, and its lines stay as they are.
 use Rattle.std.proofs.Common.{◌≡◌, ℕ, ◌==◌, not, ◌&&◌, Bool, true, false, cond, is_some, List, [], ◌∷◌, ◌++◌, codes, Option, None, Some, refl, ap, sym, ◌∙◌, append_assoc, append-nil}
 use Rattle.markup.specs.{behind, cut, cut_at, first_title, inner, is_at_rest, is_mark, is_no_mark, is_settled, lines_in, read_title, tags_of, titles}
 use Rattle.std.proofs.lemmas.Bool.{and_parts}
 use Rattle.std.specs.Option.{option_map}
 
--- tags, of which the last goes on
+-- tags, of which the last continues
 abbrev pub onto_last : List (List ℕ) → List ℕ → List (List ℕ)
 onto_last [] more = []
 onto_last (tag ∷ []) more = (tag ++ more) ∷ []
 onto_last (tag ∷ next ∷ tags) more = tag ∷ onto_last (next ∷ tags) more
 
--- a front, which goes on if no tag follows
+-- the bytes before the first tag, which continue if no tag follows
 abbrev pub front_with : List (List ℕ) → List ℕ → List ℕ → List ℕ
 front_with [] front more = front ++ more
 front_with (tag ∷ tags) front more = front
 
--- the parts of markup that goes on
+-- the parts of markup that continues
 abbrev joined : List ℕ × List (List ℕ) → List ℕ × List (List ℕ) → List ℕ × List (List ℕ)
 joined parts more = (front_with parts.1 parts.0 more.0, onto_last parts.1 more.0 ++ more.1)
 
@@ -27,7 +27,7 @@ joined_false : (x : ℕ) (front : List ℕ) (tags : List (List ℕ)) (more : Lis
 joined_false x front [] more = refl
 joined_false x front (tag ∷ tags) more = refl
 
--- a byte at the front
+-- one more byte at the start
 joined_at : (x : ℕ) (parts more : List ℕ × List (List ℕ)) → cut_at x (joined parts more) ≡ joined (cut_at x parts) more
 joined_at x parts more = by (x == 60)
   where
@@ -39,7 +39,7 @@ cut_on : (xs ys : List ℕ) → cut (xs ++ ys) ≡ joined (cut xs) (cut ys)
 cut_on [] ys = refl
 cut_on (x ∷ xs) ys = ap (cut_at x) (cut_on xs ys) ∙ joined_at x (cut xs) (cut ys)
 
--- what stands before the first tag, and the tags
+-- the bytes before the first tag, and the tags
 pub front_on : (xs ys : List ℕ) → (cut (xs ++ ys)).0 ≡ front_with (tags_of xs) (cut xs).0 (cut ys).0
 front_on xs ys = ap (λ parts. parts.0) (cut_on xs ys)
 
@@ -64,7 +64,7 @@ unmarked tag settled = (and_parts (is_no_mark tag) (is_some (inner tag)) settled
 pub whole : (tag : List ℕ) → is_settled tag ≡ true → is_some (inner tag) ≡ true
 whole tag settled = (and_parts (is_no_mark tag) (is_some (inner tag)) settled).1
 
--- what stands in a tag up to its `>` stays as it is, however it goes on
+-- the bytes in a tag up to its `>` stay the same, however the tag continues
 kept_option : (b : ℕ) (o : Option (List ℕ)) → is_some (option_map (λ rest. b ∷ rest) o) ≡ true → is_some o ≡ true
 kept_option b None has = has
 kept_option b (Some text) has = refl
@@ -78,14 +78,14 @@ pub inner_on : (tag more : List ℕ) → is_some (inner tag) ≡ true → inner 
 inner_on [] more has = absurd (cc)
 inner_on (b ∷ tag) more has = inner_at b tag more (inner_on tag more) (b == 62) has
 
--- a tag that is no mark's is no title, however it goes on
+-- a tag that fails the test is not a title, however it continues
 pub no_title : (tag more : List ℕ) → is_no_mark tag ≡ true → behind (codes "title>") (tag ++ more) ≡ None
 no_title [] more settled = absurd (cc)
 no_title (a ∷ []) more settled = absurd (cc)
 no_title (a ∷ b ∷ []) more settled = absurd (cc)
 no_title (a ∷ b ∷ c ∷ tag) more settled = ap (λ t. cond t (behind (codes "itle>") (b ∷ c ∷ (tag ++ more))) None) (no_t (a == 116) ((a == 103) && (c == 99)) settled)
 
--- and no tag of a mark
+-- such a tag is not the tag of a mark, however it continues
 pub no_mark : (tag more : List ℕ) → is_no_mark tag ≡ true → is_mark (tag ++ more) ≡ false
 no_mark [] more settled = absurd (cc)
 no_mark (a ∷ []) more settled = absurd (cc)
@@ -107,7 +107,7 @@ first_on tag (next ∷ tags) rest more settled = refl
 abbrev none_at_all : List (List ℕ)
 none_at_all = []
 
--- nothing, whatever a test says
+-- no title, for each result of a test
 pub nothing : (b : Bool) → cond b none_at_all none_at_all ≡ none_at_all
 nothing true = refl
 nothing false = refl
@@ -120,7 +120,7 @@ titles_on (tag ∷ next ∷ tags) rest more settled =
     (λ i. cond (is_mark tag) (first_on next tags rest more settled i) [] ++ titles_on (next ∷ tags) rest more settled i)
     ∙ sym (append_assoc (cond (is_mark tag) (first_title (next ∷ tags)) []) (titles (next ∷ tags)) (titles rest))
 
--- a tag that is no mark's stays so, and a settled tag settled
+-- a tag with this property keeps it, and a settled tag stays settled
 pub no_mark_on : (tag more : List ℕ) → is_no_mark tag ≡ true → is_no_mark (tag ++ more) ≡ true
 no_mark_on [] more still = absurd (cc)
 no_mark_on (a ∷ []) more still = absurd (cc)
@@ -137,14 +137,14 @@ rests_with (tag ∷ []) (next ∷ rest) more settled rests = rests
 rests_with (tag ∷ next ∷ []) rest more settled rests = rests_with (next ∷ []) rest more settled rests
 rests_with (tag ∷ next ∷ third ∷ tags) rest more settled rests = rests_with (next ∷ third ∷ tags) rest more settled rests
 
--- markup at rest that goes on by markup at rest is at rest
+-- markup at rest that continues with markup at rest is at rest
 pub rests_on : (old more : List ℕ) → is_at_rest (tags_of old) ≡ true → is_at_rest (tags_of more) ≡ true → is_at_rest (tags_of (old ++ more)) ≡ true
 rests_on old more settled rests = ap is_at_rest (tags_on old more) ∙ rests_with (tags_of old) (tags_of more) (cut more).0 settled rests
 
--- and its lines are those before and those of what it goes on by
+-- its lines are those of the first part and those of the second part
 pub lines_on : (old more : List ℕ) → is_at_rest (tags_of old) ≡ true → lines_in (old ++ more) ≡ lines_in old ++ lines_in more
 lines_on old more settled = ap titles (tags_on old more) ∙ titles_on (tags_of old) (tags_of more) (cut more).0 settled
 
--- the same of bytes that are known to be both
+-- bytes that are known to be two such parts are at rest
 pub rests_after : (new old more : List ℕ) → new ≡ old ++ more → is_at_rest (tags_of old) ≡ true → is_at_rest (tags_of more) ≡ true → is_at_rest (tags_of new) ≡ true
 rests_after new old more is settled rests = ap (λ b. is_at_rest (tags_of b)) is ∙ rests_on old more settled rests

@@ -1,4 +1,4 @@
--- What is read of markup that goes on.
+-- Reading markup that grows.
 use Rattle.std.proofs.Common.{◌≡◌, ℕ, true, List, [], ◌∷◌, ◌++◌, Result, Ok, Err, OnOk, ap, ◌∙◌, append-nil}
 use Rattle.markup.specs.{Attribute, Reading, Stack, Tag, begun, entering, group, input_field, is_at_rest, is_even, is_no_mark, joined, lines_in, lowering, marking, noting, opens_in, reading, standing, tag_name, tags_of, telling, with_mark, with_tags}
 use Rattle.markup.proofs.KindsOfTags.{entering_opens, field_opens, lowering_opens, marking_opens, noting_opens, standing_opens, telling_opens}
@@ -6,18 +6,18 @@ use Rattle.markup.proofs.Lines.{lines_on}
 use Rattle.markup.proofs.Stacks.{even_same, opens_on}
 use Rattle.markup.proofs.Tags.{entering_lines, entering_rests, field_lines, field_rests, lowering_lines, lowering_rests, marking_lines, marking_rests, noting_lines, noting_rests, standing_lines, standing_rests, telling_lines, telling_rests}
 
--- markup at rest goes on
+-- markup at rest continues
 pub reading_on : (old more : List ℕ) → is_at_rest (tags_of old) ≡ true → reading (old ++ more) ≡ joined (reading old) (reading more)
 reading_on old more rests = λ i. record { lines = lines_on old more rests i; opens = λ stack. opens_on old more stack rests i }
 
 pub reading_after : (new old more : List ℕ) → new ≡ old ++ more → is_at_rest (tags_of old) ≡ true → reading new ≡ joined (reading old) (reading more)
 reading_after new old more is rests = ap reading is ∙ reading_on old more rests
 
--- tags alone, which change the open elements so
+-- tags alone, which change the open elements in this way
 abbrev pub tags_alone : (Stack → Stack) → Reading
 tags_alone change = record { lines = []; opens = change }
 
--- by them the lines stay as they are
+-- the lines stay as they are after such tags
 pub tags_after : {A E : Type 0} (r : Result A E) (new old more : Reading) (change : Stack → Stack) → OnOk r (new ≡ joined old more) → more ≡ tags_alone change → OnOk r (new ≡ with_tags change old)
 tags_after (Ok done) new old more change is same = is ∙ ap (joined old) same ∙ (λ i. record { lines = append-nil old.lines i; opens = λ stack. change (old.opens stack) })
 tags_after (Err e) new old more change is same = tt
@@ -32,7 +32,7 @@ pub grows : {A E : Type 0} (r : Result A E) (new old bytes more : List ℕ) → 
 grows (Ok done) new old bytes more is are = is ∙ ap (λ l. old ++ l) are
 grows (Err e) new old bytes more is are = tt
 
--- what is written, where its bytes are known
+-- bytes that are known to be a written text
 module _ (bytes : List ℕ) (t : Tag) (attributes : List Attribute) where
   pub standing_settles : bytes ≡ standing t attributes → is_no_mark (tag_name t) ≡ true → is_at_rest (tags_of bytes) ≡ true
   standing_settles is h = ap (λ b. is_at_rest (tags_of b)) is ∙ standing_rests t attributes h

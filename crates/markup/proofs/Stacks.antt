@@ -12,20 +12,20 @@ after_append : (xs ys : List (List ℕ)) (s : Stack) → after_tags (xs ++ ys) s
 after_append [] ys s = refl
 after_append (tag ∷ xs) ys s = after_append xs ys (after_kind (kind_of tag) s)
 
--- the last tag of those at rest goes on
+-- the last tag of those at rest continues
 after_onto : (tags : List (List ℕ)) (more : List ℕ) (s : Stack) → is_at_rest tags ≡ true → after_tags (onto_last tags more) s ≡ after_tags tags s
 after_onto [] more s rests = refl
 after_onto (tag ∷ []) more s rests = ap (λ o. after_kind (kind_by o) s) (inner_on tag more (whole tag rests))
 after_onto (tag ∷ next ∷ tags) more s rests = after_onto (next ∷ tags) more (after_kind (kind_of tag) s) rests
 
--- markup at rest goes on
+-- markup at rest continues
 pub opens_on : (old more : List ℕ) (s : Stack) → is_at_rest (tags_of old) ≡ true → opens_in (old ++ more) s ≡ opens_in more (opens_in old s)
 opens_on old more s rests =
     ap (λ tags. after_tags tags s) (tags_on old more)
     ∙ after_append (onto_last (tags_of old) (cut more).0) (tags_of more) s
     ∙ ap (after_tags (tags_of more)) (after_onto (tags_of old) (cut more).0 s rests)
 
--- a name is no other one
+-- a name outside a list differs from each name in the list
 other_name : (name last : List ℕ) → is_among text_names name ≡ false → is_among text_names last ≡ true → bytes_eq name last ≡ false
 other_name name last other text = go (bytes_eq name last) refl
   where
@@ -46,7 +46,7 @@ round name None other = refl
 round name (Some []) other = ap (λ (b : Bool). cond b (Some []) (cond (is_among text_names name) (Some (name ∷ [])) None)) (same_name name)
 round name (Some (last ∷ others)) other = ends_begun name last others other (is_among text_names last) refl
 
--- what did not fit stays so
+-- after a tag that did not fit, later tags give no list either
 kind_none : (k : Kind) → after_kind k None ≡ None
 kind_none (Begins name) = refl
 kind_none (Ends name) = refl
@@ -57,7 +57,7 @@ none_stays : (tags : List (List ℕ)) → after_tags tags None ≡ None
 none_stays [] = refl
 none_stays (tag ∷ tags) = ap (after_tags tags) (kind_none (kind_of tag)) ∙ none_stays tags
 
--- where there is text alone, other tags change nothing
+-- inside an element of text alone, other tags change nothing
 turned : (b : Bool) → not b ≡ true → b ≡ false
 turned true h = sym h
 turned false h = refl
@@ -79,7 +79,7 @@ abbrev on : List (List ℕ) → Stack → Stack
 on below None = None
 on below (Some names) = Some (names ++ below)
 
--- no text alone is begun
+-- the element that began last is not of text alone
 abbrev holds_tags : List (List ℕ) → Bool
 holds_tags [] = true
 holds_tags (last ∷ others) = not (is_among text_names last)

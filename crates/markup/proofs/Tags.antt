@@ -1,4 +1,4 @@
--- What is read of the tags that are written.
+-- Reading the tags that are written.
 use Rattle.std.proofs.Common.{◌≡◌, ℕ, ◌==◌, not, ◌&&◌, ◌||◌, Bool, true, false, cond, is_some, List, [], ◌∷◌, ◌++◌, codes, flat_map, Option, Some, refl, ap, sym, ◌∙◌, append_assoc, append-nil}
 use Rattle.std.proofs.lemmas.Bool.{and_parts}
 use Rattle.std.proofs.lemmas.List.Folds.{list_all-append}
@@ -18,7 +18,7 @@ begins_none = list_all (λ b. not (b == 60))
 abbrev pub ends_none : List ℕ → Bool
 ends_none = list_all (λ b. not (b == 62))
 
--- whether neither is so
+-- whether a text has neither a `<` nor a `>`
 abbrev pub is_calm : List ℕ → Bool
 is_calm = list_all (λ b. not (b == 60) && not (b == 62))
 
@@ -123,7 +123,7 @@ front_none text h = ap (λ parts. parts.0) (cut_none text h)
 tags_none : (text : List ℕ) → begins_none text ≡ true → tags_of text ≡ []
 tags_none text h = ap (λ parts. parts.1) (cut_none text h)
 
--- what stands in a tag up to its `>`
+-- the bytes in a tag up to its `>`
 found_at : (b : ℕ) (text rest : List ℕ) → (ends_none text ≡ true → inner (text ++ 62 ∷ rest) ≡ Some text) → (c : Bool) → (not c && ends_none text) ≡ true →
     ◌≡◌ {A = Option (List ℕ)} (cond c (Some []) (option_map (λ rest. b ∷ rest) (inner (text ++ 62 ∷ rest)))) (Some (b ∷ text))
 found_at b text rest below true h = absurd (cc)
@@ -262,7 +262,7 @@ marking_rests attributes title = ap is_at_rest (marked_tags attributes title)
 pub marking_lines : (attributes : List Attribute) (title : List ℕ) → lines_in (marking attributes title) ≡ title ∷ []
 marking_lines attributes title = ap titles (marked_tags attributes title) ∙ ap (λ t. t ∷ []) (ap unescaped (append-nil (escaped title)) ∙ text_back title)
 
--- a group that is no mark, and its title
+-- a group other than a mark, and its title
 pub noted_tags : (title : List ℕ) → tags_of (noting title) ≡ codes "g class=\"r\">" ∷ (codes "title>" ++ (escaped title ++ [])) ∷ codes "/title>\n" ∷ []
 noted_tags title =
     ap tags_of (append_assoc (codes "<g class=\"r\">") (telling tag.Title [] title) (codes "\n"))
@@ -275,7 +275,7 @@ noting_rests title = ap is_at_rest (noted_tags title)
 pub noting_lines : (title : List ℕ) → lines_in (noting title) ≡ []
 noting_lines title = ap titles (noted_tags title)
 
--- a group that stands lower
+-- a group that is moved down
 abbrev pub lower_front : ℕ → List ℕ
 lower_front by = codes "g transform=\"translate(0," ++ escaped (decimal by) ++ codes ")\""
 

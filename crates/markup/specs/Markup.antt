@@ -51,16 +51,16 @@ key_name key.Source = codes "data-l"
 key_name key.Store = codes "data-s"
 key_name key.Queue = codes "data-q"
 
--- what an attribute says
+-- the meaning of an attribute
 abbrev pub meant : Meaning → List ℕ
 meant (meaning.Words words) = words.now
 meant (meaning.Number n) = decimal n
 
--- an attribute, and what it says
+-- an attribute, and its meaning
 abbrev pub Said : Type 0
 Said = Key × List ℕ
 
--- it within a tag
+-- an attribute within a tag
 abbrev pub said_text : Said → List ℕ
 said_text said = codes " " ++ key_name said.0 ++ codes "=\"" ++ escaped said.1 ++ codes "\""
 
@@ -116,14 +116,14 @@ mark_front_by attributes = codes "<g class=\"m\" role=\"img\"" ++ attributes ++ 
 abbrev pub mark_front : List Attribute → List ℕ
 mark_front attributes = mark_front_by (attributes_text attributes)
 
--- a mark and its title, and the end of their line: the mark is still to be ended
+-- a mark and its title, and the end of their line: the mark is not yet ended
 abbrev pub marking_by : List ℕ → List ℕ → List ℕ
 marking_by attributes title = mark_front_by attributes ++ telling tag.Title [] title ++ codes "\n"
 
 abbrev pub marking : List Attribute → List ℕ → List ℕ
 marking attributes = marking_by (attributes_text attributes)
 
--- a group that is no mark and its title, and the end of their line: the group is still to be ended
+-- a group other than a mark and its title, and the end of their line: the group is not yet ended
 abbrev pub noting : List ℕ → List ℕ
 noting title = codes "<g class=\"r\">" ++ telling tag.Title [] title ++ codes "\n"
 
@@ -131,6 +131,6 @@ noting title = codes "<g class=\"r\">" ++ telling tag.Title [] title ++ codes "\
 abbrev pub input_field : List Attribute → List ℕ
 input_field attributes = codes "<input" ++ attributes_text attributes ++ codes ">"
 
--- a group whose shapes stand so far below their places: it is still to be ended
+-- a group whose shapes are moved down by this distance: it is not yet ended
 abbrev pub lowering : ℕ → List ℕ
 lowering by = codes "<g transform=\"translate(0," ++ escaped (decimal by) ++ codes ")\">\n"

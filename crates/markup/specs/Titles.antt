@@ -3,20 +3,20 @@ use Rattle.std.specs.Prelude.{ℕ, Bool, true, false, ◌==◌, not, ◌&&◌, i
 use Rattle.std.specs.Option.{option_map}
 use Rattle.markup.specs.Escaping.{behind, unescaped}
 
--- markup that begins with a byte, where what follows the byte is cut already
+-- markup that begins with a byte, if the markup after the byte is cut already
 abbrev pub cut_at : ℕ → List ℕ × List (List ℕ) → List ℕ × List (List ℕ)
 cut_at b parts = if b == 60 then ([], parts.0 ∷ parts.1) else (b ∷ parts.0, parts.1)
 
--- markup, cut at each `<`: what stands before the first, and what follows each
+-- markup, cut at each `<`: the bytes before the first `<`, and those after each
 abbrev pub cut : List ℕ → List ℕ × List (List ℕ)
 cut [] = ([], [])
 cut (b ∷ markup) = cut_at b (cut markup)
 
--- what follows each `<`, up to the next
+-- the bytes after each `<`, up to the next
 abbrev pub tags_of : List ℕ → List (List ℕ)
 tags_of markup = (cut markup).1
 
--- what stands in a tag up to its `>`, if it has one
+-- the bytes in a tag up to its `>`, if it has one
 abbrev pub inner : List ℕ → Option (List ℕ)
 inner [] = None
 inner (b ∷ tag) = if b == 62 then Some [] else option_map (λ rest. b ∷ rest) (inner tag)
@@ -40,20 +40,20 @@ abbrev pub titles : List (List ℕ) → List (List ℕ)
 titles [] = []
 titles (tag ∷ tags) = cond (is_mark tag) (first_title tags) [] ++ titles tags
 
--- the lines that markup tells: the titles of its marks, in their order
+-- the lines of markup: the titles of its marks, in their order
 abbrev pub lines_in : List ℕ → List (List ℕ)
 lines_in markup = titles (tags_of markup)
 
--- whether a tag, however it goes on, is neither that of a mark nor a title
+-- whether a tag, however it continues, is neither that of a mark nor a title
 abbrev pub is_no_mark : List ℕ → Bool
 is_no_mark (a ∷ b ∷ c ∷ tag) = not (a == 116) && not ((a == 103) && (c == 99))
 is_no_mark _ = false
 
--- whether a tag is whole, and neither that of a mark nor a title: however it goes on, it is read as it is
+-- whether a tag is whole, and neither that of a mark nor a title: however it continues, it is read as it is
 abbrev pub is_settled : List ℕ → Bool
 is_settled tag = is_no_mark tag && is_some (inner tag)
 
--- whether markup may go on in any way, and what was read of it stays as it is
+-- whether the reading of markup stays the same, however the markup continues
 abbrev pub is_at_rest : List (List ℕ) → Bool
 is_at_rest [] = true
 is_at_rest (tag ∷ []) = is_settled tag

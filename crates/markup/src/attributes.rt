@@ -9,21 +9,21 @@ use crate::escaping::push_escaped;
 use crate::names::Key;
 use std::alloc::{AllocError, Global};
 
-/// What an attribute says.
+/// The meaning of an attribute.
 #[derive(Clone, Copy)]
 pub enum Meaning<'a> {
     Words(&'a [u8]),
     Number(u64),
 }
 
-/// An attribute of a tag, and what it says.
+/// An attribute of a tag, and its meaning.
 #[derive(Clone, Copy)]
 pub struct Attribute<'a> {
     pub key: Key,
     pub meaning: Meaning<'a>,
 }
 
-/// An attribute that says these words.
+/// Creates an attribute whose value is these words.
 pub fn words<'a>(key: Key, words: &'a [u8]) -> Attribute<'a>
     ensures { attribute_text result ≡ said_text (key, words.now) }
 {
@@ -33,7 +33,7 @@ pub fn words<'a>(key: Key, words: &'a [u8]) -> Attribute<'a>
     }
 }
 
-/// An attribute that says a number.
+/// Creates an attribute whose value is a number.
 pub fn number<'a>(key: Key, number: u64) -> Attribute<'a>
     ensures { attribute_text result ≡ said_text (key, decimal number) }
 {
@@ -43,7 +43,7 @@ pub fn number<'a>(key: Key, number: u64) -> Attribute<'a>
     }
 }
 
-/// The attribute by which a style is chosen.
+/// Creates the attribute that chooses a style.
 pub fn class<'a>(style: &'a str) -> Attribute<'a>
     ensures { attribute_text result ≡ said_text (key_variants.Class, style.now) }
 {

@@ -5,7 +5,7 @@ ghost use Rattle.markup.specs.Escaping.{escaped, escaped_by, is_plain, names, un
 
 use std::alloc::AllocError;
 
-/// Adds a text to markup, in which `&`, `<`, `>` and `"` stand by their names.
+/// Adds a text to markup, in which `&`, `<`, `>` and `"` are written by their names.
 pub(crate) fn push_escaped(markup: &mut Vec<u8>, text: &[u8]) -> Result<(), AllocError>
     ensures { OnOk result (markup.new.items ≡ markup.old.items ++ escaped text.now) }
 {
@@ -29,7 +29,7 @@ fn push_byte(markup: &mut Vec<u8>, byte: u8) -> Result<(), AllocError>
     }
 }
 
-/// Does nothing. Its contract says that an escaped text is read back as it was, and that no byte of it ends a text
+/// Does nothing. Its contract states that an escaped text is read back as it was, and that no byte of it ends a text
 /// or the value of an attribute.
 #[tactic(auto, using(crate::proofs::Escapes::text_back, crate::proofs::Escapes::text_plain))]
 pub fn texts_are_read_back()

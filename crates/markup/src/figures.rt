@@ -9,7 +9,7 @@ use crate::markup::Markup;
 use crate::names::{Key, Tag};
 use std::alloc::AllocError;
 
-/// A place in a picture, in pixels from its left upper corner.
+/// A place in a picture, in pixels from its upper left corner.
 #[derive(Clone, Copy)]
 pub struct Point {
     pub x: u32,
@@ -17,7 +17,7 @@ pub struct Point {
 }
 
 impl Point {
-    /// The place with these two.
+    /// Returns the place with these two coordinates.
     pub fn at(x: u32, y: u32) -> Point
         ensures { result ≡ record { x = x; y = y } }
     {
@@ -26,7 +26,11 @@ impl Point {
 }
 
 impl Markup {
-    /// A line from one place to another.
+    /// Adds a line from one place to another.
+    ///
+    /// # Errors
+    ///
+    /// Returns [`AllocError`] if memory runs out.
     #[tactic(auto, using(crate::proofs::Runs::line_is), unfolding(crate::specs::Figures::line_from))]
     pub fn line(&mut self, style: &str, from: Point, to: Point) -> Result<(), AllocError>
         ensures draws { AddsShape result self.old (line_from style.now from to) self.new }
@@ -37,7 +41,11 @@ impl Markup {
         self.path(style, from, rest.as_str())
     }
 
-    /// A path from a place on, by what follows the place in its description.
+    /// Adds a path from a place on, by the rest of its description.
+    ///
+    /// # Errors
+    ///
+    /// Returns [`AllocError`] if memory runs out.
     #[tactic(auto, using(crate::proofs::Runs::path_is), unfolding(crate::specs::Figures::drawn, crate::specs::Figures::path_from))]
     pub fn path(&mut self, style: &str, from: Point, rest: &str) -> Result<(), AllocError>
         ensures draws { AddsShape result self.old (path_from style.now from rest.now) self.new }
@@ -51,7 +59,11 @@ impl Markup {
         )
     }
 
-    /// A box, by its left upper corner.
+    /// Adds a box, by its upper left corner.
+    ///
+    /// # Errors
+    ///
+    /// Returns [`AllocError`] if memory runs out.
     #[tactic(auto, unfolding(crate::specs::Figures::drawn))]
     pub fn block(
         &mut self,
@@ -75,7 +87,11 @@ impl Markup {
         )
     }
 
-    /// A box 16 pixels high with round ends.
+    /// Adds a box 16 pixels high with round ends.
+    ///
+    /// # Errors
+    ///
+    /// Returns [`AllocError`] if memory runs out.
     #[tactic(auto, unfolding(crate::specs::Figures::drawn))]
     pub fn pill(&mut self, style: &str, corner: Point, width: u32) -> Result<(), AllocError>
         ensures draws { AddsShape result self.old (Pill style.now corner width) self.new }
@@ -94,7 +110,11 @@ impl Markup {
         )
     }
 
-    /// A ring of 5 pixels round a place.
+    /// Adds a ring of 5 pixels round a place.
+    ///
+    /// # Errors
+    ///
+    /// Returns [`AllocError`] if memory runs out.
     #[tactic(auto, unfolding(crate::specs::Figures::drawn))]
     pub fn ring(&mut self, style: &str, middle: Point) -> Result<(), AllocError>
         ensures draws { AddsShape result self.old (Ring style.now middle) self.new }
@@ -111,7 +131,11 @@ impl Markup {
         )
     }
 
-    /// Words that begin at a place.
+    /// Adds words that begin at a place.
+    ///
+    /// # Errors
+    ///
+    /// Returns [`AllocError`] if memory runs out.
     #[tactic(auto, unfolding(crate::specs::Figures::drawn))]
     pub fn label(&mut self, style: &str, at: Point, text: &[u8]) -> Result<(), AllocError>
         ensures draws { AddsShape result self.old (Label style.now at text.now) self.new }
@@ -126,7 +150,11 @@ impl Markup {
         self.constant("\n")
     }
 
-    /// A number that begins at a place.
+    /// Adds a number that begins at a place.
+    ///
+    /// # Errors
+    ///
+    /// Returns [`AllocError`] if memory runs out.
     pub fn numeral(&mut self, style: &str, at: Point, numeral: u64) -> Result<(), AllocError>
         ensures draws { AddsShape result self.old (Label style.now at (decimal numeral)) self.new }
         ensures read { OnOk result (reading self.new ≡ reading self.old) }

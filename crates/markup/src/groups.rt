@@ -9,7 +9,11 @@ use crate::parts::TagPart;
 use std::alloc::AllocError;
 
 impl Markup {
-    /// Begins a group of shapes so far below their places.
+    /// Begins a group of shapes that are moved down by `by` pixels.
+    ///
+    /// # Errors
+    ///
+    /// Returns [`AllocError`] if memory runs out.
     pub fn lower(&mut self, by: u64) -> Result<(), AllocError>
         ensures draws { OnOk result (self.new ≡ self.old ++ lowering by) }
         ensures read { OnOk result (reading self.new ≡ with_begun group (reading self.old)) }
@@ -23,6 +27,10 @@ impl Markup {
     }
 
     /// Ends a group.
+    ///
+    /// # Errors
+    ///
+    /// Returns [`AllocError`] if memory runs out.
     #[tactic(auto, unfolding(crate::specs::Figures::drawn))]
     pub fn end_group(&mut self) -> Result<(), AllocError>
         ensures draws { OnOk result (self.new ≡ self.old ++ drawn End) }

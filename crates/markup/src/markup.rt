@@ -12,8 +12,8 @@ use crate::parts::{TagPart, push_parts};
 use std::alloc::{AllocError, Global};
 use std::marker::Model;
 
-/// Markup that grows. Contracts see its bytes, and what is read of them: the titles of its marks, which only `mark`
-/// adds, and which elements are open. Each tag is added whole, so what was read stays as it is, however it goes on.
+/// Markup that grows. Contracts see its bytes, and their reading: the titles of its marks, which only `mark`
+/// adds, and which elements are open. Each tag is added whole, so the reading of earlier markup stays the same.
 #[derive(Drop)]
 pub struct Markup {
     alloc: Global,
@@ -32,7 +32,7 @@ impl Model for Markup {
 }
 
 impl Markup {
-    /// No markup yet.
+    /// Creates empty markup.
     pub fn new(alloc: Global) -> Markup
         ensures { result ≡ [] }
     {
@@ -42,7 +42,7 @@ impl Markup {
         }
     }
 
-    /// Its bytes.
+    /// Returns the bytes of the markup.
     pub fn as_slice(&self) -> &[u8]
         ensures bytes { result.now ≡ self.now }
         ensures rests { is_at_rest (tags_of self.now) ≡ true }
@@ -50,12 +50,16 @@ impl Markup {
         self.bytes.as_slice()
     }
 
-    /// Where it allocates.
+    /// Returns the allocator of the markup.
     pub fn alloc(&self) -> Global {
         self.alloc
     }
 
     /// Adds a tag with nothing in it, and ends the line.
+    ///
+    /// # Errors
+    ///
+    /// Returns [`AllocError`] if memory runs out.
     pub fn stand(&mut self, tag: Tag, attributes: &[Attribute]) -> Result<(), AllocError>
         requires { is_no_mark (tag_name tag) ≡ true }
         ensures draws { OnOk result (self.new ≡ self.old ++ standing tag attributes.now) }
@@ -70,6 +74,10 @@ impl Markup {
     }
 
     /// Adds a tag whose content follows: an element begins.
+    ///
+    /// # Errors
+    ///
+    /// Returns [`AllocError`] if memory runs out.
     pub fn enter(&mut self, tag: Tag, attributes: &[Attribute]) -> Result<(), AllocError>
         requires { is_no_mark (tag_name tag) ≡ true }
         ensures draws { OnOk result (self.new ≡ self.old ++ entering tag attributes.now) }
@@ -84,6 +92,10 @@ impl Markup {
     }
 
     /// Adds a tag around a text.
+    ///
+    /// # Errors
+    ///
+    /// Returns [`AllocError`] if memory runs out.
     pub fn tell(
         &mut self,
         tag: Tag,
@@ -106,6 +118,10 @@ impl Markup {
     }
 
     /// Adds a field for input, which has no content and, in HTML, no end.
+    ///
+    /// # Errors
+    ///
+    /// Returns [`AllocError`] if memory runs out.
     pub fn input(&mut self, attributes: &[Attribute]) -> Result<(), AllocError>
         ensures draws { OnOk result (self.new ≡ self.old ++ input_field attributes.now) }
         ensures read { OnOk result (reading self.new ≡ reading self.old) }
@@ -118,6 +134,10 @@ impl Markup {
     }
 
     /// Begins a mark, which has a line of the run as its title.
+    ///
+    /// # Errors
+    ///
+    /// Returns [`AllocError`] if memory runs out.
     pub fn mark(&mut self, attributes: &[Attribute], line: &[u8]) -> Result<(), AllocError>
         ensures draws { OnOk result (self.new ≡ self.old ++ marking attributes.now line.now) }
         ensures read { OnOk result (reading self.new ≡ with_mark line.now (reading self.old)) }
@@ -131,7 +151,11 @@ impl Markup {
         ])
     }
 
-    /// Begins a group that is no mark, with a title that is no line of the run.
+    /// Begins a group other than a mark, with a title that is not a line of the run.
+    ///
+    /// # Errors
+    ///
+    /// Returns [`AllocError`] if memory runs out.
     #[tactic(auto, unfolding(crate::specs::Figures::drawn))]
     pub fn note(&mut self, title: &[u8]) -> Result<(), AllocError>
         ensures draws { AddsShape result self.old (Note title.now) self.new }
@@ -144,7 +168,11 @@ impl Markup {
         ])
     }
 
-    /// Adds markup that stands in the program's source, in which there is no mark, and each element that begins ends.
+    /// Adds markup of the program's source, in which there is no mark, and each element that begins ends.
+    ///
+    /// # Errors
+    ///
+    /// Returns [`AllocError`] if memory runs out.
     pub fn constant(&mut self, markup: &str) -> Result<(), AllocError>
         requires rests { is_at_rest (tags_of markup.now) ≡ true }
         requires lines { lines_in markup.now ≡ [] }
@@ -155,7 +183,11 @@ impl Markup {
         self.add(markup.as_bytes())
     }
 
-    /// Adds markup that stands in the program's source, in which there is no mark. Elements may begin and end in it.
+    /// Adds markup of the program's source, in which there is no mark. Elements may begin and end in it.
+    ///
+    /// # Errors
+    ///
+    /// Returns [`AllocError`] if memory runs out.
     pub fn frame(&mut self, markup: &str) -> Result<(), AllocError>
         requires rests { is_at_rest (tags_of markup.now) ≡ true }
         requires lines { lines_in markup.now ≡ [] }
@@ -165,7 +197,7 @@ impl Markup {
         self.add(markup.as_bytes())
     }
 
-    /// Adds parts that are at rest together: all of them, or none where memory is wanting.
+    /// Adds parts that are at rest together: all of them, or none if memory runs out.
     pub(crate) fn add_parts(&mut self, parts: &[TagPart]) -> Result<(), AllocError>
         requires { is_at_rest (tags_of (parts_text parts.now)) ≡ true }
         ensures draws { OnOk result (self.new ≡ self.old ++ parts_text parts.now) }

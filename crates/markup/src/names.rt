@@ -40,18 +40,18 @@ pub enum Key {
     Type,
     Least,
     Value,
-    /// Where a mark stands.
+    /// The place of a mark.
     Place,
-    /// The line of the scenario that made it.
+    /// The line of the scenario that made the mark.
     Source,
-    /// The store after it.
+    /// The store after the mark.
     Store,
-    /// Who stands in line after it.
+    /// The processes in line after the mark.
     Queue,
 }
 
 impl Tag {
-    /// Its name.
+    /// Returns the name of the tag.
     pub(crate) fn name(self) -> &'static str
         ensures { result.now ≡ tag_name self }
     {
@@ -70,7 +70,7 @@ impl Tag {
 }
 
 impl Key {
-    /// Its name.
+    /// Returns the name of the attribute.
     pub(crate) fn name(self) -> &'static str
         ensures { result.now ≡ key_name self }
     {

@@ -7,10 +7,10 @@ use crate::escaping::push_escaped;
 use crate::names::Tag;
 use std::alloc::{AllocError, Global};
 
-/// A part of a tag, or of what stands between two.
+/// A part of a tag, or of the text between two tags.
 #[derive(Clone, Copy)]
 pub(crate) enum TagPart<'a, 't> {
-    /// Markup as it stands.
+    /// Markup that is not escaped.
     Plain(&'static str),
     Name(Tag),
     Attributes(&'a [Attribute<'a>]),

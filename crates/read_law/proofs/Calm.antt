@@ -1,4 +1,4 @@
--- What one more move makes of the end of a read.
+-- The end of a read after one more move.
 use Rattle.std.proofs.Common.{◌≡◌, Bool, true, false, not, ◌&&◌, List, [], ◌∷◌, Some, cond, refl, sym, ap, ◌∙◌, subst}
 use Rattle.record.specs.safe_bit.{MayEndWith, Move, before_read, is_overlapped, is_write_open, last_written}
 use Rattle.record.specs.safe_bit.declared.Move.TheVariants.{BeginWrite, EndWrite, BeginRead, EndRead, Settle}
@@ -20,7 +20,7 @@ open_overlaps (Settle v ∷ moves) h = cc
 open_overlaps (BeginRead ∷ moves) h = λ i. not (h i)
 open_overlaps (EndRead v ∷ moves) h = open_overlaps moves h
 
--- once no write is open, a read that is overlapped stays so, and one that is bound too
+-- once no write is open, an overlapped read stays overlapped, and a bound read stays bound
 pub closed_then : (e : ReadEnd) (opening : Bool) (moves : List Move) → e ≡ ending_of opening moves → elim e as (λ _. ReadEnd) [ Free ↦ Free | Writing ↦ Free | Bound v ↦ Bound v ] ≡ cond (begins_read moves && not (is_overlapped moves)) (Bound (last_written opening (before_read moves))) Free
 closed_then e opening moves h = by e (is_write_open moves) (begins_read moves && not (is_overlapped moves)) (last_written opening (before_read moves)) (open_overlaps moves) h
   where
@@ -37,7 +37,7 @@ closed_then e opening moves h = by e (is_write_open moves) (begins_read moves &&
 
 -- The end of a read.
 
--- one that is not bound may end with each
+-- a read that is not bound may end with each value
 pub free_allows : (e : ReadEnd) (v opening : Bool) (moves : List Move) → e ≡ ending_of opening moves → ((only : Bool) → e ≡ Bound only → ⊥) → begins_read moves ≡ true → MayEndWith opening moves v
 free_allows e v opening moves h free begins calm = absurd (by (is_write_open moves) refl)
   where
@@ -57,7 +57,7 @@ bound_calm only opening moves h = by (is_write_open moves) (begins_read moves) (
     by false true false x h = refl
     by false false o x h = cc
 
--- and one that is not bound was overlapped, if it has begun
+-- a read that is not bound was overlapped, if it has begun
 pub free_overlapped : (e : ReadEnd) (opening : Bool) (moves : List Move) → e ≡ ending_of opening moves → ((only : Bool) → e ≡ Bound only → ⊥) → begins_read moves ≡ true → true ≡ is_overlapped moves
 free_overlapped e opening moves h free begins = by (is_overlapped moves) refl
   where
@@ -67,7 +67,7 @@ free_overlapped e opening moves h free begins = by (is_overlapped moves) refl
         let one : true ≡ last_written opening (before_read moves) = free_allows e true opening moves h free begins is in
         let zero : false ≡ last_written opening (before_read moves) = free_allows e false opening moves h free begins is in cc
 
--- What an entry's move may be.
+-- The moves that an entry may have.
 
 -- the move keeps the safe rule
 abbrev pub IsAllowed : Bool → List Move → Move → Type 0
@@ -76,7 +76,7 @@ IsAllowed opening moves how = (v : Bool) → how ≡ EndRead v → begins_read m
 pub keeps_by : (s : Setup) (past : Past) (e : Entry) (a : Access) → e.access ≡ Some a → IsAllowed (opening_bit s a) (moves_of a past) a.how → KeepsSafe s past e
 keeps_by s past e a access allowed other v is = let same : a ≡ other = cc in subst (λ (x : Access). IsAllowed (opening_bit s x) (moves_of x past) x.how) same allowed v
 
--- the end of a read is judged by what it may give
+-- the end of a read is judged by the values that it may have
 pub ends_by : (s : Setup) (past : Past) (e : Entry) (a : Access) (v : Bool) (r : Bool) → e.access ≡ Some a → a.how ≡ EndRead v →
     MatchBool r (begins_read (moves_of a past) ≡ true → MayEndWith (opening_bit s a) (moves_of a past) v) ((begins_read (moves_of a past) ≡ true → MayEndWith (opening_bit s a) (moves_of a past) v) → ⊥) →
     MatchBool r (KeepsSafe s past e) (KeepsSafe s past e → ⊥)

@@ -1,4 +1,4 @@
--- What a watch has heard, after one more entry.
+-- The entries that a watch has observed, after one more entry.
 use Rattle.std.proofs.Common.{◌≡◌, ℕ, ◌+◌, ◌*◌, ◌<◌, Bool, true, false, cond, List, [], ◌∷◌, ◌++◌, Option, None, Some, length, slice_index_or, slice_set, get_or, length-set, refl, sym, ap, ◌∙◌, subst, inl, inr}
 use Rattle.std.proofs.lemmas.Bool.{cases_eq}
 use Rattle.std.proofs.lemmas.List.{get_or-set_same, get_or-set_other, get_or_default}
@@ -23,7 +23,7 @@ moves_other past e a b access same = ap (λ o. move_in b o ++ moves_of b past) a
 pub moves_none : (past : Past) (e : Entry) (b : Access) → e.access ≡ None → moves_of b (e ∷ past) ≡ moves_of b past
 moves_none past e b access = ap (λ o. move_in b o ++ moves_of b past) access
 
--- An entry that leaves no trace.
+-- An entry that changes nothing.
 
 pub heard_none : (w : WatchState) (past : Past) (e : Entry) → e.access ≡ None → HasHeard w past → HasHeard w (e ∷ past)
 heard_none w past e access heard = λ b there. heard b there ∙ ap (look_of (opening_bit w.setup b)) (sym (moves_none past e b access))
@@ -35,9 +35,9 @@ heard_stray w past e a access out heard = λ b there. heard b there ∙ ap (look
     by b there true is = absurd (out (there_too w.setup b a is there))
     by b there false is = moves_other past e a b access is
 
--- One of a bit that is there.
+-- An entry of a bit in range.
 
--- the look of its bit is the one set there
+-- the look of its bit is the look that was set
 set_same : (registers : List (List Look)) (r k : ℕ) (l : Look) → r < length registers → k < length (slice_index_or registers r []) →
     look_at (slice_set registers r (slice_set (slice_index_or registers r []) k l)) r k ≡ l
 set_same registers r k l there inside =
@@ -104,7 +104,7 @@ watch_set w r k l good there = record {
   bits = λ owner field below. lengths_stay w.registers r k (owner * 7 + field_number field) l there ∙ good.bits owner field below;
 }
 
--- A watch's registers as it reads and writes them, where an access is of a bit that is there.
+-- The registers of a watch at an access of a bit in range.
 pub record AtAccess (w : WatchState) (a : Access) (register place : ℕ) : Type 0 where
   pub good : IsWatch w
   pub there : IsThere w.setup a
@@ -147,9 +147,9 @@ heard_written w past e a register place taken made then at is makes access on he
     subst (λ (x : List (List Look)). HasHeard (record { setup = w.setup; registers = x }) (e ∷ past)) (sym (written_is w a register place taken made then at is makes))
     (heard_access w past e a then access at.there (register_in w a at.good at.there) (copy_in w a at.good at.there) on heard)
 
--- What is answered.
+-- The result of observing an entry.
 
--- no move was made on a bit that is not there
+-- no move was made on a bit out of range
 stray_moves : (s : Setup) (a : Access) (past : Past) → AllAreOfThere s past → (IsThere s a → ⊥) → moves_of a past ≡ []
 stray_moves s a [] all out = refl
 stray_moves s a (e ∷ past) all out = by (stray_moves s a past all.1 out) e.access refl
@@ -162,7 +162,7 @@ stray_moves s a (e ∷ past) all out = by (stray_moves s a past all.1 out) e.acc
     by none None is = none
     by none (Some x) is = in_some none x is (same_bit a x) refl
 
--- so the first entry of such a bit keeps the law
+-- the first entry of such a bit keeps the law
 pub stray_keeps : (s : Setup) (past : Past) (e : Entry) (a : Access) → e.access ≡ Some a → (IsThere s a → ⊥) → AllAreOfThere s past → KeepsSafe s past e
 stray_keeps s past e a access out all b v is how begins =
     let same : a ≡ b = cc in

@@ -16,7 +16,7 @@ use Rattle.read_law.specs.{HasHeard, IsOpened, IsWatch, Look, copy_of, look_at, 
 use Rattle.read_law.proofs.Openings.{opens_low}
 use Rattle.read_law.proofs.OwnPlaces.{copy_below, field_below, register_below}
 
--- the bits of the first k registers look as they open
+-- the bits of the first k registers have the looks of their initial values
 pub record AreOpened (s : Setup) (registers : List (List Look)) (k : ℕ) : Type 0 where
   pub count : length registers ≡ k
   pub bits : (n : ℕ) → n < k → (f : Field) → n % 7 ≡ field_number f → length (slice_index_or registers n []) ≡ s.processes * width s f
@@ -72,13 +72,13 @@ opened_heard s registers k all so = λ a there. so.looks a there (subst (λ n. r
 pub field_of : (a : Access) (n : ℕ) (f : Field) → register_of a ≡ n → field_number f ≡ n % 7 → a.field ≡ f
 field_of a n f register is = let x = field_below a.field in field-same a.field f (eq-eqb (field_number a.field) (field_number f) (omega (arith, register, is, x)))
 
--- as long as the copies of its bits
+-- a register is as long as the copies of its bits
 pub opened_bits : (s : Setup) (n : ℕ) (f g : Field) (looks : List Look) (bits : ℕ) → length looks ≡ s.processes * bits → bits ≡ width s f → field_number f ≡ n % 7 → n % 7 ≡ field_number g → length looks ≡ s.processes * width s g
 opened_bits s n f g looks bits many wide is same =
     let one : f ≡ g = field-same f g (eq-eqb (field_number f) (field_number g) (is ∙ same)) in
     many ∙ ap (λ m. s.processes * m) wide ∙ ap (λ h. s.processes * width s h) one
 
--- one that opens at 0
+-- a register that is initially 0
 pub opened_low : (s : Setup) (n : ℕ) (f : Field) (looks : List Look) (bits : ℕ) (a : Access) → looks ≡ replicate (s.processes * bits) (look_of false []) → bits ≡ width s f → field_number f ≡ n % 7 → (n ≡ 5 → ⊥) →
     register_of a ≡ n → IsThere s a → slice_index_or looks (copy_of s a) (look_of false []) ≡ look_of (opening_bit s a) []
 opened_low s n f looks bits a are wide is other register there =
@@ -88,7 +88,7 @@ opened_low s n f looks bits a are wide is other register there =
     ∙ get_or-replicate (s.processes * bits) (copy_of s a) (look_of false []) (look_of false []) (subst (λ m. copy_of s a < s.processes * m) size (copy_below s a there))
     ∙ ap (λ b. look_of b []) (sym (opens_low s a.owner a.field a.bit (λ zero first. other (sym register ∙ (λ i. zero i * 7 + field_number (first i))))))
 
--- the first image of process 0, each copy of which opens as in the image of the opening store
+-- the first image of process 0, whose copies initially have the bits of the image of the opening store
 pub opened_image : (s : Setup) (n : ℕ) (f : Field) (image : List ℕ) (low looks : List Look) (bits : ℕ) (a : Access) → image ≡ image_of (opening_store s) →
     ((k : ℕ) → k < length low → slice_index_or looks k (look_of false []) ≡ look_of (bit_in image (k % bits)) []) → length low ≡ s.processes * bits → bits ≡ width s f → field_number f ≡ n % 7 → n ≡ 5 →
     register_of a ≡ n → IsThere s a → slice_index_or looks (copy_of s a) (look_of false []) ≡ look_of (opening_bit s a) []
@@ -105,7 +105,7 @@ opened_image s n f image low looks bits a is_image opens many wide is five regis
     (ap (bit_in image) at ∙ ap (λ bytes. bit_in bytes a.bit) is_image ∙ sym (get-bits (image_of (opening_store s)) (width s Image0) a.bit within)
     ∙ (λ i. slice_index_or (opening_bits s (sym owner i) (sym first i)) a.bit false))
 
--- one more copy opens
+-- one more copy has its initial value
 pub copies_more : (bytes : List ℕ) (width k : ℕ) (before after : List Look) (look : Look) → after ≡ slice_set before k look → look ≡ look_of (bit_in bytes (k % width)) [] → k < length before →
     ((j : ℕ) → j < k → slice_index_or before j (look_of false []) ≡ look_of (bit_in bytes (j % width)) []) → (j : ℕ) → j < k + 1 → slice_index_or after j (look_of false []) ≡ look_of (bit_in bytes (j % width)) []
 copies_more bytes width k before after look is opens there so j below = ap (λ (l : List Look). slice_index_or l j (look_of false [])) is ∙ elim (cases_eq j k) [

@@ -1,4 +1,4 @@
--- The place of a bit's look is its own.
+-- Each bit's look has a position of its own.
 use Rattle.std.proofs.Common.{◌≡◌, ℕ, suc, ◌+◌, ◌*◌, ◌<◌, ◌≤◌, ◌/◌, ◌==◌, ◌&&◌, Bool, true, sym, ap, ◌∙◌, subst, arith, eq-eqb, mul-le-mul_right, suc-mul}
 use Rattle.std.proofs.lemmas.Nat.{div-mul-add}
 use Rattle.record.specs.{Access, Field, field_number, same_bit, width}
@@ -12,7 +12,7 @@ pub field_below : (f : Field) → field_number f < 7
 field_below Choosing = omega arith
 field_below _ = omega arith
 
--- a register tells its owner and its field
+-- a register determines its owner and its field
 pub same_owner : (a b : Access) → register_of a ≡ register_of b → a.owner ≡ b.owner
 same_owner a b h = let x = field_below a.field in let y = field_below b.field in omega (arith, h, x, y)
 
@@ -20,7 +20,7 @@ pub same_field : (a b : Access) → register_of a ≡ register_of b → a.field 
 same_field a b h = let x = field_below a.field in let y = field_below b.field in
     field-same a.field b.field (eq-eqb (field_number a.field) (field_number b.field) (omega (arith, h, x, y)))
 
--- a number of two digits tells them
+-- a number of two digits determines the digits
 same_high : (w r k q j : ℕ) → k < w → j < w → r * w + k ≡ q * w + j → r ≡ q
 same_high w r k q j h g same = sym (div-mul-add r w k h) ∙ ap (λ n. n / w) same ∙ div-mul-add q w j g
 
@@ -30,7 +30,7 @@ same_low w r k q j high same = let front : r * w ≡ q * w = ap (λ n. n * w) hi
 pub below : (m n high low : ℕ) → high < m → low < n → high * n + low < m * n
 below m n high low a b = let h : suc high * n ≤ m * n = mul-le-mul_right n a in omega (arith, h, b, suc-mul high n)
 
--- the place is one of the register's
+-- the position lies within the register
 pub copy_below : (s : Setup) (a : Access) → IsThere s a → copy_of s a < s.processes * width s a.field
 copy_below s a there = below s.processes (width s a.field) a.reader a.bit there.reader there.bit
 
@@ -40,7 +40,7 @@ register_below s a there = below s.processes 7 a.owner (field_number a.field) th
 all_true : (k r o f : Bool) → k ≡ true → r ≡ true → o ≡ true → f ≡ true → (k && r && o && f) ≡ true
 all_true k r o f a b c d = λ i. a i && b i && c i && d i
 
--- bits at one place of one register are one bit
+-- bits at one position of one register are one bit
 pub one_place : (s : Setup) (b a : Access) → IsThere s b → IsThere s a → register_of b ≡ register_of a → copy_of s b ≡ copy_of s a → same_bit b a ≡ true
 one_place s b a b_there a_there registers places =
     let owner = same_owner b a registers in
@@ -52,7 +52,7 @@ one_place s b a b_there a_there registers places =
     all_true (b.bit == a.bit) (b.reader == a.reader) (b.owner == a.owner) (field_number b.field == field_number a.field)
     (eq-eqb b.bit a.bit bit) (eq-eqb b.reader a.reader reader) (eq-eqb b.owner a.owner owner) (eq-eqb (field_number b.field) (field_number a.field) (ap field_number field))
 
--- and one bit has one
+-- one bit has one position
 pub on_bit : (b a : Access) → same_bit b a ≡ true → OnCopy a b.owner b.field b.bit b.reader
 on_bit b a h = on-copy a b.owner b.field b.bit b.reader h
 
@@ -62,7 +62,7 @@ one_register b a h = let on = on_bit b a h in λ i. on.owner i * 7 + field_numbe
 pub one_copy : (s : Setup) (b a : Access) → same_bit b a ≡ true → copy_of s b ≡ copy_of s a
 one_copy s b a h = let on = on_bit b a h in λ i. on.reader i * width s (on.field i) + on.bit i
 
--- a bit that is one with a bit that is there is there
+-- a bit that is the same as a bit in range is in range
 pub there_too : (s : Setup) (b a : Access) → same_bit b a ≡ true → IsThere s b → IsThere s a
 there_too s b a h there = let on = on_bit b a h in record {
   owner = subst (λ n. n < s.processes) on.owner there.owner;
@@ -70,7 +70,7 @@ there_too s b a h there = let on = on_bit b a h in record {
   bit = subst (λ n. n < width s a.field) on.bit (subst (λ f. b.bit < width s f) on.field there.bit);
 }
 
--- the other way about
+-- the converse of this fact
 pub there_from : (s : Setup) (b a : Access) → same_bit b a ≡ true → IsThere s a → IsThere s b
 there_from s b a h there = let on = on_bit b a h in record {
   owner = subst (λ n. n < s.processes) (sym on.owner) there.owner;

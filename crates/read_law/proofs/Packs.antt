@@ -19,7 +19,7 @@ zero_bits k = by (k % 2 == 0)
     by true = refl
     by false = refl
 
--- bytes of zeros are the looks of bits that open at 0
+-- bytes of zeros are the looks of bits that are initially 0
 pub looks-zeros : (bytes : List ℕ) (m n : ℕ) → bytes ≡ replicate m 0 → n ≤ 2 * m → looks_of bytes n ≡ replicate n (look_of false [])
 looks-zeros bytes m n is h = ap (λ b. looks_of b n) is ∙ ext_get_or (look_of false []) (looks_of (replicate m 0) n) (replicate n (look_of false [])) (length-looks (replicate m 0) n ∙ sym (length-replicate n (look_of false [])))
     (λ k below. let inside : k < n = omega (arith, below, length-looks (replicate m 0) n) in
@@ -32,7 +32,7 @@ looks-zeros bytes m n is h = ap (λ b. looks_of b n) is ∙ ext_get_or (look_of 
 pub look_read : (bytes : List ℕ) (k byte : ℕ) → k / 2 < length bytes → byte ≡ get_or bytes (k / 2) byte → look_from (four_bits byte k) ≡ look_in bytes k
 look_read bytes k byte there read = ap (λ b. look_from (four_bits b k)) (read ∙ get_or_default bytes (k / 2) byte 0 there)
 
--- four bits of one byte change, and so one look
+-- four bits of one byte change, so one look changes
 pub looks-set : (bytes : List ℕ) (n k before byte : ℕ) (l : Look) → k < n → n ≤ 2 * length bytes → before ≡ get_or bytes (k / 2) before → look_from (four_bits byte k) ≡ l →
     ((j : ℕ) → (j % 2 ≡ k % 2 → ⊥) → four_bits byte j ≡ four_bits before j) → looks_of (set bytes (k / 2) byte) n ≡ set (looks_of bytes n) k l
 looks-set bytes n k before byte l h fits read same others =

@@ -1,19 +1,19 @@
--- How looks are packed: each in four bits, two in a byte.
+-- Packed looks: each in four bits, two in a byte.
 use Rattle.std.specs.Prelude.{ℕ, ◌/◌, ◌%◌, ◌==◌, List, map, slice_index_or, cond}
 use Rattle.std.specs.List.{range_with_len}
 use Rattle.read_law.specs.declared.look.ReadEnd.{ReadEnd}
 use Rattle.read_law.specs.declared.look.ReadEnd.TheVariants.{Free, Writing, Bound}
 use Rattle.read_law.specs.declared.look.Look.{Look}
 
--- what the two high bits of four say
+-- the end of a read, by the two high bits of four
 abbrev pub ending_from : ℕ → ReadEnd
 ending_from code = cond (code == 0) Free (cond (code == 1) Writing (Bound (code == 3)))
 
--- what four bits say
+-- the look of four bits
 abbrev pub look_from : ℕ → Look
 look_from code = record { begun = code % 2 == 1; written = code / 2 % 2 == 1; ending = ending_from (code / 4) }
 
--- the low four bits of a byte are at its even place, the high four at its odd one
+-- the low four bits of a byte are at its even position, the high four at its odd position
 abbrev pub four_bits : ℕ → ℕ → ℕ
 four_bits byte k = cond (k % 2 == 0) (byte % 16) (byte / 16)
 

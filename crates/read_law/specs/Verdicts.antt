@@ -1,4 +1,4 @@
--- Verdicts on records, and how they are printed.
+-- Verdicts on records, and their text.
 use Rattle.std.specs.Prelude.{ℕ, Bool, true, false, List, ◌++◌, codes, Option, Some, None}
 use Rattle.std.specs.Fmt.{decimal}
 use Rattle.read_law.specs.declared.verdicts.Law.{Law}
@@ -6,17 +6,17 @@ use Rattle.read_law.specs.declared.verdicts.Law.TheVariants.{Safe, Program, Unit
 use Rattle.read_law.specs.declared.verdicts.Verdict.{Verdict}
 use Rattle.read_law.specs.declared.verdicts.Verdict.TheVariants.{Good, Bad}
 
--- a verdict is good
+-- whether a verdict is good
 abbrev pub is_good : {L : Type 0} → Verdict L → Bool
 is_good Good = true
 is_good (Bad k l) = false
 
--- the verdict with entry k, where that on the entries before it is good: by the first law that the entry breaks
+-- the verdict with entry k, if the verdict on the entries before it is good: by the first law that the entry breaks
 abbrev pub verdict_with : {L : Type 0} → ℕ → Option L → Verdict L
 verdict_with k None = Good
 verdict_with k (Some l) = Bad k l
 
--- a law
+-- the text of a law
 abbrev pub law_text : Law → List ℕ
 law_text Safe = codes "safe"
 law_text Program = codes "program"
@@ -25,7 +25,7 @@ law_text Together = codes "together"
 law_text Overtaken = codes "overtaken"
 law_text History = codes "history"
 
--- the verdict on a record of so many entries, by the names of the laws
+-- the verdict on a record with a number of entries, by the names of the laws
 abbrev pub verdict_text : {L : Type 0} → (L → List ℕ) → ℕ → Verdict L → List ℕ
 verdict_text name entries Good = codes "good " ++ decimal entries
 verdict_text name entries (Bad entry law) = codes "bad " ++ decimal entry ++ codes " " ++ name law

@@ -4,7 +4,7 @@ ghost use Rattle.read_law.specs.Entries.{entry_by};
 
 use record::{Access, Entry, Mark};
 
-/// The process of an entry, its access and its marks: who hears entries takes these, since those of a run stand nowhere.
+/// Returns the process of an entry, its access and its marks. Observers take these parts, because a run stores no entries.
 #[inline]
 pub fn parts(entry: &Entry) -> (u8, &Option<Access>, &[Mark])
     ensures { entry_by result.0 result.1.now result.2.now ≡ entry.now }

@@ -1,4 +1,4 @@
-//! What the moves of one bit leave, kept up move by move.
+//! The state of one bit after its moves, updated move by move.
 ghost use Rattle.std.specs.Prelude.{◌≡◌, [], Bool, true};
 ghost use Rattle.record.specs.safe_bit.declared.Move.TheVariants.{EndWrite, Settle};
 ghost use Rattle.record.specs.safe_bit.{is_overlapped};
@@ -9,7 +9,7 @@ ghost use Rattle.read_law.specs.Watching.{LookTellsSafe};
 
 use record::Move;
 
-/// What the end of the read that began last may give.
+/// The values with which the read that began last may end.
 #[derive(Clone, Copy)]
 pub(crate) enum ReadEnd {
     /// Anything, and no write is open: a write overlapped the read, or no read has begun.
@@ -21,7 +21,7 @@ pub(crate) enum ReadEnd {
 }
 
 impl ReadEnd {
-    /// Once no write is open.
+    /// Returns the end of the read after the open write has ended.
     #[inline]
     fn closed(self) -> ReadEnd
         ensures ended { EndsOn self EndWrite result }
@@ -33,7 +33,7 @@ impl ReadEnd {
         }
     }
 
-    /// Once one more read has begun, before which `written` was last written or settled.
+    /// Returns the end of one more read, before which `written` was last written or settled.
     #[inline]
     fn reading(self, written: bool) -> ReadEnd
         ensures { ReadsOn self written result }
@@ -44,7 +44,7 @@ impl ReadEnd {
         }
     }
 
-    /// Whether a read may end with this value, if one has begun.
+    /// Returns whether a read may end with this value, if one has begun.
     #[inline]
     fn allows(self, value: bool) -> bool
         ensures { LeftBy self (λ opening moves. Tells result (MayGive opening moves value)) }
@@ -55,7 +55,7 @@ impl ReadEnd {
         }
     }
 
-    /// Whether a write overlapped the read that began last, if one has begun.
+    /// Returns whether a write overlapped the read that began last, if one has begun.
     #[inline]
     fn is_overlapped(self) -> bool
         ensures { LeftBy self (λ _ moves. begins_read moves ≡ true → result ≡ is_overlapped moves) }
@@ -67,19 +67,19 @@ impl ReadEnd {
     }
 }
 
-/// What the moves of one bit leave, as far as the safe rule looks back at them.
+/// The state of one bit after its moves, as far as the safe rule needs it.
 #[derive(Clone, Copy)]
 pub(crate) struct Look {
-    /// What the write that began last writes.
+    /// The value that the write that began last writes.
     pub begun: bool,
-    /// What was last written or settled.
+    /// The value that was last written or settled.
     pub written: bool,
-    /// What the end of the read that began last may give.
+    /// The values with which the read that began last may end.
     pub ending: ReadEnd,
 }
 
 impl Look {
-    /// Before the first move of a bit that opens so.
+    /// Returns the look of a bit that is initially `value`, before the first move.
     pub fn opening(value: bool) -> Look
         ensures { result ≡ look_of value [] }
     {
@@ -90,7 +90,7 @@ impl Look {
         }
     }
 
-    /// After one more move.
+    /// Returns the look after one more move.
     #[inline]
     pub fn with(self, how: Move) -> Look
         ensures { LooksOn self how result }
@@ -119,7 +119,7 @@ impl Look {
         }
     }
 
-    /// Whether the next move keeps the safe rule.
+    /// Returns whether the next move keeps the safe rule.
     #[inline]
     pub fn allows(self, how: Move) -> bool
         ensures { LookTellsSafe self how result }
@@ -130,7 +130,7 @@ impl Look {
         }
     }
 
-    /// Whether the next move ends a read that a write overlapped, if one has begun.
+    /// Returns whether the next move ends a read that a write overlapped, if one has begun.
     #[inline]
     pub fn overlaps(self, how: Move) -> bool
         ensures { LookLeftBy self (λ _ moves. TellsOverlap result moves how) }

@@ -8,7 +8,7 @@ use std::alloc::{AllocError, Global};
 use std::marker::Model;
 
 impl ReadEnd {
-    /// Its number below 4.
+    /// Returns the number of this end of a read, below 4.
     #[inline]
     fn code(self) -> u8
         ensures same { ending_from result ≡ self }
@@ -22,7 +22,7 @@ impl ReadEnd {
         }
     }
 
-    /// The one with this number.
+    /// Returns the end of a read with this number.
     #[inline]
     fn from_code(code: u8) -> ReadEnd
         ensures { result ≡ ending_from code }
@@ -36,7 +36,7 @@ impl ReadEnd {
 }
 
 impl Look {
-    /// Its number below 16.
+    /// Returns the number of this look, below 16.
     #[inline]
     fn code(self) -> u8
         ensures same { look_from result ≡ self }
@@ -45,7 +45,7 @@ impl Look {
         u8::from(self.begun) + 2 * u8::from(self.written) + 4 * self.ending.code()
     }
 
-    /// The one with this number.
+    /// Returns the look with this number.
     #[inline]
     fn from_code(code: u8) -> Look
         ensures { result ≡ look_from code }
@@ -58,7 +58,7 @@ impl Look {
     }
 }
 
-/// The four bits of a byte at an even or an odd place.
+/// Returns the four bits of a byte at an even or an odd position.
 #[inline]
 fn four_bits(byte: u8, k: usize) -> u8
     ensures { result ≡ four_bits byte k }
@@ -66,7 +66,7 @@ fn four_bits(byte: u8, k: usize) -> u8
     if k % 2 == 0 { byte % 16 } else { byte / 16 }
 }
 
-/// The byte with other four bits there.
+/// Returns the byte with other four bits at this position.
 #[inline]
 fn with_four_bits(byte: u8, k: usize, code: u8) -> u8
     requires { code < 16 }
@@ -100,7 +100,11 @@ impl Model for Looks {
 }
 
 impl Looks {
-    /// The looks of `len` bits that open at 0.
+    /// Creates the looks of `len` bits that are initially 0.
+    ///
+    /// # Errors
+    ///
+    /// Returns [`AllocError`] if memory runs out.
     pub fn new(alloc: Global, len: usize) -> Result<Looks, AllocError>
         ensures { IfOk result (λ looks. looks ≡ replicate len (look_of false [])) }
     {
@@ -108,7 +112,11 @@ impl Looks {
         Ok(Looks { bytes, len })
     }
 
-    /// The same looks.
+    /// Copies the looks.
+    ///
+    /// # Errors
+    ///
+    /// Returns [`AllocError`] if memory runs out.
     pub fn twin(&self, alloc: Global) -> Result<Looks, AllocError>
         ensures { IfOk result (λ looks. looks ≡ self.now) }
     {
@@ -120,7 +128,7 @@ impl Looks {
         })
     }
 
-    /// How many there are.
+    /// Returns the number of looks.
     #[inline]
     pub fn len(&self) -> usize
         ensures { result ≡ length self.now }
@@ -128,7 +136,7 @@ impl Looks {
         self.len
     }
 
-    /// Look `k`.
+    /// Returns look `k`.
     #[inline]
     pub fn get(&self, k: usize) -> Look
         requires { k < length self.now }
@@ -137,7 +145,7 @@ impl Looks {
         Look::from_code(four_bits(self.bytes[k / 2], k))
     }
 
-    /// Look `k` becomes this one.
+    /// Replaces look `k`.
     #[inline]
     pub fn set(&mut self, k: usize, look: Look)
         requires { k < length self.old }

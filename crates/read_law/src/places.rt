@@ -1,4 +1,4 @@
-//! Where a bit's look stands: in which register, and at which place there.
+//! The position of a bit's look: the register, and the index in the register.
 ghost use Rattle.std.specs.Prelude.{◌≡◌, ◌↔◌, ◌≤◌, ◌<◌, IsTrue, Ok};
 ghost use Rattle.plain_store.specs.{checked};
 ghost use Rattle.laws.specs.{IsThere};
@@ -7,10 +7,10 @@ ghost use Rattle.read_law.specs.Watching.{copy_of, register_of};
 use plain_store::Setup;
 use record::{Access, number_of_field, width_of};
 
-/// How many registers a process has.
+/// The number of registers of a process.
 pub(crate) const REGISTERS: usize = 7;
 
-/// Whether an access is of a bit that there is.
+/// Returns whether an access is of a bit in range.
 #[inline]
 pub(crate) fn is_there(setup: &Setup, access: &Access) -> bool
     requires { checked setup.now ≡ Ok tt }
@@ -21,7 +21,7 @@ pub(crate) fn is_there(setup: &Setup, access: &Access) -> bool
         && access.bit < width_of(access.field, setup)
 }
 
-/// The register of an access, among those of all processes.
+/// Returns the register of an access, among those of all processes.
 #[inline]
 pub(crate) fn register_of(access: &Access) -> usize
     ensures { result ≡ register_of access.now }
@@ -29,7 +29,7 @@ pub(crate) fn register_of(access: &Access) -> usize
     usize::from(access.owner) * REGISTERS + number_of_field(access.field)
 }
 
-/// Its bit, among the copies of all readers.
+/// Returns the bit of an access, among the copies of all readers.
 #[inline]
 pub(crate) fn copy_of(setup: &Setup, access: &Access) -> usize
     requires { checked setup.now ≡ Ok tt }

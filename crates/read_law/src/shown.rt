@@ -1,4 +1,4 @@
-//! How laws and verdicts are printed.
+//! The text of laws and verdicts.
 ghost use Rattle.std.specs.Prelude.{◌≡◌, ℕ, List, Some, refl};
 ghost use Rattle.read_law.specs.Verdicts.{law_text, verdict_text};
 
@@ -7,7 +7,7 @@ use std::fmt;
 
 /// A law whose printed name is known.
 pub trait NamedLaw: fmt::Display {
-    /// Its name.
+    /// The printed name of the law.
     ghost name: { Self → List ℕ };
 
     ghost prints: { (law : Self) → Self.Display.output law ≡ Some (name law) };

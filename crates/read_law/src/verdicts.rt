@@ -1,22 +1,22 @@
-//! What judges of records report.
+//! The verdicts of judges of records.
 ghost use Rattle.std.specs.Prelude.{◌≡◌};
 ghost use Rattle.read_law.specs.Verdicts.{is_good, verdict_with};
 
-/// A law that each entry of a record of this project's lock keeps, by the entries before it. They are looked at in this
+/// A law that each entry of a record of this project's lock keeps, by the entries before it. They are checked in this
 /// order.
 #[derive(Clone, Copy, PartialEq, Eq)]
 pub enum Law {
     /// A read that no write overlapped ends with the value last written or settled.
     Safe,
-    /// A process does what its local program tells, and an event comes where it is not refused.
+    /// A process follows its local program, and an event occurs only if it is not refused.
     Program,
-    /// A memory unit does what the failure rule tells.
+    /// A memory unit follows the failure rule.
     Unit,
-    /// Nobody gets inside while another is inside.
+    /// No process enters while another process is inside.
     Together,
-    /// Nobody gets inside past one that waits and finished its doorway before.
+    /// No process enters past a process that waits and finished its doorway before.
     Overtaken,
-    /// What is taken has its place, and the one-thread store's reply there.
+    /// A command that is taken has its position, and the reply of the sequential specification there.
     History,
 }
 

@@ -16,8 +16,8 @@ use std::alloc::{AllocError, Global};
 use std::marker::Model;
 use store_image::Image;
 
-/// A watch on the law `Safe`. It takes the entries of a record one at a time and keeps of each single-reader bit
-/// what the safe rule looks back at, in four bits: so it needs the same memory however long the record is.
+/// A watch on the law `Safe`. It observes the entries of a record one at a time. It keeps the state that the safe rule needs
+/// of each single-reader bit, in four bits, so it needs the same memory however long the record is.
 #[derive(Drop)]
 pub struct Watch {
     setup: Setup,
@@ -35,7 +35,7 @@ impl Model for Watch {
 }
 
 impl Watch {
-    /// Before the first entry. The one fault is want of memory.
+    /// Creates the watch before the first entry. It fails only if memory runs out.
     pub fn new(alloc: Global, setup: &Setup) -> Result<Watch, AllocError>
         requires { checked setup.now ≡ Ok tt }
         ensures setup { IfOk result (λ w. w.setup ≡ setup.now) }
@@ -54,7 +54,7 @@ impl Watch {
         })
     }
 
-    /// One that has heard the same.
+    /// Copies the watch, which has then observed the same entries.
     pub fn twin(&self, alloc: Global) -> Result<Watch, AllocError>
         ensures { IfOk result (λ w. w ≡ self.now) }
     {
@@ -68,10 +68,10 @@ impl Watch {
         })
     }
 
-    /// One more entry, whatever it is, by its access: whether it keeps the law, after the entries heard before. It takes no
-    /// memory.
+    /// Observes one more entry of any kind, by its access, and returns whether it keeps the law after the entries before it. It
+    /// allocates nothing.
     ///
-    /// An access of a bit that is not there leaves no trace, and its entry is said to keep the law. So it does, if no
+    /// An access of a bit out of range changes nothing, and its entry is reported to keep the law. This is right if no
     /// entry before it was of such a bit.
     #[inline]
     pub fn hear(&mut self, access: &Option<Access>) -> bool
@@ -90,8 +90,8 @@ impl Watch {
         self.hear_there(*access)
     }
 
-    /// Whether an access that is made now ends a read that a write overlapped. An access of a bit that is not there
-    /// is said to end none.
+    /// Returns whether an access that is made now ends a read that a write overlapped. The result is `false` for a bit that is
+    /// out of range.
     pub fn overlaps(&self, access: &Access) -> bool
         ensures there { TellsEndThere self.now access.now result }
         ensures stray { (IsThere self.now.setup access.now → ⊥) → result ≡ false }
@@ -99,7 +99,7 @@ impl Watch {
         is_there(&self.setup, access) && self.look_at(access).overlaps(access.how)
     }
 
-    /// What the moves of a bit that there is have left.
+    /// Returns the look of a bit in range.
     #[inline]
     fn look_at(&self, access: &Access) -> Look
         requires { IsThere self.now.setup access.now }
@@ -109,7 +109,7 @@ impl Watch {
         self.registers[register_of(access)].get(place)
     }
 
-    /// One more access, of a bit that there is.
+    /// Observes one more access, of a bit in range.
     #[inline]
     fn hear_there(&mut self, access: Access) -> bool
         requires { IsThere self.old.setup access }
@@ -126,7 +126,7 @@ impl Watch {
     }
 }
 
-/// The looks of the bits of a register before the first entry, where the first image of process 0 opens at these bytes.
+/// Returns the looks of a register before the first entry. The first image of process 0 initially has these bytes.
 fn opening_looks(
     alloc: Global,
     setup: &Setup,
@@ -150,7 +150,7 @@ fn opening_looks(
 /// The number of the first image of process 0 among the registers.
 const IMAGE0: usize = 5;
 
-/// Each reader's copy of each bit opens as in these bytes.
+/// Sets each reader's copy of each bit to its initial value, as in these bytes.
 fn open_copies(looks: &mut Looks, bytes: &[u8], width: usize)
     requires { 0 < width × width < 65536 }
     ensures length { length looks.new ≡ length looks.old }

@@ -1,4 +1,4 @@
--- Accesses are read exactly if they have a form, and so are the lines that are no entries.
+-- Accesses are read exactly if they have a form, and so are the lines other than entries.
 use Rattle.std.proofs.Common.{◌≡◌, ℕ, ◌==◌, not, ◌&&◌, Bool, true, false, cond, if◌then◌else◌, List, [], ◌∷◌, length, codes, is_some, Option, Some, None, Result, Ok, Err, refl, ap, sym, ◌∙◌}
 use Rattle.std.proofs.lemmas.Bool.{and_right}
 use Rattle.std.specs.Map.{lookup}

@@ -21,7 +21,7 @@ cut {X} p (x ∷ xs) k at = by (nat_lt (position_or_len p (x ∷ xs)) (length (x
         slice_split_first p (x ∷ xs) x first ∙ ap (λ j. take j (x ∷ xs) ∷ slice_split p (drop (j + 1) (x ∷ xs))) here
     by false within at = absurd (cc)
 
--- or whole, where there is none
+-- a list without such an element is one part
 uncut : {X : Type 0} (p : X → Bool) (xs : List X) → position p xs ≡ None → slice_split p xs ≡ xs ∷ []
 uncut {X} p xs at = by (nat_lt (position_or_len p xs) (length xs)) refl at
   where
@@ -38,7 +38,7 @@ bytes_cut bs k at = cut (λ b. b == 46) bs k at ∙ ap (λ cs. take k bs ∷ dot
 pub bytes_uncut : (bs : List ℕ) → position (λ b. b == 46) bs ≡ None → dotted bs ≡ bs ∷ []
 bytes_uncut bs at = uncut (λ b. b == 46) bs at
 
--- words, wherever they lie
+-- words, as lists of bytes
 abbrev is_signed : Bor (List ℕ) → Bool
 is_signed w = is_sign w.now
 

@@ -18,6 +18,6 @@ of_four (a ∷ b ∷ c ∷ []) n = absurd (omega (arith, n))
 of_four (a ∷ b ∷ c ∷ d ∷ []) n = refl
 of_four (a ∷ b ∷ c ∷ d ∷ e ∷ parts) n = absurd (omega (arith, n))
 
--- A word of four parts is these, with the dots between them.
+-- A word of four parts consists of them, with the dots between them.
 pub four_parts : (w : List ℕ) → length (dotted w) ≡ 4 → w ≡ word 0 (dotted w) ++ (codes "." ++ (word 1 (dotted w) ++ (codes "." ++ (word 2 (dotted w) ++ (codes "." ++ word 3 (dotted w))))))
 four_parts w n = sym (join_with_byte-slice_split 46 w) ∙ of_four (dotted w) n

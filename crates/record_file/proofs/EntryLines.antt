@@ -1,4 +1,4 @@
--- What the line of a printed entry is read as.
+-- The line of a printed entry is read as that entry.
 use Rattle.std.proofs.Common.{◌≡◌, ℕ, ◌<◌, ◌^◌, ◌&&◌, nat_lt, true, false, if◌then◌else◌, List, [], ◌∷◌, ◌++◌, length, flat_map, codes, Some, Ok, refl, ap, ◌∙◌, arith}
 use Rattle.std.proofs.lemmas.Bool.{and_parts}
 use Rattle.std.proofs.lemmas.Bool.Decides.{nat_tests}
@@ -21,7 +21,7 @@ begins_so : (ds : List ℕ) → 0 < length ds → are_digits ds ≡ true → (be
 begins_so [] some digits = absurd (omega (arith, some))
 begins_so (d ∷ ds) some digits = (grind (arith, nat_tests), grind (arith, nat_tests))
 
--- The words of an entry are read as that.
+-- The words of an entry are read as that entry.
 pub entry_of_words : (e : Entry) (p : Progress) → IsEntry e → words_read record_grammar (entry_words e) (Some p) ≡ Ok (Some (record p { ended = true; entry = Some e }))
 entry_of_words e p is =
     let number : nat_lt e.process 256 ≡ true = (and_parts (nat_lt e.process 256) (is_access e.access && list_all is_mark e.marks) is.sound).0 in
@@ -33,6 +33,6 @@ entry_of_words e p is =
     ∙ ap (λ t. (known (if t then Some kind.Entry else if bytes_eq first (codes "record") then Some kind.Record else kind_in (opener_of first)) >>= λ k. line_said k first rest p) >>= λ (p : Progress). Ok (Some p)) begins.0
     ∙ ap (λ r. (r >>= λ entry. Ok (record p { ended = true; entry = Some entry })) >>= λ (p : Progress). Ok (Some p)) (entry_words_again first rest e refl is)
 
--- So is its line.
+-- The line of an entry is read as the entry.
 pub entry_of_line : (e : Entry) (p : Progress) → IsEntry e → words_read record_grammar (words_of (spaced (entry_words e))) (Some p) ≡ Ok (Some (record p { ended = true; entry = Some e }))
 entry_of_line e p is = ap (λ ws. words_read record_grammar ws (Some p)) (words_of_spaced (entry_words e) (entry_is_words e is.sound)) ∙ entry_of_words e p is

@@ -22,7 +22,7 @@ room_of Down = 7
 room_of Withdrew = 11
 room_of Restarted = 10
 
--- that of marks
+-- the most bytes that marks take in a line
 abbrev pub room : List Mark → ℕ
 room [] = 0
 room (m ∷ ms) = room_of m + room ms
@@ -62,7 +62,7 @@ read_few c bits last =
     let r : Reply = reply c (store_read c bits) in
     where_few last (last_marks c (AsksImage []) bits) (unless_few (changes (store_read c bits) c.command) (Taken 0 r ∷ []) (few_of (Taken 0 r ∷ []) (omega arith) (omega arith)))
 
--- the last marks, behind the first
+-- the last marks, after the first
 both_few : (c : Call) (x : Part) (bits : List Bool) (is_first is_last : Bool) → AreFew (cond is_first (first_marks x) [] ++ cond is_last (last_marks c x bits) [])
 both_few c (part.Lowers t) bits true last = where_few last (Waiting t ∷ entered_if_none (waits_of c)) (lowered_few t (waits_of c))
 both_few c (part.Lowers t) bits false last = where_few last (Waiting t ∷ entered_if_none (waits_of c)) (lowered_few t (waits_of c))
@@ -82,7 +82,7 @@ both_few c _ bits true false = none_few
 both_few c _ bits false true = none_few
 both_few c _ bits false false = none_few
 
--- those of a step of a call
+-- the marks of a step of a call
 pub step_few : (c : Call) (at : Place) (v : Bool) → AreFew (marks_of c at v)
 step_few c at v = both_few c at.part (bits_with at.run v) (is_fresh at.run) (is_last c at.part at.run)
 
@@ -99,7 +99,7 @@ settled_few begun v (Some r) = by (if v then begun else not begun)
 few_next : (x n : Next) → Some x ≡ Some n → AreFew x.marks → AreFew n.marks
 few_next x n same are = let is : x ≡ n = cc in subst (λ (y : Next). AreFew y.marks) is are
 
--- those of a step of a closing
+-- the marks of a step of a closing
 pub closing_few : (c : Call) (at : Closing) (flick : Bool) (n : Next) → closing_next c at flick ≡ Some n → AreFew n.marks
 closing_few c (Withdraws w) flick n next = few_next _ n next (where_few (is_last_written c (no_ticket c) w) (Answered answer.Withdrawn ∷ []) (few_of (Answered answer.Withdrawn ∷ []) (omega arith) (omega arith)))
 closing_few c (Settles field bit begun taken is t) flick n next =
@@ -121,7 +121,7 @@ few_placed k (m ∷ ms) =
     let rest = few_placed k ms in
     (ap suc rest.0, λ i. room_placed k m i + rest.1 i)
 
--- with their places they are as many, and take no more room
+-- with their positions, marks are as many, and take no more room
 pub placed_few : (k : ℕ) (ms : List Mark) → AreFew ms → AreFew (map (placed k) ms)
 placed_few k ms are =
     let same = few_placed k ms in

@@ -1,10 +1,10 @@
--- A word that is put in front of a place, with the bytes before it.
+-- A word that is put before a position, with the bytes that precede it.
 use Rattle.std.proofs.Common.{◌≡◌, ℕ, ◌+◌, ◌-◌, ◌≤◌, List, ◌++◌, length, take, drop, ap, ◌∙◌, arith}
 use Rattle.std.proofs.Math.Seq.{drop-append-add}
 use Rattle.std.proofs.lemmas.List.{drop-append-le, drop-drop, length-take-le}
 use borrow.Rule.Slice.PartMut.{put_mid, post_of}
 
--- of the 16 bytes that are put there the last ones count
+-- only the last bytes of the 16 that are put there count
 pub word_put : (line word : List ℕ) (end count : ℕ) → 16 ≤ end → end ≤ length line → count ≤ 16 → length word ≡ 16 → drop (end - count) (put_mid (end - 16) (end - (end - 16)) line word) ≡ drop (16 - count) word ++ drop end line
 word_put line word end count wide within few whole =
     let a : ℕ = end - 16 in

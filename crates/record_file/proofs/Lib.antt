@@ -2,17 +2,17 @@
 pub mod Cuts
 pub mod Dots
 pub mod Parts
--- What is printed
+-- Printed text
 pub mod Fronts
 pub mod Printed
--- What is printed, and read again
+-- Printed text, and reading it again
 pub mod NoSigns
 pub mod ReadBack
 pub mod PrintedWords
 -- The lines of printed entries, and printed records
 pub mod EntryLines
 pub mod RecordsAgain
--- What was read has the words that are printed for it
+-- A value that was read has the words that are printed for it
 pub mod Spelled
 -- The line of a Step
 pub mod StepWords
@@ -22,6 +22,6 @@ pub mod SoundParts
 pub mod SoundMarks
 pub mod FewMarks
 pub mod ShortWords
--- What is read has a form of a table
+-- Words are read exactly if they have a form of a table
 pub mod MarkForms
 pub mod AccessForms

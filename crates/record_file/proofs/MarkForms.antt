@@ -86,7 +86,7 @@ reply_ok reply_word.NotCounter ws count = ap (are_operands 2 []) (sym (none_of w
 reply_ok reply_word.Overflow ws count = ap (are_operands 2 []) (sym (none_of ws count))
 reply_ok reply_word.StoreFull ws count = ap (are_operands 2 []) (sym (none_of ws count))
 
--- `taken place REPLY`, behind its reply's first word
+-- `taken place REPLY`, after its reply's first word
 abbrev taken_by : List ℕ → List (List ℕ) → ReplyWord → Result Mark FaultKind
 taken_by p ws n = counted (reply_count n) ws >>= λ counts. number_at (2 ^ 64 - 1) p >>= λ place. reply_of n ws >>= λ reply. Ok (mark.Taken place reply)
 
@@ -149,7 +149,7 @@ answers_are w =
     ∙ ap (λ b. cond b (Some answer_word.Withdrawn) None) three in
     ap (λ own. or_reply own (reply_word_of w)) none ∙ replies_first w reply_names none)))
 
--- `answer ANSWER`, behind its first word
+-- `answer ANSWER`, after its first word
 abbrev answered_by : List (List ℕ) → AnswerWord → Result Mark FaultKind
 answered_by ws n = counted (answer_count n) ws >>= λ counts. answer_of n ws >>= λ answer. Ok (mark.Answered answer)
 
@@ -216,7 +216,7 @@ answer_mark (a ∷ ws) =
       ),
     )
 
--- a mark that is its first word alone
+-- a mark that consists of its first word alone
 lone_mark : (m : Mark) (ws : List (List ℕ)) → is_ok (lone_mark_of m ws) ≡ fits_form 2 [] [] ws
 lone_mark m ws = ok_operands 2 [] ws (λ counts. Ok m) (λ count. ap (are_operands 2 []) (sym (none_of ws count))) ∙ fits_alone 2 [] ws
 

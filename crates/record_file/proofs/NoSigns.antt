@@ -43,7 +43,7 @@ value_is_none : (v : Value) → not (is_sign (value_text v)) ≡ true
 value_is_none (Count z) = refl
 value_is_none (Text bytes) = refl
 
--- one word, and no other
+-- a list of one word
 one : (w : List ℕ) → not (is_sign w) ≡ true → has_no_sign (w ∷ []) ≡ true
 one w none = and_from (not (is_sign w)) true none refl
 

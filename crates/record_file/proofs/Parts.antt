@@ -7,7 +7,7 @@ use Rattle.std.specs.List.{All, list_all, onto_first}
 use Rattle.record.specs.{Mark}
 use Rattle.record_file.specs.{is_sign, mark_words, parts_of, signed_words}
 
--- a part behind its sign
+-- a part after its sign
 abbrev pub signed : List (List ℕ) → List (List ℕ)
 signed part = codes ":" ∷ part
 

@@ -1,4 +1,4 @@
--- What `format!` puts together is what is printed.
+-- The text that `format!` puts together is the printed text.
 use Rattle.std.proofs.Common.{◌≡◌, ℕ, ◌+◌, ◌<◌, true, false, List, [], ◌∷◌, ◌++◌, length, drop, get_or, flat_map, codes, Some, None, refl, ap, sym, ◌∙◌, append_assoc, append-nil}
 use Rattle.std.specs.Fmt.{decimal}
 use Rattle.record.specs.{Access, Entry, Mark, mark_text}
@@ -16,7 +16,7 @@ spaced_first : (w : List ℕ) (ws : List (List ℕ)) → spaced (w ∷ ws) ≡ w
 spaced_first w [] = sym (append-nil w)
 spaced_first w (v ∷ vs) = ap (λ t. w ++ (codes " " ++ t)) (spaced_first v vs)
 
--- words behind spaces, in two parts
+-- words after spaces, in two parts
 spaces_append : (vs ws : List (List ℕ)) → behind_spaces (vs ++ ws) ≡ behind_spaces vs ++ behind_spaces ws
 spaces_append [] ws = refl
 spaces_append (v ∷ vs) ws = ap (λ t. codes " " ++ (v ++ t)) (spaces_append vs ws) ∙ sym (append_assoc (codes " " ++ v) (behind_spaces vs) (behind_spaces ws))
@@ -61,11 +61,11 @@ mark_is mark.Down = refl
 mark_is mark.Withdrew = refl
 mark_is mark.Restarted = refl
 
--- and so is a mark behind its sign
+-- the text of a mark after its sign
 pub signed_is : (m : Mark) → codes " : " ++ mark_text m ≡ behind_spaces (signed_words m)
 signed_is m = ap (λ t. codes " :" ++ t) (mark_is m)
 
--- a line and the marks from a place on, one mark later
+-- a line and the marks from a position on, one mark later
 pub marks_more : (told : List ℕ) (marks : List Mark) (k : ℕ) (here : Mark) → k < length marks → here ≡ get_or marks k here → (told ++ behind_spaces (signed_words here)) ++ behind_spaces (flat_map signed_words (drop (k + 1) marks)) ≡ told ++ behind_spaces (flat_map signed_words (drop k marks))
 marks_more told marks k here within is =
     append_assoc told _ _
@@ -76,7 +76,7 @@ marks_more told marks k here within is =
 pub no_access_is : (p : ℕ) → decimal p ≡ decimal p ++ behind_spaces (access_words None)
 no_access_is p = sym (append-nil (decimal p))
 
--- three parts, put together behind a text
+-- three parts, put together after a text
 behind_text : (told a b c : List ℕ) → ((told ++ a) ++ b) ++ c ≡ told ++ ((a ++ b) ++ c)
 behind_text told a b c = simp append_assoc
 
@@ -85,7 +85,7 @@ line_is e =
     ap (λ t. t ++ codes "\n") (append_assoc (decimal e.process) (behind_spaces (access_words e.access)) (behind_spaces (flat_map signed_words e.marks)) ∙ ap (λ t. decimal e.process ++ t) (sym (spaces_append (access_words e.access) (flat_map signed_words e.marks))))
     ∙ ap (λ t. t ++ codes "\n") (sym (spaced_first (decimal e.process) (access_words e.access ++ flat_map signed_words e.marks)))
 
--- the words of a process and its access, by their parts, in front of a text
+-- the words of a process and its access, by their parts, before a text
 pub words_are : (p : ℕ) (a : Access) (text : List ℕ) → decimal p ++ (32 ∷ (decimal a.owner ++ (dotted_field a.field ++ (decimal a.bit ++ (46 ∷ (decimal a.reader ++ (behind_spaces (move_words a.how) ++ text))))))) ≡ (decimal p ++ behind_spaces (access_words (Some a))) ++ text
 words_are p a text = simp append_assoc
 
@@ -93,6 +93,6 @@ words_are p a text = simp append_assoc
 pub step_is : (p : ℕ) (a : Access) → (decimal p ++ behind_spaces (access_words (Some a))) ++ codes "\n" ≡ entry_line (step_entry p a)
 step_is p a = ap (λ t. t ++ codes "\n") (sym (append-nil (decimal p ++ behind_spaces (access_words (Some a))))) ∙ line_is (step_entry p a)
 
--- the line of an entry behind a text, by what stands before its marks
+-- the line of an entry after a text, by the words before its marks
 pub entry_is : (told : List ℕ) (e : Entry) → ((told ++ (decimal e.process ++ behind_spaces (access_words e.access))) ++ behind_spaces (flat_map signed_words e.marks)) ++ codes "\n" ≡ told ++ entry_line e
 entry_is told e = behind_text told (decimal e.process ++ behind_spaces (access_words e.access)) (behind_spaces (flat_map signed_words e.marks)) (codes "\n") ∙ ap (λ t. told ++ t) (line_is e)

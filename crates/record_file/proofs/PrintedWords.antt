@@ -21,7 +21,7 @@ use Rattle.scenario.proofs.Spaced.{is_word}
 use Rattle.scenario.proofs.Spelled.{integer_word, name_word, number_word, value_word}
 use Rattle.record_file.specs.{access_words, answer_words, entry_words, is_access, is_answer, is_entry, is_mark, is_reply, mark_words, move_words, reply_words, signed_words}
 
--- one word, and no other
+-- a list of one word
 one : (w : List ℕ) → is_word w ≡ true → list_all is_word (w ∷ []) ≡ true
 one w is = and_from (is_word w) true is refl
 

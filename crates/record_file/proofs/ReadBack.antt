@@ -1,4 +1,4 @@
--- The words of an entry, read as what they are printed for.
+-- The words of an entry are read as the entry for which they are printed.
 use Rattle.std.proofs.Common.{◌≡◌, ℕ, zero, suc, ◌+◌, ◌-◌, ◌<◌, ◌≤◌, ◌^◌, ◌==◌, ◌&&◌, not, nat_lt, Bool, true, false, List, [], ◌∷◌, ◌++◌, length, map, flat_map, codes, Option, Some, None, Result, Ok, refl, ap, sym, ◌∙◌, arith, append-nil, append_assoc}
 use Rattle.std.proofs.lemmas.Bool.{and_parts}
 use Rattle.std.proofs.lemmas.Bool.Decides.{nat_tests}
@@ -52,7 +52,7 @@ called_again c good = by c good (command_again c good)
     by (command.Cas name expected value) good is = called_by (codes "cas") (operands_of (command.Cas name expected value)) verb.Cas (command.Cas name expected value) refl refl refl is
     by command.Ask good is = called_by (codes "ask") [] verb.Ask command.Ask refl refl refl is
 
--- the first word of a reply, and the words behind it
+-- the first word of a reply, and the words after it
 abbrev reply_name : Reply → ReplyWord
 reply_name (reply.Value v) = reply_word.Value
 reply_name reply.Done = reply_word.Done
@@ -84,7 +84,7 @@ reply_again reply.Overflow good = refl
 reply_again reply.StoreFull good = refl
 reply_again (reply.Last n) good = ap (λ r. r >>= λ n. Ok (reply.Last n)) (number_again 65535 n (grind (arith, nat_tests)) (grind (arith, nat_tests)))
 
--- what holds of a reply by its first word, how many words follow it, and what they say
+-- the facts about a reply: its first word, the number of words after it, and their meaning
 record IsReply (r : Reply) (key : List ℕ) : Type 0 where
   found : reply_word_of key ≡ Some (reply_name r)
   words : reply_words r ≡ key ∷ reply_operands r
@@ -161,7 +161,7 @@ mark_again mark.Down good = refl
 mark_again mark.Withdrew good = refl
 mark_again mark.Restarted good = refl
 
--- and so are marks behind others
+-- marks after other marks are read again
 marks_again : (n : ℕ) (others marks : List Mark) → n + length marks ≤ 3 → list_all is_mark marks ≡ true → marks_read n (map mark_words marks) (Ok others) ≡ Ok (others ++ marks)
 marks_again n others [] few good = ap (λ ms. Ok ms) (sym (append-nil others))
 marks_again n others (m ∷ marks) few good =
@@ -189,7 +189,7 @@ no_dot [] digits k d within = absurd (omega arith)
 no_dot (b ∷ bs) digits zero d within = let first : is_ascii_digit b ≡ true = (and_parts (is_ascii_digit b) (are_digits bs) digits).0 in grind (arith, nat_tests)
 no_dot (b ∷ bs) digits (suc k) d within = no_dot bs (and_parts (is_ascii_digit b) (are_digits bs) digits).1 k d (omega arith)
 
--- nor in the word of a register
+-- the word of a register has no dot either
 field_part : (f : Field) (more : List ℕ) → dotted (field_word f ++ (codes "." ++ more)) ≡ field_word f ∷ dotted more
 field_part Choosing more = refl
 field_part Ticket more = refl
@@ -274,7 +274,7 @@ entry_again e is =
     ∙ ap (λ a. entry_with (Ok e.process) a (marks_read 0 (map mark_words e.marks) (Ok []))) (access_again e.access others.0)
     ∙ ap (entry_with (Ok e.process) (Ok e.access)) (marks_again 0 [] e.marks (omega (arith, few)) others.1)
 
--- Words that are printed for an entry are read as that.
+-- Words that are printed for an entry are read as that entry.
 pub entry_words_again : (first : List ℕ) (ws : List (List ℕ)) (e : Entry) → first ∷ ws ≡ entry_words e → IsEntry e → entry_of first ws ≡ Ok e
 entry_words_again first ws e is good =
     let process : first ≡ decimal e.process = cc in

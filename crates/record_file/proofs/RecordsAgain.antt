@@ -31,7 +31,7 @@ record IsShort (ws : List (List ℕ)) : Type 0 where
   words : list_all is_word ws ≡ true
   short : length (spaced ws) ≤ 128
 
--- as those of scenarios are
+-- printable words are such a line
 short_of : (ws : List (List ℕ)) → is_printable ws ≡ true → IsShort ws
 short_of ws is =
     let parts = and_parts (list_all is_word ws) (is_said ws && nat_le (size ws) 128) is in
@@ -40,7 +40,7 @@ short_of ws is =
     let within : length (spaced ws) ≤ size ws = length-spaced ws in
     record { words = parts.0; short = omega (arith, few, within) }
 
--- it is read by its words,
+-- Such a line is read by its words.
 line_again : (ws : List (List ℕ)) (before : Option Progress) → IsShort ws → line_read (spaced ws) before ≡ words_read record_grammar ws before
 line_again ws before is =
     let short : length (spaced ws) ≤ 128 = is.short in
@@ -48,7 +48,7 @@ line_again ws before is =
     ap (λ t. if t then Err TooLong else words_read record_grammar (words_of (spaced ws)) before) test
     ∙ ap (λ w. words_read record_grammar w before) (words_of_spaced ws is.words)
 
--- and then the lines behind it are.
+-- Then the lines after it are read.
 line_on : (n : ℕ) (ws : List (List ℕ)) (more : List (List ℕ)) (before now : Option Progress) (entries : List Entry) → IsShort ws → words_read record_grammar ws before ≡ Ok now →
     lines_read n (spaced ws ∷ more) before entries ≡ lines_read (n + 1) more (cleared now) (entries ++ entry_in now)
 line_on n ws more before now entries short read =
@@ -56,11 +56,11 @@ line_on n ws more before now entries short read =
 
 -- The head.
 
--- what was read, before all entries
+-- the progress before all entries
 abbrev at_head : Given → Setup → Option Progress
 at_head given s = Some (record { head = record { given = given; setup = s; lines = [] }; ended = false; entry = None })
 
--- a check whose value is only handed on
+-- a check whose value is only passed on
 handed_on : {S : Type 0} (r : Result S FaultKind) (x : S) → (r >>= λ p. Ok (Some p)) ≡ Ok (Some x) → r ≡ Ok x
 handed_on (Ok y) x is = cc
 handed_on (Err e) x is = absurd (cc)
@@ -71,7 +71,7 @@ unfolding first_read
 version_line v fits =
     ap (λ r. ((r >>= λ version. Ok (record { given = none_given; setup = default_setup version; lines = [] })) >>= λ head. Ok (record { head = head; ended = false; entry = None })) >>= λ (s : Progress). Ok (Some s)) (version_again v fits)
 
--- a heading, by what is read of one in a scenario
+-- a heading, by reading a heading of a scenario
 heading_by : (h : Heading) (n : ℕ) (given : Given) (s : Setup) → (heading_read h (decimal n ∷ []) (record { given = given; setup = s; lines = [] }) >>= λ p. Ok (Some p)) ≡ Ok (Some (record { given = and_given h given; setup = with_heading h n s; lines = [] })) →
     (head_read h (decimal n ∷ []) (record { head = record { given = given; setup = s; lines = [] }; ended = false; entry = None }) >>= λ p. Ok (Some p)) ≡ Ok (at_head (and_given h given) (with_heading h n s))
 unfolding head_read
@@ -85,11 +85,11 @@ heading_line Tickets n given s fresh none fits small = heading_by Tickets n give
 heading_line Stamps n given s fresh none fits small = heading_by Stamps n given s (heading_said_again Stamps n given s fresh none fits small)
 heading_line Slots n given s fresh none fits small = heading_by Slots n given s (heading_said_again Slots n given s fresh none fits small)
 
--- what reading lines gives at last
+-- the result of reading lines
 abbrev Read : Type 0
 Read = Result (Option Progress × List Entry) LineFault
 
--- whatever the lines behind headings give, the headings and those lines give too
+-- if the lines after headings give a result, the headings and those lines give it too
 headings_on : (hs : List (Heading × ℕ)) (more : List (List ℕ)) (given : Given) (s : Setup) (r : Read) → s.opening ≡ [] → are_free given hs ≡ true → headings_differ hs ≡ true → ((h : Heading) → is_in_range 1 (most_of h s.version) (heading_in h (with_headings hs s)) ≡ true) → list_all is_printable (map heading_words hs) ≡ true →
     ((m : ℕ) → lines_read m more (at_head (all_given hs given) (with_headings hs s)) [] ≡ r) → (n : ℕ) → lines_read n (map spaced (map heading_words hs) ++ more) (at_head given s) [] ≡ r
 headings_on [] more given s r none free once fits short rest n = rest n
@@ -105,7 +105,7 @@ headings_on (h ∷ hs) more given s r none free once fits short rest n =
     ∙ headings_on hs more (and_given h.0 given) (with_heading h.0 h.1 s) r (heading_keeps h.0 h.1 s ∙ none) (free_more h.0 given hs others.0 fresh.1) others.1
     (λ k. ap (λ v. is_in_range 1 (most_of k v) (heading_in k (with_headings hs (with_heading h.0 h.1 s)))) (version_keeps h.0 h.1 s) ∙ fits k) shorts.1 rest (n + 1)
 
--- an opening pair, by what is read of one in a scenario
+-- an opening pair, by reading an opening pair of a scenario
 pair_by : (name value : List ℕ) (given : Given) (s t : Setup) → s.version ≡ 2 → (open_read (name ∷ value ∷ []) (record { given = given; setup = s; lines = [] }) >>= λ p. Ok (Some p)) ≡ Ok (Some (record { given = given; setup = t; lines = [] })) →
     (pair_read (name ∷ value ∷ []) (record { head = record { given = given; setup = s; lines = [] }; ended = false; entry = None }) >>= λ p. Ok (Some p)) ≡ Ok (at_head given t)
 unfolding pair_read
@@ -114,7 +114,7 @@ pair_by name value given s t two is =
     ∙ ap (λ r. (r >>= λ head. Ok (record { head = head; ended = false; entry = None })) >>= λ (p : Progress). Ok (Some p))
     (handed_on (open_read (name ∷ value ∷ []) (record { given = given; setup = s; lines = [] })) (record { given = given; setup = t; lines = [] }) is)
 
--- whatever the lines behind opening pairs give, the pairs and those lines give too
+-- if the lines after opening pairs give a result, the pairs and those lines give it too
 pairs_on : (ps : List Pair) (more : List (List ℕ)) (given : Given) (s : Setup) (r : Read) → length s.opening + length ps ≤ s.slots → (0 < length ps → s.version ≡ 2) → list_all is_pair ps ≡ true → names_differ (s.opening ++ ps) ≡ true → list_all is_printable (map open_words ps) ≡ true →
     ((m : ℕ) → lines_read m more (at_head given (record s { opening = s.opening ++ ps })) [] ≡ r) → (n : ℕ) → lines_read n (map spaced (map open_words ps) ++ more) (at_head given s) [] ≡ r
 pairs_on [] more given s r room two good differ short rest n =
@@ -131,7 +131,7 @@ pairs_on (p ∷ ps) more given s r room two good differ short rest n =
 
 -- The entries.
 
--- what was read, behind entries
+-- the progress after entries
 abbrev behind : Progress → List Entry → Progress
 behind p [] = p
 behind p (e ∷ entries) = behind (record p { ended = true; entry = None }) entries
@@ -154,7 +154,7 @@ entries_on (e ∷ entries) n p done are =
 abbrev all_words : Setup → List Entry → List (List (List ℕ))
 all_words s entries = (codes "record" ∷ decimal s.version ∷ []) ∷ (map heading_words (headings_of s) ++ map open_words s.opening) ++ map entry_words entries
 
--- its text is of the lines of these
+-- the text of a record consists of the lines of these words
 text_is : (s : Setup) (entries : List Entry) → record_text s entries ≡ flat_map printed_line (all_words s entries)
 text_is s entries = ap (λ t. flat_map printed_line (head_words s) ++ t) (sym (flat_map-map printed_line entry_words entries)) ∙ sym (flat_map-append printed_line (head_words s) (map entry_words entries))
 
@@ -166,7 +166,7 @@ entries_words (e ∷ entries) are = and_from _ _ (entry_is_words e are.0.entry.s
 abbrev heads : Setup → List (List (List ℕ))
 heads s = map heading_words (headings_of s) ++ map open_words s.opening
 
--- all of them are printable
+-- the lines of the head are printable
 record HeadPrinted (s : Setup) : Type 0 where
   first : is_printable (codes "record" ∷ decimal s.version ∷ []) ≡ true
   headings : list_all is_printable (map heading_words (headings_of s)) ≡ true
@@ -228,7 +228,7 @@ record_again s entries is are =
         ∙ headings_on (headings_of s) rest none_given (default_setup s.version) (Ok (Some (behind (begun_with s) entries), entries)) refl (all_free (headings_of s)) refl
         (λ h. ap (λ n. is_in_range 1 (most_of h s.version) n) (number_of h) ∙ heading_fits s good h) (head_printed s is).headings behind_headings 2
 
--- So the head of a record begins it.
+-- The head of a record is the beginning of a record.
 pub head_begins : (s : Setup) (head : List ℕ) → checked s ≡ Ok tt → are_pairs s.opening ≡ true → head ≡ flat_map printed_line (head_words s) → BeginsRecord s head
 head_begins s head good pairs is = λ entries fit. ap (λ (l : List ℕ). record_of (l ++ flat_map entry_line entries)) is ∙ record_again s entries setup fit
   where

@@ -1,4 +1,4 @@
--- The marks of a step fit where what is being done fits.
+-- The marks of a step are in range, if the state of the process is.
 use Rattle.std.proofs.Common.{◌≡◌, ℕ, ◌^◌, ◌&&◌, not, nat_lt, if◌then◌else◌, Bool, true, false, cond, List, [], ◌∷◌, map, Option, Some, None, refl, subst, ◌∙◌}
 use Rattle.std.proofs.lemmas.Bool.{and_from, and_parts}
 use Rattle.std.proofs.lemmas.List.Folds.{list_all-append}
@@ -50,7 +50,7 @@ last_sound c (WritesCommit vs st) bits sound fits = one_mark (Taken 0 (reply c s
 last_sound c (Clears a) bits sound fits = one_mark (Answered a) sound
 last_sound c _ bits sound fits = refl
 
--- those of a step of a call
+-- the marks of a step of a call
 pub step_sound : (c : Call) (at : Place) (v : Bool) → is_sound_part at.part ≡ true → TicketFits at.part → list_all is_mark (marks_of c at v) ≡ true
 step_sound c at v sound fits =
     let first : List Mark = cond (is_fresh at.run) (first_marks at.part) [] in
@@ -68,7 +68,7 @@ settled_sound begun v (Some r) sound = all_or_none (if v then begun else not beg
 of_next : (x n : Next) → Some x ≡ Some n → list_all is_mark x.marks ≡ true → list_all is_mark n.marks ≡ true
 of_next x n same sound = let is : x ≡ n = cc in subst (λ (y : Next). list_all is_mark y.marks ≡ true) is sound
 
--- those of a step of a closing
+-- the marks of a step of a closing
 pub closing_sound : (c : Call) (at : Closing) (flick : Bool) (n : Next) → closing_next c at flick ≡ Some n → is_sound_closing at ≡ true → list_all is_mark n.marks ≡ true
 closing_sound c (Withdraws w) flick n next sound = of_next _ n next (all_or_none (is_last_written c (no_ticket c) w) (Answered answer.Withdrawn ∷ []) refl)
 closing_sound c (Settles field bit begun taken is t) flick n next sound =
@@ -87,7 +87,7 @@ one_placed k (Waiting t) small sound = sound
 one_placed k (Answered a) small sound = sound
 one_placed k _ small sound = refl
 
--- with their places, which have 64 bits
+-- marks with positions of 64 bits are in range
 pub placed_sound : (k : ℕ) (ms : List Mark) → nat_lt k (2 ^ 64) ≡ true → list_all is_mark ms ≡ true → list_all is_mark (map (placed k) ms) ≡ true
 placed_sound k [] small sound = refl
 placed_sound k (m ∷ ms) small sound =

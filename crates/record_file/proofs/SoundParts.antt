@@ -1,4 +1,4 @@
--- What a process goes on with holds replies and answers that fit.
+-- The state of a process holds replies and answers that fit.
 use Rattle.std.proofs.Common.{◌≡◌, ℕ, zero, suc, ◌+◌, ◌≤◌, ◌==◌, not, nat_lt, Bool, true, false, cond, List, [], ◌∷◌, ◌++◌, filter, Option, Some, None, refl, arith}
 use Rattle.std.proofs.lemmas.Bool.{and_from, and_parts}
 use Rattle.std.proofs.lemmas.Bool.Decides.{nat_tests}
@@ -13,7 +13,7 @@ use Rattle.record.specs.reader_copies.Runs as copies
 use Rattle.record_file.specs.{is_answer, is_reply}
 use Rattle.record_file.proofs.SoundReplies.{index_small, is_sound, read_sound, reply_sound}
 
--- what a part holds fits
+-- the reply or the number that a part holds fits
 abbrev pub is_sound_part : Part → Bool
 is_sound_part (Refuses f) = nat_lt f 256
 is_sound_part (WritesImage vs st) = is_sound st

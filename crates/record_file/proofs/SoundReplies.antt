@@ -1,4 +1,4 @@
--- A store that was read from an image has values and numbers that fit, and so have its replies.
+-- A store that was read from an image has values and numbers in range, and its replies are in range too.
 use Rattle.std.proofs.Common.{◌≡◌, ℕ, ℤ, zero, suc, ◌+ℤ◌, ◌<◌, ◌&&◌, nat_lt, Bool, true, false, if◌then◌else◌, cond, List, [], ◌∷◌, length, replicate, slice_index, Option, Some, None, refl, ap, ◌∙◌, arith}
 use Rattle.std.proofs.lemmas.Bool.{and_from, and_parts}
 use Rattle.std.proofs.lemmas.Bool.Decides.{nat_tests}
@@ -12,7 +12,7 @@ use Rattle.record.specs.store_image.{has_image, image_of, is_number, store_in, s
 use Rattle.record.specs.{Call, bytes_of_bits, image_bytes, store_read}
 use Rattle.record_file.specs.{is_reply}
 
--- its pairs are pairs, and its numbers have 16 bits
+-- a store whose pairs are pairs and whose numbers have 16 bits
 abbrev pub is_sound : Contents → Bool
 is_sound st = list_all is_pair st.pairs && list_all is_number st.numbers
 
@@ -34,11 +34,11 @@ image_sound slots callers bytes = go (fields_read (used_in slots bytes) slots ca
             and_from (list_all is_pair st.pairs) (list_all is_number st.numbers) (and_parts (list_all is_pair st.pairs) (names_differ st.pairs) parts.0).0 parts.1
         by false is = no_calls callers
 
--- whatever bits were read
+-- a store that is read from any bits
 pub read_sound : (c : Call) (value : List Bool) → is_sound (store_read c value) ≡ true
 read_sound c value = image_sound c.setup.slots (callers_of c.setup) (bytes_of_bits (image_bytes c.setup) value)
 
--- one of some small numbers is small, and so is the 0 behind them
+-- an element of a list of small numbers is small, and so is the 0 that is returned past its end
 pub index_small : (most : ℕ) → 0 < most → (xs : List ℕ) (i : ℕ) → list_all (λ x. nat_lt x most) xs ≡ true → nat_lt (slice_index xs i) most ≡ true
 index_small most some [] i all = grind (arith, nat_tests)
 index_small most some (x ∷ xs) zero all = (and_parts (nat_lt x most) (list_all (λ x. nat_lt x most) xs) all).0
@@ -89,7 +89,7 @@ named_found : (pairs : List Pair) (name : Option (List ℕ)) (v : Value) → lis
 named_found pairs None v good there = cc
 named_found pairs (Some name) v good there = value_found pairs name v good there
 
--- what such a store replies fits
+-- a reply of such a store fits
 pub reply_sound : (st : Contents) (command : Command) (caller : Caller) → is_sound st ≡ true → is_reply (reply_to st command caller) ≡ true
 reply_sound st command caller sound =
     let parts = and_parts (list_all is_pair st.pairs) (list_all is_number st.numbers) sound in

@@ -1,4 +1,4 @@
--- What was read has the words that are printed for it, and parts as their types allow.
+-- A value that was read has the words that are printed for it, and parts as their types allow.
 use Rattle.std.proofs.Common.{◌≡◌, ℕ, ◌+◌, ◌-◌, ◌<◌, ◌≤◌, ◌^◌, ◌==◌, not, nat_le, nat_lt, true, false, List, [], ◌∷◌, ◌++◌, length, map, flat_map, codes, Option, Some, None, Result, Ok, Err, refl, ap, sym, subst, ◌∙◌, arith, append-nil, append_assoc}
 use Rattle.std.proofs.lemmas.Bool.{and_from}
 use Rattle.std.proofs.lemmas.Bool.Decides.{nat_tests}
@@ -26,11 +26,11 @@ use Rattle.record_file.specs.declared.keywords.ReplyWord.TheVariants as reply_wo
 use Rattle.record_file.proofs.Dots.{four_parts}
 use Rattle.record_file.proofs.Parts.{signed, joined, joined_parts}
 
--- what was read
+-- a value was read
 abbrev IsRead : {A : Type 0} → Result A FaultKind → A → Type 0
 IsRead r x = r ≡ Ok x
 
--- what was made is what was read
+-- a value that was made is the value that was read
 one_made : {A : Type 0} (x y : A) → IsRead (Ok x) y → x ≡ y
 one_made x y is = cc
 
@@ -59,7 +59,7 @@ reply_key reply_word.Overflow = codes "overflow"
 reply_key reply_word.StoreFull = codes "store-full"
 reply_key reply_word.Last = codes "last"
 
--- what was read as a reply
+-- a reply that was read
 record ReplySaid (name : ReplyWord) (ws : List (List ℕ)) (r : Reply) : Type 0 where
   words : reply_key name ∷ ws ≡ reply_words r
   good : is_reply r ≡ true
@@ -67,7 +67,7 @@ record ReplySaid (name : ReplyWord) (ws : List (List ℕ)) (r : Reply) : Type 0 
 reply_made : (name : ReplyWord) (ws : List (List ℕ)) (made r : Reply) → IsRead (Ok made) r → reply_key name ∷ ws ≡ reply_words made → is_reply made ≡ true → ReplySaid name ws r
 reply_made name ws made r is words good = subst (ReplySaid name ws) (one_made made r is) (record { words = words; good = good })
 
--- a reply that is its first word alone
+-- a reply that consists of its first word alone
 lone_reply : (name : ReplyWord) (ws : List (List ℕ)) (made r : Reply) → length ws ≡ 0 → IsRead (Ok made) r → reply_key name ∷ [] ≡ reply_words made → is_reply made ≡ true → ReplySaid name ws r
 lone_reply name ws made r none is words good = reply_made name ws made r is (ap (λ ws. reply_key name ∷ ws) (none_of ws none) ∙ words) good
 
@@ -96,7 +96,7 @@ reply_said reply_word.NotCounter ws r n read = lone_reply reply_word.NotCounter 
 reply_said reply_word.Overflow ws r n read = lone_reply reply_word.Overflow ws reply.Overflow r n read refl refl
 reply_said reply_word.StoreFull ws r n read = lone_reply reply_word.StoreFull ws reply.StoreFull r n read refl refl
 
--- the first word of an answer that is no reply
+-- the first word of an answer that contains no reply
 abbrev pub answer_key : AnswerWord → List ℕ
 answer_key (answer_word.Reply name) = reply_key name
 answer_key answer_word.TicketsFull = codes "tickets-full"
@@ -111,7 +111,7 @@ answer_key_spelled w name read = by (own_answer_of w) refl (reply_word_of w) ref
     by None is (Some r) found has = let same : answer_word.Reply r ≡ name = cc in found_spelled reply_key w reply_names r found refl ∙ ap answer_key same
     by None is None none has = absurd (cc)
 
--- what was read as an answer
+-- an answer that was read
 record AnswerSaid (name : AnswerWord) (ws : List (List ℕ)) (a : Answer) : Type 0 where
   words : answer_key name ∷ ws ≡ answer_words a
   good : is_answer a ≡ true
@@ -131,7 +131,7 @@ answer_said answer_word.TicketsFull ws a n read =
 answer_said answer_word.StampsFull ws a n read = answer_made answer_word.StampsFull ws answer.StampsFull a read (ap (λ ws. codes "stamps-full" ∷ ws) (none_of ws n)) refl
 answer_said answer_word.Withdrawn ws a n read = answer_made answer_word.Withdrawn ws answer.Withdrawn a read (ap (λ ws. codes "withdrawn" ∷ ws) (none_of ws n)) refl
 
--- what was read as a mark
+-- a mark that was read
 record MarkSaid (ws : List (List ℕ)) (m : Mark) : Type 0 where
   words : ws ≡ mark_words m
   good : is_mark m ≡ true
@@ -231,7 +231,7 @@ mark_said (w ∷ ws) m read =
     let key : w ≡ mark_key a.value = found_spelled mark_key w mark_names a.value (known_is (mark_word_of w) a.value a.first) refl in
     subst (λ w. MarkSaid (w ∷ ws) m) (sym key) (named_said a.value ws m a.next)
 
--- what was read as marks, behind others
+-- marks that were read, after others
 record MarksSaid (n : ℕ) (parts : List (List (List ℕ))) (before : Result (List Mark) FaultKind) (after : List Mark) : Type 0 where
   others : List Mark
   marks : List Mark
@@ -263,7 +263,7 @@ marks_said n (part ∷ parts) before after read =
       few = omega (arith, below, few);
     }
 
--- what was read as a move
+-- a move that was read
 move_said : (name : BitWord) (ws : List (List ℕ)) (how : Move) → move_of name ws ≡ Ok how → bit_key name ∷ ws ≡ move_words how
 move_said bits.Bits ws how read = absurd (cc)
 move_said bits.Drop ws how read = absurd (cc)
@@ -283,7 +283,7 @@ move_said bits.Read ws how read =
     let a = passed (counted 0 ws) (λ counts. Ok move.BeginRead) how read in
     ap (λ ws. codes "read" ∷ ws) (none_of ws (length_of 0 ws a.value a.first)) ∙ ap move_words (one_made move.BeginRead how a.next)
 
--- what was read as an access
+-- an access that was read
 record AccessSaid (ws : List (List ℕ)) (a : Option Access) : Type 0 where
   words : ws ≡ access_words a
   good : is_access a ≡ true
@@ -331,7 +331,7 @@ signed_marks : (marks : List Mark) → flat_map signed (map mark_words marks) �
 signed_marks [] = refl
 signed_marks (m ∷ marks) = ap (λ ws. signed_words m ++ ws) (signed_marks marks)
 
--- what was read as an entry
+-- an entry that was read
 record EntrySaid (first : List ℕ) (ws : List (List ℕ)) (e : Entry) : Type 0 where
   pub words : first ∷ ws ≡ entry_words e
   pub good : IsEntry e
@@ -358,6 +358,6 @@ parts_said first ws (place ∷ parts) e is read =
       good = record { sound = and_from _ _ process.1 (and_from _ _ access.good sound); few = subst (λ (ms : List Mark). length ms ≤ 3) are few };
     })
 
--- What was read as an entry has its words.
+-- An entry that was read has the words of its line.
 pub entry_said : (first : List ℕ) (ws : List (List ℕ)) (e : Entry) → entry_of first ws ≡ Ok e → (first ∷ ws ≡ entry_words e) × IsEntry e
 entry_said first ws e read = let said = parts_said first ws (parts_of ws) e (joined_parts ws) read in (said.words, said.good)

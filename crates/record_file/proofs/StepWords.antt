@@ -10,12 +10,12 @@ use Rattle.record.specs.{Access, field_word}
 use Rattle.scenario.specs.{spaced}
 use Rattle.record_file.specs.{copy_word, entry_words, move_words, step_entry}
 
--- the number of a digit, in front of other bytes
+-- the number of a digit, before other bytes
 pub one_digit : (bytes : List ℕ) (n : ℕ) → 1 ≤ length bytes → slice_index_or bytes 0 0 ≡ 48 + n → n < 10 → bytes ≡ decimal n ++ take (length bytes - 1) (drop 1 bytes)
 one_digit [] n some is small = absurd (omega (arith, some))
 one_digit (b ∷ bs) n some is small = ap (λ c. c ∷ bs) is ∙ ap (λ ds. ds ++ bs) (sym (decimal_digit n small)) ∙ ap (λ rest. decimal n ++ rest) (sym (take_rest (b ∷ bs) 1))
 
--- the same in front of the byte that ends it
+-- the number of a digit, before the byte that ends it
 pub only_digit : (bytes : List ℕ) (n end : ℕ) → 2 ≤ length bytes → slice_index_or bytes 0 0 ≡ 48 + n → n < 10 → slice_index_or bytes 1 0 ≡ end → bytes ≡ decimal n ++ (end ∷ take (length bytes - 2) (drop 2 bytes))
 only_digit [] n end some is small ended = absurd (omega (arith, some))
 only_digit (b ∷ []) n end some is small ended = absurd (omega (arith, some))
@@ -25,7 +25,7 @@ only_digit (b ∷ c ∷ bs) n end some is small ended =
     ∙ ap (λ ds. ds ++ (end ∷ bs)) (sym (decimal_digit n small))
     ∙ ap (λ rest. decimal n ++ (end ∷ rest)) (sym (take_rest (b ∷ c ∷ bs) 2))
 
--- a digit more behind a number other than 0
+-- one digit more after a number other than 0
 digit_behind : (n m : ℕ) → m < 10 → 0 < n → n ≤ 6553 → decimal (n * 10 + m) ≡ decimal n ++ ((48 + m) ∷ [])
 digit_behind n m small some few =
     let tens : (n * 10 + m) / 10 ≡ n = omega (arith, small) in
@@ -34,7 +34,7 @@ digit_behind n m small some few =
     ∙ ap (λ t. decimal t ++ ((48 + (n * 10 + m) % 10) ∷ [])) tens
     ∙ ap (λ o. decimal n ++ ((48 + o) ∷ [])) ones
 
--- one digit more behind the digits of a number other than 0
+-- one digit more after the digits of a number other than 0
 pub one_more_is : (digits : List ℕ) (n m d : ℕ) → decimal n ≡ digits → 0 < n → n < 1000 → d ≡ 48 + m → m < 10 → decimal (n * 10 + m) ≡ digits ++ (d ∷ [])
 one_more_is digits n m d so_far some few is small =
     digit_behind n m small some (omega (arith, few))
@@ -52,7 +52,7 @@ pub three_are : (a b c x y z : ℕ) → a ≡ 48 + x → x < 10 → 0 < x → b 
 three_are a b c x y z is_a small_x some is_b small_y is_c small_z =
     one_more_is (a ∷ b ∷ []) (x * 10 + y) z c (two_are a b x y is_a small_x some is_b small_y) (omega (arith, some)) (omega (arith, small_x, small_y)) is_c small_z
 
--- what is known of a byte if it is a digit, and of the number that is made of it
+-- a byte is a digit
 abbrev IsDigit : ℕ → Type 0
 IsDigit byte = (48 ≤ byte) × (byte ≤ 57)
 
@@ -62,7 +62,7 @@ Valued byte n = 48 ≤ byte → byte ≡ 48 + n
 small_digit : (byte n : ℕ) → IsDigit byte → Valued byte n → n < 10
 small_digit byte n is valued = let e : byte ≡ 48 + n = valued is.0 in omega (arith, e, is.1)
 
--- a number and how many digits write it, at the front of these bytes
+-- a number and the count of its digits, at the start of these bytes
 abbrev pub Written : (ℕ × ℕ) → List ℕ → Type 0
 Written read bytes = (decimal read.0 ≡ take read.1 bytes) × (read.1 ≡ 3 → 100 ≤ read.0)
 
@@ -101,7 +101,7 @@ heads_are (a ∷ []) count some few = absurd (omega (arith, some))
 heads_are (a ∷ b ∷ []) count some few = absurd (omega (arith, some))
 heads_are (a ∷ b ∷ c ∷ rest) count some few = sym (take-append-le count (a ∷ b ∷ c ∷ []) rest few)
 
--- a few digits, and the dot behind them
+-- a few digits, and the dot after them
 pub digits_and_dot : (bytes : List ℕ) (n count : ℕ) → 5 ≤ length bytes → count ≤ 3 → decimal n ≡ take count (three_heads bytes) → slice_index_or bytes count 0 ≡ 46 →
     bytes ≡ decimal n ++ (46 ∷ take (length bytes - (count + 1)) (drop (count + 1) bytes))
 digits_and_dot bytes n count some few digits dot =
@@ -112,7 +112,7 @@ digits_and_dot bytes n count some few digits dot =
     ∙ ap (λ rest. decimal n ++ (46 ∷ rest)) (sym (take_rest bytes (suc count)))
     ∙ ap (λ k. decimal n ++ (46 ∷ take (length bytes - k) (drop k bytes))) next
 
--- three digits, one more, and the dot behind them
+-- three digits, one more, and the dot after them
 pub fourth_digit : (bytes : List ℕ) (n count last : ℕ) → 5 ≤ length bytes → decimal n ≡ take count (three_heads bytes) → (count ≡ 3 → 100 ≤ n) → count ≡ 3 → n < 1000 → slice_index_or bytes 3 0 ≡ 48 + last → last < 10 → slice_index_or bytes 4 0 ≡ 46 →
     bytes ≡ decimal (n * 10 + last) ++ (46 ∷ take (length bytes - 5) (drop 5 bytes))
 fourth_digit [] n count last some digits many is_three few is small dot = absurd (omega (arith, some))
@@ -126,13 +126,13 @@ fourth_digit (a ∷ b ∷ c ∷ d ∷ e ∷ rest) n count last some digits many 
     let four : decimal (n * 10 + last) ≡ a ∷ b ∷ c ∷ d ∷ [] = one_more_is (a ∷ b ∷ c ∷ []) n last d three (omega (arith, hundred)) few is small in
     ap (λ x. a ∷ b ∷ c ∷ d ∷ x ∷ rest) dot ∙ ap (λ ds. ds ++ (46 ∷ rest)) (sym four) ∙ ap (λ r. decimal (n * 10 + last) ++ (46 ∷ r)) (sym (take_rest (a ∷ b ∷ c ∷ d ∷ e ∷ rest) 5))
 
--- four to eight bytes are told by the first four and the last four
+-- four to eight bytes are determined by the first four and the last four
 pub ends_are : (bytes : List ℕ) → 4 ≤ length bytes → length bytes ≤ 8 → bytes ≡ take 4 bytes ++ drop (8 - length bytes) (drop (length bytes - 4) bytes)
 ends_are bytes some few =
     let at : length bytes - 4 + (8 - length bytes) ≡ 4 = omega (arith, some, few) in
     sym (take-append-drop 4 bytes) ∙ ap (λ bs. take 4 bytes ++ bs) (sym (drop-drop (8 - length bytes) (length bytes - 4) bytes ∙ ap (λ k. drop k bytes) at))
 
--- what is behind a word and the byte that ends it, from that byte on
+-- the bytes after a word, from the byte that ends the word on
 pub from_end : (bytes word behind : List ℕ) (end : ℕ) → bytes ≡ word ++ (end ∷ behind) →
     bytes ≡ word ++ take (length bytes - (length bytes - length behind - 1)) (drop (length bytes - length behind - 1) bytes)
 from_end bytes word behind end is =
@@ -189,7 +189,7 @@ near_is (a ∷ b ∷ c ∷ bs) process owner text some is small space is_owner s
 pub far_is : (line behind bytes text : List ℕ) (process owner : ℕ) → line ≡ decimal process ++ (32 ∷ behind) → behind ≡ decimal owner ++ bytes → decimal owner ++ bytes ≡ text → line ≡ decimal process ++ (32 ∷ text)
 far_is line behind bytes text process owner is owned rest = is ∙ ap (λ bs. decimal process ++ (32 ∷ bs)) (owned ∙ rest)
 
--- the words of a move behind another word
+-- the words of a move after another word
 move_behind : (w : List ℕ) (how : Move) → spaced (w ∷ (move_words how ++ [])) ≡ w ++ (codes " " ++ spaced (move_words how))
 move_behind w (move.BeginWrite v) = refl
 move_behind w move.EndWrite = refl

@@ -1,4 +1,4 @@
--- Which words have the form of a mark, of an access, or of a line that is no entry.
+-- The words that have the form of a mark, of an access, or of a line other than an entry.
 use Rattle.std.specs.Prelude.{◌≡◌, ℕ, Bool, false, ◌&&◌, ◌==◌, ◌++◌, codes, is_some, List, [], ◌∷◌, length, None}
 use Rattle.std.specs.List.{list_all}
 use Rattle.std.specs.Result.{is_ok}
@@ -10,7 +10,7 @@ use Rattle.record_file.specs.Keywords.{field_of}
 use Rattle.record_file.specs.Reading.{access_of, dotted, mark_of}
 use Rattle.record_file.specs.RecordFiles.{Progress, begins_with_digit, later_read}
 
--- the number of a bit or of a call, a ticket, and the place at which a command is taken
+-- the number of a bit or of a call, a ticket, and the position at which a command is taken
 abbrev pub of_16_bits : Operand
 of_16_bits = operand.Number N 65535
 
@@ -49,7 +49,7 @@ replies =
     ∷ (codes "last", of_16_bits ∷ [])
     ∷ []
 
--- the answers to a call that are no replies
+-- the answers to a call that contain no reply
 abbrev pub other_answers : Phrases
 other_answers = (codes "tickets-full", a_process ∷ []) ∷ (codes "stamps-full", []) ∷ (codes "withdrawn", []) ∷ []
 
@@ -77,14 +77,14 @@ is_copy parts = (length parts == 4) && (is_some (field_of (word 1 parts)) && lis
 abbrev pub begun : ℕ → Progress
 begun version = record { head = begun_head version; ended = false; entry = None }
 
--- The words behind a sign are read exactly if they have the form of a mark.
+-- The words after a sign are read exactly if they have the form of a mark.
 abbrev pub MarksHaveForms : Type 0
 MarksHaveForms = (name : List ℕ) (words : List (List ℕ)) → is_ok (mark_of (name ∷ words)) ≡ has_form 2 marks name words
 
--- A word and those behind it are read as an access exactly if it is a copy of a bit and they are a move.
+-- A word and those after it are read as an access exactly if it is a copy of a bit and they are a move.
 abbrev pub AccessesHaveForms : Type 0
 AccessesHaveForms = (copy name : List ℕ) (words : List (List ℕ)) → is_ok (access_of (copy ∷ name ∷ words)) ≡ (is_copy (dotted copy) && is_phrase 2 moves name words)
 
--- Behind the first line, a line that does not begin with a digit is read exactly if it has the form of a heading or a pair.
+-- After the first line, a line that does not begin with a digit is read exactly if it has the form of a heading or a pair.
 abbrev pub HeadsHaveForms : Type 0
 HeadsHaveForms = (version : ℕ) (first : List ℕ) (words : List (List ℕ)) → begins_with_digit first ≡ false → is_ok (later_read first words (begun version)) ≡ has_form version heads first words

@@ -63,7 +63,7 @@ reply_names =
 abbrev pub reply_word_of : List ℕ → Option ReplyWord
 reply_word_of word = lookup (bytes_eq word) reply_names
 
--- the first words of the answers that are no replies
+-- the first words of the answers that contain no reply
 abbrev pub own_answers : List (List ℕ × AnswerWord)
 own_answers =
     (codes "tickets-full", answer.TicketsFull)
@@ -74,7 +74,7 @@ own_answers =
 abbrev pub own_answer_of : List ℕ → Option AnswerWord
 own_answer_of word = lookup (bytes_eq word) own_answers
 
--- an answer that is no reply, or else a reply
+-- an answer that contains no reply, or otherwise a reply
 abbrev pub or_reply : Option AnswerWord → Option ReplyWord → Option AnswerWord
 or_reply (Some own) name = Some own
 or_reply None (Some name) = Some (answer.Reply name)

@@ -11,7 +11,7 @@ use Rattle.record.specs.declared.marks.Mark.TheVariants as mark
 use Rattle.scenario.specs.{BitLine, bit_line_words, bit_word, command_words, kind_words, open_words, printed_line, spaced}
 use Rattle.scenario.specs.declared.bit_files.BitLine.TheVariants as line
 
--- between the dots of a copy
+-- a register between the dots of a copy
 abbrev pub dotted_field : Field → List ℕ
 dotted_field f = codes "." ++ (field_word f ++ codes ".")
 
@@ -19,7 +19,7 @@ dotted_field f = codes "." ++ (field_word f ++ codes ".")
 abbrev pub copy_word : Access → List ℕ
 copy_word a = decimal a.owner ++ (codes "." ++ (field_word a.field ++ (codes "." ++ (decimal a.bit ++ (codes "." ++ decimal a.reader)))))
 
--- the line of a bits file that says a move
+-- the line of a bits file for a move
 abbrev pub line_of_move : Move → BitLine
 line_of_move (BeginWrite v) = line.Write v
 line_of_move EndWrite = line.End
@@ -70,15 +70,15 @@ mark_words mark.Down = codes "down" ∷ []
 mark_words mark.Withdrew = codes "withdraw" ∷ []
 mark_words mark.Restarted = codes "restart" ∷ []
 
--- a mark behind its sign, the word `:`
+-- a mark after its sign, the word `:`
 abbrev pub signed_words : Mark → List (List ℕ)
 signed_words m = codes ":" ∷ mark_words m
 
--- The words of an entry: its process, its access if there is one, and its marks, each behind its sign.
+-- The words of an entry: its process, its access if there is one, and its marks, each after its sign.
 abbrev pub entry_words : Entry → List (List ℕ)
 entry_words e = decimal e.process ∷ (access_words e.access ++ flat_map signed_words e.marks)
 
--- words, each behind a space
+-- words, each after a space
 abbrev pub behind_spaces : List (List ℕ) → List ℕ
 behind_spaces = flat_map (λ w. codes " " ++ w)
 
@@ -90,11 +90,11 @@ access_text a = copy_word a ++ (codes " " ++ spaced (move_words a.how))
 abbrev pub front_text : ℕ → Option Access → List ℕ
 front_text p access = decimal p ++ behind_spaces (access_words access)
 
--- the text of marks behind it
+-- the text of marks, as it follows the process and the access
 abbrev pub marks_text : List Mark → List ℕ
 marks_text marks = behind_spaces (flat_map signed_words marks)
 
--- the text of a move behind that of its bit
+-- the text of a move, as it follows that of its bit
 abbrev pub move_text : Move → List ℕ
 move_text how = behind_spaces (move_words how)
 

@@ -1,4 +1,4 @@
--- Which records a file may say as they are printed, and that they are read again.
+-- The records that a file can contain as they are printed, and the laws that they are read again.
 use Rattle.std.specs.Prelude.{◌≡◌, ◌↔◌, ◌∷◌, ℕ, ◌<◌, ◌≤◌, ◌^◌, true, List, [], ◌++◌, length, flat_map, Ok, IfOk, Result}
 use Rattle.std.specs.Global.{Vec}
 use Rattle.std.specs.List.{AllByRecursion, list_all}
@@ -14,24 +14,24 @@ use Rattle.record_file.specs.RecordFiles as reader
 abbrev pub IsSetupOfFile : Setup → Type 0
 IsSetupOfFile s = IsScenario (record { setup = s; lines = [] })
 
--- an entry that a line may say, of at most 128 bytes
+-- an entry that a line can specify, of at most 128 bytes
 pub record FitsLine (e : Entry) : Type 0 where
   pub entry : IsEntry e
   pub short : length (spaced (entry_words e)) ≤ 128
 
--- each of them is one
+-- each of the entries fits its line
 abbrev pub FitLines : List Entry → Type 0
 FitLines = AllByRecursion FitsLine
 
--- a text is read as a record of this setup: with the lines of any entries that fit theirs behind it, as that setup and those entries
+-- a text begins a record of this setup: with the lines of any entries that fit theirs after it, it is read as that setup and those entries
 abbrev pub BeginsRecord : Setup → List ℕ → Type 0
 BeginsRecord s text = (entries : List Entry) → FitLines entries → reader.record_of (text ++ flat_map entry_line entries) ≡ Ok (record { setup = s; entries = entries })
 
--- a call gives such a text, if the setup is good, unless memory is wanting
+-- a call returns such a text if the setup is good, unless memory runs out
 abbrev pub GivesBeginning : {E : Type 0} → Result (Vec ℕ) E → Setup → Type 0
 GivesBeginning result s = checked s ≡ Ok tt → IfOk result (λ (text : Vec ℕ). BeginsRecord s text.items)
 
--- What is printed for a setup and entries whose lines fit is read as that setup and those entries.
+-- The text that is printed for a setup and entries whose lines fit is read as that setup and those entries.
 abbrev pub PrintedRecordsAreReadAgain : Type 0
 PrintedRecordsAreReadAgain = (s : Setup) (entries : List Entry) → IsSetupOfFile s → FitLines entries → reader.record_of (record_text s entries) ≡ Ok (record { setup = s; entries = entries })
 
@@ -39,12 +39,12 @@ PrintedRecordsAreReadAgain = (s : Setup) (entries : List Entry) → IsSetupOfFil
 abbrev pub RecordsFitLines : Type 0
 RecordsFitLines = (s : Setup) → checked s ≡ Ok tt → (events : List Event) → list_all is_event events ≡ true → length events < 2 ^ 64 → FitLines (record_of s events)
 
--- So what is printed for that record is read as its setup and that record.
+-- The text that is printed for that record is read as its setup and that record.
 abbrev pub RecordsAreReadAgain : Type 0
 RecordsAreReadAgain = (s : Setup) → IsSetupOfFile s → (events : List Event) → list_all is_event events ≡ true → length events < 2 ^ 64 →
     reader.record_of (record_text s (record_of s events)) ≡ Ok (record { setup = s; entries = record_of s events })
 
--- What is printed for an entry is read as that entry.
+-- The words that are printed for an entry are read as that entry.
 abbrev pub PrintedEntriesAreReadAgain : Type 0
 PrintedEntriesAreReadAgain = (first : List ℕ) (words : List (List ℕ)) (e : Entry) → IsEntry e → first ∷ words ≡ entry_words e → entry_of first words ≡ Ok e
 

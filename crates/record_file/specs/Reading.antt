@@ -1,4 +1,4 @@
--- What the words of a line say as an entry, or its first fault in the order of faults.
+-- The entry that the words of a line specify, or its first fault in the order of faults.
 use Rattle.std.specs.Prelude.{ℕ, ◌+◌, ◌-◌, ◌^◌, ◌==◌, nat_lt, Bool, not, List, [], ◌∷◌, ◌++◌, length, codes, Option, Some, None, Result, Ok, Err, ◌≡◌, MatchOption, true}
 use Rattle.std.specs.Borrow.{Bor}
 use Rattle.std.specs.List.{slice_split}
@@ -36,11 +36,11 @@ AreFourParts told word = MatchOption told (not (length (dotted word) == 4) ≡ t
 abbrev pub field_at : List (List ℕ) → Result Field FaultKind
 field_at parts = fault_if (not (length parts == 4)) Unknown >>= λ four. known (field_of (word 1 parts))
 
--- a move that is its first word alone
+-- a move that consists of its first word alone
 abbrev pub lone_move_of : Move → List (List ℕ) → Result Move FaultKind
 lone_move_of how words = counted 0 words >>= λ counts. Ok how
 
--- what a move's words say: those of bits files, but for `bits` and `drop`
+-- the move that words specify: the words are those of bits files, except `bits` and `drop`
 abbrev pub move_of : BitWord → List (List ℕ) → Result Move FaultKind
 move_of bits.Write words = one_bit_of words >>= λ v. Ok (move.BeginWrite v)
 move_of bits.End words = lone_move_of move.EndWrite words
@@ -58,7 +58,7 @@ copy_of parts field how = do
   reader ← number_at 255 (word 3 parts)
   Ok (record { owner = owner; field = field; bit = bit; reader = reader; how = how })
 
--- the words of an access: a copy of a bit, and a move; there may be none
+-- the access that words specify: a copy of a bit, and a move; without words, no access
 unfoldable pub access_of : List (List ℕ) → Result (Option Access) FaultKind
 access_of [] = Ok None
 access_of (copy ∷ []) = do
@@ -86,7 +86,7 @@ called_of (v ∷ operands) = do
   command ← command_of verb operands
   Ok (mark.Called command)
 
--- how many words follow the first word of a reply
+-- the number of words after the first word of a reply
 abbrev pub reply_count : ReplyWord → ℕ
 reply_count reply_word.Value = 1
 reply_count reply_word.Sum = 1
@@ -94,7 +94,7 @@ reply_count reply_word.Kept = 1
 reply_count reply_word.Last = 1
 reply_count name = 0
 
--- a reply, by the words behind its first, as many as it takes
+-- a reply, by the words after its first, exactly as many as it takes
 abbrev pub reply_of : ReplyWord → List (List ℕ) → Result Reply FaultKind
 reply_of reply_word.Value words = value_at (word 0 words) >>= λ v. Ok (reply.Value v)
 reply_of reply_word.Done words = Ok reply.Done
@@ -118,14 +118,14 @@ taken_of (p ∷ r ∷ operands) = do
   reply ← reply_of name operands
   Ok (mark.Taken place reply)
 
--- how many words follow the first word of an answer
+-- the number of words after the first word of an answer
 abbrev pub answer_count : AnswerWord → ℕ
 answer_count (answer_word.Reply name) = reply_count name
 answer_count answer_word.TicketsFull = 1
 answer_count answer_word.StampsFull = 0
 answer_count answer_word.Withdrawn = 0
 
--- an answer, by the words behind its first, as many as it takes
+-- an answer, by the words after its first, exactly as many as it takes
 abbrev pub answer_of : AnswerWord → List (List ℕ) → Result Answer FaultKind
 answer_of (answer_word.Reply name) words = reply_of name words >>= λ r. Ok (answer.Reply r)
 answer_of answer_word.TicketsFull words = number_at 255 (word 0 words) >>= λ p. Ok (answer.TicketsFull p)
@@ -145,11 +145,11 @@ answered_of (a ∷ operands) = do
 abbrev pub waiting_of : List (List ℕ) → Result Mark FaultKind
 waiting_of words = counted 1 words >>= λ counts. number_at (2 ^ 32 - 1) (word 0 words) >>= λ ticket. Ok (mark.Waiting ticket)
 
--- a mark that is its first word alone
+-- a mark that consists of its first word alone
 abbrev pub lone_mark_of : Mark → List (List ℕ) → Result Mark FaultKind
 lone_mark_of m words = counted 0 words >>= λ counts. Ok m
 
--- a mark, by its first word and the words behind it
+-- a mark, by its first word and the words after it
 abbrev pub named_mark_of : MarkWord → List (List ℕ) → Result Mark FaultKind
 named_mark_of mark_word.Call words = called_of words
 named_mark_of mark_word.Wait words = waiting_of words
@@ -163,7 +163,7 @@ named_mark_of mark_word.Down words = lone_mark_of mark.Down words
 named_mark_of mark_word.Withdraw words = lone_mark_of mark.Withdrew words
 named_mark_of mark_word.Restart words = lone_mark_of mark.Restarted words
 
--- the words behind a sign
+-- the mark that the words after a sign specify
 abbrev pub mark_of : List (List ℕ) → Result Mark FaultKind
 mark_of [] = Err Words
 mark_of (name ∷ operands) = known (mark_word_of name) >>= λ m. named_mark_of m operands
@@ -176,21 +176,21 @@ is_sign w = bytes_eq w (codes ":")
 abbrev pub parts_of : List (List ℕ) → List (List (List ℕ))
 parts_of = slice_split is_sign
 
--- the parts of the words behind a sign, if there is one
+-- the parts of the words after a sign, if there is a sign
 abbrev pub parts_behind : Option (Bor (List (Bor (List ℕ)))) → List (List (List ℕ))
 parts_behind None = []
 parts_behind (Some words) = parts_of (texts words.now)
 
--- one more mark behind n others, of which a line has at most three
+-- one more mark after n others: a line has at most three marks
 abbrev pub with_mark : ℕ → Result (List Mark) FaultKind → Result Mark FaultKind → Result (List Mark) FaultKind
 with_mark n before m = both (both before m) (fault_if (not (nat_lt n 3)) Words) >>= λ read. Ok (read.0.0 ++ read.0.1 ∷ [])
 
--- the marks of some parts, behind n others
+-- the marks of some parts, after n others
 abbrev pub marks_read : ℕ → List (List (List ℕ)) → Result (List Mark) FaultKind → Result (List Mark) FaultKind
 marks_read n [] before = before
 marks_read n (part ∷ parts) before = marks_read (n + 1) parts (with_mark n before (mark_of part))
 
--- the marks of the parts behind an access
+-- the marks of the parts after an access
 abbrev pub marks_behind : Option (Bor (List (Bor (List ℕ)))) → Result (List Mark) FaultKind
 marks_behind words = marks_read 0 (parts_behind words) (Ok [])
 
@@ -198,11 +198,11 @@ marks_behind words = marks_read 0 (parts_behind words) (Ok [])
 abbrev pub entry_with : Result ℕ FaultKind → Result (Option Access) FaultKind → Result (List Mark) FaultKind → Result Entry FaultKind
 entry_with process access marks = both (both process access) marks >>= λ read. Ok (record { process = read.0.0; access = read.0.1; marks = read.1 })
 
--- an entry by its first word and the parts behind it: the first is the access, each other one a mark
+-- an entry, by its first word and the parts after it: the first part is the access, each other part is a mark
 abbrev pub entry_by : List ℕ → List (List (List ℕ)) → Result Entry FaultKind
 entry_by process [] = Err Words
 entry_by process (access ∷ marks) = entry_with (number_at 255 process) (access_of access) (marks_read 0 marks (Ok []))
 
--- What a line says as an entry, by its first word and the words behind it.
+-- The entry that a line specifies, by its first word and the words after it.
 abbrev pub entry_of : List ℕ → List (List ℕ) → Result Entry FaultKind
 entry_of process words = entry_by process (parts_of words)

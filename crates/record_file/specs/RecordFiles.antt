@@ -1,5 +1,5 @@
--- What a record file says, or its first fault.
--- Lines, words, skipped lines, headings and opening pairs are those of scenario files; but there may be any number of lines.
+-- The record that a record file contains, or its first fault.
+-- Lines, words, skipped lines, headings and opening pairs are those of scenario files. A record file may have any number of lines.
 use Rattle.std.specs.Prelude.{ℕ, ◌+◌, ◌==◌, ◌||◌, not, nat_lt, Bool, true, false, if◌then◌else◌, List, [], ◌∷◌, ◌++◌, length, codes, Option, Some, None, Result, Ok, Err}
 use Rattle.std.specs.Char.{is_ascii_digit}
 use Rattle.std.specs.Option.{option_to_list}
@@ -14,7 +14,7 @@ use Rattle.record_file.specs.Reading.{entry_of}
 use Rattle.record_file.specs.declared.line_kinds.LineKind.{LineKind}
 use Rattle.record_file.specs.declared.line_kinds.LineKind.TheVariants as kind
 
--- what was read last: the headings and opening pairs so far, whether an entry has ended them, and the entry of this line, if it is one
+-- the progress of a reader: the headings and opening pairs so far, whether an entry has ended them, and the entry of this line, if it is one
 pub record Progress : Type 0 where
   pub head : Head
   pub ended : Bool
@@ -25,13 +25,13 @@ abbrev pub begins_with_digit : List ℕ → Bool
 begins_with_digit [] = false
 begins_with_digit (b ∷ bs) = is_ascii_digit b
 
--- of the first words of scenario files those that record files have
+-- the kind of a line that scenario files have too, if record files have it: a heading, or an opening pair
 abbrev pub kind_in : Option Opener → Option LineKind
 kind_in (Some (opener.Heading heading)) = Some (kind.Heading heading)
 kind_in (Some opener.Open) = Some kind.Open
 kind_in other = None
 
--- what the first word of a line means
+-- the kind of a line, by its first word
 abbrev pub kind_of : List ℕ → Option LineKind
 kind_of first = if begins_with_digit first then Some kind.Entry else if bytes_eq first (codes "record") then Some kind.Record else kind_in (opener_of first)
 
@@ -57,18 +57,18 @@ pair_read words p = do
   head ← open_read words p.head
   Ok (record p { head = head })
 
--- an entry, behind which there is no heading and no opening pair
+-- an entry: no heading and no opening pair may follow it
 abbrev pub entry_read : List ℕ → List (List ℕ) → Progress → Result Progress FaultKind
 entry_read first words p = entry_of first words >>= λ entry. Ok (record p { ended = true; entry = Some entry })
 
--- a line behind the first, by what its first word means
+-- a line after the first, by its kind
 abbrev pub line_said : LineKind → List ℕ → List (List ℕ) → Progress → Result Progress FaultKind
 line_said kind.Record first words p = Err NotFirst
 line_said (kind.Heading heading) first words p = head_read heading words p
 line_said kind.Open first words p = pair_read words p
 line_said kind.Entry first words p = entry_read first words p
 
--- a line behind the first
+-- a line after the first
 abbrev pub later_read : List ℕ → List (List ℕ) → Progress → Result Progress FaultKind
 later_read first words p = known (kind_of first) >>= λ kind. line_said kind first words p
 
@@ -76,7 +76,7 @@ later_read first words p = known (kind_of first) >>= λ kind. line_said kind fir
 abbrev pub record_grammar : Grammar Progress
 record_grammar = record { first = first_read; later = later_read }
 
--- before the next line is read
+-- the progress before the next line is read
 abbrev pub cleared : Option Progress → Option Progress
 cleared None = None
 cleared (Some p) = Some (record p { entry = None })
@@ -90,7 +90,7 @@ entry_in (Some p) = option_to_list p.entry
 abbrev pub line_read : List ℕ → Option Progress → Result (Option Progress) FaultKind
 line_read line before = if nat_lt 128 (length line) then Err TooLong else words_read record_grammar (words_of line) before
 
--- the lines from number n on, behind these entries
+-- the lines from number n on, after these entries
 abbrev pub lines_read : ℕ → List (List ℕ) → Option Progress → List Entry → Result (Option Progress × List Entry) LineFault
 lines_read n [] before entries = Ok (before, entries)
 lines_read n (line ∷ rest) before entries = at_line n (line_read line before) >>= λ now. lines_read (n + 1) rest (cleared now) (entries ++ entry_in now)
@@ -100,14 +100,14 @@ pub record Said : Type 0 where
   pub setup : Setup
   pub entries : List Entry
 
--- what was read in all; n is the number of the line behind the last
+-- the record that was read; n is the number of the line after the last
 abbrev pub said_by : ℕ → Option Progress × List Entry → Result Said LineFault
 said_by n read = begun n read.0 >>= λ p. Ok (record { setup = p.head.setup; entries = read.1 })
 
--- what a text says from its line number n on, behind what was read before
+-- the record that a text contains from its line number n on, given the progress and the entries before it
 abbrev pub rest_read : ℕ → List ℕ → Option Progress → List Entry → Result Said LineFault
 rest_read n text before entries = lines_read n (lines text) before entries >>= said_by (n + length (lines text))
 
--- what a whole text says, or its first fault
+-- the record that a whole text contains, or its first fault
 abbrev pub record_of : List ℕ → Result Said LineFault
 record_of text = rest_read 1 text None []

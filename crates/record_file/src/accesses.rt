@@ -12,7 +12,11 @@ use safe_bit::Move;
 use scenario::bit_files::{BitWord, one_bit};
 use scenario::operands::{number, process};
 
-/// The words of an access: a copy of a bit, and a move. There may be none.
+/// Reads the words of an access: a copy of a bit, and a move. Without words there is no access.
+///
+/// # Errors
+///
+/// Returns the fault of the words that comes first in the order of faults.
 #[tactic(auto, unfolding(crate::specs::Reading::access_of))]
 pub fn access(words: &[&[u8]]) -> Result<Option<Access>, FaultKind>
     ensures { result ≡ access_of (texts words.now) }
@@ -39,7 +43,7 @@ pub fn access(words: &[&[u8]]) -> Result<Option<Access>, FaultKind>
 /// The parts of the word of a copy: its owner, its field, its bit and its reader.
 type CopyParts<'w> = (&'w [u8], &'w [u8], &'w [u8], &'w [u8]);
 
-/// An access to a copy of a bit of this field, by the parts of its word.
+/// Returns an access to a copy of a bit of this field, by the parts of its word.
 #[tactic(auto, unfolding(crate::specs::Reading::copy_of))]
 fn access_to(parts: CopyParts<'_>, field: Field, how: Move) -> Result<Access, FaultKind>
     ensures { result ≡ copy_of
@@ -54,7 +58,7 @@ fn access_to(parts: CopyParts<'_>, field: Field, how: Move) -> Result<Access, Fa
     })
 }
 
-/// The parts of a word between its dots, if there are four.
+/// Returns the parts of a word between its dots, if there are four.
 fn dotted_parts(word: &[u8]) -> Option<CopyParts<'_>>
     ensures { AreFourParts result word.now }
 {
@@ -68,7 +72,7 @@ fn dotted_parts(word: &[u8]) -> Option<CopyParts<'_>>
     Some((first, second, third, fourth))
 }
 
-/// The bytes before the first dot, and those behind it, if there is one.
+/// Returns the bytes before the first dot, and the bytes after it, if there is a dot.
 #[tactic(auto, using(crate::proofs::Cuts::bytes_cut, crate::proofs::Cuts::bytes_uncut, crate::proofs::Dots::some_part))]
 fn up_to_dot(word: &[u8]) -> (&[u8], Option<&[u8]>)
     ensures split { dotted word.now ≡ result.0.now ∷ option_map_or (λ r. dotted r.now) result.1 [] }
@@ -80,7 +84,7 @@ fn up_to_dot(word: &[u8]) -> (&[u8], Option<&[u8]>)
     }
 }
 
-/// How many bytes stand before the first dot, if there is one.
+/// Returns the number of bytes before the first dot, if there is one.
 fn place_of_dot(word: &[u8]) -> Option<usize>
     ensures place { result ≡ position (λ b. b == 46) word.now }
     ensures within { IfSome result (λ at. at < length word.now) }
@@ -88,7 +92,7 @@ fn place_of_dot(word: &[u8]) -> Option<usize>
     word.iter().position(|byte| *byte == b'.')
 }
 
-/// What the words of a move say, by its first word and those behind it.
+/// Returns the move that words specify, by its first word and the words after it.
 fn move_named(name: BitWord, words: &[&[u8]]) -> Result<Move, FaultKind>
     ensures { result ≡ move_of name (texts words.now) }
 {
@@ -102,7 +106,7 @@ fn move_named(name: BitWord, words: &[&[u8]]) -> Result<Move, FaultKind>
     }
 }
 
-/// A move that is its first word alone.
+/// Reads a move that consists of its first word alone.
 fn alone(how: Move, words: &[&[u8]]) -> Result<Move, FaultKind>
     ensures { result ≡ lone_move_of how (texts words.now) }
 {

@@ -18,7 +18,7 @@ use std::marker::Model;
 /// The most marks of an entry.
 const MOST_MARKS: usize = 3;
 
-/// The marks that were read so far, which stand in place. Contracts see their list.
+/// The marks that were read so far, stored in place. Contracts see their list.
 #[derive(Drop)]
 struct MarkList {
     read: SmallVec<Mark, 3>,
@@ -35,8 +35,12 @@ impl Model for MarkList {
     ghost invariant = { λ m. 3 ≤ m.read.capacity };
 }
 
-/// What a line says as an entry, by its first word and the words behind it. A line is an entry of some record
-/// wherever it is spelled so: what no run does is no fault. It takes no memory.
+/// Returns the entry that a line specifies, by its first word and the words after it. Each entry that is spelled rightly
+/// is accepted, even if no run makes it. The function allocates nothing.
+///
+/// # Errors
+///
+/// Returns the fault of the line that comes first in the order of faults.
 pub fn read_entry(alloc: Global, first: &[u8], words: &[&[u8]]) -> Result<Entry, FaultKind>
     ensures { result ≡ entry_of first.now (texts words.now) }
 {
@@ -56,8 +60,8 @@ pub fn read_entry(alloc: Global, first: &[u8], words: &[&[u8]]) -> Result<Entry,
     })
 }
 
-/// An entry with the marks behind the first sign. Most entries have none, and their room for marks is not moved through
-/// here.
+/// Returns an entry with the marks after the first sign. Most entries have none, and their room for marks is not moved
+/// through here.
 fn marked_entry(
     alloc: Global,
     process: Result<u8, FaultKind>,
@@ -77,7 +81,7 @@ fn marked_entry(
     })
 }
 
-/// The marks behind the first sign, if there is one.
+/// Reads the marks after the first sign, if there is one.
 fn marks(alloc: Global, signed: Option<&[&[u8]]>) -> Result<MarkList, FaultKind>
     ensures { result ≡ marks_behind signed.entry }
 {
@@ -95,7 +99,7 @@ fn marks(alloc: Global, signed: Option<&[&[u8]]>) -> Result<MarkList, FaultKind>
     marks
 }
 
-/// One more mark behind so many others, of which a line has at most three.
+/// Adds one more mark after `number` others. A line has at most three marks.
 fn with_mark(
     number: usize,
     before: Result<MarkList, FaultKind>,
@@ -116,7 +120,7 @@ fn with_mark(
     Ok(marks)
 }
 
-/// The words before the first sign, and those behind it, if there is one.
+/// Returns the words before the first sign, and the words after it, if there is a sign.
 #[tactic(auto, using(crate::proofs::Cuts::words_cut, crate::proofs::Cuts::words_uncut))]
 fn up_to_sign<'a, 'w>(words: &'a [&'w [u8]]) -> (&'a [&'w [u8]], Option<&'a [&'w [u8]]>)
     ensures split { parts_of (texts words.now) ≡ texts result.0.now ∷ parts_behind result.1 }
@@ -128,7 +132,7 @@ fn up_to_sign<'a, 'w>(words: &'a [&'w [u8]]) -> (&'a [&'w [u8]], Option<&'a [&'w
     }
 }
 
-/// How many words stand before the first sign, if there is one.
+/// Returns the number of words before the first sign, if there is one.
 fn place_of_sign(words: &[&[u8]]) -> Option<usize>
     ensures place { result ≡ position (λ w. sign w.now) words.now }
     ensures within { IfSome result (λ at. at < length words.now) }
@@ -136,7 +140,7 @@ fn place_of_sign(words: &[&[u8]]) -> Option<usize>
     words.iter().position(|word| is_sign(word))
 }
 
-/// Whether a word is the sign before a mark.
+/// Returns whether a word is the sign before a mark.
 pub fn is_sign(word: &[u8]) -> bool
     ensures { result ≡ sign word.now }
 {

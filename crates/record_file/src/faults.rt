@@ -4,7 +4,7 @@ ghost use Rattle.record_file.specs.Faults.{both as both_of, rank as rank_of, tol
 
 use files::FaultKind;
 
-/// The place of a fault in the order in which the faults of a line are told.
+/// Returns the position of a fault in the order in which the faults of a line are reported: the lowest is reported.
 fn rank(kind: FaultKind) -> u8
     ensures { result ≡ rank_of kind }
 {
@@ -27,7 +27,11 @@ fn told(one: FaultKind, other: FaultKind) -> FaultKind
     if rank(one) <= rank(other) { one } else { other }
 }
 
-/// What two parts of a line say. Where both have a fault, the one that is told is the first in the order.
+/// Returns the values of two parts of a line. If both have a fault, the fault that comes first in the order is reported.
+///
+/// # Errors
+///
+/// Returns the fault of a part, or of two faults the first one in the order.
 pub fn both<A: Drop, B: Drop>(
     one: Result<A, FaultKind>,
     other: Result<B, FaultKind>,

@@ -27,7 +27,7 @@ const TICKET: Operand = Operand::Number {
     most: 4_294_967_295,
 };
 
-/// The place at which a command is taken.
+/// The position at which a command is taken.
 const PLACE: Operand = Operand::Number {
     letter: Letter::K,
     most: 18_446_744_073_709_551_615,
@@ -82,7 +82,7 @@ pub const OTHER_ANSWERS: [Phrase; 3] = [
 ];
 
 /// Readers accept words as a mark exactly if they have a form of [`MARKS`], and as an access exactly if they are a copy of a
-/// bit and a phrase of [`MOVES`]. They accept another second line exactly if it has a form of [`HEADS`](scenario::forms::HEADS).
+/// bit and a phrase of [`MOVES`]. Another second line is read exactly if it has a form of [`HEADS`](scenario::forms::HEADS).
 pub fn entries_have_forms()
     ensures marks { MarksHaveForms }
     ensures accesses { AccessesHaveForms }

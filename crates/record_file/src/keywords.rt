@@ -45,7 +45,7 @@ pub enum AnswerWord {
     Withdrawn,
 }
 
-/// The first words of marks, and what each means.
+/// The first words of marks, and the meaning of each.
 pub const MARK_WORDS: [(&str, MarkWord); 11] = [
     ("call", MarkWord::Call),
     ("wait", MarkWord::Wait),
@@ -60,7 +60,7 @@ pub const MARK_WORDS: [(&str, MarkWord); 11] = [
     ("restart", MarkWord::Restart),
 ];
 
-/// The first words of replies, and what each means.
+/// The first words of replies, and the meaning of each.
 pub const REPLY_WORDS: [(&str, ReplyWord); 10] = [
     ("value", ReplyWord::Value),
     ("done", ReplyWord::Done),
@@ -74,7 +74,7 @@ pub const REPLY_WORDS: [(&str, ReplyWord); 10] = [
     ("last", ReplyWord::Last),
 ];
 
-/// The first words of the answers that are no replies, and what each means.
+/// The first words of the answers that contain no reply, and the meaning of each.
 pub const OWN_ANSWERS: [(&str, AnswerWord); 3] = [
     ("tickets-full", AnswerWord::TicketsFull),
     ("stamps-full", AnswerWord::StampsFull),
@@ -93,7 +93,7 @@ pub const FIELDS: [(&str, Field); 7] = [
 ];
 
 impl MarkWord {
-    /// What the first word of a mark means.
+    /// Returns the meaning of the first word of a mark.
     pub fn of(word: &[u8]) -> Option<MarkWord>
         ensures { result ≡ mark_word_of word.now }
     {
@@ -102,7 +102,7 @@ impl MarkWord {
 }
 
 impl ReplyWord {
-    /// What the first word of a reply means.
+    /// Returns the meaning of the first word of a reply.
     pub fn of(word: &[u8]) -> Option<ReplyWord>
         ensures { result ≡ reply_word_of word.now }
     {
@@ -111,7 +111,7 @@ impl ReplyWord {
 }
 
 impl AnswerWord {
-    /// What the first word of an answer means.
+    /// Returns the meaning of the first word of an answer.
     pub fn of(word: &[u8]) -> Option<AnswerWord>
         ensures { result ≡ answer_word_of word.now }
     {
@@ -124,7 +124,7 @@ impl AnswerWord {
         }
     }
 
-    /// The same of answers that are no replies.
+    /// Returns the meaning of the first word of an answer that contains no reply.
     fn own(word: &[u8]) -> Option<AnswerWord>
         ensures { result ≡ own_answer_of word.now }
     {
@@ -132,7 +132,7 @@ impl AnswerWord {
     }
 }
 
-/// The register that a word names.
+/// Returns the register that a word names.
 pub fn field(word: &[u8]) -> Option<Field>
     ensures { result ≡ field_of word.now }
 {

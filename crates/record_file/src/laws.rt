@@ -1,7 +1,7 @@
-//! What holds of the spelling of every entry. Each law is a function with nothing to do, whose contract is the law.
+//! Laws of the spelling of every entry. Each law is a function with an empty body, whose contract is the law.
 ghost use Rattle.record_file.specs.ReadAgain.{EntriesAreSpelledInOneWay, PrintedEntriesAreReadAgain};
 
-/// What is printed for an entry is read as that entry.
+/// The words that are printed for an entry are read as that entry.
 pub fn printed_entries_are_read_again()
     ensures { PrintedEntriesAreReadAgain }
 {}

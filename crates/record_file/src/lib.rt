@@ -1,4 +1,4 @@
-//! Records as text: how an entry is spelled, how a record is printed, and what each line of a record file says.
+//! Records as text: the spelling of an entry, the text of a record, and the meaning of each line of a record file.
 #![tactic(auto)]
 
 mod accesses;

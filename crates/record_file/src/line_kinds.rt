@@ -1,11 +1,11 @@
-//! What the lines of a record file are.
+//! The kinds of lines of a record file.
 ghost use Rattle.std.specs.Prelude.{◌≡◌};
 ghost use Rattle.record_file.specs.RecordFiles.{begins_with_digit as digit_first, kind_in as those_of_records, kind_of};
 
 use crate::forms::RECORD;
 use scenario::keywords::{Heading, Opener};
 
-/// What the first word of a line says that it is.
+/// The kind of a line, which its first word gives.
 #[derive(Clone, Copy)]
 pub enum LineKind {
     Record,
@@ -15,7 +15,7 @@ pub enum LineKind {
 }
 
 impl LineKind {
-    /// What the first word of a line means: an entry begins with a digit.
+    /// Returns the kind of a line by its first word: an entry begins with a digit.
     pub fn of(word: &[u8]) -> Option<LineKind>
         ensures { result ≡ kind_of word.now }
     {
@@ -38,7 +38,7 @@ fn begins_with_digit(word: &[u8]) -> bool
     }
 }
 
-/// Of the first words of scenario files those that record files have.
+/// Returns the kind of a line that scenario files have too, if record files have it.
 fn kind_in(opener: Option<Opener>) -> Option<LineKind>
     ensures { result ≡ those_of_records opener }
 {

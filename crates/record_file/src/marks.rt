@@ -13,7 +13,11 @@ use scenario::keywords::Verb;
 use scenario::operands::{integer, number, process, value};
 use scenario::statements::command;
 
-/// What the words behind a sign say.
+/// Returns the mark that the words after a sign specify.
+///
+/// # Errors
+///
+/// Returns the fault of the words that comes first in the order of faults.
 pub fn mark(words: &[&[u8]]) -> Result<Mark, FaultKind>
     ensures { result ≡ mark_of (texts words.now) }
 {
@@ -26,7 +30,7 @@ pub fn mark(words: &[&[u8]]) -> Result<Mark, FaultKind>
     }
 }
 
-/// A mark, by its first word and the words behind it.
+/// Returns a mark, by its first word and the words after it.
 fn named_mark(name: MarkWord, words: &[&[u8]]) -> Result<Mark, FaultKind>
     ensures { result ≡ named_mark_of name (texts words.now) }
 {
@@ -46,7 +50,7 @@ fn named_mark(name: MarkWord, words: &[&[u8]]) -> Result<Mark, FaultKind>
     }
 }
 
-/// A mark that is its first word alone.
+/// Reads a mark that consists of its first word alone.
 fn lone_mark(mark: &Mark, words: &[&[u8]]) -> Result<Mark, FaultKind>
     ensures { result ≡ lone_mark_of mark.now (texts words.now) }
 {
@@ -58,7 +62,7 @@ fn lone_mark(mark: &Mark, words: &[&[u8]]) -> Result<Mark, FaultKind>
     }
 }
 
-/// `wait TICKET`.
+/// Reads `wait TICKET`.
 fn waiting(words: &[&[u8]]) -> Result<Mark, FaultKind>
     ensures { result ≡ waiting_of (texts words.now) }
 {
@@ -68,7 +72,7 @@ fn waiting(words: &[&[u8]]) -> Result<Mark, FaultKind>
     Ok(Mark::Waiting(number(words[0], 4_294_967_295)? as u32))
 }
 
-/// `call COMMAND`: any command, whatever the version of the file.
+/// Reads `call COMMAND`: any command, in a file of any version.
 #[tactic(auto, unfolding(crate::specs::Reading::called_of))]
 fn called(words: &[&[u8]]) -> Result<Mark, FaultKind>
     ensures { result ≡ called_of (texts words.now) }
@@ -86,7 +90,7 @@ fn called(words: &[&[u8]]) -> Result<Mark, FaultKind>
     Ok(Mark::Called(command(verb, operands)?))
 }
 
-/// Looks at the number of an `add` before its name is looked at, as the order of faults has it.
+/// Checks the number of an `add` before its name, because the order of faults requires it.
 fn check_sum(verb: Verb, operands: &[&[u8]]) -> Result<(), FaultKind>
     requires { length operands.now ≡ operand_count verb }
     ensures { result ≡ sum_first verb (texts operands.now) }
@@ -100,7 +104,7 @@ fn check_sum(verb: Verb, operands: &[&[u8]]) -> Result<(), FaultKind>
     }
 }
 
-/// `taken PLACE REPLY`.
+/// Reads `taken PLACE REPLY`.
 #[tactic(auto, unfolding(crate::specs::Reading::taken_of))]
 fn taken(words: &[&[u8]]) -> Result<Mark, FaultKind>
     ensures { result ≡ taken_of (texts words.now) }
@@ -118,7 +122,7 @@ fn taken(words: &[&[u8]]) -> Result<Mark, FaultKind>
     Ok(Mark::Taken(place, reply(name, operands)?))
 }
 
-/// `answer ANSWER`.
+/// Reads `answer ANSWER`.
 #[tactic(auto, unfolding(crate::specs::Reading::answered_of))]
 fn answered(words: &[&[u8]]) -> Result<Mark, FaultKind>
     ensures { result ≡ answered_of (texts words.now) }
@@ -135,7 +139,7 @@ fn answered(words: &[&[u8]]) -> Result<Mark, FaultKind>
     Ok(Mark::Answered(answer(name, operands)?))
 }
 
-/// An answer, by its first word and the words behind it, as many as it takes.
+/// Returns an answer, by its first word and the words after it, exactly as many as it takes.
 fn answer(name: AnswerWord, words: &[&[u8]]) -> Result<Answer, FaultKind>
     requires { length words.now ≡ answer_count name }
     ensures { result ≡ answer_of name (texts words.now) }
@@ -150,7 +154,7 @@ fn answer(name: AnswerWord, words: &[&[u8]]) -> Result<Answer, FaultKind>
     }
 }
 
-/// A reply, by its first word and the words behind it, as many as it takes.
+/// Returns a reply, by its first word and the words after it, exactly as many as it takes.
 fn reply(name: ReplyWord, words: &[&[u8]]) -> Result<Reply, FaultKind>
     requires { length words.now ≡ reply_count name }
     ensures { result ≡ reply_of name (texts words.now) }
@@ -170,7 +174,7 @@ fn reply(name: ReplyWord, words: &[&[u8]]) -> Result<Reply, FaultKind>
 }
 
 impl ReplyWord {
-    /// How many words follow the first word of a reply.
+    /// Returns the number of words that follow the first word of a reply.
     fn operands(self) -> usize
         ensures { result ≡ reply_count self }
     {
@@ -187,7 +191,7 @@ impl ReplyWord {
 }
 
 impl AnswerWord {
-    /// How many words follow the first word of an answer.
+    /// Returns the number of words that follow the first word of an answer.
     fn operands(self) -> usize
         ensures { result ≡ answer_count self }
     {

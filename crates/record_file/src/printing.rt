@@ -1,4 +1,4 @@
-//! How a record is printed: its head, and then each entry as a line.
+//! Printing a record: its head, and then each entry as a line.
 ghost use Rattle.std.specs.Prelude.{◌≡◌, ◌++◌, flat_map, IfOk, OnOk, true};
 ghost use Rattle.std.specs.String.{string_bytes};
 ghost use Rattle.scenario.specs.{printed_line};
@@ -14,9 +14,9 @@ use record::{Access, Entry, Mark};
 use scenario::printing::{print_opening, setup_lines};
 use std::alloc::{AllocError, Global};
 
-/// The lines before the entries: the version, the four headings, all of them, and the opening pairs. With the lines of
-/// any entries behind them, each of which fits its line, they are read as that setup and those entries; and what is
-/// printed for whatever setup and entries that fit is read as these.
+/// Returns the lines before the entries: the version, all four headings, and the opening pairs. Together with the lines of
+/// any entries after them, each of which fits its line, they are read as that setup and those entries. The text that is
+/// printed for any setup and entries that fit is read as these.
 pub fn print_setup(alloc: Global, setup: &Setup) -> Result<Vec<u8>, AllocError>
     ensures lines { IfOk result (λ b. b.items ≡ flat_map printed_line (head_words setup.now)) }
     ensures read_again { GivesBeginning result setup.now }
@@ -28,8 +28,12 @@ pub fn print_setup(alloc: Global, setup: &Setup) -> Result<Vec<u8>, AllocError>
     Ok(text.into_bytes())
 }
 
-/// Writes the line of an entry, with its end, behind the text. A text that is kept from one entry to the next, and
+/// Writes the line of an entry, with its end, after the text. A text that is kept from one entry to the next, and
 /// cleared, soon has room for each line.
+///
+/// # Errors
+///
+/// Returns [`AllocError`] if memory runs out. The text may then end with a part of the line.
 #[tactic(auto, using(crate::proofs::Printed::entry_is))]
 pub fn print_entry(alloc: Global, entry: &Entry, text: &mut Vec<u8>) -> Result<(), AllocError>
     ensures line { OnOk result (text.new.items ≡ text.old.items ++ entry_line entry.now) }
@@ -54,7 +58,7 @@ fn push_words(process: u8, access: &Option<Access>, text: &mut Vec<u8>) -> Resul
     text.extend_from_slice(line.as_bytes())
 }
 
-/// Writes the marks, each behind its sign.
+/// Writes the marks, each after its sign.
 fn push_marks(alloc: Global, marks: &[Mark], line: &mut Vec<u8>) -> Result<(), AllocError>
     ensures { OnOk result (line.new.items ≡ line.old.items ++ marks_text marks.now) }
 {

@@ -1,4 +1,4 @@
-//! What the lines of a record file say.
+//! The reader of the lines of a record file.
 ghost use Rattle.std.specs.Prelude.{◌≡◌, MatchOption, None, Ok, Some};
 ghost use Rattle.plain_store.specs.{checked};
 ghost use Rattle.files.specs.{Makes, Takes, texts};
@@ -15,8 +15,8 @@ use scenario::keywords::Heading;
 use std::alloc::Global;
 use std::marker::Model;
 
-/// What has been read of a record file: its headings and opening pairs so far, whether an entry has ended them, and the
-/// entry of the last line, which is to be taken before the next one is read.
+/// The progress of reading a record file: its headings and opening pairs so far, whether an entry has ended them, and the
+/// entry of the last line. The caller takes this entry before the next line is read.
 #[derive(Drop)]
 pub struct RecordReader {
     alloc: Global,
@@ -52,7 +52,7 @@ impl FromLines for RecordReader {
 }
 
 impl RecordReader {
-    /// The setup so far.
+    /// Returns the setup so far.
     pub fn setup(&self) -> &Setup
         ensures value { result.now ≡ self.now.head.setup }
         ensures good { checked result.now ≡ Ok tt }
@@ -60,14 +60,14 @@ impl RecordReader {
         self.head.setup()
     }
 
-    /// The entry of the last line, if it is one.
+    /// Returns the entry of the last line, if it is one.
     pub fn last_entry(&self) -> Option<&Entry>
         ensures { MatchOption result (self.now.entry ≡ None) (λ e. self.now.entry ≡ Some e.now) }
     {
         self.entry.as_ref()
     }
 
-    /// Lets the entry of the last line go.
+    /// Drops the entry of the last line.
     pub fn forget_entry(&mut self)
         ensures { self.new ≡ record self.old { entry = None } }
     {
@@ -75,7 +75,7 @@ impl RecordReader {
         self.entry = None;
     }
 
-    /// The first line: `record 1` or `record 2`.
+    /// Reads the first line: `record 1` or `record 2`.
     #[tactic(auto, unfolding(crate::specs::RecordFiles::first_read))]
     fn new(alloc: Global, word: &[u8], words: &[&[u8]]) -> Result<RecordReader, FaultKind>
         ensures { Makes result (first_read word.now (texts words.now)) }
@@ -92,7 +92,7 @@ impl RecordReader {
         })
     }
 
-    /// A later line, by what its first word means.
+    /// Reads a later line, by its kind.
     fn line(&mut self, kind: LineKind, word: &[u8], words: &[&[u8]]) -> Result<(), FaultKind>
         ensures { Takes result (line_said kind word.now (texts words.now) self.old) self.new }
     {
@@ -105,7 +105,7 @@ impl RecordReader {
         }
     }
 
-    /// A heading, before all entries.
+    /// Reads a heading, which comes before all entries.
     #[tactic(auto, unfolding(crate::specs::RecordFiles::head_read))]
     fn heading(&mut self, heading: Heading, words: &[&[u8]]) -> Result<(), FaultKind>
         ensures { Takes result (head_read heading (texts words.now) self.old) self.new }
@@ -117,7 +117,7 @@ impl RecordReader {
         self.head.heading(heading, words)
     }
 
-    /// An opening pair, before all entries.
+    /// Reads an opening pair, which comes before all entries.
     #[tactic(auto, unfolding(crate::specs::RecordFiles::pair_read))]
     fn open(&mut self, words: &[&[u8]]) -> Result<(), FaultKind>
         ensures { Takes result (pair_read (texts words.now) self.old) self.new }
@@ -132,7 +132,7 @@ impl RecordReader {
         self.head.open(words)
     }
 
-    /// An entry, behind which there is no heading and no opening pair.
+    /// Reads an entry, after which no heading and no opening pair may follow.
     fn entry(&mut self, word: &[u8], words: &[&[u8]]) -> Result<(), FaultKind>
         ensures { Takes result (entry_read word.now (texts words.now) self.old) self.new }
     {

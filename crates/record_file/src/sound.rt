@@ -1,4 +1,4 @@
-//! What the types of an entry say of its parts. Each function has nothing to do but to name the parts.
+//! Facts about the parts of an entry that their types give. Each function only names the parts.
 ghost use Rattle.std.specs.Prelude.{◌≡◌, ◌^◌, ◌&&◌, true, nat_lt, Some};
 ghost use Rattle.std.specs.List.{list_all};
 ghost use Rattle.plain_store.specs.{is_value};
@@ -18,7 +18,7 @@ pub fn sound_entry(entry: &Entry)
     sound_marks(&entry.act.marks);
 }
 
-/// The same of the entry of a Step.
+/// The parts of the entry of a Step are what their types allow.
 pub fn sound_step(process: u8, access: &Access)
     ensures { is_entry (step_entry process access.now) ≡ true }
 {

@@ -1,5 +1,5 @@
-//! Reading the line of a Step with an access and no mark, as most lines of a record are. Whose turn it was, nothing foretells:
-//! so what differs from line to line is looked up and compared, and is no branch.
+//! Reading the line of a Step with an access and no mark, as most lines of a record are. The process of a line cannot be
+//! predicted. Therefore the parts that differ from line to line are looked up and compared, without a branch.
 ghost use Rattle.std.specs.Prelude.{◌≡◌, ◌+◌, ◌-◌, ◌<◌, ◌≤◌, ◌∷◌, ◌++◌, [], codes, drop, take, false, true, IfSome};
 ghost use Rattle.std.specs.Fmt.{decimal};
 ghost use Rattle.scenario.specs.{spaced};
@@ -11,11 +11,11 @@ use crate::sound::sound_step;
 use record::{Access, Field};
 use safe_bit::Move;
 
-/// How many bytes such a line has at least, as `0 1.commit.0.0 end`. It is asked once, so that the parts need not ask it.
+/// The fewest bytes of such a line, as in `0 1.commit.0.0 end`. The length is checked once, so the parts need not check it.
 const FEWEST_BYTES: usize = 18;
 
-/// The process and the access of a line that is as it is printed for them. It is read once from its front to its end, and
-/// takes no room for words. `None` tells nothing of the line.
+/// Returns the process and the access of a line that has exactly their printed form. It reads the line once from its start
+/// to its end, and needs no room for words. `None` means nothing about the line.
 #[inline(always)]
 #[tactic(auto, using(crate::proofs::StepWords::line_is))]
 pub fn read_step(line: &[u8]) -> Option<(u8, Access)>
@@ -27,8 +27,8 @@ pub fn read_step(line: &[u8]) -> Option<(u8, Access)>
     Some((process, access))
 }
 
-/// The same, by the number of the process and the words of the access. Most processes have a number of one digit: then what is
-/// behind it stands at a place that is known.
+/// Returns the process and the access, by the number of the process and the words of the access. Most processes have a number
+/// of one digit: then the words of the access are at a known position.
 #[inline(always)]
 fn step_in(line: &[u8]) -> Option<(u8, Access)>
     ensures { IfSome result (λ read. line.now ≡ decimal read.0 ++ (32 ∷ access_text read.1)) }
@@ -42,7 +42,7 @@ fn step_in(line: &[u8]) -> Option<(u8, Access)>
     }
 }
 
-/// The same where both processes have one digit.
+/// Returns the process and the access of a line in which both processes have one digit.
 #[inline(always)]
 fn near_step_in(line: &[u8]) -> Option<(u8, Access)>
     ensures { IfSome result (λ read. line.now ≡ decimal read.0 ++ (32 ∷ access_text read.1)) }
@@ -56,8 +56,8 @@ fn near_step_in(line: &[u8]) -> Option<(u8, Access)>
     Some((process, access))
 }
 
-/// The same of processes of any number. It is a call: as a part of its caller it would make that so large that the caller is no
-/// part of the loop any more.
+/// Returns the process and the access of a line with processes of any number. It is a call: inlined, it would make its caller
+/// so large that the caller is not inlined into the loop any more.
 #[inline(never)]
 fn far_step_in(line: &[u8]) -> Option<(u8, Access)>
     ensures { IfSome result (λ read. line.now ≡ decimal read.0 ++ (32 ∷ access_text read.1)) }
@@ -68,7 +68,7 @@ fn far_step_in(line: &[u8]) -> Option<(u8, Access)>
     Some((process, access))
 }
 
-/// The access to a register of this process whose other words these bytes are, from the first dot on.
+/// Returns the access to a register of the process `owner` whose other words these bytes are, from the first dot on.
 #[inline(always)]
 fn access_behind(owner: u8, bytes: &[u8]) -> Option<Access>
     ensures { IfSome result (λ access. decimal owner ++ bytes.now ≡ access_text access) }
@@ -86,7 +86,7 @@ fn access_behind(owner: u8, bytes: &[u8]) -> Option<Access>
     })
 }
 
-/// The number of a process before the first such byte, and what is behind that.
+/// Returns the number of a process before the first byte `end`, and the bytes after that byte.
 #[inline(always)]
 fn process_before(bytes: &[u8], end: u8) -> Option<(u8, &[u8])>
     ensures { IfSome result (λ read. bytes.now ≡ decimal read.0 ++ (end ∷ read.1.now)) }
@@ -98,8 +98,8 @@ fn process_before(bytes: &[u8], end: u8) -> Option<(u8, &[u8])>
     Some((number as u8, behind))
 }
 
-/// The number of a bit before a dot, and what is behind that. Most have one to three digits, and how many is no branch. A fourth
-/// is one: making it ready too for each line takes longer.
+/// Returns the number of a bit before a dot, and the bytes after the dot. Most numbers have one to three digits; their count is
+/// chosen without a branch. A fourth digit is a branch: to prepare it for each line takes longer.
 #[inline(always)]
 fn bit_before_dot(bytes: &[u8]) -> Option<(u16, &[u8])>
     ensures { IfSome result (λ read. bytes.now ≡ decimal read.0 ++ (46 ∷ read.1.now)) }
@@ -122,8 +122,8 @@ fn bit_before_dot(bytes: &[u8]) -> Option<(u16, &[u8])>
     Some((number as u16, behind))
 }
 
-/// The number that the digits at the front of three bytes write, and how many they are. All that they may write is made ready,
-/// so that it is only chosen.
+/// Returns the number that the digits at the start of three bytes write, and the number of these digits. All candidates are
+/// computed, so that the result is only chosen.
 #[inline(always)]
 fn few_digits(a: u8, b: u8, c: u8) -> Option<(u32, usize)>
     ensures written { IfSome result (λ read. decimal read.0 ≡ take read.1 (a ∷ b ∷ c ∷ [])) }
@@ -143,7 +143,7 @@ fn few_digits(a: u8, b: u8, c: u8) -> Option<(u32, usize)>
     Some(or_longer(read, three, of_three))
 }
 
-/// Whether the byte behind a number so far is a digit of it.
+/// Returns whether the byte after the digits so far is one more digit.
 #[inline(always)]
 fn goes_on(so_far: bool, byte: u8) -> bool
     ensures before { result ≡ true → so_far ≡ true }
@@ -152,7 +152,7 @@ fn goes_on(so_far: bool, byte: u8) -> bool
     so_far & byte.is_ascii_digit()
 }
 
-/// Whether a byte is the first digit of a number of one digit, or of more.
+/// Returns whether a byte is the first digit of a number of one digit, or of more.
 #[inline(always)]
 fn begins(byte: u8, more: bool) -> bool
     ensures digit { result ≡ true → (48 ≤ byte) × (byte ≤ 57) }
@@ -161,7 +161,7 @@ fn begins(byte: u8, more: bool) -> bool
     byte.is_ascii_digit() & (!more | (byte != b'0'))
 }
 
-/// The number of a byte that is a digit.
+/// Returns the number of a byte that is a digit.
 #[inline(always)]
 fn value_of(byte: u8) -> u32
     ensures value { 48 ≤ byte → byte ≡ 48 + result }
@@ -170,7 +170,7 @@ fn value_of(byte: u8) -> u32
     u32::from(byte.wrapping_sub(b'0'))
 }
 
-/// A number and how many its digits are, or the one that has a digit more.
+/// Returns a number and the count of its digits, or the number that has one digit more.
 #[inline(always)]
 fn or_longer(shorter: (u32, usize), more: bool, number: u32) -> (u32, usize)
     requires { shorter.1 < 3 }
@@ -181,7 +181,7 @@ fn or_longer(shorter: (u32, usize), more: bool, number: u32) -> (u32, usize)
     (chosen, shorter.1 + usize::from(more))
 }
 
-/// The number before the first such byte, and what is behind that. Most numbers have one digit.
+/// Returns the number before the first byte `end`, and the bytes after that byte. Most numbers have one digit.
 #[inline(always)]
 fn number_before(bytes: &[u8], end: u8) -> Option<(u32, &[u8])>
     ensures { IfSome result (λ read. bytes.now ≡ decimal read.0 ++ (end ∷ read.1.now)) }
@@ -194,10 +194,10 @@ fn number_before(bytes: &[u8], end: u8) -> Option<(u32, &[u8])>
     long_number_before(bytes, end)
 }
 
-/// The largest number behind which one more digit is read: each number of 16 bits has its digits within this.
+/// The largest number after which one more digit is read: each number of 16 bits has its digits within this.
 const MOST_BEFORE_A_DIGIT: u32 = 6_553;
 
-/// The same of a number of any digits.
+/// Returns the number before the first byte `end`, of any number of digits, and the bytes after that byte.
 #[inline(always)]
 fn long_number_before(bytes: &[u8], end: u8) -> Option<(u32, &[u8])>
     ensures { IfSome result (λ read. bytes.now ≡ decimal read.0 ++ (end ∷ read.1.now)) }
@@ -220,7 +220,7 @@ fn long_number_before(bytes: &[u8], end: u8) -> Option<(u32, &[u8])>
     None
 }
 
-/// The number that a digit writes.
+/// Returns the number that a digit writes.
 #[inline]
 fn digit(byte: u8) -> Option<u32>
     ensures value { IfSome result (λ n. byte ≡ 48 + n) }
@@ -233,7 +233,7 @@ fn digit(byte: u8) -> Option<u32>
     }
 }
 
-/// The register that is named between two dots, and what is behind them.
+/// Returns the register that is named between two dots, and the bytes after the second dot.
 #[inline(always)]
 fn field_between_dots(bytes: &[u8]) -> Option<(Field, &[u8])>
     ensures { IfSome result (λ read. bytes.now ≡ 46 ∷ (field_word read.0 ++ (46 ∷ read.1.now))) }
@@ -262,8 +262,8 @@ fn field_between_dots(bytes: &[u8]) -> Option<(Field, &[u8])>
     }
 }
 
-/// The register whose name has six letters, if these eight bytes are that name between two dots, and those bytes. Three bits
-/// of the name's first letter and its last one tell it.
+/// Returns the register whose name has six letters, if these eight bytes are that name between two dots, and those bytes. Three
+/// bits of the name's first letter and its last one determine it.
 #[inline(always)]
 fn likely_field(word: u64) -> (Field, [u8; 8])
     ensures { 46 ∷ (field_word result.0 ++ (46 ∷ [])) ≡ result.1 }
@@ -278,7 +278,7 @@ fn likely_field(word: u64) -> (Field, [u8; 8])
     }
 }
 
-/// Whether four bytes are those of a word: they are compared as one number.
+/// Returns whether four bytes are those of a word. They are compared as one number.
 #[inline(always)]
 fn are(bytes: &[u8; 4], word: &[u8; 4]) -> bool
     ensures { result ≡ true → bytes.now ≡ word.now }
@@ -286,7 +286,7 @@ fn are(bytes: &[u8; 4], word: &[u8; 4]) -> bool
     u32::from_le_bytes(*bytes) == u32::from_le_bytes(*word)
 }
 
-/// The same of eight bytes.
+/// Returns whether eight bytes are those of a word. They are compared as one number.
 #[inline(always)]
 fn are_eight(bytes: &[u8; 8], word: &[u8; 8]) -> bool
     ensures { result ≡ true → bytes.now ≡ word.now }
@@ -294,7 +294,7 @@ fn are_eight(bytes: &[u8; 8], word: &[u8; 8]) -> bool
     u64::from_le_bytes(*bytes) == u64::from_le_bytes(*word)
 }
 
-/// The number of a process before such a byte, and what is behind that, from the byte on.
+/// Returns the number of a process before a byte `end`, and the bytes from that byte on.
 #[inline(always)]
 fn process_at(bytes: &[u8], end: u8) -> Option<(u8, &[u8])>
     ensures { IfSome result (λ read. bytes.now ≡ decimal read.0 ++ read.1.now) }
@@ -309,8 +309,8 @@ fn process_at(bytes: &[u8], end: u8) -> Option<(u8, &[u8])>
     Some((process, &bytes[bytes.len() - behind.len() - 1..]))
 }
 
-/// The move whose words these bytes are, each behind a space. Their first four and their last four are compared: most have
-/// no more than eight.
+/// Returns the move whose words these bytes are, each after a space. Their first four and their last four are compared: most
+/// moves have no more than eight bytes.
 #[inline(always)]
 #[tactic(auto, using(crate::proofs::StepWords::ends_are))]
 fn move_in(text: &[u8]) -> Option<Move>
@@ -335,8 +335,8 @@ fn move_in(text: &[u8]) -> Option<Move>
     None
 }
 
-/// The move whose words have this letter at the second place and this one at the end, if there is one, and its words, each
-/// behind a space: how many bytes they are, the first four, and the last four. Three bits of the two letters tell it.
+/// Returns the move whose words have this second letter and this last letter, if there is one, and its words, each after a
+/// space: the number of bytes, the first four, and the last four. Three bits of the two letters determine the move.
 #[inline(always)]
 fn likely_move(second: u8, last: u8) -> (Move, usize, [u8; 4], [u8; 4])
     ensures words { codes " " ++ spaced (move_words result.0) ≡ result.2 ++ drop (8 - result.1) result.3 }

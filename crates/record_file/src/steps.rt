@@ -1,5 +1,5 @@
-//! How the entry of a Step without a mark is printed: nearly all entries are of this kind, so that it has a quick way of
-//! its own. Its line is written from its end to its front, so that each number and each word ends where a place is known.
+//! Printing the entry of a Step without a mark. Nearly all entries are of this kind, so they have a quick way of their own.
+//! Such a line is written from its end to its front, so that each number and each word ends at a known position.
 ghost use Rattle.std.specs.Prelude.{◌≡◌, ◌+◌, ◌-◌, ◌≤◌, ◌++◌, ◌∷◌, [], drop, length, Some};
 ghost use Rattle.std.specs.Fmt.{decimal};
 ghost use Rattle.record_file.specs.Printing.{dotted_field, entry_line, front_text, move_text, step_entry};
@@ -9,7 +9,7 @@ use record::{Access, Field};
 use safe_bit::Move;
 use std::marker::Model;
 
-/// Room for the longest line, and for the bytes that stand in front of a word while it is written.
+/// Room for the longest line, and for the bytes before a word while it is written.
 const ROOM: usize = 64;
 
 /// The line of a Step, with its end, and room for it. Contracts see the line.
@@ -30,7 +30,7 @@ impl Model for StepLine {
 }
 
 impl StepLine {
-    /// No line yet.
+    /// Creates an empty line.
     pub fn new() -> StepLine
         ensures { result ≡ [] }
     {
@@ -40,7 +40,7 @@ impl StepLine {
         }
     }
 
-    /// The line's bytes.
+    /// Returns the line's bytes.
     #[inline]
     pub fn as_bytes(&self) -> &[u8]
         ensures { result.now ≡ self.now }
@@ -65,7 +65,7 @@ impl StepLine {
     }
 }
 
-/// Puts the words of a process and its access in front of a place, and answers where they begin.
+/// Puts the words of a process and its access before a position, and returns the position where they begin.
 #[inline(always)]
 fn put_words(process: u8, access: Access, line: &mut [u8; ROOM], end: usize) -> usize
     requires { (63 ≤ end) × (end ≤ 64) }
@@ -82,7 +82,7 @@ fn put_words(process: u8, access: Access, line: &mut [u8; ROOM], end: usize) -> 
     put_number(u16::from(process), line, at)
 }
 
-/// Puts a byte in front of a place, and answers its own.
+/// Puts a byte before a position, and returns the position of the byte.
 #[inline(always)]
 fn put_byte(byte: u8, line: &mut [u8; ROOM], end: usize) -> usize
     requires { (1 ≤ end) × (end ≤ 64) }
@@ -93,7 +93,7 @@ fn put_byte(byte: u8, line: &mut [u8; ROOM], end: usize) -> usize
     end - 1
 }
 
-/// Puts a number in front of a place, and answers where it begins.
+/// Puts a number before a position, and returns the position where it begins.
 #[inline(always)]
 fn put_number(number: u16, line: &mut [u8; ROOM], end: usize) -> usize
     requires { (5 ≤ end) × (end ≤ 64) }
@@ -103,11 +103,11 @@ fn put_number(number: u16, line: &mut [u8; ROOM], end: usize) -> usize
     write_digits(u64::from(number), line, end)
 }
 
-/// A word that is written as one load and one store: it ends with the last of 16 bytes, and the bytes in front of it are
-/// written over by what comes next.
+/// The width of a word in bytes: it is written as one load and one store. The word ends with the last byte, and the bytes
+/// before it are overwritten by the next word.
 const WIDTH: usize = 16;
 
-/// Puts the last bytes of a word in front of a place, so many, and answers where they begin.
+/// Puts the last `count` bytes of a word before a position, and returns the position where they begin.
 #[inline(always)]
 fn put_word(word: &[u8; WIDTH], count: usize, line: &mut [u8; ROOM], end: usize) -> usize
     requires { (count ≤ 16) × (16 ≤ end) × (end ≤ 64) }
@@ -118,7 +118,7 @@ fn put_word(word: &[u8; WIDTH], count: usize, line: &mut [u8; ROOM], end: usize)
     end - count
 }
 
-/// Puts the word of a register, between its dots, in front of a place.
+/// Puts the word of a register, between its dots, before a position.
 #[inline(always)]
 fn put_field(field: Field, line: &mut [u8; ROOM], end: usize) -> usize
     requires { (16 ≤ end) × (end ≤ 64) }
@@ -128,7 +128,7 @@ fn put_field(field: Field, line: &mut [u8; ROOM], end: usize) -> usize
     put_word(field_word(field), field_count(field), line, end)
 }
 
-/// The word of a register, between its dots, as the last of these bytes.
+/// Returns the word of a register, between its dots, as the last of these bytes.
 #[inline(always)]
 fn field_word(field: Field) -> &'static [u8; WIDTH]
     ensures { drop (16 - length (dotted_field field)) result.now ≡ dotted_field field }
@@ -144,7 +144,7 @@ fn field_word(field: Field) -> &'static [u8; WIDTH]
     }
 }
 
-/// How many bytes it has.
+/// Returns the number of bytes of that word with its dots.
 #[inline(always)]
 fn field_count(field: Field) -> usize
     ensures count { result ≡ length (dotted_field field) }
@@ -161,7 +161,7 @@ fn field_count(field: Field) -> usize
     }
 }
 
-/// Puts the words of a move, each behind a space, in front of a place.
+/// Puts the words of a move, each after a space, before a position.
 #[inline(always)]
 fn put_move(how: Move, line: &mut [u8; ROOM], end: usize) -> usize
     requires { (16 ≤ end) × (end ≤ 64) }
@@ -171,7 +171,7 @@ fn put_move(how: Move, line: &mut [u8; ROOM], end: usize) -> usize
     put_word(move_word(how), move_count(how), line, end)
 }
 
-/// The words of a move, each behind a space, as the last of these bytes.
+/// Returns the words of a move, each after a space, as the last of these bytes.
 #[inline(always)]
 fn move_word(how: Move) -> &'static [u8; WIDTH]
     ensures { drop (16 - length (move_text how)) result.now ≡ move_text how }
@@ -188,7 +188,7 @@ fn move_word(how: Move) -> &'static [u8; WIDTH]
     }
 }
 
-/// How many bytes they have.
+/// Returns the number of bytes of these words with their spaces.
 #[inline(always)]
 fn move_count(how: Move) -> usize
     ensures count { result ≡ length (move_text how) }

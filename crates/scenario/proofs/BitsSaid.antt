@@ -1,4 +1,4 @@
--- A text is read as a bits file exactly if it says its lines.
+-- A text is read as a bits file exactly if it specifies its lines.
 use Rattle.std.proofs.Common.{◌≡◌, ℕ, ◌+◌, ◌<◌, ◌≤◌, ◌==◌, ◌&&◌, nat_lt, Bool, true, false, if◌then◌else◌, List, [], ◌∷◌, ◌++◌, length, map, codes, Option, Some, None, Ok, Err, refl, ap, sym, subst, ◌∙◌, arith, append_assoc, append-nil}
 use Rattle.std.proofs.lemmas.Bool.Decides.{nat_tests}
 use Rattle.std.proofs.lemmas.List.{length-append}
@@ -94,7 +94,7 @@ later_said first ws before after read = by (bit_word_of first) refl read
         let kept = kept_said before after a.value a.next in
         record { line = a.value; words = ap (λ w. w ∷ ws) (key_spelled first k is) ∙ bit_line_spelled k ws a.value a.first; kept = kept.0; room = kept.1 }
 
--- the lines behind the first
+-- the lines after the first
 record More (said : List (List (List ℕ))) (before after : List BitLine) : Type 0 where
   lines : List BitLine
   words : said ≡ map bit_line_words lines
@@ -139,7 +139,7 @@ all_from_first ((first ∷ ws) ∷ more) s read =
     let rest = all_said more a.value s (subst (λ (ls : List BitLine). length ls ≤ 4000) (sym one.1) (omega arith)) a.next in
     (ap (λ w. w ∷ more) one.0 ∙ ap (λ ms. (codes "bits" ∷ codes "1" ∷ []) ∷ ms) (rest.words ∙ ap (map bit_line_words) (ap (λ ls. ls ++ rest.lines) (sym one.1) ∙ rest.kept)), rest.few)
 
--- A bits file that was read says what was read.
+-- A bits file that was read specifies the lines that were read.
 pub bits_said : (text : List ℕ) (s : List BitLine) → bits_of text ≡ Ok s → SaysBits text s
 bits_said text s read =
     let said = text_said bits_grammar text s read in
@@ -172,7 +172,7 @@ lines_again (l ∷ ls) before few =
     ∙ lines_again ls (before ++ l ∷ []) (omega (arith, more))
     ∙ ap (λ (ls : List BitLine). Ok (Some ls)) (append_assoc before (l ∷ []) ls)
 
--- A text that says some lines is read as them.
+-- A text that specifies some lines is read as these lines.
 pub says_bits_read : (text : List ℕ) (s : List BitLine) → SaysBits text s → bits_of text ≡ Ok s
 says_bits_read text s is =
     let few : length s ≤ 4000 = is.few in

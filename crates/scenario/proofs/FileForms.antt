@@ -27,7 +27,7 @@ heading_number version h w f = by (number_at 255 w) ∙ sym (and_true (is_operan
     by (Err fault) = refl
     by (Ok n) = elim (is_in_range 1 (most_of h version) n) as (λ b. is_ok (fault_if (not b) BadSetup >>= λ fits. Ok (f n)) ≡ is_none (if b then None else Some BadSetup)) [ true ↦ refl | false ↦ refl ]
 
--- a heading behind the first line
+-- a heading after the first line
 counted_number : (version : ℕ) (h : Heading) (ws : List (List ℕ)) → is_ok (counted 1 ws >>= λ counts. number_at 255 (word 0 ws) >>= λ n. fault_if (not (is_in_range 1 (most_of h version) n)) BadSetup >>= λ fits. Ok (heading_set h n (begun version))) ≡ fits_form version (operand.Heading h ∷ []) [] ws
 counted_number version h ws =
     ok_operands version (operand.Heading h ∷ []) ws (λ counts. number_at 255 (word 0 ws) >>= λ n. fault_if (not (is_in_range 1 (most_of h version) n)) BadSetup >>= λ fits. Ok (heading_set h n (begun version)))
@@ -41,7 +41,7 @@ heading_ok version Tickets ws = counted_number version Tickets ws
 heading_ok version Stamps ws = counted_number version Stamps ws
 heading_ok version Slots ws = counted_number version Slots ws
 
--- an opening pair behind it, in version 2
+-- an opening pair after the first line, in version 2
 pub open_ok : (version : ℕ) (ws : List (List ℕ)) → is_ok (open_read ws (begun version)) ≡ ((version == 2) && fits_form version (operand.Name ∷ operand.Value ∷ []) [] ws)
 unfolding open_read
 open_ok version ws =
@@ -58,12 +58,12 @@ other_ok : (version : ℕ) (n : LineWord) (ws : List (List ℕ)) {b : Bool} → 
 unfolding other_read
 other_ok version n ws same = ok_last (line_of version n ws) (λ line. kept_read line (begun version)) (λ line. refl) ∙ same
 
--- a table but for its first row
+-- a table without its first row
 abbrev pub behind : {A : Type 0} → List A → List A
 behind [] = []
 behind (row ∷ rows) = rows
 
--- any line behind the first
+-- any line after the first
 abbrev line_reads : ℕ → List (List ℕ) → Option Opener → Bool
 line_reads version ws o = is_ok (known o >>= λ opener. opened_read opener ws (begun version))
 
@@ -132,7 +132,7 @@ lone_ok made ws =
     ok_last (lone_word_of made ws) (λ line. one_more [] line) (λ line. refl)
     ∙ ok_operands 1 [] ws (λ counts. Ok made) (λ count. ap (are_operands 1 []) (sym (none_of ws count)))
 
--- any line of a bits file behind the first
+-- any line of a bits file after the first
 abbrev bit_line_reads : List (List ℕ) → Option BitWord → Bool
 bit_line_reads ws o = is_ok (known o >>= λ name. bit_line_of name ws >>= λ line. one_more [] line)
 

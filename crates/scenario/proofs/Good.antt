@@ -1,4 +1,4 @@
--- What is read keeps a scenario good.
+-- Reading keeps a scenario good.
 use Rattle.std.proofs.Common.{◌≡◌, ℕ, zero, suc, ◌<◌, ◌+◌, Bool, true, List, [], ◌∷◌, ◌++◌, length, is_some, Ok, refl, ap, ◌∙◌, arith, ◌&&◌, ◌==◌, not, nat_le, nat_lt, if◌then◌else◌}
 use Rattle.std.proofs.lemmas.Bool.{and_parts}
 use Rattle.std.proofs.lemmas.Bool.Decides.{nat_tests}

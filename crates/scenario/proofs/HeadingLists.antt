@@ -1,4 +1,4 @@
--- Headings that stand once each.
+-- Headings that appear once each.
 use Rattle.std.proofs.Common.{◌≡◌, ℕ, ◌||◌, not, Bool, true, false, if◌then◌else◌, List, [], ◌∷◌, refl, ap, ◌∙◌, arith}
 use Rattle.std.proofs.lemmas.Bool.{and_from, and_parts}
 use Rattle.std.proofs.lemmas.Bool.Decides.{nat_tests}
@@ -51,7 +51,7 @@ given_more Slots Slots g = refl
 abbrev pub are_free : Given → List (Heading × ℕ) → Bool
 are_free g = list_all (λ k. not (is_given k.0 g))
 
--- they are other headings than this one
+-- all these headings differ from this one
 abbrev pub are_others : Heading → List (Heading × ℕ) → Bool
 are_others h = list_all (λ k. not (same_heading h k.0))
 
@@ -65,7 +65,7 @@ free_more h g (k ∷ hs) others free =
     let test : not (is_given k.0 (and_given h g)) ≡ true = grind (arith, nat_tests, is, other, now) in
     and_from _ _ test (free_more h g hs other.1 now.1)
 
--- and the other way round
+-- the converse of this fact
 pub free_less : (h : Heading) (g : Given) (hs : List (Heading × ℕ)) → are_free (and_given h g) hs ≡ true → (are_others h hs ≡ true) × (are_free g hs ≡ true)
 free_less h g [] free = (refl, refl)
 free_less h g (k ∷ hs) free =
@@ -76,7 +76,7 @@ free_less h g (k ∷ hs) free =
     let more = free_less h g hs now.1 in
     (and_from _ _ other more.0, and_from _ _ fresh more.1)
 
--- what is given after some headings
+-- the headings that are given after some headings
 abbrev pub all_given : List (Heading × ℕ) → Given → Given
 all_given [] g = g
 all_given (h ∷ hs) g = all_given hs (and_given h.0 g)
@@ -106,7 +106,7 @@ heading_set Slots Tickets n s = refl
 heading_set Slots Stamps n s = refl
 heading_set Slots Slots n s = refl
 
--- other headings leave its number
+-- other headings keep the number of a heading
 pub number_kept : (h : Heading) (hs : List (Heading × ℕ)) (s : Setup) → are_others h hs ≡ true → heading_in h (with_headings hs s) ≡ heading_in h s
 number_kept h [] s others = refl
 number_kept h (k ∷ hs) s others =

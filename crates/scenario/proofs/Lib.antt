@@ -1,7 +1,7 @@
 pub use Rattle.files.proofs as files
 -- Lists of any kind
 pub mod Places
--- What is read of lines
+-- Lines that were read
 pub mod ScriptSaid
 pub mod BitsSaid
 pub mod TextSaid
@@ -10,7 +10,7 @@ pub mod HeadingLists
 -- The numbers of lines
 pub mod LineNumbers
 pub mod PrintedNumbers
--- What is printed, and read again
+-- Printed text, and reading it again
 pub mod Numerals
 pub mod Printed
 pub mod Printout
@@ -20,7 +20,7 @@ pub mod Spaced
 pub mod Spelled
 pub mod LineSpelled
 pub mod OneSpelling
--- What is read has a form of a table
+-- Words are read exactly if they have a form of a table
 pub mod Fitting
 pub mod LineForms
 pub mod FileForms

@@ -19,7 +19,7 @@ use Rattle.scenario.specs.declared.lines.Target.TheVariants as target
 use Rattle.scenario.proofs.Fitting.{by_rows, fits_alone, is_read, ok_counted, ok_last, ok_operands, ok_then, other_count, row_and}
 use Rattle.scenario.proofs.LineSpelled.{none_of, one_of, two_of, three_of}
 
--- a command, by the words behind its key word
+-- a command, by the words after its key word
 pub read_ok : (version : ℕ) (ws : List (List ℕ)) → length ws ≡ 1 → is_ok (command_of verb.Read ws) ≡ are_operands version (Name ∷ []) ws
 unfolding command_of
 read_ok version ws count = ok_then (name_at (word 0 ws)) (λ n. Ok (command.Read n)) true (λ n. refl) ∙ ap (are_operands version (Name ∷ [])) (sym (one_of ws count))
@@ -47,7 +47,7 @@ pub ask_ok : (version : ℕ) (ws : List (List ℕ)) → length ws ≡ 0 → is_o
 unfolding command_of
 ask_ok version ws count = ap (are_operands version []) (sym (none_of ws count))
 
--- a call of a command with its verb, which is read exactly if its operands are as its phrase has them
+-- a call of a command with its verb, which is read exactly if its operands are those of its phrase
 called : {B : Type 0} (version : ℕ) (v : Verb) (os : List Operand) (p : List ℕ) (ws : List (List ℕ)) (f : ℕ → Command → Result B FaultKind) → operand_count v ≡ length os → (length ws ≡ length os → is_ok (command_of v ws) ≡ are_operands version os ws)
     → ((q : ℕ) (c : Command) → is_ok (f q c) ≡ true) → is_ok (counted (operand_count v) ws >>= λ counts. number_at 255 p >>= λ q. command_of v ws >>= λ c. f q c) ≡ (is_operand version a_process p && are_operands version os ws)
 called version v os p ws f count same passes =
@@ -56,7 +56,7 @@ called version v os p ws f count same passes =
     (λ n. ok_then (number_at 255 p) (λ q. command_of v ws >>= λ c. f q c) (are_operands version os ws) (λ q. ok_last (command_of v ws) (f q) (passes q) ∙ same n))
     (λ differ. and_right (is_operand version a_process p) (are_operands version os ws) (other_count version os ws differ))
 
--- `call p COMMAND`, behind its verb
+-- `call p COMMAND`, after its verb
 abbrev called_by : List ℕ → List (List ℕ) → Verb → Result Line FaultKind
 called_by p ws v = counted (operand_count v) ws >>= λ counts. number_at 255 p >>= λ process. command_of v ws >>= λ command. Ok (line.Call process command)
 
@@ -102,7 +102,7 @@ step_ok version ws =
     ∙ ap (are_operands version (a_process ∷ a_count ∷ [])) (sym (two_of ws count)))
     ∙ fits_alone version (a_process ∷ a_count ∷ []) ws
 
--- `go p STAGE`, behind its stage
+-- `go p STAGE`, after its stage
 abbrev gone_to : List ℕ → List (List ℕ) → Target → Result Line FaultKind
 gone_to p ws target = counted 0 ws >>= λ counts. number_at 255 p >>= λ process. Ok (line.Go process target)
 
@@ -121,7 +121,7 @@ go_ok version (p ∷ t ∷ ws) =
     (refl, gone version target.Wait p ws, (refl, gone version target.Inside p ws, (refl, gone version target.Idle p ws, (refl, gone version target.Down p ws, tt))))
     ∙ row_and version (λ os ws. are_operands version os ws) (is_operand version a_process p) stages t ws
 
--- `fail p` and its kin
+-- `fail p`, `withdraw p` and `restart p`
 pub process_ok : (version : ℕ) (ws : List (List ℕ)) (f : ℕ → Line) → is_ok (process_of ws >>= λ p. Ok (f p)) ≡ fits_form version (a_process ∷ []) [] ws
 unfolding process_of
 process_ok version ws f =

@@ -22,7 +22,7 @@ said_after file said good =
       is = says.words ∙ ap (λ ws. version_words said.setup.version ∷ ws) (sym (append_assoc hs os (map line_words said.lines)));
     }
 
--- there are as many lines that are not skipped, or more
+-- a file has at least as many lines that are not skipped
 pub within_said : (file : List ℕ) (said : Script) → scenario_of file ≡ Ok said → length said.lines ≤ length (said_numbers 1 (lines file))
 within_said file said good =
     let a = said_after file said good in
@@ -30,7 +30,7 @@ within_said file said good =
     let long : length (said_words file) ≡ length a.front + length said.lines = ap (λ (ws : List (List (List ℕ))). length ws) a.is ∙ length-append a.front (map line_words said.lines) ∙ ap (λ k. length a.front + k) (length-map said.lines line_words) in
     omega (arith, many, long)
 
--- what was read of a file, where its numbers were added to none
+-- the lines of a file that was read have no more than its numbers, if these were added to an empty list
 pub within_read : (file : List ℕ) (p : Progress) (before numbers : List ℕ) → file_of scenario_grammar file ≡ Ok p → before ≡ [] → numbers ≡ before ++ said_numbers 1 (lines file) → length p.lines ≤ length numbers
 within_read file p before numbers read none are =
     let few : length p.lines ≤ length (said_numbers 1 (lines file)) = within_said file (script_of p) (ap (λ r. r >>= λ p. Ok (script_of p)) read) in

@@ -1,4 +1,4 @@
--- A line that was read has the words that are printed for it, and operands as they should be.
+-- A line that was read has the words that are printed for it, and operands in range.
 use Rattle.std.proofs.Common.{◌≡◌, ℕ, ◌-◌, ◌^◌, nat_le, nat_lt, Bool, true, false, if◌then◌else◌, List, [], ◌∷◌, length, codes, Result, Ok, Err, refl, ap, subst, ◌∙◌, arith}
 use Rattle.std.proofs.lemmas.Bool.{and_from}
 use Rattle.std.proofs.lemmas.Bool.Decides.{nat_tests}
@@ -40,11 +40,11 @@ three_of (a ∷ b ∷ []) n = absurd (omega (arith, n))
 three_of (a ∷ b ∷ c ∷ []) n = refl
 three_of (a ∷ b ∷ c ∷ d ∷ ws) n = absurd (omega (arith, n))
 
--- what was read
+-- a value was read
 abbrev IsRead : {A : Type 0} → Result A FaultKind → A → Type 0
 IsRead r x = r ≡ Ok x
 
--- what was read as a command
+-- a command that was read
 pub record CommandSaid (v : Verb) (ws : List (List ℕ)) (c : Command) : Type 0 where
   pub words : verb_word v ∷ ws ≡ command_words c
   pub good : is_command c ≡ true
@@ -53,7 +53,7 @@ pub record CommandSaid (v : Verb) (ws : List (List ℕ)) (c : Command) : Type 0 
 command_made : (v : Verb) (ws : List (List ℕ)) (made c : Command) → IsRead (Ok made) c → verb_word v ∷ ws ≡ command_words made → is_command made ≡ true → verb_in made ≡ v → CommandSaid v ws c
 command_made v ws made c is words good verb_is = let same : made ≡ c = cc in subst (CommandSaid v ws) same (record { words = words; good = good; verb_is = verb_is })
 
--- a command, by the words behind its key word
+-- a command, by the words after its key word
 pub command_said : (v : Verb) (ws : List (List ℕ)) (u : Unit {0}) (c : Command) → counted (operand_count v) ws ≡ Ok u → command_of v ws ≡ Ok c → CommandSaid v ws c
 unfolding command_of
 command_said verb.Ask ws u c counts read = command_made verb.Ask ws command.Ask c read (ap (λ ws. codes "ask" ∷ ws) (none_of ws (length_of 0 ws u counts))) refl refl
@@ -93,7 +93,7 @@ command_said verb.Cas ws u c counts read =
     ∙ ap (λ w. codes "cas" ∷ a.value ∷ value_text b.value ∷ w ∷ []) value.0)
     (and_from _ _ name.1 (and_from _ _ expected.1 value.1)) refl
 
--- what was read as a line
+-- a line that was read
 pub record LineSaid (version : ℕ) (ws : List (List ℕ)) (l : Line) : Type 0 where
   pub words : ws ≡ line_words l
   pub good : is_line l ≡ true

@@ -1,4 +1,4 @@
--- What is parsed of a numeral.
+-- Parsing a numeral.
 use Rattle.std.specs.Int.RustNames.{FitsSigned}
 use Rattle.std.proofs.lemmas.Str.Ascii.{IsAscii-cons}
 use Rattle.plain_store.specs.{fits_i64}
@@ -34,7 +34,7 @@ digit_in word k b all within is = by (is_ascii_digit (get_or word k b)) refl
     by true digit = ap is_ascii_digit is ∙ digit
     by false digit = let none : are_digits word ≡ false = list_all_at is_ascii_digit word k b within digit in absurd (cc)
 
--- the digits up to a place, and the next
+-- the digits up to a position, and the next digit
 pub value_more : (word : List ℕ) (k b v w : ℕ) → w ≡ v * 10 + (b - 48) → v ≡ digits_value 10 (take k word) → are_digits word ≡ true → k < length word → b ≡ get_or word k b → w ≡ digits_value 10 (take (k + 1) word)
 value_more word k b v w more so_far all within is =
     let digit : is_ascii_digit b ≡ true = digit_in word k b all within is in
@@ -43,7 +43,7 @@ value_more word k b v w more so_far all within is =
     let here : get_or word k 0 ≡ b = sym (get_or_default_zero word k b within) ∙ sym is in
     more ∙ ap (λ u. u * 10 + (b - 48)) so_far ∙ sym (digits_value_more 10 word k within ∙ ap (λ c. digits_value 10 (take k word) * 10 + digit_value c) here ∙ ap (λ u. digits_value 10 (take k word) * 10 + u) (omega (arith, value)))
 
--- all digits write no less than those up to a place
+-- all digits write no less than those up to a position
 pub value_beyond : (word : List ℕ) (k b v n : ℕ) → n ≤ v * 10 + (b - 48) → v ≡ digits_value 10 (take k word) → are_digits word ≡ true → k < length word → b ≡ get_or word k b → n ≤ digits_value 10 word
 value_beyond word k b v n least so_far all within is =
     let here = value_more word k b v (v * 10 + (b - 48)) refl so_far all within is in
@@ -55,17 +55,17 @@ pub number_is : (word : List ℕ) (most n : ℕ) → is_numeral word ≡ true �
 number_is word most n numeral is =
     ap (λ m. if nat_le m most then Some m else None) is ∙ sym (ap (λ b. if b && nat_le (digits_value 10 word) most then Some (digits_value 10 word) else None) numeral)
 
--- and there is none where it has more than 64 bits
+-- a numeral of more than 64 bits has no value
 pub number_is_none : (word : List ℕ) (most : ℕ) → is_numeral word ≡ true → most < 2 ^ 64 → 2 ^ 64 ≤ digits_value 10 word → None ≡ number_up_to most word
 number_is_none word most numeral small large =
     let above : nat_le (digits_value 10 word) most ≡ false = grind (arith, nat_tests) in
     sym (ap (λ b. if b && nat_le (digits_value 10 word) most then Some (digits_value 10 word) else None) numeral ∙ ap (λ b. if b then Some (digits_value 10 word) else None) above)
 
--- and it is ASCII
+-- a numeral is ASCII
 pub numeral_is_ascii : (word : List ℕ) → is_numeral word ≡ true → IsAscii word
 numeral_is_ascii word numeral = IsAscii-from_digits word (own.to word (numeral_is word numeral).0)
 
--- behind its sign stands a numeral
+-- a numeral follows its sign
 pub unsigned_is : (word : List ℕ) → is_signed_numeral word ≡ true → IsNumeral 10 (without_leading_sign word)
 unsigned_is [] numeral = absurd (cc)
 unsigned_is (b ∷ bs) numeral = by (b == 45) numeral
@@ -87,7 +87,7 @@ fits_from : (z : ℤ) → fits_i64 z ≡ true → FitsSigned w64 z
 fits_from (pos n) test = let small : n < 2 ^ 63 = grind (arith, nat_tests) in record { sfits = small }
 fits_from (negsuc n) test = let small : n < 2 ^ 63 = grind (arith, nat_tests) in record { sfits = small }
 
--- the number is what `parse` gives
+-- the number is the result of `parse`
 pub integer_parsed : {E : Type 0} (word : List ℕ) (r : Result ℤ E) → is_signed_numeral word ≡ true → ParsesSigned w64 10 word r → result_ok r ≡ integer_of word
 integer_parsed word (Ok z) numeral parsed =
     sym (ap (λ b. if b then in_i64 (signed_digits_value 10 word) else None) numeral

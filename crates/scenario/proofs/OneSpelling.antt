@@ -1,4 +1,4 @@
--- The words of a line are exactly what is printed for its meaning.
+-- The words of a line are exactly those that are printed for its meaning.
 use Rattle.std.proofs.Common.{◌≡◌, ℕ, ℤ, pos, negsuc, neg_ℤ, zero, suc, ◌<◌, ◌^◌, ◌==◌, ◌&&◌, not, nat_le, Bool, true, false, cond, if◌then◌else◌, List, [], ◌∷◌, ◌++◌, length, get_or, slice_index, codes, Option, Some, None, Ok, Err, refl, ap, sym, ◌∙◌, arith}
 use Rattle.std.proofs.lemmas.Bool.{and_parts}
 use Rattle.std.proofs.lemmas.Bool.Decides.{nat_tests}
@@ -24,11 +24,11 @@ leading : (w : List ℕ) → is_numeral w ≡ true → get_or w 0 0 ≡ 48 → l
 leading [] h zero_first = absurd (cc)
 leading (b ∷ bs) h zero_first = let none : (length bs == 0) ≡ true = grind (arith, nat_tests) in grind (arith, nat_tests)
 
--- a numeral is what is printed for its number
+-- a numeral is the text that is printed for its number
 numeral_spelled : (w : List ℕ) → is_numeral w ≡ true → digits_value 10 w < 2 ^ 64 → w ≡ decimal (digits_value 10 w)
 numeral_spelled w numeral small = sym (decimal-digits_value own w (numeral_is w numeral).0 (numeral_is w numeral).1 (leading w numeral) small)
 
--- and such a number is in its range
+-- a number that was read is in its range
 pub number_spelled : (most : ℕ) (w : List ℕ) (n : ℕ) → most < 2 ^ 64 → number_at most w ≡ Ok n → (w ≡ decimal n) × (nat_le n most ≡ true)
 number_spelled most w n wide read = by (is_numeral w && nat_le (digits_value 10 w) most) refl read
   where
@@ -49,7 +49,7 @@ in_range y z is = by (fits_i64 y) is
     by true is = (cc, refl)
     by false is = absurd (cc)
 
--- behind a minus
+-- a number after a minus
 minus_spelled : (bs : List ℕ) (z : ℤ) (v : ℕ) → digits_value 10 bs ≡ v → is_numeral bs ≡ true → not (slice_index bs 0 == 48) ≡ true → in_i64 (neg_ℤ (pos v)) ≡ Some z → 45 ∷ bs ≡ signed_decimal z
 minus_spelled bs z zero value numeral first is =
     let alone : bs ≡ 48 ∷ [] = numeral_spelled bs numeral (omega (arith, value)) ∙ ap decimal value ∙ decimal_digit 0 (omega arith) in
@@ -79,7 +79,7 @@ integer_spelled (b ∷ bs) z read = by (b == 45) refl (is_signed_numeral (b ∷ 
     by false minus true numeral read = plain_spelled (b ∷ bs) z (sym (ap (λ t. if t then is_numeral bs && not (slice_index bs 0 == 48) else is_numeral (b ∷ bs)) minus) ∙ numeral) read
     by t minus false numeral read = absurd (cc)
 
--- and it is in the range of such numbers
+-- an integer that was read has 64 bits
 integer_fits : (w : List ℕ) (z : ℤ) → integer_of w ≡ Some z → fits_i64 z ≡ true
 integer_fits w z read = by (is_signed_numeral w) read
   where
@@ -121,7 +121,7 @@ value_spelled (a ∷ m ∷ rest) v read = by (bytes_eq (a ∷ m ∷ []) (codes "
     by false other true is read = text ((bytes_eq-Decides (a ∷ m ∷ []) (codes "t:")).0 is) (is_text rest) refl read
     by false other false none read = absurd (cc)
 
--- each entry of a table has the spelling of what it means
+-- each entry of a table has the spelling of its meaning
 abbrev pub are_spelled : {X : Type 0} → (X → List ℕ) → List (List ℕ × X) → Bool
 are_spelled spell = list_all (λ e. bytes_eq e.0 (spell e.1))
 

@@ -1,4 +1,4 @@
--- What `write!` puts together is what is printed.
+-- The text that `write!` puts together is the printed text.
 use Rattle.std.proofs.Common.{◌≡◌, ℕ, ◌+◌, ◌<◌, List, [], ◌∷◌, ◌++◌, Some, length, drop, get_or, slice_get, flat_map, map, codes, refl, ap, sym, ◌∙◌, append_assoc}
 use Rattle.std.specs.Fmt.{decimal}
 use Rattle.plain_store.proofs.OpeningPairs.{drop-next}
@@ -30,7 +30,7 @@ call_is p c = by c (command_is c)
 pub open_line_is : (name : List ℕ) (value : Value) → codes "open " ++ (name ++ (codes " " ++ (value_text value ++ codes "\n"))) ≡ printed_line (open_words (name, value))
 open_line_is name value = simp append_assoc
 
--- a line of two words, and what follows it
+-- a line of two words, and the text after it
 two_words : (key digits rest : List ℕ) → printed_line (key ∷ digits ∷ []) ++ rest ≡ key ++ (codes " " ++ (digits ++ (codes "\n" ++ rest)))
 two_words key digits rest = simp append_assoc
 
@@ -43,11 +43,11 @@ setup_lines_are kind s = sym (
     ∙ ap (λ t. codes "tickets " ++ (decimal s.ticket_bits ++ (codes "\n" ++ t))) (two_words (codes "stamps") (decimal s.stamp_bits) _
     ∙ ap (λ t. codes "stamps " ++ (decimal s.stamp_bits ++ (codes "\n" ++ t))) (two_words (codes "slots") (decimal s.slots) [])))))
 
--- a text and the pairs from a place on, one pair later
+-- a text and the pairs from a position on, one pair later
 pub opening_more : (told : List ℕ) (pairs : List Pair) (k : ℕ) (p : Pair) → slice_get pairs k ≡ Some p → (told ++ printed_line (open_words p)) ++ flat_map printed_line (map open_words (drop (k + 1) pairs)) ≡ told ++ flat_map printed_line (map open_words (drop k pairs))
 opening_more told pairs k p at = append_assoc told _ _ ∙ ap (λ ps. told ++ flat_map printed_line (map open_words ps)) (sym (drop-next pairs k p at))
 
--- a text and the lines from a place on, one line later
+-- a text and the lines from a position on, one line later
 pub lines_more : (told : List ℕ) (lines : List Line) (k : ℕ) (here : Line) → k < length lines → here ≡ get_or lines k here → (told ++ printed_line (line_words here)) ++ flat_map printed_line (map line_words (drop (k + 1) lines)) ≡ told ++ flat_map printed_line (map line_words (drop k lines))
 lines_more told lines k here within is =
     append_assoc told _ _ ∙ ap (λ ls. told ++ flat_map printed_line (map line_words ls)) (sym (drop_in lines k here within is))

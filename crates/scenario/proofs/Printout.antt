@@ -1,4 +1,4 @@
--- A text that says a scenario is read as it, and a printed scenario says it.
+-- A text that specifies a scenario is read as it, and a printed scenario specifies it.
 use Rattle.std.proofs.Common.{◌≡◌, ℕ, ◌+◌, ◌<◌, ◌≤◌, ◌==◌, ◌&&◌, not, nat_le, nat_lt, Bool, true, false, if◌then◌else◌, List, [], ◌∷◌, ◌++◌, length, map, is_some, is_none, Some, None, Ok, Err, refl, ap, sym, ◌∙◌, arith, append_assoc, append-nil, cond}
 use Rattle.std.proofs.lemmas.Bool.{and_parts}
 use Rattle.std.proofs.lemmas.Bool.Decides.{nat_tests}
@@ -55,7 +55,7 @@ none_before (q ∷ qs) p rest differ =
     by true same before alone = absurd (found qs q.0 p rest ((bytes_eq-Decides q.0 p.0).1 (sym ((bytes_eq-Decides p.0 q.0).0 same))) alone)
     by false other before alone = ap (λ t. is_some (cond t (Some q.1) (value_at qs p.0))) other ∙ before
 
--- a pair may be added where there is a slot and its name is new
+-- a pair may be added if there is a slot and its name is new
 pub may_add : (s : Setup) (name : List ℕ) → length s.opening < s.slots → is_some (value_at s.opening name) ≡ false → may_open s name ≡ true
 may_add s name free new = let test : nat_lt (length s.opening) s.slots ≡ true = grind (arith, nat_tests) in ap (λ t. t && not (is_some (value_at s.opening name))) test ∙ ap not new
 
@@ -72,7 +72,7 @@ pairs_again given (p ∷ ps) ls s room two good differ few lines_good allowed =
     ∙ pairs_again given ps ls (with_pair p.0 p.1 s) (omega (arith, more)) (λ some. two (omega arith)) goods.1 (ap names_differ (append_assoc s.opening (p ∷ []) ps) ∙ differ) few lines_good allowed
     ∙ ap (λ (all : List Pair). Ok (Some (record { given = given; setup = record s { opening = all }; lines = ls }))) (append_assoc s.opening (p ∷ []) ps)
 
--- headings are read one after another, if each stands once and the setup that they make is in range
+-- headings are read one after another, if each appears once and the setup that they make is in range
 headings_again : (hs : List (Heading × ℕ)) (more : List (List (List ℕ))) (given : Given) (s : Setup) → s.opening ≡ [] → are_free given hs ≡ true → headings_differ hs ≡ true → ((h : Heading) → is_in_range 1 (most_of h s.version) (heading_in h (with_headings hs s)) ≡ true)
     → said_read scenario_grammar (map heading_words hs ++ more) (Some (record { given = given; setup = s; lines = [] })) ≡ said_read scenario_grammar more (Some (record { given = all_given hs given; setup = with_headings hs s; lines = [] }))
 headings_again [] more given s none free once fits = refl
@@ -86,7 +86,7 @@ headings_again (h ∷ hs) more given s none free once fits =
     ∙ headings_again hs more (and_given h.0 given) (with_heading h.0 h.1 s) (heading_keeps h.0 h.1 s ∙ none) (free_more h.0 given hs others.0 fresh.1) others.1
     (λ k. ap (λ v. is_in_range 1 (most_of k v) (heading_in k (with_headings hs (with_heading h.0 h.1 s)))) (version_keeps h.0 h.1 s) ∙ fits k)
 
--- at first nothing was given
+-- at first, no heading was given
 pub all_free : (hs : List (Heading × ℕ)) → are_free none_given hs ≡ true
 all_free [] = refl
 all_free (h ∷ hs) = by h.0 (all_free hs)
@@ -109,7 +109,7 @@ two_if_open version slots pairs known good some = by (version == 1) refl good
 abbrev headed : List (Heading × ℕ) → Script → Setup
 headed headings s = with_headings headings (default_setup s.setup.version)
 
--- A text that says a scenario is read as it.
+-- A text that specifies a scenario is read as it.
 pub says_read : (text : List ℕ) (s : Script) → Says text s → scenario_of text ≡ Ok s
 says_read text s is =
     let good = good-checked s.setup is.scenario.good in
@@ -133,7 +133,7 @@ says_read text s is =
     number_of Stamps = ap (λ (s : Setup). s.stamp_bits) (sym is.setup)
     number_of Slots = ap (λ (s : Setup). s.slots) (sym is.setup)
 
--- What is printed for a scenario says it,
+-- The text that is printed for a scenario specifies it.
 pub printed_says : (s : Script) → IsScenario s → Says (scenario_text s) s
 printed_says s is =
     let good = good-checked s.setup is.good in
@@ -156,6 +156,6 @@ printed_says s is =
     at_most : (n : ℕ) → is_in_range 1 8 n ≡ true → n ≤ 8
     at_most n fits = grind (arith, nat_tests)
 
--- so it is read again.
+-- A printed scenario is read again.
 pub script_again : (s : Script) → IsScenario s → scenario_of (scenario_text s) ≡ Ok s
 script_again s is = says_read (scenario_text s) s (printed_says s is)

@@ -1,4 +1,4 @@
--- The words of a line, read as what they are printed for.
+-- The words of a line are read as the line for which they are printed.
 use Rattle.std.proofs.Common.{◌≡◌, ℕ, zero, suc, ◌-◌, ◌<◌, ◌^◌, ◌==◌, ◌&&◌, ◌||◌, not, nat_le, nat_lt, true, false, if◌then◌else◌, List, [], ◌∷◌, length, codes, Some, None, Ok, Err, refl, ap, sym, ◌∙◌, arith}
 use Rattle.std.proofs.lemmas.Bool.{and_parts}
 use Rattle.std.proofs.lemmas.Bool.Decides.{nat_tests}
@@ -26,7 +26,7 @@ use Rattle.scenario.proofs.Spelled.{number_again, integer_again, name_again, val
 pub process_again : (p : ℕ) → nat_lt p 256 ≡ true → number_at 255 (decimal p) ≡ Ok p
 process_again p small = number_again 255 p (grind (arith, nat_tests)) (grind (arith, nat_tests))
 
--- the words behind the key word of a command
+-- the words after the key word of a command
 abbrev pub operands_of : Command → List (List ℕ)
 operands_of (command.Read name) = name ∷ []
 operands_of (command.Write name value) = name ∷ value_text value ∷ []
@@ -34,7 +34,7 @@ operands_of (command.Add name by) = name ∷ signed_decimal by ∷ []
 operands_of (command.Cas name expected value) = name ∷ value_text expected ∷ value_text value ∷ []
 operands_of command.Ask = []
 
--- by which it is read again
+-- a command is read again by them
 pub command_again : (c : Command) → is_command c ≡ true → command_of (verb_in c) (operands_of c) ≡ Ok c
 unfolding command_of
 command_again (command.Read name) good = ap (λ r. r >>= λ n. Ok (command.Read n)) (name_again name good)
@@ -101,7 +101,7 @@ wander_again : (n : ℕ) → nat_le n 100000 ≡ true → wander_of (decimal n �
 unfolding wander_of
 wander_again n few = ap (λ r. r >>= λ turns. Ok (line.Wander turns)) (number_again 100000 n (grind (arith, nat_tests)) (grind (arith, nat_tests)))
 
--- the first word of a line, and the words behind it
+-- the first word of a line, and the words after it
 abbrev pub name_of : Line → LineWord
 name_of (line.Call p c) = name.Call
 name_of (line.Step p n) = name.Step
@@ -163,7 +163,7 @@ opener_again name.Show = refl
 same_name : (n m : LineWord) → line_word n ≡ line_word m → n ≡ m
 same_name n m is = let same : Some (opener.Line n) ≡ Some (opener.Line m) = sym (opener_again n) ∙ ap opener_of is ∙ opener_again m in cc
 
--- A line that has the words of a meaning is read as that.
+-- Words that are printed for a line are read as that line.
 pub spelled_line_is_read : (version : ℕ) (n : LineWord) (ws : List (List ℕ)) (l : Line) → line_word n ∷ ws ≡ line_words l → is_line l ≡ true → is_line_of version l ≡ true → line_of version n ws ≡ Ok l
 spelled_line_is_read version n ws l is good allowed =
     let words : line_word n ∷ ws ≡ line_word (name_of l) ∷ words_behind l = is ∙ line_words_are l in
@@ -171,7 +171,7 @@ spelled_line_is_read version n ws l is good allowed =
     let others : ws ≡ words_behind l = cc in
     ap (λ n. line_of version n ws) (same_name n (name_of l) first) ∙ ap (line_of version (name_of l)) others ∙ line_again version l good allowed
 
--- and so it is behind other lines
+-- such a line is read after other lines too
 pub line_said_again : (l : Line) (p : Progress) → is_line l ≡ true → is_line_of p.setup.version l ≡ true → said_line scenario_grammar (line_words l) (Some p) ≡ (kept_read l p >>= λ s. Ok (Some s))
 unfolding other_read
 line_said_again l p good allowed =
@@ -189,7 +189,7 @@ open_again given s name value two good free =
     ∙ ap (λ r. (r >>= λ x. pair_read name x (record { given = given; setup = s; lines = [] })) >>= λ p. Ok (Some p)) (value_again value parts.1)
     ∙ ap (λ t. (if t then Ok (record { given = given; setup = with_pair name value s; lines = [] }) else Err BadSetup) >>= λ (p : Progress). Ok (Some p)) free
 
--- A heading is read again, where it was not given before.
+-- A heading is read again, if it was not given before.
 heading_again : (h : Heading) (n : ℕ) (given : Given) (s : Setup) → is_given h given ≡ false → s.opening ≡ [] → is_in_range 1 (most_of h s.version) n ≡ true → n < 256 → heading_read h (decimal n ∷ []) (record { given = given; setup = s; lines = [] }) ≡ Ok (record { given = and_given h given; setup = with_heading h n s; lines = [] })
 unfolding heading_read
 heading_again h n given s fresh none fits small =
@@ -198,7 +198,7 @@ heading_again h n given s fresh none fits small =
     ∙ ap (λ r. r >>= λ m. fault_if (not (is_in_range 1 (most_of h s.version) m)) BadSetup >>= λ fits. Ok (record { given = and_given h given; setup = with_heading h m s; lines = [] })) (number_again 255 n (omega arith) (omega arith))
     ∙ ap (λ t. fault_if (not t) BadSetup >>= λ fits. Ok (record { given = and_given h given; setup = with_heading h n s; lines = [] })) fits
 
--- and so it is by its key word
+-- a heading is read again by its key word
 pub heading_said_again : (h : Heading) (n : ℕ) (given : Given) (s : Setup) → is_given h given ≡ false → s.opening ≡ [] → is_in_range 1 (most_of h s.version) n ≡ true → n < 256 → said_line scenario_grammar (heading_words (h, n)) (Some (record { given = given; setup = s; lines = [] })) ≡ Ok (Some (record { given = and_given h given; setup = with_heading h n s; lines = [] }))
 heading_said_again h n given s fresh none fits small =
     ap (λ o. (known o >>= λ opener. opened_read opener (decimal n ∷ []) (record { given = given; setup = s; lines = [] })) >>= λ (p : Progress). Ok (Some p)) (key h)
@@ -217,7 +217,7 @@ version_again (suc zero) fits = ap version_of (decimal_digit 1 (omega arith))
 version_again (suc (suc zero)) fits = ap version_of (decimal_digit 2 (omega arith))
 version_again (suc (suc (suc v))) fits = absurd (grind (arith, nat_tests))
 
--- and so is the first line
+-- the first line is read again
 pub first_again : (v : ℕ) → is_in_range 1 2 v ≡ true → said_line scenario_grammar (version_words v) None ≡ Ok (Some (record { given = none_given; setup = default_setup v; lines = [] }))
 unfolding first_read
 first_again v fits = ap (λ r. (r >>= λ v. Ok (record { given = none_given; setup = default_setup v; lines = [] })) >>= λ (p : Progress). Ok (Some p)) (version_again v fits)

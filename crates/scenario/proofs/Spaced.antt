@@ -1,4 +1,4 @@
--- What lines of words are read as, once they are printed.
+-- Lines of words are read again once they are printed.
 use Rattle.std.proofs.Common.{◌≡◌, ℕ, zero, suc, ◌+◌, ◌<◌, ◌≤◌, ◌==◌, ◌&&◌, not, nat_le, nat_lt, Bool, true, false, if◌then◌else◌, List, [], ◌∷◌, ◌++◌, length, map, flat_map, filter, codes, refl, ap, sym, subst, ◌∙◌, arith, append_assoc}
 use Rattle.std.proofs.lemmas.Bool.{and_from, and_parts}
 use Rattle.std.proofs.lemmas.Bool.Decides.{nat_tests}
@@ -62,7 +62,7 @@ inner_line (b ∷ bs) rest h =
     ∙ ap (λ s. if s && begins_with 10 (bs ++ 10 ∷ rest) then lines (bs ++ 10 ∷ rest) else onto b (lines (bs ++ 10 ∷ rest))) returns
     ∙ ap (onto b) (inner_line bs rest more)
 
--- printable bytes are none of a line's end
+-- printable bytes do not belong to a line's end
 inner_word : (word : List ℕ) → list_all is_ascii_graphic word ≡ true → list_all is_inner word ≡ true
 inner_word [] h = refl
 inner_word (b ∷ bs) h =
@@ -71,7 +71,7 @@ inner_word (b ∷ bs) h =
     let inner : is_inner b ≡ true = grind (arith, nat_tests) in
     ap (λ t. t && list_all is_inner bs) inner ∙ inner_word bs rest
 
--- and words with spaces between them have none
+-- words with spaces between them have no byte of a line's end
 inner_spaced : (ws : List (List ℕ)) → list_all is_word ws ≡ true → list_all is_inner (spaced ws) ≡ true
 inner_spaced [] all = refl
 inner_spaced (w ∷ []) all = inner_word w (printable_of w ((and_parts (is_word w) (list_all is_word []) all).0))
@@ -80,7 +80,7 @@ inner_spaced (w ∷ v ∷ vs) all =
     ∙ ap (λ t. t && list_all is_inner (32 ∷ spaced (v ∷ vs))) (inner_word w (printable_of w (and_parts (is_word w) (list_all is_word (v ∷ vs)) all).0))
     ∙ inner_spaced (v ∷ vs) (and_parts (is_word w) (list_all is_word (v ∷ vs)) all).1
 
--- how many bytes words have, each with a space
+-- the number of bytes of words, each with a space
 abbrev pub size : List (List ℕ) → ℕ
 size [] = 0
 size (w ∷ ws) = length w + (1 + size ws)
@@ -96,7 +96,7 @@ pub record IsLine (ws : List (List ℕ)) : Type 0 where
   pub said : is_said ws ≡ true
   pub short : size ws ≤ 128
 
--- the same, as a test
+-- a line that can be printed, as a test
 abbrev pub is_printable : List (List ℕ) → Bool
 is_printable ws = list_all is_word ws && (is_said ws && nat_le (size ws) 128)
 
@@ -128,11 +128,11 @@ printable_words (ws ∷ more) h =
     let parts = and_parts (is_printable ws) (list_all is_printable more) h in
     and_from (list_all is_word ws) (list_all (list_all is_word) more) (line_printable ws parts.0).words (printable_words more parts.1)
 
--- so the lines of printed lines are these lines,
+-- the lines of a text of printed lines are these lines
 lines_of_printed : (all : List (List (List ℕ))) → list_all is_printable all ≡ true → lines (flat_map printed_line all) ≡ map spaced all
 lines_of_printed all h = lines_of_words all (printable_words all h)
 
--- none of them is too long,
+-- no printed line is too long
 short_lines : (all : List (List (List ℕ))) → list_all is_printable all ≡ true → list_all is_short (map spaced all) ≡ true
 short_lines [] h = refl
 short_lines (ws ∷ more) h =
@@ -142,7 +142,7 @@ short_lines (ws ∷ more) h =
     let test : is_short (spaced ws) ≡ true = grind (arith, nat_tests) in
     and_from (is_short (spaced ws)) (list_all is_short (map spaced more)) test (short_lines more parts.1)
 
--- and none is skipped
+-- no printed line is skipped
 said_lines : (all : List (List (List ℕ))) → list_all is_printable all ≡ true → filter is_said (map words_of (map spaced all)) ≡ all
 said_lines [] h = refl
 said_lines (ws ∷ more) h =
@@ -152,7 +152,7 @@ said_lines (ws ∷ more) h =
     ∙ ap (λ t. if t then ws ∷ filter is_said (map words_of (map spaced more)) else filter is_said (map words_of (map spaced more))) is.said
     ∙ ap (λ ls. ws ∷ ls) (said_lines more parts.1)
 
--- Printed lines are within the limits, if they are few, and what they say is these lines.
+-- Printed lines are within the limits, if they are few, and their words are these lines.
 pub printed_limits : (all : List (List (List ℕ))) → list_all is_printable all ≡ true → length all ≤ 4096 → IsWithinLimits (flat_map printed_line all)
 printed_limits all h few =
     let are = lines_of_printed all h in

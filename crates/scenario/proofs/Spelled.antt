@@ -21,7 +21,7 @@ numeral_from (b ∷ bs) digits some high =
     let other : (b == 48) ≡ false = grind (arith, nat_tests) in
     ap (λ t. t && (not (b == 48) || (length bs == 0))) digits ∙ ap (λ t. not t || (length bs == 0)) other
 
--- what a number is printed as
+-- a number is printed as a numeral
 pub decimal_numeral : (n : ℕ) → n < 2 ^ 64 → is_numeral (decimal n) ≡ true
 decimal_numeral zero small = ap is_numeral (decimal_digit 0 (omega arith))
 decimal_numeral (suc n) small = numeral_from (decimal (suc n)) (digits_decimal own (suc n) small) (decimal_nonempty (suc n) small) (first_decimal (suc n) (omega arith) small)
@@ -76,7 +76,7 @@ integer_again (negsuc n) fits =
 pub name_again : (name : List ℕ) → is_name name ≡ true → name_at name ≡ Ok name
 name_again name is = ap (λ t. if t then Ok name else Err BadName) is
 
--- and so is a value.
+-- A value is read again.
 pub value_again : (v : Value) → is_value v ≡ true → value_at (value_text v) ≡ Ok v
 value_again (Count z) fits = ap counter (integer_again z fits)
 value_again (Text bytes) is = ap (λ t. if t then Ok (Text bytes) else Err BadValue) is
@@ -90,7 +90,7 @@ printable_digits (b ∷ bs) h =
     let rest : are_digits bs ≡ true = grind (arith, nat_tests) in
     ap (λ t. t && list_all is_ascii_graphic bs) graphic ∙ printable_digits bs rest
 
--- and so are the bytes of a name
+-- the bytes of a name are printable
 printable_name : (bs : List ℕ) → list_all is_name_byte bs ≡ true → list_all is_ascii_graphic bs ≡ true
 printable_name [] h = refl
 printable_name (b ∷ bs) h =
@@ -125,7 +125,7 @@ pub value_word : (v : Value) → is_value v ≡ true → is_word (value_text v) 
 value_word (Count z) fits = word_from (99 ∷ 58 ∷ signed_decimal z) (omega arith) (printable (signed_decimal z) (integer_word z fits))
 value_word (Text bytes) is = grind (arith, nat_tests)
 
--- How long they are at most.
+-- The greatest lengths of these words.
 pub number_short : (n : ℕ) → n < 2 ^ 64 → length (decimal n) ≤ 20
 number_short n small = length-decimal-le 20 n (omega arith) (omega arith) small
 

@@ -1,4 +1,4 @@
--- A scenario file that was read says what was read of it.
+-- A scenario file that was read specifies the scenario that was read.
 use Rattle.std.proofs.Common.{◌≡◌, ℕ, ◌+◌, ◌==◌, ◌&&◌, ◌||◌, not, Bool, true, false, cond, List, [], ◌∷◌, ◌++◌, length, map, codes, Option, Some, None, Ok, refl, ap, sym, subst, ◌∙◌, arith, append_assoc, append-nil}
 use Rattle.std.proofs.lemmas.Bool.{and_from}
 use Rattle.std.proofs.lemmas.Bool.Decides.{nat_tests}
@@ -21,7 +21,7 @@ use Rattle.files.proofs.Passing.{passed, no_fault}
 use Rattle.files.proofs.Said.{said_read, later_then, first_then, text_said}
 use Rattle.scenario.proofs.ScriptSaid.{HeadingSaid, OpenSaid, OtherSaid, heading_said, open_said, other_said, opener_spelled}
 
--- what lines behind the first add: headings, then opening pairs, then other lines
+-- the lines after the first add headings, then opening pairs, then other lines
 record Extends (p q : Progress) (said : List (List (List ℕ))) : Type 0 where
   headings : List (Heading × ℕ)
   pairs : List Pair
@@ -208,7 +208,7 @@ all_from_first text ((first ∷ ws) ∷ more) p limits is read =
     let f = first_said first ws a.value a.first in
     from_first text first ws more a.value p limits is f (all_said more a.value p f.scenario a.next)
 
--- A file that was read says what was read.
+-- A file that was read specifies the scenario that was read.
 pub script_said : (text : List ℕ) (s : Script) → scenario_of text ≡ Ok s → Says text s
 script_said text s read =
     let a = passed (file_of scenario_grammar text) (λ p. Ok (script_of p)) s read in

@@ -1,4 +1,4 @@
--- What a bits file says, or its first fault.
+-- The lines that a bits file contains, or its first fault.
 use Rattle.std.specs.Prelude.{◌≡◌, ℕ, Bool, true, false, ◌==◌, ◌&&◌, if◌then◌else◌, List, [], ◌∷◌, length, codes, Option, Result, Ok, Err}
 use Rattle.std.specs.Global.{Vec}
 use Rattle.std.specs.Map.{lookup}
@@ -41,7 +41,7 @@ one_bit_of words = counted 1 words >>= λ counts. bit_at (word 0 words)
 abbrev pub lone_word_of : BitLine → List (List ℕ) → Result BitLine FaultKind
 lone_word_of line words = counted 0 words >>= λ counts. Ok line
 
--- what a line behind the first says: a second `bits` line is out of place
+-- a line after the first: a second `bits` line is out of place
 abbrev pub bit_line_of : BitWord → List (List ℕ) → Result BitLine FaultKind
 bit_line_of Bits words = Err NotFirst
 bit_line_of Write words = one_bit_of words >>= λ v. Ok (line.Write v)
@@ -51,7 +51,7 @@ bit_line_of End words = lone_word_of line.End words
 bit_line_of Read words = lone_word_of line.Read words
 bit_line_of Drop words = lone_word_of line.Drop words
 
--- `bits 1`, behind which no line has been read
+-- `bits 1`, after which no line has been read
 abbrev pub first_bits_read : List ℕ → List (List ℕ) → Result (List BitLine) FaultKind
 first_bits_read first words = if bytes_eq first (codes "bits") && (length words == 1) && bytes_eq (word 0 words) (codes "1") then Ok [] else Err NotFirst
 
@@ -63,11 +63,11 @@ later_bits_read first words lines = known (bit_word_of first) >>= λ name. bit_l
 abbrev pub bits_grammar : Grammar (List BitLine)
 bits_grammar = record { first = first_bits_read; later = later_bits_read }
 
--- what a whole text says, or its first fault
+-- the lines that a whole text contains, or its first fault
 abbrev pub bits_of : List ℕ → Result (List BitLine) LineFault
 bits_of = file_of bits_grammar
 
--- what was read is what the grammar says, and so is the fault, unless memory ran out
+-- the lines that were read are those of the grammar, and the fault is that of the grammar too, unless memory ran out
 abbrev pub GivesBits : Result (Vec BitLine) LineFault → Result (List BitLine) LineFault → Type 0
 GivesBits (Ok lines) said = said ≡ Ok lines.items
 GivesBits (Err fault) said = UnlessMemory fault.kind (said ≡ Err fault)

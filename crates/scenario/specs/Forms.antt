@@ -1,4 +1,4 @@
--- Which words have the form of a line: a key word of a table, and behind it what the table has there.
+-- The words that have the form of a line: a key word of a table, and after it the operands and phrases that the table gives.
 use Rattle.std.specs.Prelude.{◌≡◌, ℕ, Bool, true, false, not, ◌&&◌, ◌||◌, ◌==◌, if◌then◌else◌, List, [], ◌∷◌, ◌++◌, codes, flat_map, map, Option, Some, None, Result, Ok, Err}
 use Rattle.std.specs.Borrow.{Bor}
 use Rattle.std.specs.Int.{is_in_range}
@@ -39,7 +39,7 @@ fault_at version Value word = fault_of (value_at word)
 abbrev pub is_word_of : ℕ → List ℕ → Bool
 is_word_of version word = not (bytes_eq word (codes "open") || bytes_eq word (codes "ask")) || (version == 2)
 
--- whether a word may stand in the place of an operand
+-- whether a word may be used as an operand
 abbrev pub is_operand : ℕ → Operand → List ℕ → Bool
 is_operand version operand word = is_none (fault_at version operand word)
 
@@ -50,16 +50,16 @@ are_operands version [] (word ∷ words) = false
 are_operands version (operand ∷ operands) [] = false
 are_operands version (operand ∷ operands) (word ∷ words) = is_operand version operand word && are_operands version operands words
 
--- whether a word is a key word of a table that a version has, and those behind it fit what the table has there
+-- whether a word is a key word of a table that a version has, and the words after it fit the row of the table
 abbrev pub has_row : {M : Type 0} → ℕ → (M → List (List ℕ) → Bool) → List (List ℕ × M) → List ℕ → List (List ℕ) → Bool
 has_row version fits [] first words = false
 has_row version fits (row ∷ rows) first words = if bytes_eq first row.0 then is_word_of version row.0 && fits row.1 words else has_row version fits rows first words
 
--- key words, each with the operands behind it
+-- key words, each with the operands after it
 abbrev pub Phrases : Type 0
 Phrases = List (List ℕ × List Operand)
 
--- key words, each with the operands behind it and the phrases behind those
+-- key words, each with the operands after it and the phrases after those
 abbrev pub Patterns : Type 0
 Patterns = List (List ℕ × (List Operand × Phrases))
 
@@ -74,24 +74,24 @@ is_ending version [] (word ∷ words) = false
 is_ending version (phrase ∷ phrases) [] = false
 is_ending version (phrase ∷ phrases) (word ∷ words) = is_phrase version (phrase ∷ phrases) word words
 
--- whether words are these operands, and an ending behind them
+-- whether words are these operands, with an ending after them
 abbrev pub fits_form : ℕ → List Operand → Phrases → List (List ℕ) → Bool
 fits_form version [] phrases words = is_ending version phrases words
 fits_form version (operand ∷ operands) phrases [] = false
 fits_form version (operand ∷ operands) phrases (word ∷ words) = is_operand version operand word && fits_form version operands phrases words
 
--- whether a line has a form of a table, by its first word and the words behind it
+-- whether a line has a form of a table, by its first word and the words after it
 abbrev pub has_form : ℕ → Patterns → List ℕ → List (List ℕ) → Bool
 has_form version = has_row version (λ form words. fits_form version form.0 form.1 words)
 
--- the tables of the code, without where they lie
+-- the tables of the code, as lists
 abbrev pub phrases_in : List (KeyWord (Bor (List Operand))) → Phrases
 phrases_in = map (λ row. (row.0.now, row.1.now))
 
 abbrev pub patterns_in : List (KeyWord (Bor (List Operand) × Bor (List (Bor (List (KeyWord (Bor (List Operand)))))))) → Patterns
 patterns_in = map (λ row. (row.0.now, (row.1.0.now, flat_map (λ table. phrases_in table.now) row.1.1.now)))
 
--- the number of a process, how many steps or turns, and a seed
+-- the number of a process, a number of steps or turns, and a seed
 abbrev pub a_process : Operand
 a_process = Number P 255
 
@@ -115,7 +115,7 @@ commands =
 abbrev pub stages : Phrases
 stages = (codes "wait", []) ∷ (codes "inside", []) ∷ (codes "idle", []) ∷ (codes "down", []) ∷ []
 
--- where flicks come from
+-- the sources of flicks
 abbrev pub flick_ways : Phrases
 flick_ways = (codes "0", []) ∷ (codes "1", []) ∷ (codes "pcg", a_seed ∷ []) ∷ []
 
@@ -158,10 +158,10 @@ bit_lines =
 abbrev pub begun : ℕ → Progress
 begun version = record { given = none_given; setup = default_setup version; lines = [] }
 
--- Behind the first line, a line is read exactly if it has one of the forms.
+-- After the first line, a line is read exactly if it has one of the forms.
 abbrev pub LinesHaveForms : Type 0
 LinesHaveForms = (version : ℕ) (first : List ℕ) (words : List (List ℕ)) → is_ok (later_read first words (begun version)) ≡ has_form version (heads ++ statements) first words
 
--- The same of bits files.
+-- After the first line, a line of a bits file is read exactly if it is one of the phrases.
 abbrev pub BitLinesHaveForms : Type 0
 BitLinesHaveForms = (first : List ℕ) (words : List (List ℕ)) → is_ok (later_bits_read first words []) ≡ is_phrase 1 bit_lines first words

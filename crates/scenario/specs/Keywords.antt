@@ -11,7 +11,7 @@ use Rattle.scenario.specs.declared.keywords.Verb.TheVariants as verb
 use Rattle.scenario.specs.declared.lines.Target.{Target}
 use Rattle.scenario.specs.declared.lines.Target.TheVariants as target
 
--- the first words of lines, and what they mean
+-- the first words of lines, and their meanings
 abbrev pub openers : List (List ℕ × Opener)
 openers =
     (codes "bakery", Bakery)
@@ -34,7 +34,7 @@ openers =
 abbrev pub opener_of : List ℕ → Option Opener
 opener_of name = lookup (bytes_eq name) openers
 
--- the third words of `call`, and what they mean
+-- the third words of `call`, and their meanings
 abbrev pub verbs : List (List ℕ × Verb)
 verbs =
     (codes "read", verb.Read)
@@ -47,7 +47,7 @@ verbs =
 abbrev pub verb_of : List ℕ → Option Verb
 verb_of word = lookup (bytes_eq word) verbs
 
--- the third words of `go`, and what they mean
+-- the third words of `go`, and their meanings
 abbrev pub targets : List (List ℕ × Target)
 targets =
     (codes "wait", target.Wait)

@@ -19,7 +19,7 @@ abbrev pub numbers_from : ℕ → ℕ → List ℕ
 numbers_from n zero = []
 numbers_from n (suc k) = n ∷ numbers_from (n + 1) k
 
--- The numbers that a script's lines have where it is printed: before them are the version, four headings, and the opening pairs.
+-- The numbers of a script's lines in its printed text: before them are the version, four headings, and the opening pairs.
 abbrev pub printed_numbers : Script → List ℕ
 printed_numbers s = numbers_from (length s.setup.opening + 6) (length s.lines)
 
@@ -27,11 +27,11 @@ printed_numbers s = numbers_from (length s.setup.opening + 6) (length s.lines)
 abbrev pub words_at : List ℕ → ℕ → List (List ℕ)
 words_at file n = words_of (slice_index_or (lines file) (n - 1) [])
 
--- Where a file has the numbers of a script's lines, it has their words.
+-- At the numbers of a script's lines, its file has the words of these lines.
 abbrev pub LinesHaveTheirNumbers : Type 0
 LinesHaveTheirNumbers = (file : List ℕ) (said : Script) → scenario_of file ≡ Ok said →
     map (words_at file) (line_numbers file (length said.lines)) ≡ map line_words said.lines
 
--- Where a script is printed, its lines have these numbers.
+-- In the printed text of a script, its lines have these numbers.
 abbrev pub PrintedLinesAreNumbered : Type 0
 PrintedLinesAreNumbered = (s : Script) → IsScenario s → line_numbers (scenario_text s) (length s.lines) ≡ printed_numbers s

@@ -20,7 +20,7 @@ integer_at word = ok_or (integer_of word) Number
 abbrev pub name_at : List ℕ → Result (List ℕ) FaultKind
 name_at word = if is_name word then Ok word else Err BadName
 
--- the count behind `c:`
+-- the count after `c:`
 abbrev pub counter : Option ℤ → Result Value FaultKind
 counter None = Err BadValue
 counter (Some z) = Ok (Count z)

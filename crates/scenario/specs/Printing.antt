@@ -1,4 +1,4 @@
--- How a scenario is printed: each line by its words.
+-- The text of a scenario: each line by its words.
 use Rattle.std.specs.Prelude.{ℕ, List, [], ◌∷◌, ◌++◌, codes, flat_map, map}
 use Rattle.std.specs.Fmt.{decimal, signed_decimal}
 use Rattle.plain_store.specs.{Command, Pair, Setup, value_text}
@@ -28,13 +28,13 @@ target_word target.Inside = codes "inside"
 target_word target.Idle = codes "idle"
 target_word target.Down = codes "down"
 
--- the words of where flicks come from
+-- the words of a source of flicks
 abbrev pub flick_words : Flick → List (List ℕ)
 flick_words flick.Zero = codes "0" ∷ []
 flick_words flick.One = codes "1" ∷ []
 flick_words (flick.Pcg seed) = codes "pcg" ∷ decimal seed ∷ []
 
--- the words of a line behind the headings and opening pairs
+-- the words of a line after the headings and opening pairs
 abbrev pub line_words : Line → List (List ℕ)
 line_words (line.Call p command) = codes "call" ∷ decimal p ∷ command_words command
 line_words (line.Step p n) = codes "step" ∷ decimal p ∷ decimal n ∷ []
@@ -73,7 +73,7 @@ headings_of s = (Processes, s.processes) ∷ (Tickets, s.ticket_bits) ∷ (Stamp
 abbrev pub kind_words : List ℕ → Setup → List (List (List ℕ))
 kind_words kind s = (kind ∷ decimal s.version ∷ []) ∷ map heading_words (headings_of s)
 
--- those of a scenario file
+-- the words of the first line and of the four headings of a scenario file
 abbrev pub setup_words : Setup → List (List (List ℕ))
 setup_words = kind_words (codes "bakery")
 
@@ -95,7 +95,7 @@ printed_line words = spaced words ++ codes "\n"
 abbrev pub opening_text : List Pair → List ℕ
 opening_text pairs = flat_map printed_line (map open_words pairs)
 
--- the other lines
+-- the text of the other lines
 abbrev pub lines_text : List Line → List ℕ
 lines_text lines = flat_map printed_line (map line_words lines)
 

@@ -1,5 +1,5 @@
--- What a scenario file says, or its first fault.
--- The checks of a line stand in the order of its faults: an unknown key word, a line out of place, the number of words,
+-- The scenario that a scenario file contains, or its first fault.
+-- The checks of a line are in the order of its faults: an unknown key word, a line out of place, the number of words,
 -- the operands from left to right, the setup, and one line too many.
 use Rattle.std.specs.Prelude.{ℕ, ◌==◌, ◌||◌, not, if◌then◌else◌, List, [], ◌∷◌, length, codes, Result, Ok, Err}
 use Rattle.std.specs.Int.{is_in_range}
@@ -20,7 +20,7 @@ use Rattle.scenario.specs.declared.keywords.Opener.{Opener}
 use Rattle.scenario.specs.declared.keywords.Opener.TheVariants as opener
 use Rattle.scenario.specs.declared.lines.Line.{Line}
 
--- what has been read so far: which headings were given, the setup by them, and the lines behind them
+-- the progress of a reader: the headings that were given, the setup that they make, and the lines after them
 pub record Progress : Type 0 where
   pub given : Given
   pub setup : Setup
@@ -30,7 +30,7 @@ pub record Progress : Type 0 where
 abbrev pub version_of : List ℕ → Result ℕ FaultKind
 version_of text = ok_or (lookup (bytes_eq text) ((codes "1", 1) ∷ (codes "2", 2) ∷ [])) NotFirst
 
--- where the first line names this version: no heading, no pair, no line
+-- the progress after a first line with this version: no heading, no pair, no line
 abbrev pub at_version : List ℕ → Result Progress FaultKind
 at_version text = version_of text >>= λ version. Ok (record { given = none_given; setup = default_setup version; lines = [] })
 
@@ -57,7 +57,7 @@ heading_read heading words p = do
 abbrev pub pair_read : List ℕ → Value → Progress → Result Progress FaultKind
 pair_read name value p = if may_open p.setup name then Ok (record p { setup = with_pair name value p.setup }) else Err BadSetup
 
--- `open NAME VALUE`: in version 2, and before all lines of other kinds but headings
+-- `open NAME VALUE`: in version 2, and before all lines of other kinds, except headings
 unfoldable pub open_read : List (List ℕ) → Progress → Result Progress FaultKind
 open_read words p = do
   in_table ← fault_if (not (p.setup.version == 2)) Unknown
@@ -77,14 +77,14 @@ other_read name words p = do
   line ← line_of p.setup.version name words
   kept_read line p
 
--- a line behind the first, by what its first word means
+-- a line after the first, by the meaning of its first word
 abbrev pub opened_read : Opener → List (List ℕ) → Progress → Result Progress FaultKind
 opened_read opener.Bakery words p = Err NotFirst
 opened_read (opener.Heading heading) words p = heading_read heading words p
 opened_read opener.Open words p = open_read words p
 opened_read (opener.Line name) words p = other_read name words p
 
--- a line behind the first
+-- a line after the first
 abbrev pub later_read : List ℕ → List (List ℕ) → Progress → Result Progress FaultKind
 later_read first words p = known (opener_of first) >>= λ opener. opened_read opener words p
 
@@ -92,15 +92,15 @@ later_read first words p = known (opener_of first) >>= λ opener. opened_read op
 abbrev pub scenario_grammar : Grammar Progress
 scenario_grammar = record { first = first_read; later = later_read }
 
--- a scenario, without where its lines lie
+-- a scenario, with its lines as a list
 pub record Script : Type 0 where
   pub setup : Setup
   pub lines : List Line
 
--- what was read in all
+-- the scenario that was read
 abbrev pub script_of : Progress → Script
 script_of p = record { setup = p.setup; lines = p.lines }
 
--- what a whole text says, or its first fault
+-- the scenario that a whole text contains, or its first fault
 abbrev pub scenario_of : List ℕ → Result Script LineFault
 scenario_of text = file_of scenario_grammar text >>= λ p. Ok (script_of p)

@@ -5,7 +5,7 @@ use Rattle.scenario.specs.declared.headings.Given.{Given}
 use Rattle.scenario.specs.declared.keywords.Heading.{Heading}
 use Rattle.scenario.specs.declared.keywords.Heading.TheVariants.{Processes, Tickets, Stamps, Slots}
 
--- no heading yet
+-- no heading was given
 abbrev pub none_given : Given
 none_given = record { processes = false; tickets = false; stamps = false; slots = false }
 
@@ -16,7 +16,7 @@ is_given Tickets given = given.tickets
 is_given Stamps given = given.stamps
 is_given Slots given = given.slots
 
--- and one more
+-- the headings that were given, and one more
 abbrev pub and_given : Heading → Given → Given
 and_given Processes given = record given { processes = true }
 and_given Tickets given = record given { tickets = true }

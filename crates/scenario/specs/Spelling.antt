@@ -1,4 +1,4 @@
--- How a file is spelled: its lines have the words that are printed for what it says.
+-- The spelling of a file: its lines have the words that are printed for its value.
 use Rattle.std.specs.Prelude.{◌≡◌, ◌↔◌, ◌≤◌, Ok, ℕ, Bool, true, false, not, ◌&&◌, List, [], ◌∷◌, ◌++◌, length, codes, map}
 use Rattle.std.specs.List.{list_all}
 use Rattle.std.specs.Str.{bytes_eq}
@@ -33,7 +33,7 @@ line_word Show = codes "show"
 abbrev pub same_heading : Heading → Heading → Bool
 same_heading h k = bytes_eq (heading_word h) (heading_word k)
 
--- no heading stands twice
+-- no heading appears twice
 abbrev pub headings_differ : List (Heading × ℕ) → Bool
 headings_differ [] = true
 headings_differ (heading ∷ headings) = list_all (λ other. not (same_heading heading.0 other.0)) headings && headings_differ headings
@@ -43,8 +43,8 @@ abbrev pub with_headings : List (Heading × ℕ) → Setup → Setup
 with_headings [] setup = setup
 with_headings (heading ∷ headings) setup = with_headings headings (with_heading heading.0 heading.1 setup)
 
--- A text says a scenario: within the limits, the lines that are not skipped have the words that are printed for it. Its
--- headings stand in any order, each at most once, and those that are left out have their defaults.
+-- A text specifies a scenario: within the limits, the lines that are not skipped have the words that are printed for it. Its
+-- headings are in any order, each at most once, and a heading that is left out has its default.
 pub record Says (text : List ℕ) (s : Script) : Type 0 where
   pub limits : IsWithinLimits text
   pub headings : List (Heading × ℕ)
@@ -67,20 +67,20 @@ bit_line_words bit.Read = codes "read" ∷ []
 bit_line_words (bit.Value v) = codes "value" ∷ bit_word v ∷ []
 bit_line_words bit.Drop = codes "drop" ∷ []
 
--- A text says the lines of a bits file: within the limits, the lines that are not skipped have their words.
+-- A text specifies the lines of a bits file: within the limits, the lines that are not skipped have their words.
 pub record SaysBits (text : List ℕ) (said : List BitLine) : Type 0 where
   pub limits : IsWithinLimits text
   pub words : said_words text ≡ (codes "bits" ∷ codes "1" ∷ []) ∷ map bit_line_words said
   pub few : length said ≤ 4000
 
--- the words of a line, of which the first is this name, say this line of a file of that version
+-- the words of a line, of which the first is this name, specify this line of a file of that version
 abbrev pub SaysLine : ℕ → LineWord → List (List ℕ) → Line → Type 0
 SaysLine version name words line = (line_word name ∷ words ≡ line_words line) × (is_line line ≡ true) × (is_line_of version line ≡ true)
 
--- Words are read as a line exactly if they say it.
+-- Words are read as a line exactly if they specify it.
 abbrev pub LinesAreSpelledInOneWay : Type 0
 LinesAreSpelledInOneWay = (version : ℕ) (name : LineWord) (words : List (List ℕ)) (line : Line) → (line_of version name words ≡ Ok line) ↔ SaysLine version name words line
 
--- A text is read as lines of a bits file exactly if it says them.
+-- A text is read as lines of a bits file exactly if it specifies them.
 abbrev pub BitFilesAreSpelledInOneWay : Type 0
 BitFilesAreSpelledInOneWay = (text : List ℕ) (lines : List BitLine) → (bits_of text ≡ Ok lines) ↔ SaysBits text lines

@@ -1,4 +1,4 @@
--- What the words of a line behind the first one say.
+-- The meaning of the words of a line after the first one.
 use Rattle.std.specs.Prelude.{ℕ, ◌-◌, ◌^◌, Bool, true, ◌==◌, nat_le, if◌then◌else◌, List, [], ◌∷◌, codes, Result, Ok, Err}
 use Rattle.std.specs.Str.{bytes_eq}
 use Rattle.plain_store.specs.{Command}
@@ -15,7 +15,7 @@ use Rattle.flicks.specs.declared.Flick.TheVariants as flick
 use Rattle.scenario.specs.declared.lines.Line.{Line}
 use Rattle.scenario.specs.declared.lines.Line.TheVariants as line
 
--- how many words follow the key word of a call
+-- the number of words that follow the key word of a call
 abbrev pub operand_count : Verb → ℕ
 operand_count verb.Ask = 0
 operand_count verb.Read = 1
@@ -32,7 +32,7 @@ is_verb_of version verb = true
 abbrev pub verb_at : ℕ → List ℕ → Result Verb FaultKind
 verb_at version word = known (verb_of word) >>= λ verb. if is_verb_of version verb then Ok verb else Err Unknown
 
--- the command of a call, by the words behind its key word, as many as it takes
+-- the command of a call, by the words after its key word, exactly as many as it takes
 unfoldable pub command_of : Verb → List (List ℕ) → Result Command FaultKind
 command_of verb.Ask words = Ok command.Ask
 command_of verb.Read words = do
@@ -52,7 +52,7 @@ command_of verb.Cas words = do
   value ← value_at (word 2 words)
   Ok (command.Cas name expected value)
 
--- `call p read NAME` and its kin
+-- `call p COMMAND`
 unfoldable pub call_of : ℕ → List (List ℕ) → Result Line FaultKind
 call_of version (p ∷ v ∷ operands) = do
   verb ← verb_at version v
@@ -79,7 +79,7 @@ go_of (p ∷ t ∷ more) = do
   Ok (line.Go process target)
 go_of words = Err Words
 
--- `fail p` and its kin
+-- `fail p`, `withdraw p` and `restart p`
 unfoldable pub process_of : List (List ℕ) → Result ℕ FaultKind
 process_of words = do
   counts ← counted 1 words
@@ -107,7 +107,7 @@ show_of words = do
   counts ← counted 0 words
   Ok line.Show
 
--- a line that is no heading and opens no pair, by its first word
+-- a line other than a heading or an opening pair, by its first word
 abbrev pub line_of : ℕ → LineWord → List (List ℕ) → Result Line FaultKind
 line_of version opener.Call words = call_of version words
 line_of version opener.Step words = step_of words

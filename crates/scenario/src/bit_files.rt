@@ -8,7 +8,7 @@ use files::{FaultKind, FromLines, LineFault, keep_line, meaning_of, read_file};
 use std::alloc::Global;
 use std::marker::Model;
 
-/// A line of a bits file behind the first: a call on a bit, which opens at 0.
+/// A line of a bits file after the first: a call on a bit, which is initially 0.
 #[derive(Clone, Copy)]
 pub enum BitLine {
     /// A write of this value begins.
@@ -19,14 +19,14 @@ pub enum BitLine {
     Settle(bool),
     /// A read begins.
     Read,
-    /// The open read ends: it gives this value where a write overlapped it.
+    /// The open read ends: it gives this value if a write overlapped it.
     Value(bool),
     /// The open read ends without a value.
     Drop,
 }
 
-/// What the bytes of a bits file say, or the first fault of the first line that has one. A fault of kind
-/// `Memory` may name any line.
+/// Returns the lines that the bytes of a bits file contain, or the first fault of the first line that has one. A fault of
+/// kind `Memory` may name any line.
 pub fn read_bits(alloc: Global, text: &[u8]) -> Result<Vec<BitLine>, LineFault>
     ensures { GivesBits result (bits_of text.now) }
 {
@@ -46,7 +46,7 @@ pub enum BitWord {
     Drop,
 }
 
-/// The first words of lines, and what each means.
+/// The first words of lines, and the meaning of each.
 pub const BIT_WORDS: [(&str, BitWord); 7] = [
     ("bits", BitWord::Bits),
     ("write", BitWord::Write),
@@ -58,7 +58,7 @@ pub const BIT_WORDS: [(&str, BitWord); 7] = [
 ];
 
 impl BitWord {
-    /// What the first word of a line means.
+    /// Returns the meaning of the first word of a line.
     pub fn of(word: &[u8]) -> Option<BitWord>
         ensures { result ≡ bit_word_of word.now }
     {
@@ -66,7 +66,7 @@ impl BitWord {
     }
 }
 
-/// The lines behind the first that have been read so far.
+/// The lines after the first that have been read so far.
 #[derive(Drop)]
 pub struct BitsReader {
     lines: Vec<BitLine>,
@@ -99,7 +99,7 @@ impl FromLines for BitsReader {
 }
 
 impl BitsReader {
-    /// The first line: `bits 1`.
+    /// Reads the first line: `bits 1`.
     fn new(alloc: Global, word: &[u8], words: &[&[u8]]) -> Result<BitsReader, FaultKind>
         ensures { Makes result (first_bits_read word.now (texts words.now)) }
     {
@@ -113,7 +113,7 @@ impl BitsReader {
     }
 }
 
-/// What a later line says, by its first word and the words behind it.
+/// Returns a later line, by its first word and the words after it.
 fn bit_line(name: BitWord, words: &[&[u8]]) -> Result<BitLine, FaultKind>
     ensures { result ≡ bit_line_of name (texts words.now) }
 {
@@ -128,7 +128,7 @@ fn bit_line(name: BitWord, words: &[&[u8]]) -> Result<BitLine, FaultKind>
     }
 }
 
-/// A line that is its first word alone.
+/// Reads a line that consists of its first word alone.
 fn alone(line: BitLine, words: &[&[u8]]) -> Result<BitLine, FaultKind>
     ensures { result ≡ lone_word_of line (texts words.now) }
 {
@@ -139,7 +139,11 @@ fn alone(line: BitLine, words: &[&[u8]]) -> Result<BitLine, FaultKind>
     }
 }
 
-/// The one operand of a line.
+/// Reads the one operand of a line.
+///
+/// # Errors
+///
+/// Returns [`FaultKind::Words`] unless there is one word, or [`FaultKind::Number`] if the word is neither `0` nor `1`.
 pub fn one_bit(words: &[&[u8]]) -> Result<bool, FaultKind>
     ensures { result ≡ one_bit_of (texts words.now) }
 {

@@ -143,7 +143,7 @@ pub fn has_word(version: u8, word: &str) -> bool
 }
 
 impl Operand {
-    /// Returns the fault of a word in the place of this operand in a file of this version, or `None` if it may be there.
+    /// Returns the fault of a word that is used as this operand in a file of this version, or `None` if the word is allowed.
     pub fn fault(self, version: u8, word: &[u8]) -> Option<FaultKind>
         ensures { result ≡ fault_at version self word.now }
     {

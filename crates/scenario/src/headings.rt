@@ -5,7 +5,7 @@ ghost use Rattle.scenario.specs.Setting.{none_given, is_given, and_given, most_o
 use crate::keywords::Heading;
 use plain_store::{Opening, Setup};
 
-/// Which headings were given.
+/// The headings that were given.
 #[derive(Clone, Copy)]
 pub struct Given {
     pub processes: bool,
@@ -15,7 +15,7 @@ pub struct Given {
 }
 
 impl Given {
-    /// No heading.
+    /// Creates the value in which no heading was given.
     pub fn none() -> Given
         ensures { result ≡ none_given }
     {
@@ -27,7 +27,7 @@ impl Given {
         }
     }
 
-    /// Whether the heading was given.
+    /// Returns whether the heading was given.
     pub fn has(&self, heading: Heading) -> bool
         ensures { result ≡ is_given heading self.now }
     {
@@ -53,7 +53,7 @@ impl Given {
 }
 
 impl Heading {
-    /// The greatest number that the heading may have.
+    /// Returns the greatest number that the heading may have.
     pub fn most(self, version: u8) -> u8
         ensures { result ≡ most_of self version }
     {
@@ -79,7 +79,7 @@ impl Heading {
     }
 }
 
-/// The setup of a file without headings.
+/// Returns the setup of a file without headings.
 pub fn default_setup(version: u8) -> Setup
     ensures { result ≡ the_default version }
 {

@@ -5,7 +5,7 @@ ghost use Rattle.scenario.specs.Keywords.{opener_of, verb_of, target_of};
 use crate::lines::Target;
 use files::meaning_of;
 
-/// What a heading gives the number of.
+/// A heading, by the quantity that it gives.
 #[derive(Clone, Copy)]
 pub enum Heading {
     Processes,
@@ -23,7 +23,7 @@ pub enum Opener {
     Line(LineWord),
 }
 
-/// The first word of a line that is no heading and opens no pair.
+/// The first word of a line other than a heading or an opening pair.
 #[derive(Clone, Copy)]
 pub enum LineWord {
     Call,
@@ -47,7 +47,7 @@ pub enum Verb {
     Ask,
 }
 
-/// The first words of lines, and what each means.
+/// The first words of lines, and the meaning of each.
 pub const OPENERS: [(&str, Opener); 15] = [
     ("bakery", Opener::Bakery),
     ("processes", Opener::Heading(Heading::Processes)),
@@ -66,7 +66,7 @@ pub const OPENERS: [(&str, Opener); 15] = [
     ("show", Opener::Line(LineWord::Show)),
 ];
 
-/// The third words of `call`, and what each means.
+/// The third words of `call`, and the meaning of each.
 pub const VERBS: [(&str, Verb); 5] = [
     ("read", Verb::Read),
     ("write", Verb::Write),
@@ -75,7 +75,7 @@ pub const VERBS: [(&str, Verb); 5] = [
     ("ask", Verb::Ask),
 ];
 
-/// The third words of `go`, and what each means.
+/// The third words of `go`, and the meaning of each.
 pub const TARGETS: [(&str, Target); 4] = [
     ("wait", Target::Wait),
     ("inside", Target::Inside),
@@ -84,7 +84,7 @@ pub const TARGETS: [(&str, Target); 4] = [
 ];
 
 impl Opener {
-    /// What the first word of a line means.
+    /// Returns the meaning of the first word of a line.
     pub fn of(word: &[u8]) -> Option<Opener>
         ensures { result ≡ opener_of word.now }
     {
@@ -93,7 +93,7 @@ impl Opener {
 }
 
 impl Verb {
-    /// What the third word of `call` means.
+    /// Returns the meaning of the third word of `call`.
     pub fn of(word: &[u8]) -> Option<Verb>
         ensures { result ≡ verb_of word.now }
     {
@@ -102,7 +102,7 @@ impl Verb {
 }
 
 impl Target {
-    /// What the third word of `go` means.
+    /// Returns the meaning of the third word of `go`.
     pub fn of(word: &[u8]) -> Option<Target>
         ensures { result ≡ target_of word.now }
     {

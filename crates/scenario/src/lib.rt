@@ -1,5 +1,5 @@
-//! Scenario files and bits files: what their lines say, how they are read, and how scenarios are printed. A text is
-//! accepted exactly if it is in the grammar, else its first fault is told. What is printed is read again as the same scenario.
+//! Scenario files and bits files: their lines, their readers, and the printing of scenarios. A text is accepted exactly if
+//! it is in the grammar, otherwise its first fault is returned. A printed scenario is read again as the same scenario.
 //!
 //! ```rust
 //! let scenario = read_scenario(alloc, file.as_bytes())?;

@@ -15,12 +15,12 @@ pub enum Target {
     Down,
 }
 
-/// A line behind the headings and opening pairs. A process may be one that is not there.
+/// A line after the headings and opening pairs. The number of a process may be out of range.
 #[derive(Clone, Copy)]
 pub enum Line {
     /// The process calls the command.
     Call(u8, Command),
-    /// The process makes so many steps.
+    /// The process makes this number of steps.
     Step(u8, u32),
     /// The process makes steps up to a stage.
     Go(u8, Target),
@@ -32,7 +32,7 @@ pub enum Line {
     Restart(u8),
     /// Later steps get their flicks in this way.
     Flick(Flick),
-    /// So many steps of picked processes are made.
+    /// Picked processes make this number of steps.
     Wander(u32),
     /// The newest store is printed.
     Show,

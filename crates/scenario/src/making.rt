@@ -11,7 +11,7 @@ use crate::scenarios::Scenario;
 use plain_store::Setup;
 use std::alloc::{AllocError, Global};
 
-/// How many lines a printed scenario has before its opening pairs, and one more.
+/// One more than the number of lines that a printed scenario has before its opening pairs.
 const FIRST: u16 = 6;
 
 impl Scenario {

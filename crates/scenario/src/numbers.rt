@@ -5,7 +5,7 @@ ghost use Rattle.std.specs.Str.Parse.{digits_value};
 ghost use Rattle.std.specs.Str.{IsAscii};
 ghost use Rattle.scenario.specs.Numbers.{IsNumber, are_digits as all_digits, is_numeral as numeral, is_signed_numeral as signed_numeral, number_up_to, integer_of};
 
-/// The number that the word writes, where it is at most `most`.
+/// Returns the number that the word writes, if it is at most `most`.
 #[tactic(auto, using(crate::proofs::Numerals::numeral_is, crate::proofs::Numerals::number_is, crate::proofs::Numerals::number_is_none))]
 pub fn number(word: &[u8], most: u64) -> Option<u64>
     ensures { result ≡ number_up_to most word.now }
@@ -17,7 +17,7 @@ pub fn number(word: &[u8], most: u64) -> Option<u64>
     (number <= most).then_some(number)
 }
 
-/// The number that the digits write, where it has no more than 64 bits.
+/// Returns the number that the digits write, if it has no more than 64 bits.
 #[tactic(auto, using(crate::proofs::Numerals::digit_in, crate::proofs::Numerals::value_more, crate::proofs::Numerals::value_beyond))]
 fn value_of(digits: &[u8]) -> Option<u64>
     requires { all_digits digits.now ≡ true }
@@ -30,7 +30,7 @@ fn value_of(digits: &[u8]) -> Option<u64>
     Some(value)
 }
 
-/// The number that a digit makes behind those of `value`, where it has no more than 64 bits.
+/// Returns the number that a digit makes after those of `value`, if it has no more than 64 bits.
 #[inline]
 fn with_digit(value: u64, digit: u8) -> Option<u64>
     requires { is_ascii_digit digit ≡ true }
@@ -39,7 +39,7 @@ fn with_digit(value: u64, digit: u8) -> Option<u64>
     value.checked_mul(10)?.checked_add(u64::from(digit - b'0'))
 }
 
-/// The number with a sign that the word writes.
+/// Returns the number with a sign that the word writes.
 #[tactic(auto, using(crate::proofs::Numerals::integer_parsed, crate::proofs::Numerals::signed_is_ascii))]
 pub fn integer(word: &[u8]) -> Option<i64>
     ensures { result ≡ integer_of word.now }
@@ -50,7 +50,7 @@ pub fn integer(word: &[u8]) -> Option<i64>
     text(word).parse::<i64>().ok()
 }
 
-/// Whether the word is `0`, or digits of which the first is not `0`.
+/// Returns whether the word is `0`, or digits of which the first is not `0`.
 fn is_numeral(word: &[u8]) -> bool
     ensures { result ≡ numeral word.now }
 {
@@ -60,7 +60,7 @@ fn is_numeral(word: &[u8]) -> bool
     }
 }
 
-/// Whether the word is a numeral, or one other than `0` behind a minus.
+/// Returns whether the word is a numeral, or one other than `0` after a minus.
 fn is_signed_numeral(word: &[u8]) -> bool
     ensures { result ≡ signed_numeral word.now }
 {
@@ -77,7 +77,7 @@ fn are_digits(word: &[u8]) -> bool
     word.iter().all(|b| b.is_ascii_digit())
 }
 
-/// The bytes as a text.
+/// Returns the bytes as a text.
 fn text(bytes: &[u8]) -> &str
     requires { IsAscii bytes.now }
     ensures { result.now ≡ bytes.now }

@@ -6,21 +6,33 @@ use crate::numbers;
 use files::FaultKind;
 use plain_store::{Name, Text, Value};
 
-/// A number up to `most`.
+/// Reads a number up to `most`.
+///
+/// # Errors
+///
+/// Returns [`FaultKind::Number`] if the word is not such a number.
 pub fn number(word: &[u8], most: u64) -> Result<u64, FaultKind>
     ensures { result ≡ number_at most word.now }
 {
     numbers::number(word, most).ok_or(FaultKind::Number)
 }
 
-/// The number of a process: 0 to 255.
+/// Reads the number of a process: 0 to 255.
+///
+/// # Errors
+///
+/// Returns [`FaultKind::Number`] if the word is not such a number.
 pub fn process(word: &[u8]) -> Result<u8, FaultKind>
     ensures { result ≡ number_at 255 word.now }
 {
     Ok(number(word, 255)? as u8)
 }
 
-/// How many steps or turns: 0 to 100,000.
+/// Reads a number of steps or turns: 0 to 100,000.
+///
+/// # Errors
+///
+/// Returns [`FaultKind::Number`] if the word is not such a number.
 pub fn count(word: &[u8]) -> Result<u32, FaultKind>
     ensures value { result ≡ number_at 100000 word.now }
     ensures most { IfOk result (λ n. n ≤ 100000) }
@@ -28,14 +40,22 @@ pub fn count(word: &[u8]) -> Result<u32, FaultKind>
     Ok(number(word, 100_000)? as u32)
 }
 
-/// A number of 64 bits with a sign.
+/// Reads a number of 64 bits with a sign.
+///
+/// # Errors
+///
+/// Returns [`FaultKind::Number`] if the word is not such a number.
 pub fn integer(word: &[u8]) -> Result<i64, FaultKind>
     ensures { result ≡ integer_at word.now }
 {
     numbers::integer(word).ok_or(FaultKind::Number)
 }
 
-/// A name.
+/// Reads a name.
+///
+/// # Errors
+///
+/// Returns [`FaultKind::BadName`] if the word is not a name.
 pub fn name(word: &[u8]) -> Result<Name, FaultKind>
     ensures { result ≡ name_at word.now }
 {
@@ -45,7 +65,11 @@ pub fn name(word: &[u8]) -> Result<Name, FaultKind>
     }
 }
 
-/// A value: `c:` and a number with a sign, or `t:` and a text.
+/// Reads a value: `c:` and a number with a sign, or `t:` and a text.
+///
+/// # Errors
+///
+/// Returns [`FaultKind::BadValue`] if the word is not a value.
 pub fn value(word: &[u8]) -> Result<Value, FaultKind>
     ensures { result ≡ value_at word.now }
 {

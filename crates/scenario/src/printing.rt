@@ -1,4 +1,4 @@
-//! How scenarios are printed.
+//! Printing scenarios.
 ghost use Rattle.std.specs.Prelude.{◌≡◌, flat_map, true, IfOk, OnOk, Ok};
 ghost use Rattle.files.specs.{AddsText, GivesText};
 ghost use Rattle.scenario.specs.Printing.{target_word, line_words, lines_text, kind_words, open_words, opening_text, spaced, printed_line, scenario_text};
@@ -16,8 +16,8 @@ use std::alloc::{AllocError, Global};
 use std::fmt;
 
 /// Writes a scenario as a file: the version, the four headings, the opening pairs in the order added, and the
-/// lines, with single spaces and a 0x0A behind each line. The numbers of the lines are not written, so equal scenarios have one
-/// text.
+/// lines, with single spaces and a 0x0A after each line. The numbers of the lines are not written, so equal scenarios have
+/// one text.
 pub fn print_scenario(alloc: Global, scenario: &Scenario) -> Result<Vec<u8>, AllocError>
     ensures text { IfOk result (λ bytes. bytes.items ≡ scenario_text (script scenario.now)) }
     ensures read_again { IfOk result (λ bytes. scenario_of bytes.items ≡ Ok (script scenario.now)) }
@@ -30,7 +30,11 @@ pub fn print_scenario(alloc: Global, scenario: &Scenario) -> Result<Vec<u8>, All
     Ok(text.into_bytes())
 }
 
-/// The first line of a file of this kind, and the four headings.
+/// Returns the first line of a file of this kind, and the four headings.
+///
+/// # Errors
+///
+/// Returns [`AllocError`] if memory runs out.
 #[tactic(auto, using(crate::proofs::Printed::setup_lines_are))]
 pub fn setup_lines(alloc: Global, kind: &str, setup: &Setup) -> Result<String, AllocError>
     ensures { GivesText result (flat_map printed_line (kind_words kind.now setup.now)) }
@@ -49,6 +53,10 @@ pub fn setup_lines(alloc: Global, kind: &str, setup: &Setup) -> Result<String, A
 }
 
 /// Writes a line for each opening pair.
+///
+/// # Errors
+///
+/// Returns [`AllocError`] if memory runs out. The text may then end with some of the lines.
 #[tactic(auto, using(crate::proofs::Printed::opening_more))]
 pub fn print_opening(alloc: Global, opening: &Opening, text: &mut String) -> Result<(), AllocError>
     ensures { OnOk result (AddsText text.old text.new (opening_text opening.now)) }
@@ -68,7 +76,7 @@ fn open_line(alloc: Global, name: &Name, value: &Value) -> Result<String, AllocE
     format!(in alloc; "open {name} {value}\n")
 }
 
-/// Writes a line for each line behind the headings and opening pairs.
+/// Writes a line for each line after the headings and opening pairs.
 #[tactic(auto, using(crate::proofs::Printed::lines_more, crate::proofs::Places::next_in, crate::proofs::Places::all_at_end))]
 fn print_lines(alloc: Global, lines: &[Line], text: &mut String) -> Result<(), AllocError>
     ensures sound { OnOk result (list_all is_line lines.now ≡ true) }

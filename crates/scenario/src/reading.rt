@@ -21,8 +21,8 @@ use plain_store::{Name, NestedTypes, Setup, Value};
 use std::alloc::{AllocError, Global};
 use std::marker::Model;
 
-/// What the bytes of a scenario file say, or the first fault of the first line that has one. A fault of
-/// kind `Memory` may name any line. Each line of the scenario has the number of its line in the file.
+/// Returns the scenario that the bytes of a scenario file contain, or the first fault of the first line that has one. A
+/// fault of kind `Memory` may name any line. Each line of the scenario has the number of its line in the file.
 pub fn read_scenario(alloc: Global, text: &[u8]) -> Result<Scenario, LineFault>
     ensures said { Gives result (scenario_of text.now) }
     ensures numbers { IfOk result (λ s.
@@ -39,7 +39,7 @@ pub fn read_scenario(alloc: Global, text: &[u8]) -> Result<Scenario, LineFault>
     }
 }
 
-/// What has been read so far.
+/// The progress of reading a scenario file.
 #[derive(Drop)]
 pub struct Reader {
     given: Given,
@@ -79,7 +79,7 @@ impl FromLines for Reader {
 }
 
 impl Reader {
-    /// Makes the scenario once all lines were read. `said` has the number of each line that was not skipped, and the scenario's
+    /// Makes the scenario after all lines are read. `said` has the number of each line that was not skipped, and the scenario's
     /// lines are the last of these.
     fn into_scenario(self, said: &mut Vec<u16>) -> Result<Scenario, AllocError>
         requires { length self.lines ≤ length said.old.items }
@@ -96,7 +96,7 @@ impl Reader {
         })
     }
 
-    /// The first line: `bakery 1` or `bakery 2`.
+    /// Reads the first line: `bakery 1` or `bakery 2`.
     #[tactic(auto, unfolding(crate::specs::Reading::first_read))]
     fn new(alloc: Global, word: &[u8], words: &[&[u8]]) -> Result<Reader, FaultKind>
         ensures { Makes result (first_read word.now (texts words.now)) }
@@ -107,7 +107,11 @@ impl Reader {
         Reader::at_version(alloc, words[0])
     }
 
-    /// The file is of the version that this word names, and nothing more was read.
+    /// Creates the reader of a file of the version that this word names, before any other line.
+    ///
+    /// # Errors
+    ///
+    /// Returns [`FaultKind::NotFirst`] if the word names no version.
     pub fn at_version(alloc: Global, word: &[u8]) -> Result<Reader, FaultKind>
         ensures { Makes result (at_version word.now) }
     {
@@ -123,7 +127,7 @@ impl Reader {
         })
     }
 
-    /// The setup so far.
+    /// Returns the setup so far.
     pub fn setup(&self) -> &Setup
         ensures value { result.now ≡ self.now.setup }
         ensures good { checked result.now ≡ Ok tt }
@@ -131,7 +135,7 @@ impl Reader {
         &self.setup
     }
 
-    /// A later line, by what its first word means.
+    /// Reads a later line, by the meaning of its first word.
     fn opened(&mut self, opener: Opener, words: &[&[u8]]) -> Result<(), FaultKind>
         ensures { Takes result (opened_read opener (texts words.now) self.old) self.new }
     {
@@ -143,7 +147,15 @@ impl Reader {
         }
     }
 
-    /// A heading and its number.
+    /// Reads a heading and its number.
+    ///
+    /// # Errors
+    ///
+    /// Returns the first fault that applies, in this order:
+    /// - `NotFirst` if the heading was given before, or follows a line of another kind
+    /// - `Words` unless there is one word
+    /// - `Number` if the word is not a number up to 255
+    /// - `BadSetup` if the number is out of the range of the heading
     #[tactic(auto, unfolding(crate::specs::Reading::heading_read))]
     pub fn heading(&mut self, heading: Heading, words: &[&[u8]]) -> Result<(), FaultKind>
         ensures { Takes result (heading_read heading (texts words.now) self.old) self.new }
@@ -173,7 +185,16 @@ impl Reader {
         heading.set(&mut self.setup, n);
     }
 
-    /// `open NAME VALUE`.
+    /// Reads `open NAME VALUE`.
+    ///
+    /// # Errors
+    ///
+    /// Returns the first fault that applies, in this order:
+    /// - `Unknown` in version 1
+    /// - `NotFirst` after a line other than a heading or an opening pair
+    /// - `Words` unless there are two words
+    /// - `BadName` or `BadValue` if a word is not a name or a value
+    /// - `BadSetup` if the setup has no slot left, or has the name already
     #[tactic(auto, unfolding(crate::specs::Reading::open_read))]
     pub fn open(&mut self, words: &[&[u8]]) -> Result<(), FaultKind>
         ensures { Takes result (open_read (texts words.now) self.old) self.new }
@@ -205,7 +226,7 @@ impl Reader {
         }
     }
 
-    /// A line of any other kind.
+    /// Reads a line of any other kind.
     #[tactic(auto, unfolding(crate::specs::Reading::other_read))]
     fn other(&mut self, name: LineWord, words: &[&[u8]]) -> Result<(), FaultKind>
         ensures { Takes result (other_read name (texts words.now) self.old) self.new }
@@ -214,7 +235,7 @@ impl Reader {
         self.keep(statements::line(self.setup.version, name, words)?)
     }
 
-    /// Keeps a line, if there are not 4,000.
+    /// Keeps a line, unless there are 4,000 already.
     #[tactic(auto, using(crate::proofs::Good::all_with_line))]
     fn keep(&mut self, line: Line) -> Result<(), FaultKind>
         requires { is_line_of self.old.setup.version line ≡ true }

@@ -8,12 +8,12 @@ ghost use Rattle.scenario.specs.Statements.{is_line_of};
 use crate::lines::Line;
 use plain_store::Setup;
 
-/// What a scenario file says: how the world is set up, and the lines behind the headings and opening pairs.
+/// The value of a scenario file: the setup of the world, and the lines after the headings and opening pairs.
 /// The setup is good, there are at most 4,000 lines, and the setup's version has each of them: no `Step` or
 /// `Wander` is above 100,000, and only version 2 has `Ask`.
 ///
-/// Each line has the number of its line in the file that was read. Two scenarios are equal if their setups and lines are, and then
-/// [`print_scenario`](crate::print_scenario) writes the same text for them: neither depends on the numbers.
+/// Each line has the number of its line in the file that was read. Two scenarios are equal if their setups and lines are equal;
+/// then [`print_scenario`](crate::print_scenario) writes the same text for them: neither depends on the numbers.
 #[derive(Drop)]
 pub struct Scenario {
     pub setup: Setup,

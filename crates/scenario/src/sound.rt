@@ -1,4 +1,4 @@
-//! What the types of lines say of their operands. Each function has nothing to do but to name the parts.
+//! Facts about the operands of lines that their types give. Each function only names the parts.
 ghost use Rattle.std.specs.Prelude.{◌≡◌, ◌^◌, true, nat_lt};
 ghost use Rattle.scenario.specs.Scripts.{is_line, is_flick};
 

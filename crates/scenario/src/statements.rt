@@ -1,4 +1,4 @@
-//! What the words of a line say.
+//! The meaning of the words of a line.
 ghost use Rattle.std.specs.Prelude.{◌≡◌, ◌<◌, ℕ, true, length, IfOk};
 ghost use Rattle.files.specs.{texts};
 ghost use Rattle.scenario.specs.Statements.{is_line_of, is_verb_of, verb_in, operand_count, verb_at, command_of, call_of, step_of, go_of, process_of, flick_of, wander_of, show_of, line_of};
@@ -11,7 +11,7 @@ use flicks::Flick;
 use plain_store::Command;
 
 impl Verb {
-    /// How many words follow the key word of a call.
+    /// Returns the number of words that follow the key word of a call.
     pub fn operands(self) -> usize
         ensures { result ≡ operand_count self }
     {
@@ -24,7 +24,7 @@ impl Verb {
     }
 }
 
-/// The key word of a call: `ask` is in the table of version 2 only.
+/// Returns the key word of a call: `ask` is in the table of version 2 only.
 fn verb(version: u8, word: &[u8]) -> Result<Verb, FaultKind>
     ensures value { result ≡ verb_at version word.now }
     ensures allowed { IfOk result (λ verb. is_verb_of version verb ≡ true) }
@@ -36,7 +36,12 @@ fn verb(version: u8, word: &[u8]) -> Result<Verb, FaultKind>
     }
 }
 
-/// What a line that is no heading and opens no pair says, by its first word and the words behind it.
+/// Returns a line other than a heading or an opening pair, by its first word and the words after it.
+///
+/// # Errors
+///
+/// Returns the first fault that applies, in this order: an unknown key word, a wrong number of words, and the faults of
+/// the operands from left to right.
 pub fn line(version: u8, name: LineWord, words: &[&[u8]]) -> Result<Line, FaultKind>
     ensures value { result ≡ line_of version name (texts words.now) }
     ensures allowed { IfOk result (λ line. is_line_of version line ≡ true) }
@@ -54,7 +59,11 @@ pub fn line(version: u8, name: LineWord, words: &[&[u8]]) -> Result<Line, FaultK
     }
 }
 
-/// The command of a call, by the words behind its key word, as many as it takes.
+/// Returns the command of a call, by the words after its key word, exactly as many as it takes.
+///
+/// # Errors
+///
+/// Returns the first fault of the operands, from left to right.
 #[tactic(auto, unfolding(crate::specs::Statements::command_of))]
 pub fn command(verb: Verb, words: &[&[u8]]) -> Result<Command, FaultKind>
     requires { length words.now ≡ operand_count verb }

@@ -12,19 +12,19 @@ use std::alloc::{AllocError, Global};
 use std::marker::Model;
 use std::simd::prelude::*;
 
-/// How many bytes are asked of a source at once.
+/// The number of bytes that a source is asked for at once.
 const BLOCK: usize = 8192;
 
-/// How many bytes are searched at once for the end of a line: most lines of a record have fewer.
+/// The number of bytes that are searched at once for the end of a line: most lines of a record have fewer.
 const NEAR: usize = 32;
 
-/// Bytes that a source gave and that no line has taken, and whether it has told its end. Contracts see their list.
+/// Bytes that a source gave and that no line has taken, and whether it has reported its end. Contracts see their list.
 #[derive(Drop)]
 pub(crate) struct Ahead {
     block: Vec<u8>,
     at: usize,
     ended: bool,
-    /// Where the line that was found last begins and ends, unless a block came since.
+    /// The start and the end of the line that was found last, unless a block came since.
     begin: usize,
     end: usize,
 }
@@ -41,7 +41,7 @@ impl Model for Ahead {
 }
 
 impl Ahead {
-    /// None yet.
+    /// Creates an `Ahead` without bytes.
     pub fn new(alloc: Global) -> Ahead
         ensures bytes { result.given.bytes ≡ [] }
         ensures ended { result.given.ended ≡ false }
@@ -55,8 +55,12 @@ impl Ahead {
         }
     }
 
-    /// Asks the source for a block, where all bytes are taken; `false` if it has none. A source that has told its end is
-    /// not asked again.
+    /// Asks the source for a block if all bytes are taken. Returns `false` if it has none. A source that has reported its end
+    /// is not asked again.
+    ///
+    /// # Errors
+    ///
+    /// Returns [`Fault::Read`] if the call of the source fails, or [`Fault::Memory`] if memory runs out.
     #[inline(always)]
     pub fn fill<R: Source>(&mut self, input: &mut R) -> Result<bool, Fault>
         requires { R.failures input.old < 2 ^ 64 - 1 }
@@ -96,7 +100,7 @@ impl Ahead {
         }
     }
 
-    /// Finds the first line of the bytes that wait, if its end is among them: it stays where it is. Else nothing is changed.
+    /// Finds the first line of the waiting bytes, if its end is among them. It stays in place. Otherwise nothing is changed.
     #[inline(always)]
     pub fn find_line(&mut self) -> bool
         ensures found { result ≡ true → FindsLine self.old self.new }
@@ -116,7 +120,7 @@ impl Ahead {
         }
     }
 
-    /// The line that was found last.
+    /// Returns the line that was found last.
     #[inline(always)]
     pub fn line(&self) -> &[u8]
         ensures { result.now ≡ self.now.line }
@@ -124,8 +128,12 @@ impl Ahead {
         &self.block[self.begin..self.end]
     }
 
-    /// Moves the bytes before the first 0x0A behind those of a line, and drops it; or all, where there is none, and
-    /// answers `false`.
+    /// Moves the bytes before the first 0x0A to the end of a line, and drops the 0x0A. Without a 0x0A it moves all bytes and
+    /// returns `false`.
+    ///
+    /// # Errors
+    ///
+    /// Returns [`AllocError`] if memory runs out.
     #[inline(always)]
     pub fn move_to(&mut self, line: &mut Vec<u8>) -> Result<bool, AllocError>
         ensures ended { MovesToEnd result self.old.given self.new.given line.old line.new }
@@ -148,7 +156,7 @@ impl Ahead {
     }
 }
 
-/// How many bytes stand before the first 0x0A, if there is one.
+/// Returns the number of bytes before the first 0x0A, if there is one.
 #[inline(always)]
 #[tactic(auto, using(crate::proofs::LineEnds::place_is))]
 fn place_of_end(bytes: &[u8]) -> Option<usize>
@@ -164,7 +172,7 @@ fn place_of_end(bytes: &[u8]) -> Option<usize>
     memchr(b'\n', bytes)
 }
 
-/// How many bytes stand before the first 0x0A, if it is near; else more than those that are near.
+/// Returns the number of bytes before the first 0x0A, if it is near; otherwise a number greater than [`NEAR`].
 #[inline(always)]
 fn count_before_end(bytes: &[u8]) -> usize
     requires { 32 ≤ length bytes.now }
@@ -174,7 +182,7 @@ fn count_before_end(bytes: &[u8]) -> usize
     ends.to_bitmask().trailing_zeros() as usize
 }
 
-/// How many bytes a line has without a 0x0D at its end.
+/// Returns the number of bytes of a line without a 0x0D at its end.
 #[inline(always)]
 #[tactic(auto, using(crate::proofs::Returns::with_return, crate::proofs::Returns::all_kept))]
 fn count_inner(line: &[u8]) -> usize

@@ -2,7 +2,7 @@ use Rattle.std.proofs.Common.{◌≡◌, ◌+◌, ◌≤◌, ◌++◌, length, N
 use Rattle.files.specs.{lines, lines_read, said_numbers}
 use Rattle.files.proofs.reading.read_file.Given as goal
 
--- reading what is left goes on to what reading all gives
+-- reading the remaining lines gives the result of reading all lines
 abbrev pub invariant-loop-line : goal.invariant-loop-line
 invariant-loop-line g l = record {
   read : lines_read g.T.FromLines.grammar (l.number + 1) l.line-iterator l.read ≡ lines_read g.T.FromLines.grammar 1 (lines l.fn.text) None;

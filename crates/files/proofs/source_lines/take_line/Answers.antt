@@ -55,7 +55,7 @@ returns-then-not-branch g c =
       failures = omega (arith, c.in_ok-fill.ensures.failures, inv.whole);
     }
 
--- and so does a 0x0A
+-- a 0x0A ends the line
 pub returns-then-branch : goal.returns-then-branch
 returns-then-branch g c =
     let inv = c.parts.invariant in
@@ -76,7 +76,7 @@ returns-then-branch g c =
       failures = omega (arith, c.in_ok-fill.ensures.failures, inv.whole);
     }
 
--- and more bytes than a line may have begin one that is too long
+-- more bytes than a line may have begin a line that is too long
 pub returns : goal.returns
 returns g c =
     let inv = c.parts.invariant in
@@ -94,7 +94,7 @@ returns g c =
       failures = omega (arith, inv.whole);
     }
 
--- a call fails, or memory is wanting
+-- a call fails, or memory runs out
 pub returns-in_err-fill : goal.returns-in_err-fill
 returns-in_err-fill g c =
     let inv = c.parts.invariant in

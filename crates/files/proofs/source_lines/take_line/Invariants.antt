@@ -4,8 +4,8 @@ use Rattle.std.specs.List.{list_all}
 use Rattle.files.specs.{KeepsEnd, coming, is_inner}
 use Rattle.files.proofs.source_lines.take_line.Given as goal
 
--- the bytes so far came from the front, there is no 0x0A among them, a source that has told its end is at it and was left
--- alone, and no call has failed
+-- The bytes so far came from the front, there is no 0x0A among them, and no call has failed. A source that has reported its
+-- end is at it and was not asked again.
 abbrev pub invariant-parts : goal.invariant-parts
 invariant-parts g l = record {
   front : Consumes (coming l.fn.ahead.given (g.R.Source.to_come l.fn.input)) (coming l.ahead.given (g.R.Source.to_come l.input)) l.line.items;

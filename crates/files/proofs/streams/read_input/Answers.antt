@@ -38,7 +38,7 @@ loop-input-preserved g c =
       whole = omega (arith, c.in-Ok-Some.ensures.failures, l.invariant.whole);
     }
 
--- one for which there is no memory
+-- one byte for which there is no memory
 pub returns-then-is_err : goal.returns-then-is_err
 returns-then-is_err g c =
     let to_come = g.R.Source.to_come in
@@ -51,7 +51,7 @@ returns-then-is_err g c =
       failures = omega (arith, c.in-Ok-Some.ensures.failures, l.invariant.whole);
     }
 
--- none, at the end
+-- no byte, at the end
 pub returns-in-Ok-None : goal.returns-in-Ok-None
 returns-in-Ok-None g c =
     let to_come = g.R.Source.to_come in
@@ -65,7 +65,7 @@ returns-in-Ok-None g c =
       failures = omega (arith, c.in-Ok-None.ensures.failures, l.invariant.whole);
     }
 
--- none, as the call failed
+-- no byte, because the call failed
 pub returns-in-Err : goal.returns-in-Err
 returns-in-Err g c =
     let to_come = g.R.Source.to_come in

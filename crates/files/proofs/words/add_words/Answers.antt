@@ -11,7 +11,7 @@ words-preserved-in_ok-push c =
     ∙ (ap (λ (l : List ℕ). texts (c.words.words.items ++ cut.result.0 ∷ []) ++ words_of l) cut.ensures.behind
     ∙ (one_more c.words.words.items cut.result.0 c.words.rest.now cut.ensures.before (ap not (sym c.if-not-is_empty.ensures)) ∙ c.words.invariant))
 
--- or none
+-- no word more
 pub words-preserved : goal.words-preserved
 words-preserved c =
     let cut = c.cut_at_blank in
@@ -19,7 +19,7 @@ words-preserved c =
     ap (λ (l : List ℕ). before ++ words_of l) cut.ensures.behind
     ∙ (ap (λ (ws : List (List ℕ)). before ++ ws) (none_more cut.result.0.now c.words.rest.now cut.ensures.before (ap not (sym c.if-not-is_empty.ensures))) ∙ c.words.invariant)
 
--- fewer bytes are left
+-- fewer bytes remain
 pub words-smaller-in_ok-push : goal.words-smaller-in_ok-push
 words-smaller-in_ok-push c = fewer_left c.words.rest.now c.cut_at_blank.result.1.now c.words-test.ensures c.cut_at_blank.ensures.behind
 

@@ -3,12 +3,12 @@ use Rattle.std.specs.Borrow.{Bor}
 use Rattle.record_file.specs.{marks_read, parts_behind}
 use Rattle.record_file.proofs.entries.marks.Given as goal
 
--- how many words are left behind the sign, and one more for the sign
+-- the number of words after the sign, and one more for the sign
 abbrev pub words_left : {A : Type 0} → Option (Bor (List A)) → ℕ
 words_left None = 0
 words_left (Some words) = 1 + length words.now
 
--- reading the marks that are left gives what reading all gives
+-- reading the remaining marks gives the result of reading all marks
 abbrev pub invariant-marks : goal.invariant-marks
 invariant-marks l = record {
   read : marks_read l.number (parts_behind l.left) l.marks ≡ marks_read 0 (parts_behind l.signed) (Ok []);

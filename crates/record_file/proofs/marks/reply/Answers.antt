@@ -12,7 +12,7 @@ use Rattle.record_file.proofs.marks.reply.Goals as goal
 by_name : {n m : ReplyWord} (words : List (List ℕ)) → n ≡ m → reply_of m words ≡ reply_of n words
 by_name words is = ap (λ n. reply_of n words) (sym is)
 
--- one with a word has it, and where that stands
+-- a reply that takes one word has this word
 one_word : (n m : ReplyWord) (words : List (Bor (List ℕ))) → n ≡ m → length words ≡ reply_count n → reply_count m ≡ 1 → 0 < length words
 one_word n m words is counts one = let few : reply_count n ≡ 1 = ap reply_count is ∙ one in omega (arith, counts, few)
 

@@ -5,7 +5,7 @@ use Rattle.files.specs.declared.faults.FaultKind.TheVariants.{Words}
 use Rattle.record_file.specs.Reading.{taken_of}
 use Rattle.record_file.proofs.marks.taken.Goals as goal
 
--- a place and the name of a reply are two words
+-- a position and the name of a reply are two words
 too_few : (words : List (Bor (List ℕ))) → length words < 2 → Err Words ≡ taken_of (texts words)
 unfolding taken_of
 too_few [] few = refl

@@ -4,7 +4,7 @@ use Rattle.scenario.specs.{Script, scenario_of, scenario_text}
 use Rattle.scenario.proofs.Printout.{script_again}
 use Rattle.scenario.proofs.spelling.scenarios_of_one_text_are_equal.Goals as goal
 
--- both are what the text says
+-- both are the scenario of the text
 one_said : (r : Result Script LineFault) (s t : Script) → r ≡ Ok s → r ≡ Ok t → s ≡ t
 one_said r s t first second = cc
 

@@ -4,7 +4,7 @@ use Rattle.files.proofs.CallEnds.{counts_fault, no_value}
 use Rattle.files.proofs.FirstLines.{stops, tells_long}
 use Rattle.files.proofs.source_lines.Lines.next.Goals as goal
 
--- a call fails, or memory is wanting
+-- a call fails, or memory runs out
 pub returns-in_err-take : goal.returns-in_err-take
 returns-in_err-take g c =
     let to_come = g.R.Source.to_come in
@@ -47,7 +47,7 @@ returns-then-not-branch g c =
       failures = c.in_ok-take.ensures.failures;
     }
 
--- or its number wants more than 64 bits
+-- the line's number is too great
 pub returns-then-self-ge-MOST_LINES : goal.returns-then-self-ge-MOST_LINES
 returns-then-self-ge-MOST_LINES g c = record {
   next = tt;

@@ -12,7 +12,7 @@ returns-in-None g c =
       failures = c.in_ok-next_byte.ensures.failures;
     }
 
--- one comes
+-- one byte comes
 pub returns-in-Some : goal.returns-in-Some
 returns-in-Some g c =
     let to_come = g.Self.Source.to_come in

@@ -22,7 +22,7 @@ returns-then-self-len g c =
       failures = omega arith;
     }
 
--- the source has told its end before
+-- the source has reported its end before
 pub returns-then-self : goal.returns-then-self
 returns-then-self g c =
     let i = c.self.inside in
@@ -40,7 +40,7 @@ returns-then-self g c =
       failures = omega arith;
     }
 
--- it tells it now
+-- the source reports its end now
 pub returns-in-Ok-eq0 : goal.returns-in-Ok-eq0
 returns-in-Ok-eq0 g c =
     let i = c.self.inside in
@@ -63,7 +63,7 @@ returns-in-Ok-eq0 g c =
       failures = c.in-Ok-eq0.ensures.failures;
     }
 
--- a block came, for which there may be no memory
+-- a block came, and memory may run out
 pub returns-after-extend_from_slice : goal.returns-after-extend_from_slice
 returns-after-extend_from_slice g c =
     let i = c.self.inside in
@@ -103,7 +103,7 @@ returns-after-extend_from_slice g c =
       })
     ]
 
--- or the call fails
+-- the call fails
 pub returns-in-Err : goal.returns-in-Err
 returns-in-Err g c =
     let open_yet : c.args.self.now.given.ended ≡ false = subst (λ (a : Held). a.given.ended ≡ false) c.self.view_is c.if-self.false in

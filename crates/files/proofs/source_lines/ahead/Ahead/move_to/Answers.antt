@@ -21,7 +21,7 @@ returns-in_ok-extend_from_slice-in-Some c =
       source = subst (λ (a : Held). i.ended ≡ a.given.ended) c.self.view_is refl;
     }
 
--- or all bytes that waited
+-- all bytes that waited were moved
 pub returns-in_ok-extend_from_slice-in-None : goal.returns-in_ok-extend_from_slice-in-None
 returns-in_ok-extend_from_slice-in-None c =
     let i = c.self.inside in
@@ -36,7 +36,7 @@ returns-in_ok-extend_from_slice-in-None c =
       source = subst (λ (a : Held). i.ended ≡ a.given.ended) c.self.view_is refl;
     }
 
--- there is no memory for them
+-- there is no memory for the bytes
 pub returns-in_err-extend_from_slice-in-Some : goal.returns-in_err-extend_from_slice-in-Some
 returns-in_err-extend_from_slice-in-Some c =
     let error = c.in_err-extend_from_slice-in-Some.field-0.0 in
