@@ -1,4 +1,4 @@
--- What comes after a part, by what is kept of it.
+-- The part after a part, computed from the stored values.
 use Rattle.std.proofs.Common.{◌≡◌, ◌≢◌, ℕ, suc, ◌+◌, ◌-◌, ◌^◌, ◌<◌, ◌≤◌, ◌==◌, Bool, true, false, List, [], ◌∷◌, flat_map, length, take, None, Some, sym, ap, ◌∙◌, subst, arith}
 use Rattle.std.proofs.Math.Pow.{pow_mono}
 use Rattle.std.proofs.lemmas.Bool.{eq-eqb, ne_eqb}
@@ -17,7 +17,7 @@ use Rattle.process.proofs.OthersFrom.{below-some, listed, other-at, others-from}
 pub most-some : (w : ℕ) → 1 ≤ w → 0 < max_of w
 most-some w some = let least : 2 ^ 1 ≤ 2 ^ w = pow_mono {i = 1} {j = w} some in omega arith
 
--- C: one more than the greatest ticket
+-- C: the ticket is one more than the greatest one, if it fits
 pub chosen-full : (c : Call) (ts : List ℕ) → IsCall c → length ts + 1 ≡ c.setup.processes → greatest ts ≡ max_of c.setup.ticket_bits → index_of (greatest ts) ts + 1 < c.setup.processes
 chosen-full c ts is all full = by ts all full
   where
@@ -33,7 +33,7 @@ refuses c ts is all full =
 pub takes : (c : Call) (ts : List ℕ) → greatest ts ≢ max_of c.setup.ticket_bits → TakesTicket (greatest ts + 1) ≡ to_c c ts
 takes c ts low = sym (ap (λ b. elim b as (λ _. Part) [ true ↦ Refuses (first_full c ts) | false ↦ TakesTicket (greatest ts + 1) ]) (ne_eqb (greatest ts) (max_of c.setup.ticket_bits) low))
 
--- B: the ticket of the first of the others, or of none
+-- B: the ticket of the first of the others, if there is one
 pub asks-some : (c : Call) (seen : Seen) (first j : ℕ) → first ≤ c.setup.processes → first_other c.setup.processes c.process first ≡ Some j → part_at c seen (at.Asks j) ≡ to_b c (others_of c first) (tickets_seen c.process first seen)
 asks-some c seen first j within is =
     ap (λ k. Asks j (others_of c (j + 1)) (take k seen.numbers)) (below-some c.setup.processes c.process first j is).2
@@ -49,13 +49,13 @@ whole n = omega arith
 pub all-all : (c : Call) → all_from c 0 ≡ processes c.setup
 all-all c = ap (range_with_len 0) (whole c.setup.processes)
 
--- E: the version of this process, or of none
+-- E: the version of this process, if it exists
 pub version-some : (c : Call) (seen : Seen) (first : ℕ) → first < c.setup.processes → part_at c seen (at.AsksCommit first) ≡ to_e (all_from c first) (versions_seen first seen)
 version-some c seen first inside =
     let more : c.setup.processes - first ≡ suc (c.setup.processes - (first + 1)) = omega arith in
     sym (ap (λ n. to_e (range_with_len first n) (versions_seen first seen)) more)
 
--- D: the wait for the first of the others, or for none
+-- D: the wait for the first of the others, if there is one
 pub awaits-some : (c : Call) (seen : Seen) (t first j : ℕ) → first ≤ c.setup.processes → first_other c.setup.processes c.process first ≡ Some j → part_at c seen (at.AwaitsChoosing t j) ≡ to_d c t (waits_from c first)
 awaits-some c seen t first j within is =
     sym (ap (λ js. to_d c t (flat_map (λ k. (let w : Wait = (k, Choosing) in w) ∷ (k, Ticket) ∷ []) js)) (others-from c.setup.processes c.process first within ∙ ap (listed c.setup.processes c.process) is))
@@ -65,7 +65,7 @@ awaits-none c seen t first within is =
     ap (λ ks. to_e ks []) (all-all c)
     ∙ sym (ap (λ js. to_d c t (flat_map (λ k. (let w : Wait = (k, Choosing) in w) ∷ (k, Ticket) ∷ []) js)) (others-from c.setup.processes c.process first within ∙ ap (listed c.setup.processes c.process) is))
 
--- the part after one that is known, and what holds there
+-- the part after a given one, and its invariant
 abbrev pub part-then : Call → Seen → List Bool → ProcessPart → Part
 part-then c seen bits part = part_after c (part_at c seen part) bits
 

@@ -1,4 +1,4 @@
--- A withdrawal, and the memory unit's writes, go on by their cursor.
+-- A withdrawal and the memory unit's writes advance by their cursor.
 use Rattle.std.proofs.Common.{◌≡◌, ◌==◌, ◌&&◌, Bool, false, cond, List, [], ◌∷◌, refl, sym, ap, ◌∙◌, subst, arith}
 use Rattle.plain_store.specs.declared.Answer.TheVariants.{Withdrawn}
 use Rattle.record.specs.{Closing, Field, Mark, no_ticket, width, write_moved}
@@ -12,7 +12,7 @@ use Rattle.registers.proofs.ClosingMoves.{ends, unwritten}
 use Rattle.process.specs.declared.work.ProcessWork.TheVariants as work
 use Rattle.process.specs.{HasMoved, IsCall, KeepsPlace, PartState, ProcessState, marks_on, state_at, stepped, with_doing}
 
--- what is done then
+-- the work after the access
 abbrev pub then_closes : PartState → Closing → ProcessState
 then_closes k at = with_doing k (closes k.call.command k.call.number at)
 
@@ -33,7 +33,7 @@ clears-choosing k is = record {
   working = record { run = refl; at = refl; reader = refl; copies = refl; wide = refl; bits = refl; copy = omega (arith, is.process); going = omega arith };
 }
 
--- WHAT A WRITE LEADS TO
+-- THE OUTCOME OF A WRITE
 
 -- the write after its next access
 abbrev then_written : PartState → Field × List Bool → CursorState → NumberWrite

@@ -16,7 +16,7 @@ use Rattle.registers.specs.declared.cursor.NumberRun.TheVariants.{Writes}
 use Rattle.process.specs.{IsOfCommit, KeepsPlace, PartState, ProcessState, ProcessWork, SettlesAt, doing_at, failed, is_torn_at, reply_taken, settling_at, state_at, taken_at, torn_of, with_doing}
 use Rattle.process.specs.declared.work.ProcessWork.TheVariants as work
 
--- the process has failed, and this is done
+-- the process has failed, and its unit does this work
 abbrev then_closes : PartState → Closing → ProcessState
 then_closes k at = with_doing k (Closes k.call.command k.call.number at)
 
@@ -31,7 +31,7 @@ torn-if made bit v true some =
     ∙ ap (λ none. numbers.torn_with bit (cond (none || false) None (Some (torn_now made)))) some
 torn-if made bit v false none = ap (λ none. numbers.torn_run bit (cond none None (Some (record { value = v; made = made; ended = false })))) none
 
--- it has begun on a copy, or ended on one
+-- the write of the bit has begun on a copy, or ended on one
 made-none : (copy : ℕ) (begun : Bool) → (2 * copy + cond begun 1 0 == 0) ≡ not (not (copy == 0) || begun)
 made-none copy true = ne_eqb (2 * copy + 1) 0 (omega arith) ∙ by (copy == 0)
   where
@@ -52,7 +52,7 @@ torn-write field cur torn run is =
     by true = refl
     by false = refl
 
--- WHERE THERE IS ONE
+-- THE CASE OF A TORN BIT
 
 torn-closing : (k : PartState) (written : Field × List Bool) (pending : Option Change) (inside : Bool) (taken : Option Reply) (cur : CursorState) → WritesAt k.call.setup k.call.process written cur → is_torn cur ≡ true → taken ≡ taken_with written.0 pending →
     settling_at (settling cur).run inside taken (settling cur) ≡ cut k.call (torn_in written.0 (write_kept cur)) (get_or written.1 cur.bit false) pending inside
@@ -60,7 +60,7 @@ torn-closing k written pending inside taken cur at torn takes =
     (λ i. closing.Settles (at.at i).field cur.bit (get_or (at.bits i) cur.bit false) (takes i) inside (torn_now (made_of_bit cur)))
     ∙ sym (ap (λ t. cut k.call t (get_or written.1 cur.bit false) pending inside) (torn-write written.0 cur true at.run torn))
 
--- a part that reads tears none
+-- a part that reads tears no bit
 torn-writes : (k : PartState) (cur : CursorState) → KeepsPlace k work.Runs cur → is_torn cur ≡ true → (is_read k.part ≡ false) × WritesAt k.call.setup k.call.process (written_at k.call k.part) cur
 torn-writes k cur keeps torn = by (is_read k.part) refl keeps.working.at
   where
@@ -112,7 +112,7 @@ of-commit s p written t cur at is =
     let bits : cur.bits ≡ t.0 ∷ [] = at.bits ∙ ap (λ (w : Field × List Bool). w.1) is in
     sym (λ i. get_or (bits i) (first i) false)
 
--- what a part writes is as wide as its register
+-- the value that a part writes is as wide as its register
 wide-written : (k : PartState) (cur : CursorState) → KeepsPlace k work.Runs cur → is_torn cur ≡ true → width k.call.setup (written_at k.call k.part).0 ≡ length (written_at k.call k.part).1
 wide-written k cur keeps torn = written-width k.call k.part (torn-writes k cur keeps torn).0 keeps.working.going
 
@@ -129,7 +129,7 @@ cut-keeps k (work.Settles i t) cur inside taken keeps torn commit = absurd (cc)
 cut-keeps k (work.Frees i) cur inside taken keeps torn commit = absurd (cc)
 cut-keeps k work.Lowers cur inside taken keeps torn commit = absurd (cc)
 
--- WHAT A FAILURE WOULD FIND
+-- THE STATE AT A FAILURE
 
 torn-in-is : (s : Setup) (p : ℕ) (written : Field × List Bool) (cur : CursorState) → WritesAt s p written cur → torn_in written.0 (write_kept cur) ≡ torn_bit cur
 torn-in-is s p written cur at =

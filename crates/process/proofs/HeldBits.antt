@@ -1,4 +1,4 @@
--- What the registers hold, off a memory of the setup.
+-- The values of the registers, read from a memory of the setup.
 use Rattle.std.proofs.Common.{◌≡◌, ◌<◌, ◌==◌, ℕ, Bool, true, false, List, [], ◌∷◌, get_or, length, refl, ◌∙◌, arith}
 use Rattle.std.proofs.lemmas.List.{length-map}
 use Rattle.registers.specs.safe_bit.Cell.{Cell}

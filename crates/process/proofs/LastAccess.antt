@@ -1,4 +1,4 @@
--- The access that a call made last is the last one of its cursor; once it has made its next access, that is the last one.
+-- The access that a call made last is the last one of its cursor. After its next access, this is the last one.
 use Rattle.std.proofs.Common.{◌≡◌, ◌≢◌, ℕ, ◌+◌, ◌-◌, ◌*◌, ◌/◌, ◌%◌, ◌==◌, Bool, true, false, cond, not, List, [], ◌∷◌, ◌++◌, get_or, length, Option, None, Some, option_map, refl, sym, ap, ◌∙◌, arith, eqb-true, inl, inr}
 use Rattle.std.proofs.lemmas.Bool.{cases_eq, eq-eqb, ne_eqb}
 use Rattle.std.proofs.lemmas.List.{get_or_push, length_push}
@@ -13,7 +13,7 @@ use Rattle.process.specs.{last_of_read, last_of_run, last_of_write}
 
 -- AFTER THE NEXT ACCESS
 
--- of a read
+-- the case of a read
 read-goes : (owner : ℕ) (field : Field) (reader : ℕ) (bits : List Bool) (begun v : Bool) →
     option_map (access_of owner field) (last_of_read reader (cond begun (bits ++ v ∷ []) bits) (cond begun false true)) ≡ Some (ended_with v (access_of owner field (Rattle.record.specs.Places.next_read reader bits begun)))
 read-goes owner field reader bits false v = refl
@@ -29,7 +29,7 @@ ended-write : (v value b : Bool) → ended v (cond b (BeginWrite value) EndWrite
 ended-write v value true = refl
 ended-write v value false = refl
 
--- of a write, by whether the access is the last one of its bit
+-- the case of a write, by whether the access is the last one of its bit
 write-by : (n width bit : ℕ) (now : copies.Writing) (e : Bool) → (now.made + 1 == 2 * n) ≡ e →
     last_of_write n (write_on (record { width = width; bit = bit; run = None }) (record { value = now.value; made = now.made + 1; ended = e })) ≡ Some (bit, next_write now)
 write-by n width bit now true last =
@@ -56,7 +56,7 @@ last-goes c part (Writing w) v = write-goes c.process (written_at c part).0 c.se
 
 -- BY THE CURSOR
 
--- of a read
+-- the case of a read
 abbrev read_shape : (owner : ℕ) → Field → (bit reader : ℕ) → (begun : Bool) → List Bool → Option Access
 read_shape owner field bit reader begun bits = cond begun
     (Some (record { owner = owner; field = field; bit = bit; reader = reader; how = BeginRead }))
@@ -78,7 +78,7 @@ read-shown c part cur at =
     (λ i. read_shape (at.at i).owner (at.at i).field (sym at.bits i) (reader i) cur.begun cur.bits)
     ∙ read-shaped (read_at c part).0 (read_at c part).1 c.process cur.bits cur.begun (length cur.bits == 0) refl
 
--- of a write: what is made of the present bit, by how many accesses that is
+-- the case of a write: the progress of the present bit, by the number of accesses made
 some-made : (n width bit made : ℕ) (value : Bool) → made ≢ 0 →
     last_of_write n (record { width = width; bit = bit; run = bit_begun made value }) ≡ (let x : ℕ × Made = (bit, next_write (record { value = value; made = made - 1; ended = false })) in Some x)
 some-made n width bit made value some = ap (λ b. last_of_write n (record { width = width; bit = bit; run = cond b None (Some (record { value = value; made = made; ended = false })) })) (ne_eqb made 0 some)
@@ -87,7 +87,7 @@ none-made : (n width bit made : ℕ) (value : Bool) → made ≡ 0 →
     last_of_write n (record { width = width; bit = bit; run = bit_begun made value }) ≡ cond (bit == 0) None (let x : ℕ × Made = (bit - 1, record { reader = n - 1; how = EndWrite }) in Some x)
 none-made n width bit made value none = ap (λ b. last_of_write n (record { width = width; bit = bit; run = cond b None (Some (record { value = value; made = made; ended = false })) })) (eq-eqb made 0 none)
 
--- the same as an access
+-- this move as an access
 abbrev written_shape : ℕ → Field → Option (ℕ × Made) → Option Access
 written_shape owner field o = option_map (access_of owner field) o
 

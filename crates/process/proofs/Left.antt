@@ -1,4 +1,4 @@
--- The accesses that are left within a number access: each has no mark, leaves one fewer, and leaves the stage.
+-- The accesses that are left within a register access: each has no mark, leaves one fewer, and keeps the stage.
 use Rattle.std.proofs.Common.{◌≡◌, ℕ, zero, suc, ◌+◌, ◌-◌, ◌*◌, ◌<◌, ◌==◌, ◌&&◌, Bool, true, false, cond, List, [], ◌∷◌, ◌++◌, length, Option, None, Some, refl, sym, ap, ◌∙◌, arith}
 use Rattle.std.proofs.Math.Nat.{mul-suc}
 use Rattle.std.proofs.lemmas.Bool.{ne_eqb, eqb-true}
@@ -12,7 +12,7 @@ use Rattle.record.specs.Parts.{Part, Raises, Asks, TakesTicket, Lowers, Refuses,
 use Rattle.laws.specs.{Closes, Doing, Lies, Rests, Runs, call, does_then, marks_with, runs}
 use Rattle.process.specs.{ProcessState, is_told, left_at, left_of, marks_on, rest_of, stage_doing, stepped}
 
--- WITHIN A NUMBER ACCESS
+-- WITHIN A REGISTER ACCESS
 
 -- the next access is not the last one, and leaves one fewer
 pub record Within (c : Call) (part : Part) (run : Run) (v : Bool) : Type 0 where
@@ -32,7 +32,7 @@ read-within c part bits true v more =
       goes = ne_eqb (length (bits ++ v ∷ [])) 0 (omega (arith, long));
     }
 
--- how much a write has made of its present bit
+-- the number of accesses that a write has made of its present bit
 abbrev made_of : NumberWrite → ℕ
 made_of w = elim w.run as (λ _. ℕ) [ None ↦ 0 | Some bit ↦ bit.made ]
 
@@ -49,12 +49,12 @@ one-left n (suc d) more = omega arith
 one-fewer : (n width bit : ℕ) → bit < width → n * (width - bit) ≡ n * (width - (bit + 1)) + n
 one-fewer n width bit inside = let e : width - bit ≡ suc (width - (bit + 1)) = omega (arith, inside) in ap (λ d. n * d) e ∙ mul-suc n (width - (bit + 1))
 
--- what the write is after its next access, by whether that is the bit's last
+-- the write after its next access, by whether that is the last one of the bit
 abbrev goes_to : NumberWrite → copies.Writing → Bool → NumberWrite
 goes_to w bit ends = write_on w (record { value = bit.value; made = bit.made + 1; ended = ends })
 
 module _ (c : Call) (part : Part) (w : NumberWrite) (v : Bool) where
-  -- so many copies, and so many bits are left
+  -- the numbers of copies and of bits that are left
   abbrev n : ℕ
   n = c.setup.processes
 
@@ -64,7 +64,7 @@ module _ (c : Call) (part : Part) (w : NumberWrite) (v : Bool) where
   abbrev now : copies.Writing
   now = bit_written (written_at c part).1 w
 
-  -- the number access after it
+  -- the register access after its next access
   abbrev then_rest : NumberWrite → ℕ
   then_rest next = 2 * (n * (next.width - next.bit)) - made_of next
 
@@ -83,7 +83,7 @@ module _ (c : Call) (part : Part) (w : NumberWrite) (v : Bool) where
       none true = refl
       none false = refl
 
--- what is made, by how the write is told
+-- the progress, by the form of the write
 made-same : (bits : List Bool) (width bit : ℕ) (run : Option copies.Writing) → (bit_written bits (record { width = width; bit = bit; run = run })).made ≡ made_of (record { width = width; bit = bit; run = run })
 made-same bits width bit None = refl
 made-same bits width bit (Some x) = refl
@@ -99,9 +99,9 @@ pub within : (c : Call) (part : Part) (run : Run) (v : Bool) → 1 < rest_of c p
 within c part (Reading bits begun) v more = read-within c part bits begun v more
 within c part (Writing w) v more = write-within c part w v more
 
--- WHAT IS LEFT
+-- THE ACCESSES LEFT
 
--- where the first access of a part is not told, it has no mark
+-- the first access of a part that `is_told` rejects has no mark
 untold : (part : Part) → is_told part ≡ false → first_marks part ≡ []
 untold Raises none = refl
 untold (Asks j js ts) none = refl
@@ -118,7 +118,7 @@ untold (WritesCommit vs st) none = refl
 untold (Clears answer) none = absurd (cc)
 untold Over none = refl
 
--- where some are left, they are those before the last one, and the next one has no mark
+-- if some accesses are left, they are those before the last one, and the next one has no mark
 left-by : (fresh told : Bool) (marks : List Mark) (rest : ℕ) → (told ≡ false → marks ≡ []) → 0 < cond (fresh && told) 0 (rest - 1) →
     (1 < rest) × (cond fresh marks [] ≡ []) × (cond (fresh && told) 0 (rest - 1) ≡ rest - 1)
 left-by true true marks rest none more = absurd (omega (arith, more))
@@ -128,25 +128,25 @@ left-by false told marks rest none more = (omega (arith, more), refl, refl)
 pub left-some : (c : Call) (part : Part) (run : Run) → 0 < left_of c part run → (1 < rest_of c part run) × (cond (is_fresh run) (first_marks part) [] ≡ []) × (left_of c part run ≡ rest_of c part run - 1)
 left-some c part run more = left-by (is_fresh run) (is_told part) (first_marks part) (rest_of c part run) (untold part) more
 
--- a call of which some are left is not over
+-- a call with accesses left is not over
 pub live-by : (over : Bool) (left : ℕ) → 0 < cond over 0 left → (over ≡ false) × (0 < left)
 live-by true left more = absurd (omega (arith, more))
 live-by false left more = (refl, more)
 
--- the place after the next one is at the same part
+-- the position after the next access is at the same part
 pub left-place : (c : Call) (at : Place) (v : Bool) → 0 < left_of c at.part at.run → (let same : Place = record { part = at.part; run = run_after c at.part at.run v } in place_after c at v ≡ same)
 left-place c at v more =
     let same : Place = record { part = at.part; run = run_after c at.part at.run v } in
     ap (λ b. cond b (enter c (part_after c at.part (bits_with at.run v))) same) (within c at.part at.run v (left-some c at.part at.run more).0).last
 
--- what is done then
+-- the work after the next access
 pub left-runs : (s : Setup) (p : ℕ) (command : Command) (number : ℕ) (at : Place) (flick v : Bool) → is_over at.part ≡ false → 0 < left_of (call s p command number) at.part at.run →
     (let same : Place = record { part = at.part; run = run_after (call s p command number) at.part at.run v } in does_then s p (Runs command number at) flick v ≡ Runs command number same)
 left-runs s p command number at flick v going more =
     let same : Place = record { part = at.part; run = run_after (call s p command number) at.part at.run v } in
     ap (runs command number) (left-place (call s p command number) at v more) ∙ ap (λ b. cond b Rests (Runs command number same)) going
 
--- a process of this doing
+-- a process with this work
 abbrev does : ProcessState → Doing → ProcessState
 does now d = record now { doing = d }
 
@@ -185,13 +185,13 @@ fewer-by now (Runs command number at) flick v more =
     ∙ (let e : left_of c at.part next + 1 ≡ left_of c at.part at.run = omega (arith, then, left.0, left.2, w.fewer) in e)
     ∙ ap (λ b. cond b 0 (left_of c at.part at.run)) (sym live.0)
 
--- after each there is one fewer
+-- after each access one fewer is left
 pub left-fewer : (now : ProcessState) (flick v : Bool) → 0 < left_at now → left_at (stepped now flick v) + 1 ≡ left_at now
 left-fewer now flick v more = fewer-by now now.doing flick v more
 
 -- THE STAGE
 
--- what does not tell a process inside from one that leaves, does not tell how far a part has come
+-- a test that does not separate a process inside from one that leaves does not depend on the progress of a part
 stage-same : (f : Stage → Bool) → f stage.Inside ≡ f stage.Leaving → (part : Part) (a b : Bool) → f (stage_of part a) ≡ f (stage_of part b)
 stage-same f same Raises a b = refl
 stage-same f same (Asks j js ts) a b = refl
@@ -224,7 +224,7 @@ stays-by now (Runs command number at) flick v more =
       ap (λ d. is_queued (stage_doing d)) then ∙ stage-same is_queued refl at.part (is_fresh (run_after c at.part at.run v)) (is_fresh at.run),
     )
 
--- and it waits after it if it waited before, and is at the door if it was
+-- whether it waits, and whether it is in its doorway or waits, is the same after the access as before
 pub left-stays : (now : ProcessState) (flick v : Bool) → 0 < left_at now →
     (is_waiting_stage (stage_doing (stepped now flick v).doing) ≡ is_waiting_stage (stage_doing now.doing)) × (is_queued (stage_doing (stepped now flick v).doing) ≡ is_queued (stage_doing now.doing))
 left-stays now flick v more = stays-by now now.doing flick v more

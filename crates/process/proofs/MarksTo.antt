@@ -1,4 +1,4 @@
--- The marks on the last access of a part are told by the part that comes next.
+-- The part that comes next determines the marks on the last access of a part.
 use Rattle.std.proofs.Common.{◌≡◌, ℕ, Bool, true, false, cond, List, [], ◌∷◌, ◌==◌, refl, sym, ap, ◌∙◌}
 use Rattle.plain_store.specs.declared.Answer.TheVariants as answer
 use Rattle.plain_store.specs.{Contents, Reply, changes}

@@ -16,17 +16,17 @@ use Rattle.registers.specs.reader_copies.{cell_in}
 use Rattle.registers.proofs.Openings.{lane-field, lane-in, number-small}
 use Rattle.process.specs.{access_there, lane_with, memory_with}
 
--- the cells of all accesses to one bit are one
+-- all accesses to one bit have the same cell
 abbrev pub AreOfBits : (Access → Cell) → Type 0
 AreOfBits cells = (a : Access) (how : Move) → cells (record a { how = how }) ≡ cells a
 
 -- THE LANES AND THEIR NAMES
 
--- the lane of an access that is there is one of the memory
+-- the lane of an access in range is one of the memory
 pub lane-there : (s : Setup) (a : Access) → IsThere s a → lane_of_access s.processes a < 7 * s.processes * s.processes
 lane-there s a there = lane-in s.processes (record { owner = a.owner; field = a.field }) a.reader there.owner there.reader
 
--- and its name is that of the access
+-- the name of the lane is that of the access
 pub lane-named : (s : Setup) (r : RegisterName) (reader bit : ℕ) → reader < s.processes → access_there s (lane_number s.processes r reader) bit ≡ copy r.owner r.field reader bit
 lane-named s r reader bit inside =
     let n : ℕ = s.processes in
@@ -56,7 +56,7 @@ some : (n lane : ℕ) → lane < 7 * n * n → 0 < n
 some zero lane h = absurd (omega (arith, h))
 some (suc n) lane h = omega arith
 
--- each bit of each lane is there
+-- each bit of each lane is in range
 pub access-there : (s : Setup) (lane bit : ℕ) → lane < 7 * s.processes * s.processes → bit < width s (field_numbered (lane / s.processes % 7)) → IsThere s (access_there s lane bit)
 access-there s lane bit below inside =
     let n : ℕ = s.processes in
@@ -66,7 +66,7 @@ access-there s lane bit below inside =
 
 -- THE MEMORY
 
--- it is one of its setup
+-- the memory is one of its setup
 pub with-are : (cells : Access → Cell) (s : Setup) → AreOf s (memory_with cells s)
 with-are cells s =
     let n : ℕ = 7 * s.processes * s.processes in
@@ -78,14 +78,14 @@ with-are cells s =
           ∙ length-map-range_with_len (λ bit. cells (access_there s lane bit)) 0 (width s (field_numbered (lane / s.processes % 7)));
     }
 
--- the same cells make the same memory
+-- equal cells make equal memories
 pub with-same : (f g : Access → Cell) (s : Setup) → ((a : Access) → IsThere s a → f a ≡ g a) → memory_with f s ≡ memory_with g s
 with-same f g s same =
     range_same (lane_with g s) (lane_with f s) (7 * s.processes * s.processes) [] (λ lane below.
     range_same (λ bit. g (access_there s lane bit)) (λ bit. f (access_there s lane bit)) (width s (field_numbered (lane / s.processes % 7))) (new_cell false)
     (λ bit inside. same (access_there s lane bit) (access-there s lane bit below inside)))
 
--- a lane of it
+-- a lane of the memory
 pub with-lane : (cells : Access → Cell) (s : Setup) (lane : ℕ) → lane < 7 * s.processes * s.processes → lane_of (memory_with cells s) lane ≡ lane_with cells s lane
 with-lane cells s lane below = let none : List Cell = [] in get_or-map-range_with_len (lane_with cells s) 0 (7 * s.processes * s.processes) lane lane none below (omega arith)
 
@@ -96,7 +96,7 @@ with-copies cells s r reader owner inside =
     with-lane cells s (lane_number s.processes r reader) (lane-in s.processes r reader owner inside)
     ∙ (λ i. map (λ k. cells (lane-named s r reader k inside i)) (range_with_len 0 (width s (lane-field s.processes r reader inside i))))
 
--- a cell of it
+-- a cell of the memory
 pub with-copy : (cells : Access → Cell) (s : Setup) (a : Access) → IsThere s a → cell_at (memory_with cells s) (lane_of_access s.processes a) a.bit ≡ cells (copy a.owner a.field a.reader a.bit)
 with-copy cells s a there =
     let n : ℕ = s.processes in

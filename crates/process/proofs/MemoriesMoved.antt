@@ -1,4 +1,4 @@
--- The memory of a function of an access goes on: after an access, after a dropped read, and as it opens.
+-- The memory of a function of an access, after an access and after a dropped read.
 use Rattle.std.proofs.Common.{◌≡◌, ◌≢◌, ℕ, ◌*◌, ◌/◌, ◌%◌, ◌<◌, ◌==◌, ◌&&◌, Bool, true, false, cond, List, map, set, refl, sym, ap, ◌∙◌, arith, eqb-true}
 use Rattle.std.proofs.lemmas.Bool.{eq-eqb}
 use Rattle.std.proofs.lemmas.Simd.{map-map}
@@ -20,7 +20,7 @@ not-true false h = refl
 
 -- AN ACCESS
 
--- the bits of all other lanes are others
+-- the bits of all other lanes are different from its bit
 off-lane : (s : Setup) (a : Access) (lane bit : ℕ) → lane ≢ lane_of_access s.processes a → same_bit (access_there s lane bit) a ≡ false
 off-lane s a lane bit apart =
     let n : ℕ = s.processes in
@@ -28,7 +28,7 @@ off-lane s a lane bit apart =
     let on : OnCopy a (lane / n / 7) (field_numbered (lane / n % 7)) bit (lane % n) = on-copy a (lane / n / 7) (field_numbered (lane / n % 7)) bit (lane % n) same in
     apart (sym (named-lane s lane) ∙ (λ i. lane_number n (record { owner = on.owner i; field = on.field i }) (on.reader i))))
 
--- and so are the other bits of its lane
+-- the other bits of its lane are different from its bit
 off-bit : (s : Setup) (a : Access) (lane bit : ℕ) → bit ≢ a.bit → same_bit (access_there s lane bit) a ≡ false
 off-bit s a lane bit apart =
     let n : ℕ = s.processes in

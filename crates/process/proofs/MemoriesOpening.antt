@@ -1,4 +1,4 @@
--- The memory as it opens.
+-- The initial memory.
 use Rattle.std.proofs.Common.{◌≡◌, ℕ, zero, suc, ◌+◌, ◌*◌, ◌/◌, ◌%◌, Bool, false, cond, List, [], ◌∷◌, get_or, map, replicate, refl, sym, ap, ◌∙◌, arith, inl, inr}
 use Rattle.std.specs.List.{range_with_len}
 use Rattle.std.proofs.lemmas.Bool.{cases_eq, eq-eqb, ne_eqb}
@@ -20,7 +20,7 @@ const-range : {X : Type 0} (x : X) (a n : ℕ) → replicate n x ≡ map (λ (k 
 const-range x a zero = refl
 const-range x a (suc n) = ap (λ xs. x ∷ xs) (const-range x (a + 1) n)
 
--- the registers that open at 0
+-- the registers that are initially 0
 zero-bits : (s : Setup) (owner : ℕ) (field : Field) → (owner ≡ 0 → field ≡ Image0 → ⊥) → opening_bits s owner field ≡ []
 zero-bits s zero Choosing other = refl
 zero-bits s zero Ticket other = refl
@@ -31,14 +31,14 @@ zero-bits s zero Image0 other = absurd (other refl refl)
 zero-bits s zero Image1 other = refl
 zero-bits s (suc owner) field other = refl
 
--- the bits of the opening image, as a lane opens at them
+-- the bits of the opening image, as the initial values of a lane
 image-lane : (bytes : List ℕ) (w : ℕ) → map new_cell (bits_in bytes w) ≡ map (λ bit. new_cell (get_or (bits_in bytes w) bit false)) (range_with_len 0 w)
 image-lane bytes w =
     map-map new_cell (bit_in bytes) (range_with_len 0 w)
     ∙ range_same (λ bit. new_cell (get_or (bits_in bytes w) bit false)) (λ bit. new_cell (bit_in bytes bit)) w (new_cell false)
     (λ bit below. ap new_cell (sym (get_or-map-range_with_len (bit_in bytes) 0 w bit bit false below (omega arith))))
 
--- a lane as it opens
+-- an initial lane
 lane-opens : (s : Setup) (lane : ℕ) → opening_lane s (bits_in (image_of (opening_store s)) (width s Image0)) lane ≡ lane_with (cells_opening s) s lane
 lane-opens s lane =
     let register : ℕ = lane / s.processes in
@@ -63,7 +63,7 @@ lane-opens s lane =
           ∙ (λ i. map (λ bit. new_cell (get_or (sym (zero-bits s owner field apart) i) bit false)) (range_with_len 0 (width s field)))
     ]
 
--- the memory as it opens is that of the opening cells
+-- the initial memory is that of the initial cells
 pub opening-with : (s : Setup) (image : List Bool) → image ≡ bits_in (image_of (opening_store s)) (width s Image0) → opening_memory s image ≡ memory_with (cells_opening s) s
 opening-with s image is =
     ap (opening_memory s) is

@@ -12,7 +12,7 @@ use Rattle.record.specs.{Version, newest_stamp, newest_process, version_of, inde
 use Rattle.process.specs.{IsNewestWith, newest_version}
 use Rattle.process.specs.declared.newest_version.NewestVersion.{NewestVersion}
 
--- what is greater than all stands nowhere
+-- a number that is greater than all items is not one of them
 place-above : (n a : ℕ) (xs : List ℕ) → fold max a xs < n → index_of n xs ≡ length xs
 place-above n a [] above = refl
 place-above n a (x ∷ xs) above =
@@ -21,7 +21,7 @@ place-above n a (x ∷ xs) above =
     let rest = place-above n (max a x) xs above in
     omega (arith, place-later n x xs other, rest)
 
--- more items behind it leave the place of an item as it is
+-- items added after an item do not change its index
 place-front : (n : ℕ) (xs ys : List ℕ) → index_of n xs < length xs → index_of n (xs ++ ys) ≡ index_of n xs
 place-front n [] ys there = absurd (omega arith)
 place-front n (x ∷ xs) ys there = elim (cases_eq x n) [
@@ -32,7 +32,7 @@ place-front n (x ∷ xs) ys there = elim (cases_eq x n) [
       place-later n x (xs ++ ys) other ∙ ap (λ k. 1 + k) (place-front n xs ys rest) ∙ sym later
 ]
 
--- an item behind others is at their number
+-- the index of an item after others is their number
 place-behind : (n : ℕ) (xs : List ℕ) → index_of n xs ≡ length xs → index_of n (xs ++ n ∷ []) ≡ length xs
 place-behind n [] none = place-here n n [] refl
 place-behind n (x ∷ xs) none = elim (cases_eq x n) [

@@ -1,4 +1,4 @@
--- The newest store off the memory after a past is the one whose image the record's newest bytes are.
+-- The newest store read from the memory after a past is the one whose image the record's newest bytes are.
 use Rattle.std.proofs.Common.{◌≡◌, ◌<◌, ◌/◌, ◌%◌, ℕ, Bool, false, List, get_or, map, refl, ap, ◌∙◌, arith}
 use Rattle.std.specs.List.{range_with_len}
 use Rattle.std.specs.Prelude.{Ok}
@@ -23,7 +23,7 @@ use Rattle.process.proofs.NewestSteps.{newest-below}
 value : Cell → Bool
 value c = c.value
 
--- what a register holds, by its cells
+-- the value of a register, by its cells
 pub register-with : (cells : Access → Cell) (s : Setup) (p : ℕ) (field : Field) → 0 < s.processes → p < s.processes → register_held s (memory_with cells s) p field ≡ map (λ k. (cells (copy p field 0 k)).value) (range_with_len 0 (width s field))
 register-with cells s p field some inside =
     let n : ℕ = s.processes in

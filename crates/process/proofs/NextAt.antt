@@ -27,12 +27,12 @@ next-is k (work.Settles inside taken) cur flick keeps goes = settling-next k ins
 next-is k (work.Frees inside) cur flick keeps goes = let e = ends k.call.setup k.call.process (Ticket, no_ticket k.call) cur false keeps.working in sym e.access
 next-is k work.Lowers cur flick keeps goes = let e = ends k.call.setup k.call.process (Choosing, false ∷ []) cur false keeps.working in sym e.access
 
--- neither does one that goes rest, nor lie
+-- a process that has an access to make is neither idle nor down
 pub idle-goes : (k : PartState) (w : ProcessWork) (cur : CursorState) → may_step (doing_at k w cur) ≡ true → (w ≡ work.Rests) ⊎ (w ≡ work.Lies) → ⊥
 idle-goes k w cur goes (inl rests) = let none : false ≡ true = sym (ap (λ w. may_step (doing_at k w cur)) rests) ∙ goes in absurd (cc)
 idle-goes k w cur goes (inr lies) = let none : false ≡ true = sym (ap (λ w. may_step (doing_at k w cur)) lies) ∙ goes in absurd (cc)
 
--- the cursor has made it
+-- the cursor has made the access
 pub has-moved : {k : PartState} {w : ProcessWork} {g fresh : Bool} {a : Access} {before cur : CursorState} (flick value : Bool) → KeepsPlace k w before → may_step (doing_at k w before) ≡ true → g ≡ given w flick value → a ≡ next_access before g → cur ≡ cursor_after before a.how → fresh ≡ is_fresh before →
     HasMoved k w flick value before cur fresh
 has-moved {k} {w} {g} {fresh} {a} {before} {cur} flick value keeps may gives is goes first = record {
@@ -42,7 +42,7 @@ has-moved {k} {w} {g} {fresh} {a} {before} {cur} flick value keeps may gives is 
   first = first;
 }
 
--- so the process has gone on from what it was
+-- the process has advanced from its state before
 module _ {k : PartState} {w : ProcessWork} {flick value fresh : Bool} {before cur : CursorState} {now : ProcessState} (h : HasMoved k w flick value before cur fresh) (shows : state_at k w before ≡ now) where
   pub then-stepped : {next : ProcessState} → IsStepped k w cur fresh next → next ≡ stepped now flick value
   then-stepped steps = steps flick value before h ∙ ap (λ (s : ProcessState). stepped s flick value) shows
@@ -50,7 +50,7 @@ module _ {k : PartState} {w : ProcessWork} {flick value fresh : Bool} {before cu
   pub then-marks : {marks : List Mark} → AreMarksOn k w cur fresh marks → marks ≡ marks_on now flick value
   then-marks are = are flick value before h ∙ ap (λ (s : ProcessState). marks_on s flick value) shows
 
--- the changes that it tells of are those that it has read, of a call that runs
+-- the changes that a running call reports are those that it has read
 pub then-changes : (k : PartState) (w : ProcessWork) (before : CursorState) (now : ProcessState) (told : Option ℕ) → state_at k w before ≡ now → IfSome told (λ n. (w ≡ work.Runs) × (n ≡ changes_at k.part)) → IfSome told (λ n. n ≡ changes_read now.doing)
 then-changes k w before now None shows are = tt
 then-changes k w before now (Some n) shows (runs, is) = is ∙ ap (λ w. changes_read (doing_at k w before)) (sym runs) ∙ ap (λ (s : ProcessState). changes_read s.doing) shows

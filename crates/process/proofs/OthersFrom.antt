@@ -14,7 +14,7 @@ abbrev pub listed : ℕ → ℕ → Option ℕ → List ℕ
 listed n p None = []
 listed n p (Some j) = j ∷ others_from n p (j + 1)
 
--- past the last one there is none
+-- after the last one there is none
 past-all : (n p k : ℕ) → n ≤ k → first_other n p k ≡ None
 past-all n p k past = by (k == p)
   where
@@ -47,7 +47,7 @@ others-next n p (suc m) k all = by (k == p) refl
 pub others-from : (n p k : ℕ) → k ≤ n → others_from n p k ≡ listed n p (first_other n p k)
 others-from n p k within = others-next n p (n - k) k (omega arith)
 
--- the first one is there, is not p, and there are as many below it
+-- the first one exists, is not p, and has this number of others below it
 first-at : (n p k j other : ℕ) → cond (nat_lt other n) (Some other) None ≡ Some j → (other < n) × (other ≡ j)
 first-at n p k j other e = elim (cases_lt other n) [
   | inl below ↦ (below, (let f : Some other ≡ Some j = ap (λ b. cond b (Some other) None) (sym (lt-ltb other n below)) ∙ e in cc))
@@ -78,7 +78,7 @@ below-some n p k j e = elim (cases_eq k p) [
       (omega (arith, at.0, at.1), (λ same. other (omega (arith, same, at.1))), ap (others_below p) (sym at.1))
 ]
 
--- where there is none, all are below
+-- if there is none, all others are below
 pub below-none : (n p k : ℕ) → first_other n p k ≡ None → p < n → k ≤ n → others_below p k + 1 ≡ n
 below-none n p k e inside within = elim (cases_eq k p) [
   | inl own ↦
@@ -91,7 +91,7 @@ below-none n p k e inside within = elim (cases_eq k p) [
       omega (arith, past, below-past p k (omega (arith, past)))
 ]
 
--- behind p they stand at their own place
+-- if p is below k, the element at index i is k + i
 past-own : (p k m i : ℕ) → p < k → i < m → get_or (others_in p k m) i 0 ≡ k + i
 past-own p k zero i past inside = absurd (omega arith)
 past-own p k (suc m) i past inside = ap (λ b. get_or (cond (not b) (k ∷ others_in p (k + 1) m) (others_in p (k + 1) m)) i 0) (ne_eqb k p (omega arith)) ∙ by i inside (λ j below. past-own p (k + 1) m j (omega arith) below)

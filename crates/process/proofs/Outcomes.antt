@@ -1,4 +1,4 @@
--- What a read of a part has given.
+-- The value that a read of a part returned.
 use Rattle.std.proofs.Common.{◌≡◌, ℕ, ◌^◌, ◌<◌, ◌≤◌, Bool, true, false, List, refl, subst, arith}
 use Rattle.record.specs.safe_number.{number_of_bits}
 use Rattle.record.proofs.safe_number.Bits.{number-fits}

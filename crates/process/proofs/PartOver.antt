@@ -1,4 +1,4 @@
--- A part whose number access is over, and the cursor that the next one begins with.
+-- A part whose register access is over, and the cursor with which the next part begins.
 use Rattle.std.proofs.Common.{◌≡◌, ℕ, zero, suc, ◌*◌, ◌/◌, ◌%◌, ◌≤◌, ◌==◌, Bool, true, false, cond, not, List, [], ◌∷◌, ◌++◌, get_or, replicate, refl, sym, ap, ◌∙◌, arith}
 use Rattle.record.specs.{Call, Field, image_bytes, image_field, version_of, width}
 use Rattle.record.specs.Parts.{Part, Raises, Asks, TakesTicket, Lowers, Refuses, Waits, AsksCommit, AsksStamp, AsksImage, WritesImage, WritesStamp, WritesCommit, Clears, Over, is_read, last_marks, part_after, read_at, written_at}
@@ -11,7 +11,7 @@ use Rattle.registers.specs.declared.cursor.NumberRun.TheVariants.{Reads, Writes}
 use Rattle.registers.proofs.CursorRuns.{same-after, same-marks}
 use Rattle.process.specs.{IsOutcome, writes_image}
 
--- the bits that a part has read, none if it writes
+-- the bits that a part has read; no bits if it writes
 abbrev pub bits_read : Part → CursorState → List Bool
 bits_read part cur = cond (is_read part) cur.bits []
 
@@ -36,7 +36,7 @@ marks-same c part cur = by (is_read part) refl
     by true is = refl
     by false is = same-marks c part [] cur.bits is
 
--- a number that is read is narrow, but for the image
+-- the cursor of a read has at most 32 bits, if the register of its part has
 pub narrow-read : (c : Call) (part : Part) (cur : CursorState) → IsDone c part cur → (is_read part ≡ true → width c.setup (read_at c part).1 ≤ 32) → cur.run ≡ Reads → cur.width ≤ 32
 narrow-read c part cur done narrow run = by (is_read part) refl
   where
@@ -82,7 +82,7 @@ entered-write c part field bits writes at =
       | false ↦ writing c.setup (record { owner = c.process; field = (written_at c part).0 }) (written_at c part).1
     ]) writes)
 
--- zeros behind bytes are no bits
+-- zeros after the bytes do not add a bit
 zeros : (n i : ℕ) → get_or (replicate n (let none : ℕ = 0 in none)) i 0 ≡ 0
 zeros zero i = refl
 zeros (suc n) zero = refl

@@ -1,4 +1,4 @@
--- How far a process is, is how far its cursor is.
+-- The progress of a process is that of its cursor.
 use Rattle.std.proofs.Common.{◌≡◌, ℕ, ◌+◌, ◌*◌, Bool, true, false, cond, List, Option, None, Some, refl, sym, ap, ◌∙◌, arith, inl, inr, unwrap_or}
 use Rattle.std.proofs.lemmas.Bool.{cases_eq, eq-eqb, ne_eqb}
 use Rattle.plain_store.specs.{Reply, Setup}
@@ -12,14 +12,14 @@ use Rattle.process.specs.{KeepsPlace, PartState, ProcessWork, SettlesAt, doing_a
 use Rattle.process.specs.RegisterProgress.{closing_progress, run_progress, write_progress}
 use Rattle.process.specs.declared.work.ProcessWork.TheVariants as work
 
--- how far a cursor is
+-- the progress of a cursor
 abbrev pub cursor_progress : CursorState → AccessProgress
 cursor_progress cur = record { made = registers.accesses_made cur; all = registers.accesses_in_all cur }
 
 abbrev progress_by : NumberRun → CursorState → AccessProgress
 progress_by r cur = record { made = registers.made_by_run r cur; all = registers.all_by_run r cur }
 
--- what is made of the present bit of a write
+-- the accesses made of the present bit of a write
 bit-made : (made : ℕ) (value other : Bool) → (unwrap_or (bit_begun made value) (let none : copies.Writing = record { value = other; made = 0; ended = false } in none)).made ≡ made
 bit-made made value other = elim (cases_eq made 0) [
   | inl none ↦ ap (λ b. (unwrap_or (cond b None (Some (let some : copies.Writing = record { value = value; made = made; ended = false } in some))) (let none : copies.Writing = record { value = other; made = 0; ended = false } in none)).made) (eq-eqb made 0 none) ∙ sym none

@@ -1,4 +1,4 @@
--- How many accesses are left, by the cursor.
+-- The number of accesses left, by the cursor.
 use Rattle.std.proofs.Common.{◌≡◌, ℕ, ◌-◌, ◌*◌, ◌&&◌, Bool, true, false, cond, get_or, None, Some, sym, ap, ◌∙◌, arith, inl, inr}
 use Rattle.std.proofs.Math.Nat.{mul-sub}
 use Rattle.std.proofs.lemmas.Bool.{cases_eq, eq-eqb, ne_eqb}
@@ -11,7 +11,7 @@ use Rattle.registers.specs.declared.cursor.NumberRun.TheVariants.{Reads, Writes}
 use Rattle.registers.proofs.CursorRuns.{Moves, moves}
 use Rattle.process.specs.{is_told, left_of, rest_of}
 
--- what is made of the present bit
+-- the accesses made of the present bit
 begun-made : (made : ℕ) (value : Bool) → elim (bit_begun made value) as (λ _. ℕ) [ None ↦ 0 | Some bit ↦ bit.made ] ≡ made
 begun-made made value = elim (cases_eq made 0) [
   | inl none ↦ ap (λ b. elim (cond b None (Some (bit value))) as (λ _. ℕ) [ None ↦ 0 | Some bit ↦ bit.made ]) (eq-eqb made 0 none) ∙ sym none
@@ -37,7 +37,7 @@ rest-write c part cur at =
     ∙ (let e : 2 * (cur.copies * (cur.width - cur.bit)) - made_of_bit cur ≡ rest_by Writes cur = omega (arith, mul-sub cur.copies cur.width cur.bit) in e)
     ∙ sym (ap (λ r. rest_by r cur) at.run)
 
--- as many as the cursor has left
+-- the number of accesses left is that of the cursor
 pub rest-is : (c : Call) (part : Part) (cur : CursorState) → IsAtPart c part cur → rest_of c part (run_at cur) ≡ cursors.rest_of cur
 rest-is c part cur at = by (is_read part) at
   where
@@ -45,7 +45,7 @@ rest-is c part cur at = by (is_read part) at
     by true reads = rest-read c part cur reads
     by false writes = rest-write c part cur writes
 
--- those before the last one
+-- the accesses before the last one
 pub left-before : (c : Call) (part : Part) (cur : CursorState) → IsAtPart c part cur → (is_fresh cur && is_told part) ≡ false → left_of c part (run_at cur) ≡ cursors.rest_of cur - 1
 left-before c part cur at none =
     let m : Moves c part cur false = moves c part cur false at in

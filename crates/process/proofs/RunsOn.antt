@@ -1,4 +1,4 @@
--- A process that runs its call goes on by its cursor.
+-- A process that runs its call advances by its cursor.
 use Rattle.std.proofs.Common.{◌≡◌, ◌<◌, ◌&&◌, Bool, true, false, cond, List, [], ◌∷◌, ◌++◌, refl, sym, ap, ◌∙◌, subst}
 use Rattle.std.proofs.lemmas.List.{append-nil}
 use Rattle.record.specs.{Mark, Part, enter, first_marks, is_over, last_marks, part_after}
@@ -12,13 +12,13 @@ use Rattle.registers.proofs.PlaceMoves.{entered-place, marks-move, place-moves}
 use Rattle.process.specs.declared.work.ProcessWork.TheVariants as work
 use Rattle.process.specs.{HasMoved, KeepsPlace, PartState, marks_on, state_at, stepped, with_doing}
 
--- the place after its next access
+-- the position after its next access
 after-is : (k : PartState) (flick value : Bool) (before cur : CursorState) (fresh : Bool) → HasMoved k work.Runs flick value before cur fresh →
     stepped (state_at k work.Runs before) flick value ≡ with_doing k (runs k.call.command k.call.number (place_moved k.call k.part cur))
 after-is k flick value before cur fresh h =
     ap (λ at. with_doing k (runs k.call.command k.call.number at)) (place-moves k.call k.part before value h.keeps.working.at ∙ ap (place_moved k.call k.part) (sym h.moves))
 
--- within a number access
+-- within a register access
 pub runs-within : (k : PartState) (flick value : Bool) (before cur : CursorState) (fresh : Bool) → HasMoved k work.Runs flick value before cur fresh → cursors.is_over cur ≡ false →
     state_at k work.Runs cur ≡ stepped (state_at k work.Runs before) flick value
 runs-within k flick value before cur fresh h more =
@@ -26,7 +26,7 @@ runs-within k flick value before cur fresh h more =
     ∙ ap (λ b. with_doing k (runs k.call.command k.call.number (cond b (enter k.call (part_after k.call k.part cur.bits)) (place_at k.part cur)))) more
     ∙ ap (λ b. with_doing k (cond b Rests (Runs k.call.command k.call.number (place_at k.part cur)))) h.keeps.working.going)
 
--- past it
+-- after the register access
 past : (k : PartState) (flick value : Bool) (before cur : CursorState) (fresh : Bool) → HasMoved k work.Runs flick value before cur fresh → cursors.is_over cur ≡ true →
     stepped (state_at k work.Runs before) flick value ≡ with_doing k (runs k.call.command k.call.number (enter k.call (part_after k.call k.part cur.bits)))
 past k flick value before cur fresh h over =
@@ -75,7 +75,7 @@ marks-past k flick value before cur fresh h over =
     ∙ ap (λ b. cond fresh (first_marks k.part) [] ++ cond b (last_marks k.call k.part cur.bits) []) over
     ∙ ap (λ b. cond b (first_marks k.part) [] ++ last_marks k.call k.part cur.bits) (h.first ∙ m.begins done)
 
--- what the code tells within a number access
+-- the outcome that the code returns within a register access
 pub first-told : (k : PartState) (fresh leaves : Bool) → first_marks k.part ≡ cond leaves (mark.Left ∷ []) [] → cond (leaves && fresh) (let left : List Mark = mark.Left ∷ [] in left) [] ≡ cond fresh (first_marks k.part) []
 first-told k fresh leaves is = by fresh leaves ∙ ap (λ marks. cond fresh marks []) (sym is)
   where
@@ -94,7 +94,7 @@ moved-register cur v = by cur.run
     by Writes = refl
     by (Settles cut value) = refl
 
--- the cursor is where the work is
+-- the cursor is that of the work
 pub still-runs : (k : PartState) (flick value : Bool) (before cur : CursorState) (fresh : Bool) → HasMoved k work.Runs flick value before cur fresh → cursors.is_over cur ≡ false → KeepsPlace k work.Runs cur
 still-runs k flick value before cur fresh h more =
     let runs = h.keeps.working in

@@ -1,4 +1,4 @@
--- What a process has read, with one number more.
+-- The values that a process has read, with one more number.
 use Rattle.std.proofs.Common.{◌≡◌, ℕ, ◌+◌, ◌<◌, ◌≤◌, max, Bool, List, [], ◌∷◌, ◌++◌, take, sym, ◌∙◌, subst, arith}
 use Rattle.std.proofs.lemmas.List.{length-set, take_more_set}
 use Rattle.std.proofs.lemmas.List.Sums.{fold-append}

@@ -1,4 +1,4 @@
--- A process is served by a memory as its cursor is.
+-- A process and its cursor make the same accesses on a memory.
 use Rattle.std.proofs.Common.{◌≡◌, ◌<◌, ◌≤◌, ℕ, zero, suc, ◌+◌, Bool, true, false, cond, List, get_or, Option, refl, sym, ap, ◌∙◌, subst, arith, unwrap_or}
 use Rattle.registers.specs.safe_bit.Cell.{Cell, read_answer}
 use Rattle.registers.specs.safe_bit.{Move}
@@ -19,9 +19,9 @@ use Rattle.process.specs.declared.work.ProcessWork.TheVariants as work
 use Rattle.process.proofs.Left.{left-fewer, left-runs, left-some, live-by, within}
 use Rattle.process.proofs.NextAt.{next-is}
 
--- WHERE THE CURSOR STANDS
+-- THE POSITION OF THE CURSOR
 
--- on a register of the setup, and not at its end
+-- the cursor is on a register of the setup, and not at its end
 pub record Stands (s : Setup) (cur : CursorState) : Type 0 where
   pub owner : cur.register.owner < s.processes
   pub copies : cur.copies ≡ s.processes
@@ -81,9 +81,9 @@ stands k work.Lowers cur keeps goes = writes-stand k.call.setup k.call.process _
 pub stands-fit : (s : Setup) (memory : List (List Cell)) (cur : CursorState) → AreOf s memory → Stands s cur → Fits memory cur
 stands-fit s memory cur of at = setup-fits s memory cur of at.owner at.copies at.wide at.inside at.at
 
--- WHAT IT IS ANSWERED
+-- THE VALUE OF ITS ACCESS
 
--- the end of a read is left open, and the access of a write has no flick
+-- the end of a read has no value yet, and the access of a write has no flick
 plain-move : (r : NumberRun) (cur : CursorState) (begun : Bool) (v x y : Bool) → cur.begun ≡ begun → is_settling r ≡ false → ended v (move_by r cur x) ≡ ended v (move_by r cur y)
 plain-move run.Reads cur true v x y is plain = let P : Bool → Type 0 = λ b. ended v (read_move b x) ≡ ended v (read_move b y) in subst P (sym is) refl
 plain-move run.Reads cur false v x y is plain = let P : Bool → Type 0 = λ b. ended v (read_move b x) ≡ ended v (read_move b y) in subst P (sym is) refl
@@ -95,7 +95,7 @@ answered-plain cur n memory flick x y plain =
     let v : Bool = read_answer (cell_at memory (lane_of_access n (next_access cur x)) cur.bit) flick in
     λ i. record { owner = cur.register.owner; field = cur.register.field; bit = cur.bit; reader = cur.reader + cur.copy; how = plain-move cur.run cur cur.begun v x y refl plain i }
 
--- that of its work
+-- the access of its work
 plain-works : (k : PartState) (w : ProcessWork) (cur : CursorState) (memory : List (List Cell)) (flick : Bool) → KeepsPlace k w cur → may_step (doing_at k w cur) ≡ true →
     answered cur.copies memory flick (next_access cur (given w flick false)) ≡ next_answered cur memory flick
 plain-works k work.Rests cur memory flick keeps goes = absurd (cc)
@@ -113,7 +113,7 @@ answered-is k w cur memory flick keeps goes =
     ∙ ap (λ n. answered n memory flick (next_access cur (given w flick false))) (stands k w cur keeps goes).copies
     ∙ ap (answered k.call.setup.processes memory flick) (next-is k w cur flick keeps goes)
 
--- WITHIN A NUMBER ACCESS
+-- WITHIN A REGISTER ACCESS
 
 -- accesses are left of a call that runs
 pub left-works : (k : PartState) (w : ProcessWork) (cur : CursorState) → 0 < left_at (state_at k w cur) → w ≡ work.Runs
@@ -125,7 +125,7 @@ left-works k (work.Settles inside taken) cur more = absurd (omega (arith, more))
 left-works k (work.Frees inside) cur more = absurd (omega (arith, more))
 left-works k work.Lowers cur more = absurd (omega (arith, more))
 
--- the move that is answered is the next one with its value
+-- the move of the memory is the next one with its value
 moved-by : (r : NumberRun) (cur : CursorState) (begun : Bool) (v x : Bool) → cur.begun ≡ begun → is_settling r ≡ false → move_by r cur (value_of (ended v (move_by r cur x))) ≡ ended v (move_by r cur x)
 moved-by run.Reads cur true v x is plain = let P : Bool → Type 0 = λ b. read_move b (value_of (ended v (read_move b x))) ≡ ended v (read_move b x) in subst P (sym is) refl
 moved-by run.Reads cur false v x is plain = let P : Bool → Type 0 = λ b. read_move b (value_of (ended v (read_move b x))) ≡ ended v (read_move b x) in subst P (sym is) refl
@@ -138,7 +138,7 @@ cursor-moves cur memory flick plain =
     let v : Bool = read_answer (cell_at memory (lane_of_access cur.copies (next_access cur flick)) cur.bit) flick in
     ap (cursor_after cur) (moved-by cur.run cur cur.begun v flick refl plain)
 
--- the same of a unit that settles, by the flick
+-- the case of a unit that settles, by the flick
 settle-moved : (begun torn : Bool) (v x : Bool) → cond begun EndWrite (cond torn (Settle x) (BeginWrite x)) ≡ ended v (cond begun EndWrite (cond torn (Settle x) (BeginWrite x)))
 settle-moved true torn v x = refl
 settle-moved false true v x = refl
@@ -147,7 +147,7 @@ settle-moved false false v x = refl
 settling-moved : (r : NumberRun) (cut : ℕ) (value : Option Bool) (cur : CursorState) (v x : Bool) → r ≡ run.Settles cut value → move_by r cur x ≡ ended v (move_by r cur x)
 settling-moved r cut value cur v x is = let P : NumberRun → Type 0 = λ r. move_by r cur x ≡ ended v (move_by r cur x) in subst P (sym is) (settle-moved cur.begun (is_open_at cut cur.copy) v (unwrap_or value x))
 
--- so the cursor of any work goes on by what the memory answers
+-- the cursor of any work advances by the value that the memory returns
 pub works-moved : (k : PartState) (w : ProcessWork) (cur : CursorState) (memory : List (List Cell)) (flick : Bool) → KeepsPlace k w cur → may_step (doing_at k w cur) ≡ true →
     let how : Move = (next_answered cur memory flick).how in cursor_after cur how ≡ moved cur (given w flick (value_of how))
 works-moved k work.Rests cur memory flick keeps goes = absurd (cc)
@@ -167,7 +167,7 @@ step-moved {k} {w} {fresh} {a} {before} {cur} memory flick keeps may is goes fir
     let P : Access → Type 0 = λ a. cursor_after before a.how ≡ moved before (given w flick (value_of a.how)) in
     record { keeps = keeps; goes = may; moves = goes ∙ subst P (sym is) (works-moved k w before memory flick keeps may); first = first }
 
--- the process goes on as its cursor, at its part
+-- the process advances with its cursor, at its part
 pub serves-one : (k : PartState) (cur : CursorState) (memory : List (List Cell)) (flick : Bool) → KeepsPlace k work.Runs cur → 0 < left_at (state_at k work.Runs cur) →
     let how : Move = (next_answered cur memory flick).how in
     KeepsPlace k work.Runs (cursor_after cur how) × (state_at k work.Runs (cursor_after cur how) ≡ stepped (state_at k work.Runs cur) flick (value_of how))
@@ -207,9 +207,9 @@ serves-step k cur memory flick keeps more =
     (λ i. (one.1 i, applied ((runs-stand k cur keeps).0.copies i) memory a))
     ∙ ap (λ (b : Access). let x : ProcessState × List (List Cell) = (stepped now flick (value_of b.how), applied s.processes memory b) in x) same
 
--- SO MANY
+-- SEVERAL STEPS
 
--- what holds after so many accesses of the cursor, and so many steps
+-- the invariant after n accesses of the cursor and n steps
 pub record Served (made : ℕ) (k : PartState) (cur : CursorState) (memory : List (List Cell)) (flicks : FlickState) : Type 0 where
   pub keeps : KeepsPlace k work.Runs (run_of made (cur, memory, flicks)).0
   pub left : left_at (state_at k work.Runs (run_of made (cur, memory, flicks)).0) + made ≡ left_at (state_at k work.Runs cur)

@@ -26,7 +26,7 @@ settled cut v cur = record cur {
   begun = not (ends_copy cut cur);
 }
 
--- the value is there from the first access on
+-- the value is chosen from the first access on
 value-there : (value : Option Bool) (flick begun opened : Bool) → (begun ≡ true → (v : Bool) × (value ≡ Some v)) →
     value_written value (cond begun EndWrite (cond opened (Settle (unwrap_or value flick)) (BeginWrite (unwrap_or value flick)))) ≡ Some (unwrap_or value flick)
 value-there value flick true opened there = let t = there refl in t.1 ∙ sym (ap (λ o. Some (unwrap_or o flick)) t.1)
@@ -58,7 +58,7 @@ last-is k taken cur flick at =
     ∙ sym (over-if (ends_settling at.cut cur) cur.bit cur.width at.going)
     ∙ sym (ap is_over (settled-is k.call.setup k.call.process taken cur flick at))
 
--- and where it is not, the settling goes on
+-- if it is not the last access, the settling continues
 goes-on : (ends last : Bool) (made copy : ℕ) (v : Bool) → (ends && last) ≡ false →
     (let t : copies.Settling = record { made = made; reader = cond (ends && last) 0 (cond ends (copy + 1) copy); begun = not ends; value = Some v } in t)
     ≡ cond ends (record { made = made; reader = copy + 1; begun = false; value = Some v }) (record { made = made; reader = copy; begun = true; value = Some v })
@@ -101,7 +101,7 @@ settling-stays s p taken cur flick at more =
 
 -- THE PROCESS
 
--- what it does after an access at v of this settling, the last one or not
+-- the work after an access at v of this settling, the last one or not
 abbrev settles_to : PartState → (inside : Bool) → Option (Bool × Reply) → CursorState → copies.Settling → (v last : Bool) → ProcessState
 settles_to k inside taken cur t v last = then_closes k (cond last (freeing k.call inside) (closing.Settles cur.register.field cur.bit (get_or cur.bits cur.bit false) (reply_taken taken) inside (copies.settle_after t v)))
 
@@ -143,7 +143,7 @@ still-settles k inside flick value taken before cur fresh h more = record {
   working = subst (SettlesAt k.call.setup k.call.process taken) (sym h.moves) (settling-stays k.call.setup k.call.process taken before flick h.keeps.working (ap is_over (sym h.moves) ∙ more));
 }
 
--- the value that it has come to
+-- the value that the settling has chosen
 pub value-settled : (k : PartState) (inside flick value : Bool) (taken : Option (Bool × Reply)) (before cur : CursorState) (fresh : Bool) → (h : HasMoved k (work.Settles inside taken) flick value before cur fresh) →
     cur.run ≡ Settles h.keeps.working.cut (Some (unwrap_or h.keeps.working.value flick))
 value-settled k inside flick value taken before cur fresh h =

@@ -1,4 +1,4 @@
--- What a memory makes of a process, by what contracts see of it.
+-- The effect of a memory on a process, by the values that contracts see.
 use Rattle.std.proofs.Common.{◌≡◌, ◌<◌, ◌≤◌, ℕ, Bool, true, false, cond, List, None, Some, is_some, refl, sym, ap, ◌∙◌, subst, arith}
 use Rattle.registers.specs.safe_bit.Cell.{Cell}
 use Rattle.flicks.specs.{FlickState}
@@ -13,7 +13,7 @@ use Rattle.process.proofs.Left.{left-some, live-by}
 use Rattle.process.proofs.Rests.{rest-is}
 use Rattle.process.proofs.Serves.{answered-is, left-works, runs-stand, served, stands, stands-fit}
 
--- a process of which accesses are left goes
+-- a process with accesses left has an access to make
 goes-by : (now : ProcessState) (d : Doing) → 0 < left_at (record now { doing = d }) → may_step d ≡ true
 goes-by now Rests more = absurd (omega (arith, more))
 goes-by now Lies more = absurd (omega (arith, more))
@@ -29,19 +29,19 @@ shown-fits k w cur now memory keeps shown goes of =
     stands-fit k.call.setup memory cur (subst (λ s. AreOf s memory) (sym (ap (λ (x : ProcessState). x.setup) shown)) of)
     (stands k w cur keeps (ap (λ (x : ProcessState). may_step x.doing) shown ∙ goes))
 
--- of whose bits there is a copy for each process
+-- each process has a copy of the bits of its register
 pub shown-copies : (k : PartState) (w : ProcessWork) (cur : CursorState) (now : ProcessState) → KeepsPlace k w cur → state_at k w cur ≡ now → may_step now.doing ≡ true → cur.copies ≡ now.setup.processes
 shown-copies k w cur now keeps shown goes =
     (stands k w cur keeps (ap (λ (x : ProcessState). may_step x.doing) shown ∙ goes)).copies ∙ ap (λ (x : ProcessState). x.setup.processes) shown
 
--- it is answered as its cursor is
+-- the process and its cursor get the same value
 pub shown-answered : (k : PartState) (w : ProcessWork) (cur : CursorState) (now : ProcessState) (memory : List (List Cell)) (flick : Bool) → KeepsPlace k w cur → state_at k w cur ≡ now → may_step now.doing ≡ true →
     next_answered cur memory flick ≡ answered_at now memory flick
 shown-answered k w cur now memory flick keeps shown goes =
     answered-is k w cur memory flick keeps (ap (λ (x : ProcessState). may_step x.doing) shown ∙ goes)
     ∙ ap (λ x. answered_at x memory flick) shown
 
--- so many steps within a number access, by its cursor
+-- n steps within a register access, by its cursor
 pub record RunsShown (steps : ℕ) (k : PartState) (w : ProcessWork) (cur : CursorState) (now : ProcessState) (memory : List (List Cell)) (flicks : FlickState) : Type 0 where
   pub keeps : KeepsPlace k w (run_of steps (cur, memory, flicks)).0
   pub now_is : (let x : CursorState × List (List Cell) × FlickState = run_of steps (cur, memory, flicks) in let then : ProcessState × List (List Cell) × FlickState = (state_at k w x.0, x.1, x.2) in then ≡ steps_of steps (now, memory, flicks))
@@ -64,7 +64,7 @@ shown-run steps k w cur now memory flicks keeps shown some within =
 
 -- A DROPPED READ
 
--- a process that reads goes
+-- a process that reads has an access to make
 pub reads-goes : (s : Setup) (p : ℕ) (d : Doing) → is_some (reads_of s p d) ≡ true → may_step d ≡ true
 reads-goes s p Rests some = absurd (cc)
 reads-goes s p Lies some = absurd (cc)

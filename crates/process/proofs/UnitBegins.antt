@@ -35,7 +35,7 @@ unit-keeps k t is there valued = record {
   };
 }
 
--- what was written is 0 here
+-- the value that was written is 0 here
 zeros : (n k : ℕ) → (let bytes : List ℕ = replicate n 0 in get_or bytes k 0 ≡ 0)
 zeros zero k = refl
 zeros (suc n) zero = refl
@@ -51,7 +51,7 @@ none-taken field = by (is_commit field)
     by true = refl
     by false = refl
 
--- and does what is said
+-- the unit does the work that the specification gives
 pub unit-settles : (k : PartState) (t : TornBit) (d : Doing) → IsTornOf k.call.setup t → state_at k (work.Settles false None) (settling_from k.call.setup k.call.process t) ≡ settling_with (with_doing k d) (Some t)
 unit-settles k t d there =
     let takes = sym (none-taken t.field) in

@@ -18,7 +18,7 @@ commits-of [] (t ∷ stamps) same = absurd (omega arith)
 commits-of (b ∷ commits) [] same = absurd (omega arith)
 commits-of (b ∷ commits) (t ∷ stamps) same = ap (λ bs. b ∷ bs) (commits-of commits stamps (omega arith))
 
--- one more
+-- one more version
 pub versions-push : (commits : List Bool) (stamps : List ℕ) (b : Bool) (t : ℕ) → length commits ≡ length stamps → versions (commits ++ b ∷ []) (stamps ++ t ∷ []) ≡ versions commits stamps ++ (b, t) ∷ []
 versions-push [] [] b t same = refl
 versions-push [] (u ∷ stamps) b t same = absurd (omega arith)
@@ -40,7 +40,7 @@ version-at seen k p room within inside =
     ap (λ commits. get_or commits p false) (commits-of (take k seen.commits) (take k seen.numbers) (same-length seen k room within))
     ∙ get_or-take k seen.commits p false inside
 
--- what was read, with one more version
+-- the values that were read, with one more version
 abbrev pub with_version : Seen → ℕ → Bool → ℕ → Seen
 with_version seen k b t = record seen { commits = Rattle.std.proofs.Common.set seen.commits k b; numbers = Rattle.std.proofs.Common.set seen.numbers k t }
 

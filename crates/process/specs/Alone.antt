@@ -1,4 +1,4 @@
--- Parts of a process's work that stand alone, and what those who drive them want to know of it.
+-- Parts of a process's work that run without a whole call, and the facts that their drivers need.
 use Rattle.std.specs.Prelude.{◌≡◌, ℕ, Bool, cond, true, false, [], Option, None, Some}
 use Rattle.plain_store.specs.{Answer, Command, Setup}
 use Rattle.record.specs.{Access, Call, Change, Closing, Field, Place, Settles, TornBit, cut, enter, pending_at, processes, torn_at, torn_closing}
@@ -16,7 +16,7 @@ abbrev pub ticket_of : Doing → Option ℕ
 ticket_of (Runs command number at) = ticket_at at.part
 ticket_of _ = None
 
--- the process for whose ticket it is refused
+-- the process because of whose ticket the call is refused
 abbrev pub full_at : Part → Option ℕ
 full_at (Refuses full) = Some full
 full_at _ = None
@@ -25,12 +25,12 @@ abbrev pub full_of : Doing → Option ℕ
 full_of (Runs command number at) = full_at at.part
 full_of _ = None
 
--- the change that it writes
+-- the change that the call writes
 abbrev pub change_of : Setup → ℕ → Doing → Option Change
 change_of s p (Runs command number at) = pending_at (call s p command number) at.part
 change_of s p _ = None
 
--- the answer that it has come to
+-- the answer of the call
 abbrev pub answer_at : Part → Option Answer
 answer_at (Clears a) = Some a
 answer_at _ = None
@@ -39,26 +39,26 @@ abbrev pub answer_of : Doing → Option Answer
 answer_of (Runs command number at) = answer_at at.part
 answer_of _ = None
 
--- the register of a number access of its call, and whose it is
+-- the owner and the field of the register that a part accesses
 abbrev pub register_at : Call → Part → ℕ × Field
 register_at c part = cond (is_read part) (read_at c part) (c.process, (written_at c part).0)
 
--- an access to the register at which its call is
+-- the access is one to the register that the call of p accesses
 abbrev pub IsOfRegister : Setup → ℕ → Doing → Access → Type 0
 IsOfRegister s p (Runs command number at) a = (a.owner, a.field) ≡ register_at (call s p command number) at.part
 IsOfRegister s p _ a = Unit {0}
 
--- the bit that is torn if it fails
+-- the bit that is torn if the process fails
 abbrev pub torn_of : Setup → ℕ → Doing → Option TornBit
 torn_of s p (Runs command number at) = torn_at (call s p command number) at
 torn_of s p (Closes command number at) = torn_closing at
 torn_of s p _ = None
 
--- where a call comes inside: at the first commit bit
+-- the position at which a call enters the critical section: the read of the first commit bit
 abbrev pub inside_place : Call → Place
 inside_place c = enter c (to_e (processes c.setup) [])
 
--- the process with a call that has come there
+-- the process with a call at this position
 abbrev pub called_inside : ProcessState → Command → ℕ → ProcessState
 called_inside now command number = record now {
   doing = Runs command number (inside_place (call now.setup now.process command number));
@@ -66,12 +66,12 @@ called_inside now command number = record now {
   number = number;
 }
 
--- its memory unit settles a bit
+-- the memory unit of the process settles a bit
 abbrev pub settles : Doing → Bool
 settles (Closes command number (Settles field bit begun taken inside t)) = true
 settles _ = false
 
--- its memory unit, which settles this bit first, or has none to settle; no command is taken, and the process is not inside
+-- the work of a memory unit that settles this bit first, or has none to settle; no command is taken, and the process is not inside
 abbrev pub unit_with : Call → Option TornBit → Closing
 unit_with c torn = cut c torn false None false
 

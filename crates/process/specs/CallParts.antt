@@ -1,4 +1,4 @@
--- A call at one of its parts: what it does there, what comes after, and the marks.
+-- A call at one of its parts: the access of the part, the next part, and the marks.
 use Rattle.std.specs.Prelude.{◌≡◌, ◌<◌, ◌≤◌, ℕ, Bool, true, false, List, [], ◌∷◌, length}
 use Rattle.plain_store.specs.declared.Answer.TheVariants as answer
 use Rattle.record.specs.{Call, Mark, width}
@@ -8,22 +8,22 @@ use Rattle.record.specs.safe_number.{bits_of_number, number_of_bits}
 use Rattle.process.specs.declared.asked.Asked.{Asked}
 use Rattle.process.specs.declared.asked.Asked.TheVariants as asks
 
--- a call, and the part that it is at
+-- a call and its present part
 pub record PartState : Type 0 where
   pub call : Call
   pub part : Part
 
--- the image is read
+-- the part reads the image
 abbrev pub reads_image : Part → Bool
 reads_image (AsksImage versions) = true
 reads_image _ = false
 
--- the new image is written
+-- the part writes the new image
 abbrev pub writes_image : Part → Bool
 writes_image (WritesImage versions store) = true
 writes_image _ = false
 
--- what a part does, as it is told
+-- the description of an access is that of the part
 abbrev pub IsAsked : Call → Part → Asked → Type 0
 IsAsked c part asks.Nothing = is_over part ≡ true
 IsAsked c part (asks.Reads owner field) = (is_over part ≡ false) × (is_read part ≡ true) × (owner < c.setup.processes) × (read_at c part ≡ (owner, field))
@@ -41,12 +41,12 @@ marks_waited (AsksCommit k ks versions) = mark.Entered ∷ []
 marks_waited (AsksImage versions) = mark.Entered ∷ []
 marks_waited _ = []
 
--- with which the doorway ends
+-- the marks with which the doorway ends
 abbrev pub marks_lowered : ℕ → Part → List Mark
 marks_lowered t (Waits u w ws) = mark.Waiting t ∷ []
 marks_lowered t _ = mark.Waiting t ∷ mark.Entered ∷ []
 
--- where a command may be taken
+-- the marks of a last access that may take a command
 abbrev pub marks_taken : Part → List Mark
 marks_taken (Clears (answer.Reply reply)) = mark.Taken 0 reply ∷ []
 marks_taken _ = []

@@ -1,4 +1,4 @@
--- What is known of a process by what it does.
+-- Facts about a process that are computed from its work.
 use Rattle.std.specs.Prelude.{ℕ, Bool, ◌&&◌, not, cond, List, [], Option, None, Some, option_map}
 use Rattle.plain_store.specs.{Setup}
 use Rattle.record.specs.safe_number.{number_of_bits}
@@ -16,11 +16,11 @@ abbrev pub bits_read : Run → List Bool
 bits_read (Reading bits begun) = bits
 bits_read (Writing w) = []
 
--- a register is read that holds a number
+-- the part reads a register that holds a number
 abbrev pub reads_number : Part → Bool
 reads_number part = is_read part && not (reads_image part)
 
--- the number so far of the register that is read; 0, if none is read, or an image
+-- the number read so far; 0 if no register or an image is read
 abbrev pub number_at : Place → ℕ
 number_at at = cond (reads_number at.part) (number_of_bits (bits_read at.run)) 0
 
@@ -28,7 +28,7 @@ abbrev pub number_read : Doing → ℕ
 number_read (Runs command number at) = number_at at
 number_read _ = 0
 
--- what is known of the ticket, once part A is done and while the process is in its doorway
+-- the known facts about the ticket, after part A and while the process is in its doorway
 abbrev pub ticket_known_at : Setup → Part → Option TicketKnown
 ticket_known_at s (Asks j js tickets) = Some (Above (greatest tickets))
 ticket_known_at s (TakesTicket t) = Some (Is t)
@@ -49,6 +49,6 @@ abbrev pub settling_of : Doing → Option Settling
 settling_of (Closes command number at) = settling_in at
 settling_of _ = None
 
--- The bytes of what a process writes to a register, or its memory unit. It is none where neither writes one.
+-- The bytes that a process or its memory unit writes to a register. The result is `None` if neither writes a register.
 abbrev pub bytes_written : Setup → ℕ → Doing → Option (List ℕ)
 bytes_written s p d = option_map (λ (w : RegisterWrite). register_bytes w.bits) (register_write s p d)

@@ -6,7 +6,7 @@ use Rattle.plain_store.specs.{Setup}
 use Rattle.record.specs.{Access, copy, field_number, opening_bit, same_bit, width}
 use Rattle.registers.specs.{RegisterName, field_numbered}
 
--- a bit of a lane, as an access names it
+-- an access to a bit of a lane
 abbrev pub access_there : Setup → (lane bit : ℕ) → Access
 access_there s lane bit = copy (lane / s.processes / 7) (field_numbered (lane / s.processes % 7)) (lane % s.processes) bit
 
@@ -18,11 +18,11 @@ lane_with cells s lane = map (λ bit. cells (access_there s lane bit)) (range_wi
 abbrev pub memory_with : (Access → Cell) → Setup → List (List Cell)
 memory_with cells s = map (lane_with cells s) (range_with_len 0 (7 * s.processes * s.processes))
 
--- as they open
+-- the initial cells
 abbrev pub cells_opening : Setup → Access → Cell
 cells_opening s x = new_cell (opening_bit s x)
 
--- after an access: the cell of its bit goes on by it
+-- the cells after an access, which changes the cell of its bit
 abbrev pub cells_after : (Access → Cell) → Access → Access → Cell
 cells_after cells a x = cond (same_bit x a) (cell_after (cells x) a.how) (cells x)
 
@@ -30,6 +30,6 @@ cells_after cells a x = cond (same_bit x a) (cell_after (cells x) a.how) (cells 
 abbrev pub is_of_reader : RegisterName → ℕ → Access → Bool
 is_of_reader register reader x = (x.owner == register.owner) && (field_number x.field == field_number register.field) && (x.reader == reader)
 
--- once the reader has dropped its read of the register
+-- the cells after the reader has dropped its read of the register
 abbrev pub cells_dropped : (Access → Cell) → RegisterName → ℕ → Access → Cell
 cells_dropped cells register reader x = cond (is_of_reader register reader x) (without_read (cells x)) (cells x)

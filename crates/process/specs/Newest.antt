@@ -1,4 +1,4 @@
--- The committed store with the greatest stamp, off the memory, as reader 0's copies have it.
+-- The committed store with the greatest stamp, read from reader 0's copies in the memory.
 use Rattle.std.specs.Prelude.{◌≡◌, ℕ, Bool, false, List, [], ◌∷◌, ◌++◌, length, map, slice_index_or}
 use Rattle.registers.specs.safe_bit.Cell.{Cell}
 use Rattle.plain_store.specs.{Contents, Setup, callers_of}
@@ -15,22 +15,22 @@ newest_version versions =
     let newest = newest_process versions in
     record { stamp = newest_stamp versions; process = newest; commit = version_of versions newest }
 
--- `then` is the newest version once the version of the next process is among those of which `newest` is the newest.
+-- `then` is the newest version after the version of the next process is added to those of which `newest` is the newest.
 abbrev pub IsNewestWith : NewestVersion → ℕ → Version → NewestVersion → Type 0
 IsNewestWith newest process version then =
     (versions : List Version) → length versions ≡ process → newest ≡ newest_version versions → then ≡ newest_version (versions ++ version ∷ [])
 
--- what a register of a process holds
+-- the bits that a register of a process holds
 abbrev pub register_held : Setup → List (List Cell) → ℕ → Field → List Bool
 register_held s memory p field = values_held s.processes memory (record { owner = p; field = field })
 
--- the version that a process has committed: its commit bit, and the stamp that this chooses
+-- the version that a process has committed: its commit bit, and the stamp that this bit chooses
 abbrev pub version_in : Setup → List (List Cell) → ℕ → Version
 version_in s memory p =
     let commit = slice_index_or (register_held s memory p Commit) 0 false in
     (commit, number_of_bits (register_held s memory p (stamp_field commit)))
 
--- those of all processes
+-- the committed versions of all processes
 abbrev pub versions_in : Setup → List (List Cell) → List Version
 versions_in s memory = map (version_in s memory) (processes s)
 
@@ -41,6 +41,6 @@ newest_bits s memory =
     let newest = newest_process versions in
     register_held s memory newest (image_field (version_of versions newest))
 
--- the store whose image it is; the empty one, if it is none
+-- the store whose image these bits are, or the empty store if they are not an image
 abbrev pub newest_store : Setup → List (List Cell) → Contents
 newest_store s memory = store_in s.slots (callers_of s) (bytes_of_bits (image_bytes s) (newest_bits s memory))

@@ -1,4 +1,4 @@
--- How far the register access of a process is: how many accesses are made, of how many, and which one was the last.
+-- The progress of the register access of a process: the number of accesses made, their total, and the last one.
 use Rattle.std.specs.Prelude.{ℕ, ◌+◌, ◌-◌, ◌*◌, ◌==◌, Bool, false, cond, if◌then◌else◌, List, length, Option, None, Some, option_map, slice_index_or}
 use Rattle.plain_store.specs.{Setup}
 use Rattle.registers.specs.safe_bit.declared.moves.Move.TheVariants.{BeginRead, EndRead, EndWrite}
@@ -10,17 +10,17 @@ use Rattle.record.specs.{Access, Call, Closing, Part, Reading, Run, Settles, Wri
 use Rattle.laws.specs.{Closes, Doing, RegisterWrite, Runs, accesses_in_all, accesses_made, call, closing_write}
 use Rattle.process.specs.declared.looks.AccessProgress.{AccessProgress}
 
--- HOW MANY ACCESSES
+-- THE NUMBER OF ACCESSES
 
--- How far the read of a register of so many bits is.
+-- The progress of the read of a register of `width` bits.
 abbrev pub read_progress : ℕ → List Bool → Bool → AccessProgress
 read_progress width bits begun = record { made = 2 * length bits + (if begun then 1 else 0); all = 2 * width }
 
--- How far a write is.
+-- The progress of a write.
 abbrev pub write_progress : ℕ → RegisterWrite → AccessProgress
 write_progress n w = record { made = accesses_made n w; all = accesses_in_all n w }
 
--- How far a settling is.
+-- The progress of a settling.
 abbrev pub settling_progress : ℕ → copies.Settling → AccessProgress
 settling_progress n t = record { made = made_of_settling t.made t.reader t.begun; all = settling_in_all t.made n }
 
@@ -32,7 +32,7 @@ abbrev pub closing_progress : Call → Closing → Option AccessProgress
 closing_progress c (Settles field bit begun taken inside t) = Some (settling_progress c.setup.processes t)
 closing_progress c at = option_map (write_progress c.setup.processes) (closing_write c at)
 
--- How far the register access of a process is, or of its memory unit. It is none where neither makes one.
+-- The progress of the register access of a process or of its memory unit. The result is `None` if neither makes one.
 abbrev pub progress : Setup → ℕ → Doing → Option AccessProgress
 progress s p (Runs command number at) = Some (run_progress (call s p command number) at.part at.run)
 progress s p (Closes command number at) = closing_progress (call s p command number) at
@@ -57,7 +57,7 @@ abbrev pub last_of_run : Call → Part → Run → Option Access
 last_of_run c part (Reading bits begun) = option_map (access_of (read_at c part).0 (read_at c part).1) (last_of_read c.process bits begun)
 last_of_run c part (Writing w) = option_map (access_of c.process (written_at c part).0) (last_of_write c.setup.processes w)
 
--- The call of a process made this access last within its present register access. It is none where it has made none of it.
+-- The call of a process made this access last within its present register access. It is `None` if the call has made none of it.
 abbrev pub last_access : Setup → ℕ → Doing → Option Access
 last_access s p (Runs command number at) = last_of_run (call s p command number) at.part at.run
 last_access s p _ = None

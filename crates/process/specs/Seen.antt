@@ -1,4 +1,4 @@
--- What a process has read in its call, and the part of the call that it is at.
+-- The values that a process has read in its call, and the present part of the call.
 use Rattle.std.specs.Prelude.{◌≡◌, ◌≢◌, ◌<◌, ◌≤◌, ℕ, ◌+◌, ◌-◌, Bool, List, [], ◌∷◌, flat_map, length, take, Ok}
 use Rattle.std.specs.List.{range_with_len}
 use Rattle.plain_store.specs.{Setup, callers_of, checked}
@@ -37,11 +37,11 @@ others_of c k = others_from c.setup.processes c.process k
 abbrev pub all_from : Call → ℕ → List ℕ
 all_from c k = range_with_len k (c.setup.processes - k)
 
--- what is waited for, of the other processes from k on
+-- the registers for which it waits, of the other processes from k on
 abbrev pub waits_from : Call → ℕ → List Wait
 waits_from c k = flat_map (λ j. (j, Choosing) ∷ (j, Ticket) ∷ []) (others_of c k)
 
--- the part of the call
+-- the part of the call, with the values that were read
 abbrev pub part_at : Call → Seen → ProcessPart → Part
 part_at c seen at.Raises = Raises
 part_at c seen (at.Asks j) = Asks j (others_of c (j + 1)) (tickets_seen c.process j seen)
@@ -69,22 +69,22 @@ pub record IsCall (c : Call) : Type 0 where
   pub some_stamp : 1 ≤ c.setup.stamp_bits
   pub few_stamp : c.setup.stamp_bits ≤ 32
 
--- there is room for a number and a bit of each process
+-- the fields have room for a number and a bit of each process
 pub record HasRoom (seen : Seen) : Type 0 where
   pub numbers : length seen.numbers ≡ 16
   pub commits : length seen.commits ≡ 16
 
--- the first n numbers fit in so many bits
+-- the first n numbers fit in `bits` bits
 abbrev pub Fit : ℕ → ℕ → Seen → Type 0
 Fit n bits seen = greatest (take n seen.numbers) ≤ max_of bits
 
--- the store is one of the setup, and the stamp after the greatest one fits
+-- the store is one of the setup, and the successor of the greatest stamp fits
 pub record IsChange (s : Setup) (seen : Seen) : Type 0 where
   pub slots : seen.store.slots ≡ s.slots
   pub numbers : length seen.store.numbers ≡ callers_of s
   pub stamp : greatest (take s.processes seen.numbers) < max_of s.stamp_bits
 
--- what holds at a part
+-- the invariant of a part
 abbrev pub Holds : Call → Seen → ProcessPart → Type 0
 Holds c seen (at.Asks j) = (j < c.setup.processes) × (j ≢ c.process) × Fit (others_below c.process j) c.setup.ticket_bits seen
 Holds c seen (at.AwaitsChoosing t j) = j < c.setup.processes
@@ -97,7 +97,7 @@ Holds c seen at.WritesStamp = IsChange c.setup seen
 Holds c seen at.WritesCommit = IsChange c.setup seen
 Holds c seen _ = Unit {0}
 
--- what the fields keep
+-- the invariant of the fields
 pub record KeepsPart (c : Call) (seen : Seen) (part : ProcessPart) : Type 0 where
   pub call : IsCall c
   pub room : HasRoom seen

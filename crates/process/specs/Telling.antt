@@ -1,4 +1,4 @@
--- What an event leads to, and its marks.
+-- The effect of an event, and its marks.
 use Rattle.std.specs.Prelude.{ℕ, List, [], ◌∷◌, map, Option, None, Some}
 use Rattle.record.specs.{Act, Mark, placed}
 use Rattle.record.specs.declared.Mark.TheVariants as mark
@@ -8,7 +8,7 @@ use Rattle.process.specs.declared.told.EventMade.{EventMade}
 use Rattle.process.specs.declared.told.StepTold.{StepTold}
 use Rattle.process.specs.declared.told.StepTold.TheVariants.{Nothing, Waits, WaitsAndEnters, Enters, Took, Leaves, Answers, Settles, SettlesAndTakes, Lies}
 
--- the marks of a step; the place of a command that is taken is left open here, as 0
+-- the marks of a step; the position of a command that is taken is 0 here
 abbrev pub marks_told : StepTold → List Mark
 marks_told Nothing = []
 marks_told (Waits ticket) = mark.Waiting ticket ∷ []
@@ -21,7 +21,7 @@ marks_told (Settles value) = mark.Settled value ∷ []
 marks_told (SettlesAndTakes value reply) = mark.Settled value ∷ mark.Taken 0 reply ∷ []
 marks_told Lies = mark.Down ∷ []
 
--- how many changes a process tells to have been taken before the command that it takes
+-- the number of changes that were taken before the command, as the step reports it
 abbrev pub changes_told : StepTold → Option ℕ
 changes_told (Took reply changes) = Some changes
 changes_told _ = None
@@ -34,6 +34,6 @@ marks_of Fails = mark.Failed ∷ []
 marks_of Withdraws = mark.Withdrew ∷ []
 marks_of Restarts = mark.Restarted ∷ []
 
--- what an event has made as an act, where a command that is taken gets this place
+-- the act of an event that was made; a command that is taken gets this position
 abbrev pub act_of : ℕ → EventMade → Act
 act_of place made = record { access = made.access; marks = map (placed place) (marks_of made.effect) }

@@ -1,4 +1,4 @@
--- What a process does, as its call, its work and its cursor show it.
+-- The state of a process, computed from its call, its work and its cursor.
 use Rattle.std.specs.Prelude.{◌≡◌, ◌<◌, ℕ, Bool, true, false, List, [], ◌∷◌, IfSome, Option, None, Some, length, option_map, slice_index_or}
 use Rattle.plain_store.specs.{Reply, Setup}
 use Rattle.record.specs.declared.access.Field.TheVariants.{Choosing, Commit, Ticket}
@@ -14,7 +14,7 @@ use Rattle.process.specs.CallParts.{PartState}
 use Rattle.process.specs.Places.{ProcessState, marks_on, may_step, stepped}
 use Rattle.process.specs.Seen.{IsCall}
 
--- WHAT IT DOES
+-- ITS WORK
 
 -- the reply of the command that the settling of a commit bit may take
 abbrev pub reply_taken : Option (Bool × Reply) → Option Reply
@@ -25,7 +25,7 @@ abbrev pub settling_at : NumberRun → Bool → Option Reply → CursorState →
 settling_at (run.Settles cut value) inside taken cur = closing.Settles cur.register.field cur.bit (slice_index_or cur.bits cur.bit false) taken inside (settling_kept cut value cur)
 settling_at _ inside taken cur = closing.Ended
 
--- what is done to end a call
+-- the work that ends a call
 abbrev pub closing_at : ProcessWork → CursorState → Closing
 closing_at work.Withdraws cur = closing.Withdraws (write_kept cur)
 closing_at (work.Settles inside taken) cur = settling_at cur.run inside (reply_taken taken) cur
@@ -33,30 +33,30 @@ closing_at (work.Frees inside) cur = closing.Frees inside (write_kept cur)
 closing_at work.Lowers cur = closing.Lowers (write_kept cur)
 closing_at _ cur = closing.Ended
 
--- what a process does
+-- the work of a process
 abbrev pub doing_at : PartState → ProcessWork → CursorState → Doing
 doing_at k work.Rests cur = doings.Rests
 doing_at k work.Lies cur = doings.Lies
 doing_at k work.Runs cur = doings.Runs k.call.command k.call.number (place_at k.part cur)
 doing_at k w cur = doings.Closes k.call.command k.call.number (closing_at w cur)
 
--- a process with this last call, that does this
+-- a process with this last call and this work
 abbrev pub with_doing : PartState → Doing → ProcessState
 with_doing k d = record { setup = k.call.setup; process = k.call.process; doing = d; command = k.call.command; number = k.call.number }
 
--- what contracts see of the fields
+-- the value of the fields that contracts see
 abbrev pub state_at : PartState → ProcessWork → CursorState → ProcessState
 state_at k w cur = with_doing k (doing_at k w cur)
 
--- WHERE THE CURSOR IS
+-- THE CURSOR
 
--- at the part of the call
+-- the cursor is at the part of the call
 pub record RunsAt (k : PartState) (cur : CursorState) : Type 0 where
   pub going : is_over k.part ≡ false
   pub at : IsAtPart k.call k.part cur
   pub there : cur.register.owner < k.call.setup.processes
 
--- the unit of p settles a bit of a register; a commit bit that is settled at what was being written takes the command
+-- the unit of p settles a bit of a register; a commit bit that is settled at the value being written takes the command
 pub record SettlesAt (s : Setup) (p : ℕ) (taken : Option (Bool × Reply)) (cur : CursorState) : Type 0 where
   pub cut : ℕ
   pub value : Option Bool
@@ -71,7 +71,7 @@ pub record SettlesAt (s : Setup) (p : ℕ) (taken : Option (Bool × Reply)) (cur
   pub settled : cur.begun ≡ true → (v : Bool) × (value ≡ Some v)
   pub written : IfSome taken (λ (t : Bool × Reply). t.0 ≡ slice_index_or cur.bits cur.bit false)
 
--- where the work is
+-- the cursor is that of the work
 abbrev pub IsWorking : PartState → ProcessWork → CursorState → Type 0
 IsWorking k work.Runs cur = RunsAt k cur
 IsWorking k work.Withdraws cur = WritesAt k.call.setup k.call.process (Ticket, no_ticket k.call) cur
@@ -80,38 +80,38 @@ IsWorking k (work.Frees inside) cur = WritesAt k.call.setup k.call.process (Tick
 IsWorking k work.Lowers cur = WritesAt k.call.setup k.call.process (Choosing, false ∷ []) cur
 IsWorking k _ cur = Unit {0}
 
--- what the fields keep
+-- the invariant of the fields
 pub record KeepsPlace (k : PartState) (w : ProcessWork) (cur : CursorState) : Type 0 where
   pub call : IsCall k.call
   pub working : IsWorking k w cur
 
 -- ITS NEXT ACCESS
 
--- with what it is made: the flick by the unit that settles, else the value that a read gave
+-- the value of the next access: the flick for a unit that settles, and otherwise the value that a read returned
 abbrev pub given : ProcessWork → (flick value : Bool) → Bool
 given (work.Settles inside taken) flick value = flick
 given _ flick value = value
 
--- the cursor of one that goes has made its next access; before it, it was this one
+-- `before` is the cursor of a process that has an access to make, and `cur` is this cursor after the access
 pub record HasMoved (k : PartState) (w : ProcessWork) (flick value : Bool) (before cur : CursorState) (fresh : Bool) : Type 0 where
   pub keeps : KeepsPlace k w before
   pub goes : may_step (doing_at k w before) ≡ true
   pub moves : cur ≡ moved before (given w flick value)
   pub first : fresh ≡ is_fresh before
 
--- from some cursor on, with some flick and value
+-- the cursor has made such an access from some cursor, with some flick and value
 abbrev pub IsMoved : PartState → ProcessWork → CursorState → (fresh : Bool) → Type 0
 IsMoved k w cur fresh = (flick value : Bool) × (before : CursorState) × HasMoved k w flick value before cur fresh
 
--- then this is the process
+-- `next` is then the process
 abbrev pub IsStepped : PartState → ProcessWork → CursorState → (fresh : Bool) → ProcessState → Type 0
 IsStepped k w cur fresh next = (flick value : Bool) (before : CursorState) → HasMoved k w flick value before cur fresh → next ≡ stepped (state_at k w before) flick value
 
--- and these are the marks
+-- `marks` are then the marks
 abbrev pub AreMarksOn : PartState → ProcessWork → CursorState → (fresh : Bool) → List Mark → Type 0
 AreMarksOn k w cur fresh marks = (flick value : Bool) (before : CursorState) → HasMoved k w flick value before cur fresh → marks ≡ marks_on (state_at k w before) flick value
 
--- WHAT A FAILURE FINDS
+-- THE STATE AT A FAILURE
 
 -- the process writes, and its present bit has begun and has not ended on every copy
 abbrev pub is_torn_at : ProcessWork → CursorState → Bool
@@ -119,7 +119,7 @@ is_torn_at work.Runs cur = is_torn cur
 is_torn_at work.Withdraws cur = is_torn cur
 is_torn_at _ cur = false
 
--- the reply with which the settling of its bit may take the command
+-- the reply of the command that the settling of its bit may take
 abbrev pub taken_at : PartState → ProcessWork → Option Reply
 taken_at k work.Runs = taken_with (written_at k.call k.part).0 (pending_at k.call k.part)
 taken_at k _ = None

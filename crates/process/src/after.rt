@@ -1,4 +1,4 @@
-//! What comes after a number access.
+//! The part after a register access.
 ghost use Rattle.std.specs.Prelude.{◌≡◌, ◌<◌, ◌≤◌, ◌+◌, ◌-◌, ◌==◌, ◌||◌, ◌++◌, ◌∷◌, [], Bool, List, false, length};
 ghost use Rattle.plain_store.specs.{callers_of};
 ghost use Rattle.record.specs.{greatest, is_below, max_of, part_after, to_b, to_c, to_d, to_e, to_g};
@@ -16,7 +16,7 @@ use crate::store::{applied, is_change};
 use plain_store::Answer;
 use store_image::Image;
 
-/// All tickets are read: one more than the greatest is taken, if it fits.
+/// Returns the part after the last ticket was read: the new ticket is one more than the greatest, if it fits.
 fn choose(call: &ProcessCall, tickets: &[u32]) -> ProcessPart
     requires call { IsCall (call_of call.now) }
     requires all { length tickets.now + 1 ≡ call.now.setup.processes }
@@ -32,7 +32,7 @@ fn choose(call: &ProcessCall, tickets: &[u32]) -> ProcessPart
     }
 }
 
-/// On to the ticket of the first of the others from `first` on, or of none.
+/// Returns the part that reads the ticket of the first of the others from `first` on, or the choice if there is none.
 fn ask_from(call: &ProcessCall, seen: &Seen, first: u8) -> ProcessPart
     requires call { IsCall (call_of call.now) }
     requires room { HasRoom seen.now }
@@ -47,7 +47,7 @@ fn ask_from(call: &ProcessCall, seen: &Seen, first: u8) -> ProcessPart
     }
 }
 
-/// The ticket of another process was read.
+/// Stores the ticket of another process, and returns the next part.
 fn after_ticket(call: &ProcessCall, seen: &mut Seen, owner: u8, number: u32) -> ProcessPart
     requires keeps { KeepsPart (call_of call.now) seen.old (ProcessPart.Asks owner) }
     requires fits { number ≤ max_of call.now.setup.ticket_bits }
@@ -58,7 +58,7 @@ fn after_ticket(call: &ProcessCall, seen: &mut Seen, owner: u8, number: u32) -> 
     ask_from(call, seen, owner + 1)
 }
 
-/// On to the version of this process, or of none: then to the image.
+/// Returns the part that reads the version of this process if it exists, and otherwise the image.
 pub(crate) fn version_from(call: &ProcessCall, first: u8) -> ProcessPart
     requires first { first ≤ call.now.setup.processes }
     ensures part { (seen : Seen) → part_at (call_of call.now) seen result ≡ to_e (all_from (call_of call.now) first) (versions_seen first seen) }
@@ -71,7 +71,7 @@ pub(crate) fn version_from(call: &ProcessCall, first: u8) -> ProcessPart
     }
 }
 
-/// On to the wait for the first of the others from `first` on, or for none: then the process is inside.
+/// Returns the wait for the first of the others from `first` on; if there is none, the process is inside.
 fn await_from(call: &ProcessCall, ticket: u32, first: u8) -> ProcessPart
     requires call { IsCall (call_of call.now) }
     requires first { first ≤ call.now.setup.processes }
@@ -84,7 +84,7 @@ fn await_from(call: &ProcessCall, ticket: u32, first: u8) -> ProcessPart
     }
 }
 
-/// The stamp of a process was read.
+/// Stores the commit bit and the stamp of a process, and returns the next part.
 fn after_stamp(
     call: &ProcessCall,
     seen: &mut Seen,
@@ -103,7 +103,8 @@ fn after_stamp(
     version_from(call, of + 1)
 }
 
-/// The newest store was read. A command that changes nothing is taken; a change is written, where its stamp fits.
+/// Returns the part after the newest store was read. A command that changes nothing is taken. A change is written if its
+/// stamp fits.
 pub(crate) fn after_image(call: &ProcessCall, seen: &Seen) -> ProcessPart
     requires call { IsCall (call_of call.now) }
     requires room { HasRoom seen.now }
@@ -124,14 +125,14 @@ pub(crate) fn after_image(call: &ProcessCall, seen: &Seen) -> ProcessPart
     }
 }
 
-/// Whether a ticket that was read lets by.
+/// Returns whether a ticket that was read lets this process pass.
 fn lets_by(call: &ProcessCall, ticket: u32, owner: u8, number: u32) -> bool
     ensures { result ≡ ((number == 0) || is_below ticket call.now.process number owner) }
 {
     number == 0 || ticket < number || ticket == number && call.process < owner
 }
 
-/// A wait's read has given this number: it goes on, or to what comes after it.
+/// Returns the part after a read of a wait returned this number: the same wait, or the part that follows it.
 fn after_wait(call: &ProcessCall, ticket: u32, owner: u8, number: u32) -> ProcessPart
     requires call { IsCall (call_of call.now) }
     requires owner { owner < call.now.setup.processes }
@@ -145,7 +146,7 @@ fn after_wait(call: &ProcessCall, ticket: u32, owner: u8, number: u32) -> Proces
     }
 }
 
-/// What comes after a number access that is over, where it has not read the image; a read gave `number`.
+/// Returns the part after a register access other than a read of the image; a read returned `number`.
 pub(crate) fn part_after(
     call: &ProcessCall,
     seen: &mut Seen,

@@ -1,4 +1,4 @@
-//! What a part does.
+//! The register access of a part.
 ghost use Rattle.std.specs.Prelude.{◌≡◌, ◌+◌, ◌<◌, not, take};
 ghost use Rattle.record.specs.{AsksImage, greatest, image_field, newest_stamp, read_at, stamp_field, version_of};
 ghost use Rattle.process.specs.CallParts.{IsAsked};
@@ -9,20 +9,20 @@ use crate::part::{ProcessCall, ProcessPart};
 use crate::seen::Seen;
 use record::Field;
 
-/// What a part of a call does.
+/// The register access of a part of a call.
 #[derive(Clone, Copy)]
 pub enum Asked {
-    /// Nothing is left to be done.
+    /// No access is left.
     Nothing,
-    /// It reads this register.
+    /// The part reads this register.
     Reads { owner: u8, field: Field },
-    /// It writes this number to a register of its own.
+    /// The part writes this number to a register of its own process.
     Writes(Field, u32),
-    /// It writes the image of the store after the command to a register of its own.
+    /// The part writes the image of the store after the command to a register of its own process.
     WritesImage(Field),
 }
 
-/// The stamp that a commit bit chooses.
+/// Returns the field of the stamp that a commit bit chooses.
 #[inline]
 pub(crate) fn stamp_field(commit: bool) -> Field
     ensures { result ≡ stamp_field commit }
@@ -30,7 +30,7 @@ pub(crate) fn stamp_field(commit: bool) -> Field
     if commit { Field::Stamp1 } else { Field::Stamp0 }
 }
 
-/// The image that a commit bit chooses.
+/// Returns the field of the image that a commit bit chooses.
 #[inline]
 pub(crate) fn image_field(commit: bool) -> Field
     ensures { result ≡ image_field commit }
@@ -38,7 +38,7 @@ pub(crate) fn image_field(commit: bool) -> Field
     if commit { Field::Image1 } else { Field::Image0 }
 }
 
-/// The register of the newest image.
+/// Returns the register of the newest image.
 pub(crate) fn newest_image(call: &ProcessCall, seen: &Seen) -> (u8, Field)
     requires call { IsCall (call_of call.now) }
     requires room { HasRoom seen.now }
@@ -50,7 +50,7 @@ pub(crate) fn newest_image(call: &ProcessCall, seen: &Seen) -> (u8, Field)
     (newest as u8, image_field(seen.commits[newest]))
 }
 
-/// The commit bit of the version that is written.
+/// Returns the commit bit of the version that is written.
 pub(crate) fn other_commit(call: &ProcessCall, seen: &Seen) -> bool
     requires call { IsCall (call_of call.now) }
     requires room { HasRoom seen.now }
@@ -59,7 +59,7 @@ pub(crate) fn other_commit(call: &ProcessCall, seen: &Seen) -> bool
     !seen.commits[usize::from(call.process)]
 }
 
-/// The greatest stamp that was read.
+/// Returns the greatest stamp that was read.
 pub(crate) fn newest_stamp(call: &ProcessCall, seen: &Seen) -> u32
     requires call { IsCall (call_of call.now) }
     requires room { HasRoom seen.now }
@@ -69,7 +69,7 @@ pub(crate) fn newest_stamp(call: &ProcessCall, seen: &Seen) -> u32
     greatest(&seen.numbers[..usize::from(call.setup.processes)])
 }
 
-/// The stamp of the version that is written.
+/// Returns the stamp of the version that is written.
 fn next_stamp(call: &ProcessCall, seen: &Seen) -> u32
     requires call { IsCall (call_of call.now) }
     requires room { HasRoom seen.now }
@@ -79,7 +79,7 @@ fn next_stamp(call: &ProcessCall, seen: &Seen) -> u32
     newest_stamp(call, seen) + 1
 }
 
-/// What a part does.
+/// Returns the register access of a part.
 pub(crate) fn asks_at(call: &ProcessCall, seen: &Seen, part: &ProcessPart) -> Asked
     requires { KeepsPart (call_of call.now) seen.now part.now }
     ensures { IsAsked (call_of call.now) (part_at (call_of call.now) seen.now part.now) result }

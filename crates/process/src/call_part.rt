@@ -28,7 +28,7 @@ use record::{Field, Stage};
 use std::marker::Model;
 use store_image::Image;
 
-/// A call of a process, the part of it that the process is at, and what it has read before that.
+/// A call of a process, its present part, and the values that the process has read before this part.
 #[derive(Drop)]
 pub struct CallPart {
     call: ProcessCall,
@@ -49,7 +49,7 @@ impl Model for CallPart {
 }
 
 impl CallPart {
-    /// A call, at its begin.
+    /// Creates a call at its begin.
     pub fn new(setup: &Setup, process: u8, command: Command, number: u16) -> CallPart
         requires good { checked setup.now ≡ Ok tt }
         requires process { process < setup.now.processes }
@@ -71,7 +71,7 @@ impl CallPart {
         }
     }
 
-    /// Another call of the same process, at its begin.
+    /// Begins another call of this process.
     pub fn start(&mut self, command: Command, number: u16)
         ensures { self.new ≡ record { call = record self.old.call { command = command; number = number }; part = Raises } }
     {
@@ -80,7 +80,7 @@ impl CallPart {
         self.part = ProcessPart::Raises;
     }
 
-    /// Another call of the same process, which comes inside.
+    /// Begins another call of this process at the position where it enters the critical section.
     pub fn start_inside(&mut self, command: Command, number: u16)
         ensures { self.new ≡ record { call = record self.old.call { command = command; number = number }; part = to_e (processes self.old.call.setup) [] } }
     {
@@ -89,42 +89,42 @@ impl CallPart {
         self.part = after::version_from(&self.call, 0);
     }
 
-    /// The setup.
+    /// Returns the setup.
     pub fn setup(&self) -> Setup
         ensures { result ≡ self.now.call.setup }
     {
         self.call.setup
     }
 
-    /// Whose call it is.
+    /// Returns the process of the call.
     pub fn process(&self) -> u8
         ensures { result ≡ self.now.call.process }
     {
         self.call.process
     }
 
-    /// Its command.
+    /// Returns its command.
     pub fn command(&self) -> Command
         ensures { result ≡ self.now.call.command }
     {
         self.call.command
     }
 
-    /// Its number.
+    /// Returns its number.
     pub fn number(&self) -> u16
         ensures { result ≡ self.now.call.number }
     {
         self.call.number
     }
 
-    /// Whether the call was answered.
+    /// Returns whether the call was answered.
     pub fn is_over(&self) -> bool
         ensures { result ≡ is_over self.now.part }
     {
         matches!(self.part, ProcessPart::Over)
     }
 
-    /// Whether its first access has the mark `Left`.
+    /// Returns whether the first access of this part has the mark `Left`.
     #[inline]
     pub fn leaves(&self) -> bool
         ensures { first_marks self.now.part ≡ cond result (Left ∷ []) [] }
@@ -132,7 +132,7 @@ impl CallPart {
         matches!(self.part, ProcessPart::Clears(_))
     }
 
-    /// Whether its first access begins the call, or has a mark.
+    /// Returns whether the first access of this part begins the call, or has a mark.
     #[inline]
     pub fn is_told(&self) -> bool
         ensures { result ≡ is_told self.now.part }
@@ -140,7 +140,7 @@ impl CallPart {
         matches!(self.part, ProcessPart::Raises | ProcessPart::Clears(_))
     }
 
-    /// Whether it reads the image; any other register that it reads has at most 32 bits.
+    /// Returns whether this part reads the image; any other register that it reads has at most 32 bits.
     pub fn reads_image(&self) -> bool
         ensures image { result ≡ reads_image self.now.part }
         ensures narrow { result ≡ false → is_read self.now.part ≡ true → width self.now.call.setup (read_at self.now.call self.now.part).1 ≤ 32 }
@@ -148,7 +148,7 @@ impl CallPart {
         matches!(self.part, ProcessPart::AsksImage)
     }
 
-    /// The stage of its process, which has made no access of this part, or has.
+    /// Returns the stage of its process, by whether the process has made an access of this part.
     pub fn stage(&self, fresh: bool) -> Stage
         ensures { result ≡ stage_of self.now.part fresh }
     {
@@ -167,7 +167,7 @@ impl CallPart {
         }
     }
 
-    /// Whether its process is inside, which has made no access of this part, or has.
+    /// Returns whether its process is inside, by whether the process has made an access of this part.
     pub fn is_inside(&self, fresh: bool) -> bool
         ensures { result ≡ is_inside_at self.now.part fresh }
     {
@@ -183,7 +183,7 @@ impl CallPart {
         }
     }
 
-    /// The ticket with which its process ends its doorway, or waits.
+    /// Returns the ticket with which its process ends its doorway, or waits.
     pub fn ticket(&self) -> Option<u32>
         ensures { result ≡ ticket_at self.now.part }
     {
@@ -195,7 +195,7 @@ impl CallPart {
         }
     }
 
-    /// The process for whose ticket it is refused.
+    /// Returns the process because of whose ticket the call is refused.
     pub fn full(&self) -> Option<u8>
         ensures { result ≡ full_at self.now.part }
     {
@@ -205,7 +205,7 @@ impl CallPart {
         }
     }
 
-    /// The answer that it has come to.
+    /// Returns the answer of the call, while the ticket is cleared.
     pub fn answer(&self) -> Option<Answer>
         ensures { result ≡ answer_at self.now.part }
     {
@@ -215,7 +215,7 @@ impl CallPart {
         }
     }
 
-    /// While a change is being written, the reply, the greatest stamp that was read, and the new value of the commit bit.
+    /// Returns the reply, the greatest stamp that was read and the new value of the commit bit, while a change is written.
     pub fn pending(&self) -> Option<(Reply, u32, bool)>
         ensures { result ≡ pending_at self.now.call self.now.part }
     {
@@ -231,7 +231,7 @@ impl CallPart {
         }
     }
 
-    /// What is known of the ticket, once the choosing bit is raised and while the process is in its doorway.
+    /// Returns the known facts about the ticket, from the raising of the choosing bit to the end of the doorway.
     pub fn ticket_known(&self) -> Option<TicketKnown>
         ensures { result ≡ ticket_known_at self.now.call.setup self.now.part }
     {
@@ -250,7 +250,7 @@ impl CallPart {
         }
     }
 
-    /// The greatest stamp that was read, while a change is being written.
+    /// Returns the greatest stamp that was read, while a change is being written.
     pub fn changes_pending(&self) -> Option<u32>
         ensures { result ≡ option_map (λ (change : Change). change.1) (pending_at self.now.call self.now.part) }
     {
@@ -262,7 +262,8 @@ impl CallPart {
         }
     }
 
-    /// The greatest stamp that was read, where its last access may take the command: so many changes were taken before it.
+    /// Returns the number of changes taken before the command, if the last access of this part may take it: the greatest
+    /// stamp that was read. Otherwise it returns 0.
     pub fn changes_read(&self) -> u32
         ensures { result ≡ changes_at self.now.part }
     {
@@ -274,7 +275,7 @@ impl CallPart {
         }
     }
 
-    /// While it writes the commit bit, the bit's new value, at which it takes the command, and the reply.
+    /// Returns the new value of the commit bit, at which the command is taken, and the reply, while this bit is written.
     pub fn takes(&self) -> Option<(bool, Reply)>
         ensures reply { reply_taken result ≡ taken_with (written_at self.now.call self.now.part).0 (pending_at self.now.call self.now.part) }
         ensures commit { IfSome result (λ (taken : Bool × Reply). written_at self.now.call self.now.part ≡ (Field.Commit, taken.0 ∷ [])) }
@@ -288,7 +289,7 @@ impl CallPart {
         }
     }
 
-    /// The store whose image it writes.
+    /// Returns the store whose image it writes.
     pub fn image(&self) -> Image
         requires { writes_image self.now.part ≡ true }
         ensures { bits_in (image_of result) (width self.now.call.setup Field.Image0) ≡ (written_at self.now.call self.now.part).1 }
@@ -296,15 +297,15 @@ impl CallPart {
         applied(&self.call, &self.seen.store).0
     }
 
-    /// What it does.
+    /// Returns the register access of its present part.
     pub fn asks(&self) -> Asked
         ensures { IsAsked self.now.call self.now.part result }
     {
         asks_at(&self.call, &self.seen, &self.part)
     }
 
-    /// Goes on to the part that comes next, once its number access is over and has not read the image; a read has given
-    /// `number`. It tells what the last access leads to.
+    /// Moves to the next part after a register access other than a read of the image; a read returned `number`.
+    /// Returns the outcome of the last access.
     pub fn after(&mut self, number: u32) -> StepTold
         requires going { is_over self.old.part ≡ false }
         requires small { reads_image self.old.part ≡ false }
@@ -319,7 +320,7 @@ impl CallPart {
         told_to(&part, &self.part, changes)
     }
 
-    /// The same, once it has read the image, which is that of `store`.
+    /// Moves to the next part after a read of the image, which is that of `store`. Returns the outcome of the last access.
     pub fn after_image(&mut self, store: &Image) -> StepTold
         requires image { reads_image self.old.part ≡ true }
         requires slots { store.now.slots ≡ self.old.call.setup.slots }

@@ -1,4 +1,4 @@
-//! The committed store with the greatest stamp, off the memory.
+//! The committed store with the greatest stamp, read from the memory.
 ghost use Rattle.std.specs.Prelude.{◌≡◌, ◌<◌, Ok};
 ghost use Rattle.plain_store.specs.{checked};
 ghost use Rattle.registers.specs.{AreOf};
@@ -12,8 +12,8 @@ use record::Field;
 use registers::{BitMemory, RegisterName};
 use store_image::Image;
 
-/// The store whose image the registers hold as committed, with the greatest stamp, of the lowest process on a tie. They
-/// are read off as reader 0 has them, and no access is made. The empty store stands in place of bytes that are no image.
+/// Returns the store of the committed image with the greatest stamp, of the lowest process on a tie. It reads the copies
+/// of reader 0 and makes no access. If the bytes are not an image, it returns the empty store.
 pub fn newest(memory: &BitMemory, setup: &Setup) -> Image
     requires good { checked setup.now ≡ Ok tt }
     requires memory { AreOf setup.now memory.now }
@@ -27,7 +27,7 @@ pub fn newest(memory: &BitMemory, setup: &Setup) -> Image
     image_read(setup, &bytes)
 }
 
-/// The version that a process has committed: its commit bit, and the stamp that this chooses.
+/// Returns the version that a process has committed: its commit bit, and the stamp that this bit chooses.
 fn version_held(memory: &BitMemory, setup: &Setup, process: u8) -> (bool, u32)
     requires good { checked setup.now ≡ Ok tt }
     requires memory { AreOf setup.now memory.now }

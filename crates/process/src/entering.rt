@@ -1,4 +1,4 @@
-//! The cursor of a part: where it begins, and where it is over.
+//! The cursor of a part, at its begin and at its end.
 ghost use Rattle.std.specs.Prelude.{◌≡◌, ◌<◌, ◌≤◌, IfSome, false};
 ghost use Rattle.record.specs.{is_over, last_marks, part_after, width};
 ghost use Rattle.record.specs.safe_number.{bits_of_number, number_of_bits};
@@ -48,7 +48,7 @@ pub(crate) fn enter(called: &CallPart, cursor: &mut Cursor)
     }
 }
 
-/// Puts the cursor at the begin of a write of 0 to a register of the process, of at most 32 bits.
+/// Puts the cursor at the begin of a write of 0 to a register of the process that has at most 32 bits.
 pub(crate) fn clear(called: &CallPart, cursor: &mut Cursor, field: Field)
     requires call { IsCall called.now.call }
     requires narrow { width called.now.call.setup field ≤ 32 }
@@ -59,7 +59,7 @@ pub(crate) fn clear(called: &CallPart, cursor: &mut Cursor, field: Field)
     cursor.begin_write(&setup, RegisterName { owner, field }, 0);
 }
 
-/// The number that was read, 0 of a write.
+/// Returns the number that was read; 0 after a write.
 fn number_read(cursor: &Cursor) -> u32
     requires { cursor.now.run ≡ NumberRun.Reads → cursor.now.width ≤ 32 }
     ensures reads { cursor.now.run ≡ NumberRun.Reads → result ≡ number_of_bits cursor.now.bits }
@@ -71,7 +71,7 @@ fn number_read(cursor: &Cursor) -> u32
     }
 }
 
-/// A call's part whose number access is over goes on to the next one. It tells what the last access leads to.
+/// Moves a call whose register access is over to its next part. Returns the outcome of the last access.
 pub(crate) fn part_over(called: &mut CallPart, cursor: &Cursor) -> StepTold
     requires call { IsCall called.old.call }
     requires going { is_over called.old.part ≡ false }

@@ -9,8 +9,8 @@ use plain_store::Setup;
 use record::{bytes_go_by_their_bits, image_bytes};
 use store_image::Image;
 
-/// The store whose image was read, bit by bit, as these bytes, of which only the first ones are those of the image. The
-/// empty store stands in place of bytes that are none.
+/// Returns the store whose image was read, bit by bit, as these bytes. Only the first bytes are those of the image. If
+/// they are not an image, it returns the empty store.
 pub(crate) fn image_read(setup: &Setup, bytes: &[u8; 216]) -> Image
     requires good { checked setup.now ≡ Ok tt }
     ensures store { (bits : List Bool) → length bits ≡ 8 * image_bytes setup.now → ((k : ℕ) → k < length bits → bit_in bytes.now k ≡ slice_index_or bits k false) → result ≡ store_in setup.now.slots (callers_of setup.now) (bytes_of_bits (image_bytes setup.now) bits) }

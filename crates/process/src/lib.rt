@@ -1,5 +1,5 @@
-//! One process at its place: its call, the part of its program that it has come to, and the cursor of the number access
-//! that it makes there.
+//! The state of one process: its call, the present part of its program, and the cursor of the register access that it
+//! makes there.
 #![tactic(auto)]
 
 mod after;

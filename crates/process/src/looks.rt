@@ -1,22 +1,22 @@
-//! What is known of a process, to whoever looks at it.
+//! Facts about a process that other code may read.
 
 use record::Field;
 
-/// What is known of the ticket of a process in its doorway.
+/// The known facts about the ticket of a process in its doorway.
 #[derive(Clone, Copy)]
 pub enum TicketKnown {
-    /// It will be greater than this one.
+    /// The ticket will be greater than this one.
     Above(u32),
-    /// It is this one.
+    /// The ticket is this one.
     Is(u32),
 }
 
-/// How far a register access is.
+/// The progress of a register access.
 #[derive(Clone, Copy)]
 pub struct AccessProgress {
-    /// How many of its accesses are made.
+    /// The number of accesses made.
     pub made: u32,
-    /// How many it has.
+    /// The total number of accesses.
     pub all: u32,
 }
 
@@ -27,11 +27,11 @@ pub struct Settling {
     pub bit: u16,
     /// The value that was being written.
     pub written: bool,
-    /// How many accesses of the bit's write were made.
+    /// The number of accesses of the bit's write that were made.
     pub cut: u8,
-    /// The copy that it has come to, and whether its write has begun.
+    /// The present copy, and whether its write has begun.
     pub copy: u8,
     pub begun: bool,
-    /// The value that was chosen, once one is.
+    /// The chosen value, or `None` before the choice.
     pub value: Option<bool>,
 }

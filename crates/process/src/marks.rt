@@ -1,4 +1,4 @@
-//! What the last access of a part leads to.
+//! The outcome of the last access of a part.
 ghost use Rattle.std.specs.Prelude.{◌≡◌, IfSome, None};
 ghost use Rattle.record.specs.{Call};
 ghost use Rattle.process.specs.CallParts.{marks_lowered, marks_taken, marks_to};
@@ -10,7 +10,7 @@ use crate::part::ProcessPart;
 use crate::told::StepTold;
 use plain_store::Answer;
 
-/// What the last access of a part leads to, before this next one. A command that is taken comes after so many changes.
+/// Returns the outcome of the last access of a part, before this next part. `changes` changes precede a command taken.
 pub(crate) fn told_to(part: &ProcessPart, next: &ProcessPart, changes: u32) -> StepTold
     ensures marks { (c : Call) (seen then : Seen) → marks_told result ≡ marks_to (part_at c seen part.now) (part_at c then next.now) }
     ensures changes { IfSome (changes_told result) (λ told. told ≡ changes) }
@@ -30,7 +30,7 @@ pub(crate) fn told_to(part: &ProcessPart, next: &ProcessPart, changes: u32) -> S
     }
 }
 
-/// With which the doorway ends.
+/// Returns the outcome with which the doorway ends.
 fn told_lowered(ticket: u32, next: &ProcessPart) -> StepTold
     ensures marks { (c : Call) (then : Seen) → marks_told result ≡ marks_lowered ticket (part_at c then next.now) }
     ensures changes { changes_told result ≡ None }
@@ -43,7 +43,7 @@ fn told_lowered(ticket: u32, next: &ProcessPart) -> StepTold
     }
 }
 
-/// Where a command may be taken, after so many changes.
+/// Returns the outcome of an access that may take a command, after `changes` changes.
 fn told_taken(next: &ProcessPart, changes: u32) -> StepTold
     ensures marks { (c : Call) (then : Seen) → marks_told result ≡ marks_taken (part_at c then next.now) }
     ensures changes { IfSome (changes_told result) (λ told. told ≡ changes) }

@@ -29,7 +29,7 @@ impl NewestVersion {
         }
     }
 
-    /// Returns the newest once the version of the next process, its commit bit and its stamp, is among them.
+    /// Returns the newest after the version of the next process, its commit bit and its stamp, is added to them.
     pub fn with(self, process: u8, version: (bool, u32)) -> NewestVersion
         ensures either { (result ≡ self)
             ⊎ (result ≡ record { stamp = version.1; process = process; commit = version.0 }) }

@@ -1,8 +1,8 @@
-//! The greatest of some numbers, and where it stands.
+//! The greatest of some numbers, and its index.
 ghost use Rattle.std.specs.Prelude.{◌≡◌, ◌≤◌};
 ghost use Rattle.record.specs.{greatest, index_of, max_of};
 
-/// The greatest of some numbers, 0 of none.
+/// Returns the greatest of some numbers, or 0 if there are none.
 pub(crate) fn greatest(numbers: &[u32]) -> u32
     ensures { result ≡ greatest numbers.now }
 {
@@ -13,7 +13,7 @@ pub(crate) fn greatest(numbers: &[u32]) -> u32
     most
 }
 
-/// The first place of a number among some; how many there are, if it is none of them.
+/// Returns the first index of a number among `numbers`, or their count if it is not among them.
 pub(crate) fn place_of(number: u32, numbers: &[u32]) -> usize
     ensures { result ≡ index_of number numbers.now }
 {
@@ -25,7 +25,7 @@ pub(crate) fn place_of(number: u32, numbers: &[u32]) -> usize
     numbers.len()
 }
 
-/// The greatest number of so many bits.
+/// Returns the greatest number of `bits` bits.
 pub(crate) fn most_of(bits: u8) -> u32
     requires { bits ≤ 32 }
     ensures { result ≡ max_of bits }

@@ -1,4 +1,4 @@
-//! The memory as it opens.
+//! The initial memory.
 ghost use Rattle.std.specs.Prelude.{◌≡◌, IfOk, Ok};
 ghost use Rattle.plain_store.specs.{checked, opening_store};
 ghost use Rattle.process.specs.Memories.{cells_opening, memory_with};
@@ -8,8 +8,12 @@ use registers::{BitMemory, words_of};
 use std::alloc::{AllocError, Global};
 use store_image::Image;
 
-/// The registers of all processes as they open: the first image of process 0 holds the opening store, and all else is 0.
-/// The one fault is want of memory.
+/// Creates the initial registers of all processes: the first image of process 0 holds the opening store, and all other
+/// bits are 0.
+///
+/// # Errors
+///
+/// Returns [`AllocError`] if an allocation fails; there is no other error.
 pub fn open_memory(alloc: Global, setup: &Setup) -> Result<BitMemory, AllocError>
     requires { checked setup.now ≡ Ok tt }
     ensures { IfOk result (λ memory. memory ≡ memory_with (cells_opening setup.now) setup.now) }
@@ -19,7 +23,7 @@ pub fn open_memory(alloc: Global, setup: &Setup) -> Result<BitMemory, AllocError
     BitMemory::new(alloc, setup, &words_of(&bytes))
 }
 
-/// The image of the opening store.
+/// Returns the image of the opening store.
 fn opening_image(setup: &Setup) -> Result<Image, AllocError>
     requires { checked setup.now ≡ Ok tt }
     ensures { IfOk result (λ image. image ≡ opening_store setup.now) }

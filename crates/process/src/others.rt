@@ -4,7 +4,7 @@ ghost use Rattle.process.specs.Others.{first_other, other_numbered, others_below
 
 use crate::part::ProcessCall;
 
-/// The first of the others from `first` on.
+/// Returns the first of the others from `first` on.
 #[inline]
 pub(crate) fn first_other(call: &ProcessCall, first: u8) -> Option<u8>
     requires { first ≤ 16 }
@@ -18,7 +18,7 @@ pub(crate) fn first_other(call: &ProcessCall, first: u8) -> Option<u8>
     (other < call.setup.processes).then_some(other)
 }
 
-/// How many of them there are below a process.
+/// Returns the number of the others below a process.
 #[inline]
 pub(crate) fn others_below(call: &ProcessCall, owner: u8) -> usize
     ensures { result ≡ others_below call.now.process owner }
@@ -30,7 +30,7 @@ pub(crate) fn others_below(call: &ProcessCall, owner: u8) -> usize
     }
 }
 
-/// One of them by its number, counted from 0.
+/// Returns one of the others by its number, counted from 0.
 pub(crate) fn other_numbered(call: &ProcessCall, number: usize) -> u8
     requires { number < 16 }
     ensures { result ≡ other_numbered call.now.process number }

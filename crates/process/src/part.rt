@@ -1,4 +1,4 @@
-//! Which number access of its call a process is making.
+//! The register access of its call that a process is making.
 
 use plain_store::{Answer, Command, Setup};
 
@@ -12,7 +12,7 @@ pub(crate) struct ProcessCall {
     pub number: u16,
 }
 
-/// A number access of a call. What was read before it is kept beside it.
+/// A register access of a call. The values that were read before it are stored separately.
 #[derive(Clone, Copy)]
 pub(crate) enum ProcessPart {
     /// A: writes `Choosing` 1.
@@ -23,11 +23,11 @@ pub(crate) enum ProcessPart {
     TakesTicket(u32),
     /// C: writes `Choosing` 0, with this ticket.
     Lowers(u32),
-    /// C: writes `Choosing` 0, without a ticket: this process has the greatest that there is.
+    /// C: writes `Choosing` 0, without a ticket: this process has the greatest possible ticket.
     Refuses(u8),
     /// D: reads whether `owner` is choosing, until it is not.
     AwaitsChoosing { ticket: u32, owner: u8 },
-    /// D: reads the ticket of `owner`, until it lets by.
+    /// D: reads the ticket of `owner`, until it lets this process pass.
     AwaitsTicket { ticket: u32, owner: u8 },
     /// E: reads the commit bit of a process.
     AsksCommit { of: u8 },

@@ -1,4 +1,4 @@
-//! One process, as the place that it has come to.
+//! The state of one process.
 ghost use Rattle.std.specs.Prelude.{◌≡◌, ◌<◌, ℕ, [], IfSome, None, Ok, Some, cond};
 ghost use Rattle.record.specs.{Field, is_queued, is_read, is_waiting_stage, read_at};
 ghost use Rattle.plain_store.specs.{checked};
@@ -21,7 +21,7 @@ use record::{Field, Stage};
 use registers::Cursor;
 use std::marker::Model;
 
-/// One process: its last call, with the part that it is at, and the cursor of its number access. It takes no memory.
+/// One process: its last call with the present part, and the cursor of its register access. It does not allocate.
 #[derive(Drop)]
 pub struct Process {
     called: CallPart,
@@ -41,7 +41,7 @@ impl Model for Process {
 }
 
 impl Process {
-    /// A process that has made no call.
+    /// Creates a process that has made no call.
     pub fn new(process: u8, setup: &Setup) -> Process
         requires good { checked setup.now ≡ Ok tt }
         requires process { process < setup.now.processes }
@@ -54,7 +54,7 @@ impl Process {
         }
     }
 
-    /// Which process it is.
+    /// Returns the number of the process.
     pub fn process(&self) -> u8
         ensures process { result ≡ self.now.process }
         ensures there { result < self.now.setup.processes }
@@ -62,21 +62,21 @@ impl Process {
         self.called.process()
     }
 
-    /// The command of its last call.
+    /// Returns the command of its last call.
     pub fn command(&self) -> Command
         ensures { result ≡ self.now.command }
     {
         self.called.command()
     }
 
-    /// The number of its last call.
+    /// Returns the number of its last call.
     pub fn number(&self) -> u16
         ensures { result ≡ self.now.number }
     {
         self.called.number()
     }
 
-    /// Where it stands: idle, in its doorway, waiting, inside, leaving, settling or down.
+    /// Returns its stage: idle, in its doorway, waiting, inside, leaving, settling or down.
     pub fn stage(&self) -> Stage
         ensures { result ≡ stage_doing self.now.doing }
     {
@@ -90,7 +90,7 @@ impl Process {
         }
     }
 
-    /// Whether it waits.
+    /// Returns whether it waits.
     #[inline]
     pub fn is_waiting(&self) -> bool
         ensures { result ≡ is_waiting_stage (stage_doing self.now.doing) }
@@ -98,7 +98,7 @@ impl Process {
         matches!(self.stage(), Stage::Waiting)
     }
 
-    /// Whether it is in its doorway or waits.
+    /// Returns whether it is in its doorway or waits.
     #[inline]
     pub fn is_at_door(&self) -> bool
         ensures { result ≡ is_queued (stage_doing self.now.doing) }
@@ -106,7 +106,7 @@ impl Process {
         matches!(self.stage(), Stage::Doorway | Stage::Waiting)
     }
 
-    /// Whether it is inside the critical section, or its memory unit stands in for it there.
+    /// Returns whether it, or its memory unit on its behalf, is inside the critical section.
     pub fn is_inside(&self) -> bool
         ensures { result ≡ is_inside self.now.doing }
     {
@@ -118,7 +118,7 @@ impl Process {
         }
     }
 
-    /// Whether it has a next access: it runs, or its memory unit works.
+    /// Returns whether it has a next access: it runs, or its memory unit works.
     #[inline]
     pub fn goes(&self) -> bool
         ensures { result ≡ may_step self.now.doing }
@@ -126,8 +126,8 @@ impl Process {
         !matches!(self.work, ProcessWork::Rests | ProcessWork::Lies)
     }
 
-    /// The register that it reads, and whose it is; none, if it reads none. Where the process gives up waiting or fails,
-    /// its read of that register is dropped by whoever keeps the memory.
+    /// Returns the register that it reads, with its owner; `None` if it reads no register. When the process gives up waiting
+    /// or fails, the owner of the memory drops its read of that register.
     pub fn reads(&self) -> Option<(u8, Field)>
         ensures register { result ≡ reads_of self.now.setup self.now.process self.now.doing }
         ensures there { IfSome result (λ (register : ℕ × Field). register.0 < self.now.setup.processes) }
@@ -138,7 +138,7 @@ impl Process {
         }
     }
 
-    /// While it writes a change of the store, the greatest stamp that it has read: how many changes were taken before
+    /// Returns the greatest stamp that it has read, while it writes a change of the store: the number of changes taken before
     /// that one.
     pub fn changes_pending(&self) -> Option<u32>
         ensures { result ≡ changes_pending self.now.setup self.now.process self.now.doing }
@@ -149,7 +149,7 @@ impl Process {
         }
     }
 
-    /// A call begins.
+    /// Begins a call.
     pub fn call(&mut self, command: Command, number: u16)
         ensures { self.new ≡ called self.old command number }
     {
@@ -158,14 +158,14 @@ impl Process {
         enter(&self.called, &mut self.cursor);
     }
 
-    /// A process that was down may call again.
+    /// Restarts a process that was down, so that it may call again.
     pub fn restart(&mut self)
         ensures { self.new ≡ restarted self.old }
     {
         self.work = ProcessWork::Rests;
     }
 
-    /// Becomes as the other, of the same setup. It takes no memory.
+    /// Makes this process equal to the other one, which has the same setup. It does not allocate.
     pub fn copy_from(&mut self, other: &Process)
         requires setup { self.old.setup ≡ other.now.setup }
         ensures { self.new ≡ other.now }
@@ -176,7 +176,7 @@ impl Process {
     }
 }
 
-/// The register that a part reads, and whose it is.
+/// Returns the register that a part reads, with its owner.
 fn register_read(called: &CallPart) -> Option<(u8, Field)>
     ensures register { result ≡ cond (is_read called.now.part) (Some (read_at called.now.call called.now.part)) None }
     ensures there { IfSome result (λ (register : ℕ × Field). register.0 < called.now.call.setup.processes) }

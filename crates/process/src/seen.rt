@@ -1,13 +1,13 @@
-//! What a process has read in its call.
+//! The values that a process has read in its call.
 
 use store_image::Image;
 
-/// What a process has read in its call, as far as it may still want it.
+/// The values that a process has read in its call and may still need.
 #[derive(Clone, Copy)]
 pub(crate) struct Seen {
-    /// In part B the tickets of the others, in their order; from part E on the stamps of all.
+    /// In part B the tickets of the others, in their order; from part E on the stamps of all processes.
     pub numbers: [u32; 16],
-    /// The commit bits of all.
+    /// The commit bits of all processes.
     pub commits: [bool; 16],
     /// The store whose image was read.
     pub store: Image,

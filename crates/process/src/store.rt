@@ -8,7 +8,7 @@ use crate::part::ProcessCall;
 use plain_store::{Caller, Reply, Store, Value};
 use store_image::Image;
 
-/// Whether the command would change the store.
+/// Returns whether the command would change the store.
 #[tactic(auto, using(plain_store::proofs::Changes::changes_differs))]
 pub(crate) fn is_change(call: &ProcessCall, store: &Image) -> bool
     ensures { result ≡ changes store.now call.now.command }
@@ -16,12 +16,12 @@ pub(crate) fn is_change(call: &ProcessCall, store: &Image) -> bool
     store.would_change(&call.command)
 }
 
-/// The store after the command, and the reply.
+/// Returns the store after the command, and the reply.
 pub(crate) fn applied(call: &ProcessCall, read: &Image) -> (Image, Reply)
     ensures store { result.0 ≡ after read.now call.now.command (caller (call_of call.now)) }
     ensures reply { result.1 ≡ reply (call_of call.now) read.now }
 {
-    // The prover has to be told of this type, which lies within others here.
+    // The prover needs a mention of this type, which is nested in others here.
     let _value: Option<Value> = None;
     let mut store = *read;
     let caller = Caller {

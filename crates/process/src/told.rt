@@ -1,4 +1,4 @@
-//! What a step and an event lead to.
+//! The outcome of a step and the effect of an event.
 ghost use Rattle.std.specs.Prelude.{◌≡◌};
 ghost use Rattle.record.specs.{reply_taken};
 ghost use Rattle.process.specs.Telling.{marks_of, marks_told};
@@ -6,16 +6,16 @@ ghost use Rattle.process.specs.Telling.{marks_of, marks_told};
 use plain_store::{Answer, Command, Reply};
 use record::Access;
 
-/// What a step of a process, or of its memory unit, leads to.
+/// The outcome of a step of a process, or of its memory unit.
 #[derive(Clone, Copy)]
 pub enum StepTold {
     Nothing,
     /// The doorway is finished, with this ticket.
     Waits(u32),
-    /// It is finished, and there is nobody to wait for.
+    /// The doorway is finished, and there is no process to wait for.
     WaitsAndEnters(u32),
     Enters,
-    /// The command is taken, before which so many changes were.
+    /// The command is taken, after `changes` changes.
     Took { reply: Reply, changes: u32 },
     Leaves,
     Answers(Answer),
@@ -25,8 +25,8 @@ pub enum StepTold {
     Lies,
 }
 
-/// What an event leads to. Nearly all events are steps, so that what those lead to is a type of its own: it is small,
-/// with no room for a command.
+/// The effect of an event. Nearly all events are steps, so the outcome of a step is a type of its own: it is small,
+/// because it has no room for a command.
 #[derive(Clone, Copy)]
 pub enum Effect {
     Steps(StepTold),
@@ -37,7 +37,7 @@ pub enum Effect {
 }
 
 impl StepTold {
-    /// The reply of a command that is taken.
+    /// Returns the reply of a command that is taken.
     pub fn reply(&self) -> Option<Reply>
         ensures { result ≡ reply_taken (marks_told self.now) }
     {
@@ -49,7 +49,7 @@ impl StepTold {
 }
 
 impl Effect {
-    /// The reply of a command that is taken.
+    /// Returns the reply of a command that is taken.
     pub fn reply(&self) -> Option<Reply>
         ensures { result ≡ reply_taken (marks_of self.now) }
     {
@@ -60,7 +60,7 @@ impl Effect {
     }
 }
 
-/// What an event has made: the access of a step, and what the event leads to.
+/// The result of an event: the access of a step, and the effect of the event.
 #[derive(Clone, Copy)]
 pub struct EventMade {
     pub access: Option<Access>,

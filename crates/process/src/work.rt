@@ -1,19 +1,19 @@
-//! What a process does.
+//! The work of a process.
 ghost use Rattle.std.specs.Prelude.{◌≡◌};
 ghost use Rattle.process.specs.Working.{given};
 
 use plain_store::Reply;
 
-/// What a process does.
+/// The work of a process.
 #[derive(Clone, Copy)]
 pub(crate) enum ProcessWork {
-    /// It has no call.
+    /// The process has no call.
     Rests,
-    /// It is down.
+    /// The process is down.
     Lies,
-    /// It runs its call.
+    /// The process runs its call.
     Runs,
-    /// It clears its ticket, having given up waiting.
+    /// The process clears its ticket after it gave up waiting.
     Withdraws,
     /// The unit settles the torn bit. A commit bit that is settled at the bit of `taken` takes the command, with that
     /// reply.
@@ -30,7 +30,7 @@ pub(crate) enum ProcessWork {
 }
 
 impl ProcessWork {
-    /// With what the next access is made: the flick by the unit that settles, else the value that a read gave.
+    /// Returns the value of the next access: the flick for a unit that settles, otherwise the value that a read returned.
     #[inline]
     pub(crate) fn given(&self, flick: bool, value: bool) -> bool
         ensures { result ≡ given self.now flick value }

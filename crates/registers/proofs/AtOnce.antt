@@ -1,4 +1,4 @@
--- What the words do, as so many accesses.
+-- The effect of whole words, as that of single accesses.
 use Rattle.std.proofs.Common.{◌≡◌, ℕ, ◌+◌, ◌-◌, ◌*◌, ◌/◌, ◌%◌, ◌<◌, ◌≤◌, Bool, false, List, set, get_or, length, refl, subst, sym, ◌∙◌, arith, ap}
 use Rattle.safe_bit.specs.Cell.{Cell}
 use Rattle.reader_copies.specs.{after_read, after_write, cell_in, flag_in, over}

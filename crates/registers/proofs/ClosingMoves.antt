@@ -1,4 +1,4 @@
--- A write that ends a call goes on by its cursor.
+-- A write that ends a call advances by its cursor.
 use Rattle.std.proofs.Common.{◌≡◌, ℕ, ◌==◌, ◌&&◌, Bool, false, not, List, get_or, sym, ap, ◌∙◌, subst}
 use Rattle.plain_store.specs.{Setup}
 use Rattle.record.specs.{Field, access_of, is_unwritten, next_written, write_moved}
@@ -23,7 +23,7 @@ ends s p written cur v at =
       stays = λ more. subst (WritesAt s p written) (sym goes) (write-stays s p written cur at (sym (ap is_over goes) ∙ more));
     }
 
--- nothing of it is made
+-- the write has made no access
 pub unwritten : (s : Setup) (p : ℕ) (written : Field × List Bool) (cur : CursorState) → WritesAt s p written cur → is_unwritten (write_kept cur) ≡ is_fresh cur
 unwritten s p written cur at =
     fresh-write cur.bit cur.copy cur.begun (get_or cur.bits cur.bit false)

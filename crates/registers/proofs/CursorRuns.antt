@@ -1,4 +1,4 @@
--- The cursor of a part goes on as the number access of its script.
+-- The cursor of a part advances as the register access of its script does.
 use Rattle.std.proofs.Common.{◌≡◌, ℕ, ◌+◌, ◌*◌, ◌<◌, ◌==◌, ◌&&◌, Bool, true, false, cond, not, List, [], ◌∷◌, ◌++◌, get_or, length, None, Some, is_none, refl, sym, ap, ◌∙◌, subst, arith, eqb-true, inl, inr, length-append}
 use Rattle.std.proofs.lemmas.Bool.{cases_eq, eq-eqb, eqb-false, ne_eqb}
 use Rattle.plain_store.specs.{Setup}
@@ -59,7 +59,7 @@ write-step s p written cur at =
     ∙ ap (λ bits. write_moved cur.copies bits (write_kept cur)) (sym at.bits)
     ∙ write-kept cur at.copy
 
--- what a write leads to does not depend on what was read
+-- the result of a write does not depend on the values that were read
 same-next : (c : Call) (part : Part) (a b : List Bool) → is_read part ≡ false → (part_after c part a ≡ part_after c part b) × (last_marks c part a ≡ last_marks c part b)
 same-next c Raises a b writes = (refl, refl)
 same-next c (Asks j js ts) a b writes = absurd (cc)
@@ -82,7 +82,7 @@ same-after c part a b writes = (same-next c part a b writes).0
 pub same-marks : (c : Call) (part : Part) (a b : List Bool) → is_read part ≡ false → last_marks c part a ≡ last_marks c part b
 same-marks c part a b writes = (same-next c part a b writes).1
 
--- WHETHER NOTHING OF IT IS MADE
+-- WHETHER IT HAS MADE NO ACCESS
 
 none-if : (b : Bool) (w : copies.Writing) → is_none (cond b None (Some w)) ≡ b
 none-if true w = refl
@@ -146,7 +146,7 @@ not-fresh_write bit w false last a b d going over = absurd (let same : bit ≡ w
 
 -- BOTH
 
--- what the next access of a part's cursor is, and what it leads to
+-- the next access of a part's cursor, and its result
 pub record Moves (c : Call) (part : Part) (cur : CursorState) (v : Bool) : Type 0 where
   pub access : access_at c part (run_at cur) ≡ next_access cur false
   pub fresh : places.is_fresh (run_at cur) ≡ is_fresh cur

@@ -1,4 +1,4 @@
--- What a register holds, off the words of its lane.
+-- The value of a register, read from the words of its lane.
 use Rattle.std.proofs.Common.{◌≡◌, ◌<◌, ◌+◌, ◌*◌, ◌/◌, ◌%◌, ℕ, Bool, false, List, [], get_or, set, length, map, sym, ◌∙◌, arith, inl, inr}
 use Rattle.std.proofs.lemmas.Bool.{cases_eq}
 use Rattle.std.proofs.lemmas.List.{ext_get_or, get_or_default, get_or-map, length-map}

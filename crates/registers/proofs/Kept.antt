@@ -1,4 +1,4 @@
--- A cursor goes on as the number access of a script does.
+-- A cursor advances as the register access of a script does.
 use Rattle.std.proofs.Common.{◌≡◌, ◌≢◌, ℕ, ◌+◌, ◌*◌, ◌/◌, ◌%◌, ◌<◌, ◌==◌, ◌&&◌, Bool, true, false, not, cond, List, get_or, Option, None, Some, unwrap_or, sym, ◌∙◌, arith, ap, inl, inr}
 use Rattle.std.proofs.lemmas.Bool.{cases_eq, eq-eqb, ne_eqb}
 use Rattle.safe_bit.specs.declared.moves.Move.TheVariants.{BeginWrite, EndWrite}
@@ -10,7 +10,7 @@ use Rattle.registers.specs.{CursorState, bit_begun, made_of_bit, write_after, wr
 abbrev writing : Bool → ℕ → copies.Writing
 writing value made = record { value = value; made = made; ended = false }
 
--- a write of which so many accesses were made, also where it has none
+-- a write that has made n accesses, also if n is 0
 begun-or : (made : ℕ) (value : Bool) → unwrap_or (bit_begun made value) (writing value 0) ≡ writing value made
 begun-or made value = elim (cases_eq made 0) [
   | inl e ↦ ap (λ b. unwrap_or (cond b None (Some (writing value made))) (writing value 0)) (eq-eqb made 0 e) ∙ ap (writing value) (sym e)
@@ -31,7 +31,7 @@ move-of : (copy : ℕ) (begun v : Bool) → cond (made_at copy begun % 2 == 0) (
 move-of copy true v = ap (λ b. cond b (BeginWrite v) EndWrite) (ne_eqb (made_at copy true % 2) 0 (omega arith))
 move-of copy false v = ap (λ b. cond b (BeginWrite v) EndWrite) (eq-eqb (made_at copy false % 2) 0 (omega arith))
 
--- it tells the same next access
+-- the next access is the one of the script
 pub next-kept : (c : CursorState) → next_written c.bits (write_kept c) ≡ (c.bit, record { reader = c.copy; how = write_move c })
 next-kept c =
     let v : Bool = get_or c.bits c.bit false in
@@ -68,7 +68,7 @@ moved width bit copy n bits true inside = elim (cases_eq (copy + 1) n) [
       ∙ sym (ap (λ b. kept width (cond b (bit + 1) bit) (bit_begun (2 * cond b 0 (copy + 1) + 0) (get_or bits (cond b (bit + 1) bit) false))) (ne_eqb (copy + 1) n e))
 ]
 
--- and goes on to the same place
+-- it reaches the position of the script
 pub write-kept : (c : CursorState) → c.copy < c.copies → write_moved c.copies c.bits (write_kept c) ≡ write_kept (write_after c)
 write-kept c inside =
     ap (λ (w : copies.Writing). write_on (write_kept c) (copies.write_after c.copies w)) (bit-kept c)

@@ -1,4 +1,4 @@
--- In the memory of a setup there is what a number access begins on.
+-- The memory of a setup contains the lanes on which a register access begins.
 use Rattle.std.proofs.Common.{◌≡◌, ℕ, ◌+◌, ◌-◌, ◌*◌, ◌/◌, ◌%◌, ◌<◌, List, length, sym, ◌∙◌, arith, ap, refl, subst}
 use Rattle.std.proofs.Math.Nat.{mul-le-mul_right}
 use Rattle.std.proofs.lemmas.Nat.{div-mul-add}
@@ -32,22 +32,22 @@ lane-field n r j inside =
     let number : register_number r % 7 ≡ field_number r.field = omega (arith, number-small r.field) in
     ap (λ k. field_numbered (k % 7)) (div-mul-add (register_number r) n j inside) ∙ ap field_numbered number ∙ numbered r.field
 
--- it is one of the memory
+-- the lane is one of the memory
 pub lane-in : (n : ℕ) (r : RegisterName) (j : ℕ) → r.owner < n → j < n → lane_number n r j < 7 * n * n
 lane-in n r j owner inside = omega (arith, number-small r.field, mul-le-mul_right {m = register_number r + 1} {n = 7 * n} n (omega (arith, number-small r.field)))
 
--- a reader's copies of a register are there, in its width
+-- the memory contains a reader's copies of a register, in its width
 pub reader-lane : (s : Setup) (memory : List (List Cell)) (r : RegisterName) (reader : ℕ) → AreOf s memory → r.owner < s.processes → reader < s.processes →
     (lane_number s.processes r reader < length memory) × (length (lane_of memory (lane_number s.processes r reader)) ≡ width s r.field)
 reader-lane s memory r reader of owner inside =
     let there : lane_number s.processes r reader < length memory = omega (arith, of.lanes, lane-in s.processes r reader owner inside) in
     (there, of.widths (lane_number s.processes r reader) there ∙ ap (width s) (lane-field s.processes r reader inside))
 
--- so are reader 0's
+-- it contains those of reader 0
 pub register-lane : (s : Setup) (memory : List (List Cell)) (r : RegisterName) → AreOf s memory → r.owner < s.processes → (lane_number s.processes r 0 < length memory) × (length (lane_of memory (lane_number s.processes r 0)) ≡ width s r.field)
 register-lane s memory r of owner = reader-lane s memory r 0 of owner (omega arith)
 
--- and so is the bit that an access names
+-- it contains the bit of an access
 pub access-lane : (s : Setup) (memory : List (List Cell)) (a : Access) → AreOf s memory → a.owner < s.processes → a.reader < s.processes → a.bit < width s a.field →
     (lane_of_access s.processes a < length memory) × (a.bit < length (lane_of memory (lane_of_access s.processes a)))
 access-lane s memory a of owner reader bit =
@@ -55,7 +55,7 @@ access-lane s memory a of owner reader bit =
     let there = reader-lane s memory r a.reader of owner reader in
     (there.0, omega (arith, there.1, bit))
 
--- all copies of a register are there
+-- it contains all copies of a register
 pub register-there : (s : Setup) (memory : List (List Cell)) (r : RegisterName) → AreOf s memory → r.owner < s.processes → HasLanes memory (lane_number s.processes r 0) s.processes (width s r.field)
 register-there s memory r of owner =
     let n : ℕ = s.processes in
@@ -71,7 +71,7 @@ register-there s memory r of owner =
           omega (arith, same);
     }
 
--- so a number access on one of its registers fits
+-- so a register access on one of its registers fits
 pub setup-fits : (s : Setup) (memory : List (List Cell)) (cur : CursorState) → AreOf s memory → cur.register.owner < s.processes → cur.copies ≡ s.processes → cur.width ≡ width s cur.register.field →
     cur.reader + cur.copy < cur.copies → IsAtCopy cur.run cur.reader cur.copy → Fits memory cur
 setup-fits s memory cur of owner copies wide inside at =

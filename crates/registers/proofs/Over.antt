@@ -25,7 +25,7 @@ pub lanes-above : (n : ℕ) (g : List Cell → List Cell) (lane l : ℕ) (memory
 lanes-above zero g lane l memory above = refl
 lanes-above (suc n) g lane l memory above = get_or-set_other (over_lanes n g lane memory) (lane + n) l _ [] (omega arith) ∙ lanes-above n g lane l memory (omega arith)
 
--- and may be changed before or behind
+-- they may be changed before or after
 pub lanes-commute : (n : ℕ) (g : List Cell → List Cell) (lane l : ℕ) (memory : List (List Cell)) (new : List Cell) → lane + n ≤ l → over_lanes n g lane (set memory l new) ≡ set (over_lanes n g lane memory) l new
 lanes-commute zero g lane l memory new above = refl
 lanes-commute (suc n) g lane l memory new above =
@@ -56,7 +56,7 @@ lanes-kept zero g at lane copies width memory keeps there h = h
 lanes-kept (suc n) g at lane copies width memory keeps there h =
     lanes-set (over_lanes n g at memory) (at + n) lane copies width _ (keeps (lane_of (over_lanes n g at memory) (at + n))) (omega (arith, length-over_lanes n g at memory)) (lanes-kept n g at lane copies width memory keeps (omega arith) h)
 
--- what is made of lanes matters only where they are
+-- functions with equal values change the lanes alike
 pub lanes-same : (n : ℕ) (g h : List Cell → List Cell) (lane : ℕ) (memory : List (List Cell)) → ((x : List Cell) → g x ≡ h x) → over_lanes n g lane memory ≡ over_lanes n h lane memory
 lanes-same zero g h lane memory same = refl
 lanes-same (suc n) g h lane memory same =

@@ -1,4 +1,4 @@
--- A place goes on by its cursor.
+-- A position advances by its cursor.
 use Rattle.std.proofs.Common.{◌≡◌, ◌<◌, Bool, true, false, cond, [], ◌++◌, refl, arith}
 use Rattle.plain_store.specs.{Setup}
 use Rattle.record.specs.{Call, Field, Part, Reading, Writing, enter, first_marks, is_read, marks_of, new_run, place_after, read_at, width, written_at}
@@ -32,7 +32,7 @@ entered-run c part = by (is_read part)
 pub entered-place : (c : Call) (part : Part) → place_at part (entered c part) ≡ enter c part
 entered-place c part = λ i. record { part = part; run = entered-run c part i }
 
--- it is at that part
+-- the cursor is at that part
 width-some : (s : Setup) (f : Field) → IsGood s → 0 < width s f
 width-some s Choosing g = omega arith
 width-some s Ticket g = omega (arith, g.ticket_is)

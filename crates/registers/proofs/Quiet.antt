@@ -1,4 +1,4 @@
--- THE LEMMA: reads of bits that nobody writes, many at once.
+-- THE LEMMA: reads of bits that no process is writing, many at once.
 use Rattle.std.proofs.Common.{◌≡◌, ℕ, zero, suc, ◌+◌, ◌*◌, ◌<◌, ◌≤◌, Bool, false, cond, List, [], ◌∷◌, ◌++◌, set, length, refl, sym, ◌∙◌, arith, ap}
 use Rattle.std.proofs.lemmas.List.{get_or-set_same, length-set, set-set, set-get_or}
 use Rattle.safe_bit.specs.Cell.{Cell, new_cell, cell_after, read_answer}
@@ -27,7 +27,7 @@ moved-twice memory lane bit h k there inside =
     ∙ set-set memory lane first (set first bit (cell_after (cell_after (cell_in cells bit) h) k))
     ∙ ap (set memory lane) (set-set cells bit (cell_after (cell_in cells bit) h) (cell_after (cell_after (cell_in cells bit) h) k))
 
--- a read that has come to a bit, and the lane that it reads
+-- a read at the begin of a bit, and the lane that it reads
 abbrev pub reading_at : CursorState → ℕ → List Bool → CursorState
 reading_at c bit bits = record c { run = Reads; bit = bit; begun = false; bits = bits }
 
@@ -48,7 +48,7 @@ read-pair c bit bits memory there inside quiet =
       none = λ f. ap (λ (y : Cell). 0 + 0 + cond y.touched 1 0) begun ∙ ap (λ w. 0 + 0 + cond w 1 0) quiet;
     }
 
--- and so on
+-- reads of n bits
 pub reads-quiet : (n : ℕ) (c : CursorState) (bit : ℕ) (bits : List Bool) (memory : List (List Cell)) → here c < length memory → bit + n ≤ length (lane_of memory (here c)) → ((j : ℕ) → j < n → (cell_at memory (here c) (bit + j)).writing ≡ false) →
     LeadsTo (2 * n) (reading_at c bit bits) memory (reading_at c (bit + n) (more_bits n (λ j. (cell_at memory (here c) (bit + j)).value) bits)) (set memory (here c) (over n (λ i x. after_read x) bit (lane_of memory (here c))))
 reads-quiet zero c bit bits memory there inside quiet =

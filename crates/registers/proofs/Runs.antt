@@ -1,4 +1,4 @@
--- What every run keeps.
+-- The invariants of every run.
 use Rattle.std.proofs.Common.{◌≡◌, ◌<◌, ◌≤◌, ℕ, zero, suc, ◌+◌, ◌*◌, Bool, false, cond, List, ap, refl, sym, ◌∙◌, arith, subst, inl, inr, length}
 use mir.Val.{bool_byte}
 use Rattle.std.proofs.lemmas.Bool.{cases_lt}
@@ -63,7 +63,7 @@ fits-after c memory how h =
       at = inside.1;
     }
 
--- so it is after its own accesses
+-- a cursor fits the memory after its own accesses
 pub run-fits : (k : ℕ) (now : CursorState × List (List Cell) × FlickState) → Fits now.1 now.0 → Fits (run_of k now).1 (run_of k now).0
 run-fits zero now h = h
 run-fits (suc k) now h =
@@ -73,7 +73,7 @@ run-fits (suc k) now h =
     let a : Access = answered c.copies memory flick (next_access c flick) in
     fits-after c (memory_moved memory (lane_of_access c.copies a) a.bit a.how) a.how (fits-moved c memory (lane_of_access c.copies a) a.bit a.how (run-fits k now h))
 
--- and after those of any other
+-- any other cursor fits the memory after these accesses
 pub run-keeps : (k : ℕ) (now : CursorState × List (List Cell) × FlickState) (d : CursorState) → Fits now.1 d → Fits (run_of k now).1 d
 run-keeps zero now d h = h
 run-keeps (suc k) now d h =
@@ -83,7 +83,7 @@ run-keeps (suc k) now d h =
     let a : Access = answered c.copies memory flick (next_access c flick) in
     fits-moved d memory (lane_of_access c.copies a) a.bit a.how (run-keeps k now d h)
 
--- of a read or a write one access fewer is left
+-- a read or a write has one access fewer left
 run-by : (r : NumberRun) (c : CursorState) (how : Move) → is_settling r ≡ false → (after_by r c how).run ≡ c.run
 run-by Reads c how plain = refl
 run-by Writes c how plain = refl
@@ -103,7 +103,7 @@ rest-going Writes c plain some = elim (cases_lt c.bit c.width) [
 ]
 rest-going (Settles cut value) c plain some = absurd (cc)
 
--- so many of them
+-- several accesses
 record RunsOn (k : ℕ) (now : CursorState × List (List Cell) × FlickState) : Type 0 where
   plain : is_settling (run_of k now).0.run ≡ false
   rest : rest_of (run_of k now).0 + k ≡ rest_of now.0
@@ -119,7 +119,7 @@ runs-on (suc k) now plain fits within =
     let one : rest_by c.run next + 1 ≡ rest_of c = rest-by c.run c how before.plain (run-fits k now fits).copy (omega (arith, before.rest, within)) in
     record { plain = ap is_settling same ∙ before.plain; rest = omega (arith, ap (λ r. rest_by r next) same, one, before.rest) }
 
--- so many accesses have been made, of which so many ended a read that a write overlapped
+-- the number of accesses made, and how many of them ended a read that a write overlapped
 pub record HasRun (made overlapped : ℕ) (before now : CursorState × List (List Cell) × FlickState) : Type 0 where
   pub now_is : now ≡ run_of made before
   pub counts : overlapped ≡ overlapped_of made before
@@ -138,14 +138,14 @@ may-step made overlapped before c memory flicks plain fits less h =
     let P : CursorState × List (List Cell) × FlickState → Type 0 = λ x. MayStep x.0 x.1 in
     subst P (sym h.now_is) (record { kind = on.plain; going = rest-going at.run at on.plain (omega (arith, rest, less)); fits = run-fits made before fits })
 
--- and so many more
+-- several more accesses
 run-on : (k more made overlapped : ℕ) (before now after : CursorState × List (List Cell) × FlickState) → HasRun made overlapped before now → after ≡ run_of k now → more ≡ overlapped_of k now → HasRun (made + k) (overlapped + more) before after
 run-on k more made overlapped before now after h after_is more_is = record {
   now_is = after_is ∙ ap (run_of k) h.now_is ∙ sym (run-more made k before);
   counts = (λ i. h.counts i + more_is i) ∙ ap (λ x. overlapped_of made before + overlapped_of k x) h.now_is ∙ sym (overlapped-more made k before);
 }
 
--- one more
+-- one more access
 pub step-on : (made overlapped : ℕ) (before : CursorState × List (List Cell) × FlickState) (c next : CursorState) (memory then : List (List Cell)) (flicks later : FlickState) (last : Bool) (a : Access) (byte : ℕ) → HasRun made overlapped before (c, memory, flicks) →
     a ≡ access_next (c, memory, flicks) → next ≡ cursor_after c a.how → then ≡ applied c.copies memory a → later ≡ after_flick flicks → last ≡ ends_overlapped c.copies memory a → byte ≡ bool_byte last → HasRun (made + 1) (overlapped + byte) before (next, then, later)
 step-on made overlapped before c next memory then flicks later last a byte h is cursor_is memory_is flicks_are ends byte_is =

@@ -1,4 +1,4 @@
--- What one access keeps, and how far it brings its number access.
+-- The invariants of one access, and the progress of its register access.
 use Rattle.std.proofs.Common.{◌≡◌, ℕ, suc, ◌+◌, ◌*◌, ◌<◌, ◌==◌, ◌&&◌, Bool, true, false, not, cond, add-one, List, [], set, length, sym, ◌∙◌, arith, ap, subst, inl, inr}
 use Rattle.std.proofs.Math.Nat.{mul-suc}
 use Rattle.std.proofs.lemmas.Bool.{cases_eq, eq-eqb, ne_eqb}

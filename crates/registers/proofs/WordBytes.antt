@@ -29,7 +29,7 @@ bit-low n i inside =
 byte-bit : (word j i : ℕ) → i < 8 → bit_at (byte_of_word word j) i ≡ bit_at word (8 * j + i)
 byte-bit word j i inside = bit-low (word / 2 ^ (8 * j)) i inside ∙ bit-shifted word (8 * j) i
 
--- a bit by the byte that it stands in
+-- a bit by the byte that contains it
 pub byte-has : (words bytes : List ℕ) (k : ℕ) → get_or bytes (k / 8) 0 ≡ byte_of_word (get_or words (k / 8 / 8) 0) (k / 8 % 8) → bit_in bytes k ≡ bit_of_words words k
 byte-has words bytes k e =
     let p : k / 8 / 8 ≡ k / 64 = omega arith in
@@ -38,7 +38,7 @@ byte-has words bytes k e =
     ∙ ap (λ x. x == 1) (byte-bit (get_or words (k / 8 / 8) 0) (k / 8 % 8) (k % 8) (omega arith))
     ∙ (λ i. bit_at (get_or words (p i) 0) (q i) == 1)
 
--- and by the word of eight bytes
+-- a bit by the word of eight bytes
 pub word-has : (bytes eight : List ℕ) (place k : ℕ) → AreBytes eight → ((j : ℕ) → j < 8 → get_or eight j 0 ≡ get_or bytes (8 * place + j) 0) → k / 64 ≡ place → flag_in (little_endian eight) (k % 64) ≡ bit_in bytes k
 word-has bytes eight place k are same at =
     let p : 8 * place + k % 64 / 8 ≡ k / 8 = omega arith in
@@ -54,7 +54,7 @@ eight-bytes bytes place are = λ j. elim (cases_lt j 8) [
   | inr past ↦ subst (λ b. b < 256) (sym (get_or_past (take 8 (drop (8 * place) bytes)) j 0 (omega (arith, length-take 8 (drop (8 * place) bytes))))) (omega arith)
 ]
 
--- the word of eight bytes is put behind those before it
+-- the word of eight bytes is appended to those before it
 pub word-put : (bytes words : List ℕ) (place eight : ℕ) → length words ≡ 27 → place < 27 → eight ≡ 8 → ((k : ℕ) → get_or bytes k 0 < 256) → ((k : ℕ) → k < 64 * place → bit_of_words words k ≡ bit_in bytes k) →
     (k : ℕ) → k < 64 * (place + 1) → bit_of_words (set words place (little_endian (take eight (drop (8 * place) bytes)))) k ≡ bit_in bytes k
 word-put bytes words place eight room inside is are before k below =

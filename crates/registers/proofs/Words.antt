@@ -15,7 +15,7 @@ bits-same a b (suc n) same =
     let last : bit_of_words a n ≡ bit_of_words b n = same n (omega arith) in
     ap (λ bits. bits ++ bit_of_words a n ∷ []) before ∙ ap (λ v. bits_of_words b n ++ v ∷ []) last
 
--- a word is written where it stands
+-- a word is written at its position
 pub bit-in_word : (words : List ℕ) (place now i : ℕ) → place < length words → i / 64 ≡ place → bit_of_words (set words place now) i ≡ flag_in now (i % 64)
 bit-in_word words place now i there e = ap (λ p. flag_in (get_or (set words place now) p 0) (i % 64)) e ∙ ap (λ w. flag_in w (i % 64)) (get_or-set_same words place now 0 there)
 
@@ -40,7 +40,7 @@ bits-grow a b bit (suc n) f same new =
     let last : bit_of_words b (bit + n) ≡ f n = new n (omega arith) in
     ap (bits_of_words b) (let e : bit + suc n ≡ suc (bit + n) = omega arith in e) ∙ (λ i. before i ++ last i ∷ [])
 
--- a word is chosen into its place
+-- a word whose masked bits are replaced, at its position
 pub bits-chosen : (words : List ℕ) (bit n old now word mask : ℕ) → bit / 64 < length words → bit % 64 + n ≤ 64 → old ≡ get_or words (bit / 64) 0 → IsMask (bit % 64) n mask → ((i : ℕ) → flag_in now i ≡ cond (flag_in mask i) (flag_in word i) (flag_in old i)) → bits_of_words (set words (bit / 64) now) (bit + n) ≡ more_bits n (λ j. flag_in word ((bit + j) % 64)) (bits_of_words words bit)
 bits-chosen words bit n old now word mask there inside is masks chosen =
     bits-grow words (set words (bit / 64) now) bit n (λ j. flag_in word ((bit + j) % 64))

@@ -14,7 +14,7 @@ use Rattle.reader_copies.proofs.Over.{length-over}
 use Rattle.registers.proofs.Over.{lanes-kept, lanes-nothing, lanes-twice, over_lanes}
 use Rattle.registers.proofs.Quiet.{moved-twice}
 
--- a write that has come to a copy of a bit
+-- a write at the begin of a copy of a bit
 abbrev pub writing_at : CursorState → ℕ → ℕ → CursorState
 writing_at c bit copy = record c { run = Writes; bit = bit; copy = copy; begun = false }
 
@@ -37,7 +37,7 @@ write-pair c bit copy memory below inside h =
       none = λ f. refl;
     }
 
--- on so many copies, but not on the last
+-- on n copies, without the last one
 copies-written : (n : ℕ) (c : CursorState) (bit : ℕ) (memory : List (List Cell)) → n < c.copies → bit < c.width → HasLanes memory (first_lane c) c.copies c.width →
     LeadsTo (2 * n) (writing_at c bit 0) memory (writing_at c bit n) (over_lanes n (written bit (get_or c.bits bit false)) (first_lane c) memory)
 copies-written zero c bit memory below inside h = record { run = λ f. refl; none = λ f. refl }
@@ -64,11 +64,11 @@ bit-written n c bit memory all inside h =
     (ap (λ b. writing_at c (cond b (bit + 1) bit) (cond b 0 (n + 1))) last) (ap (λ k. over_lanes k (written bit v) lane memory) (sym all))
     (leads_more (2 * n) 2 _ _ _ _ _ _ (copies-written n c bit memory (omega arith) inside h) (write-pair c bit n now (omega arith) inside kept))
 
--- what a write makes of a bit
+-- the effect of a write on a bit
 abbrev pub of_value : List Bool → ℕ → Cell → Cell
 of_value value i c = after_write (get_or value i false) c
 
--- so many bits
+-- a write of several bits
 pub writes-whole : (n m : ℕ) (c : CursorState) (bit : ℕ) (memory : List (List Cell)) → c.copies ≡ suc m → bit + n ≤ c.width → HasLanes memory (first_lane c) c.copies c.width →
     LeadsTo (2 * (c.copies * n)) (writing_at c bit 0) memory (writing_at c (bit + n) 0) (over_lanes c.copies (over n (of_value c.bits) bit) (first_lane c) memory)
 writes-whole zero m c bit memory some inside h =

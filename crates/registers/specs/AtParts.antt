@@ -1,4 +1,4 @@
--- The cursor of a number access: as a script has it, and at a part of a call.
+-- The cursor of a register access: in a script, and at a part of a call.
 use Rattle.std.specs.Prelude.{◌≡◌, ◌<◌, ℕ, Bool, true, false, cond, List, [], ◌++◌, length}
 use Rattle.plain_store.specs.{Setup}
 use Rattle.record.specs.{Call, Field, Mark, Part, Place, Reading, Run, Writing, enter, first_marks, is_read, last_marks, part_after, read_at, width, written_at}
@@ -9,7 +9,7 @@ use Rattle.registers.specs.Rows.{write_kept}
 use Rattle.registers.specs.declared.cursor.NumberRun.{NumberRun}
 use Rattle.registers.specs.declared.cursor.NumberRun.TheVariants.{Reads, Writes}
 
--- how far the number access of a script has come
+-- the progress of the register access of a script
 abbrev pub run_by : NumberRun → CursorState → Run
 run_by Reads cur = Reading cur.bits cur.begun
 run_by _ cur = Writing (write_kept cur)
@@ -17,11 +17,11 @@ run_by _ cur = Writing (write_kept cur)
 abbrev pub run_at : CursorState → Run
 run_at cur = run_by cur.run cur
 
--- the cursor after its next access, of which a read's end gives v
+-- the cursor after its next access; the end of a read returns v
 abbrev pub moved : CursorState → Bool → CursorState
 moved cur v = cursor_after cur (next_access cur v).how
 
--- p reads this register, and has not read it whole
+-- p reads this register, and has not read all of it
 pub record ReadsAt (s : Setup) (p : ℕ) (register : ℕ × Field) (cur : CursorState) : Type 0 where
   pub run : cur.run ≡ Reads
   pub at : cur.register ≡ record { owner = register.0; field = register.1 }
@@ -32,7 +32,7 @@ pub record ReadsAt (s : Setup) (p : ℕ) (register : ℕ × Field) (cur : Cursor
   pub bits : length cur.bits ≡ cur.bit
   pub going : cur.bit < cur.width
 
--- p writes this register of its own with these bits, and has not written it whole
+-- p writes these bits to this register of its own, and has not written all of them
 pub record WritesAt (s : Setup) (p : ℕ) (written : Field × List Bool) (cur : CursorState) : Type 0 where
   pub run : cur.run ≡ Writes
   pub at : cur.register ≡ record { owner = p; field = written.0 }
@@ -47,18 +47,18 @@ pub record WritesAt (s : Setup) (p : ℕ) (written : Field × List Bool) (cur : 
 abbrev pub IsAtPart : Call → Part → CursorState → Type 0
 IsAtPart c part cur = elim (is_read part) [ true ↦ ReadsAt c.setup c.process (read_at c part) cur | false ↦ WritesAt c.setup c.process (written_at c part) cur ]
 
--- with which a part begins
+-- the cursor with which a part begins
 abbrev pub entered : Call → Part → CursorState
 entered c part = elim (is_read part) [
   | true ↦ reading c.setup (record { owner = (read_at c part).0; field = (read_at c part).1 }) c.process
   | false ↦ writing c.setup (record { owner = c.process; field = (written_at c part).0 }) (written_at c part).1
 ]
 
--- the place of a cursor that is at a part
+-- the position of a cursor that is at a part
 abbrev pub place_at : Part → CursorState → Place
 place_at part cur = record { part = part; run = run_at cur }
 
--- the place after a part's next access, by the cursor
+-- the position after a part's next access, by the cursor
 abbrev pub place_moved : Call → Part → CursorState → Place
 place_moved c part next = cond (is_over next) (enter c (part_after c part next.bits)) (place_at part next)
 

@@ -1,4 +1,4 @@
--- A number access of which nothing is made, and what the fields of a cursor keep.
+-- A register access at its begin, and the invariant of the fields of a cursor.
 use Rattle.std.specs.Prelude.{◌≡◌, ℕ, ◌+◌, ◌*◌, ◌<◌, ◌≤◌, ◌==◌, ◌&&◌, ◌||◌, not, Bool, true, false, cond, if◌then◌else◌, List, [], Option, None, Some, length, replicate}
 use Rattle.plain_store.specs.{Setup}
 use Rattle.record.specs.declared.access.Field.TheVariants.{Choosing}
@@ -9,23 +9,23 @@ use Rattle.registers.specs.Cursors.{CursorState, IsAtCopy, lane_number}
 use Rattle.registers.specs.declared.cursor.NumberRun.{NumberRun}
 use Rattle.registers.specs.declared.cursor.NumberRun.TheVariants.{Reads, Writes, Settles}
 
--- nothing is to be done
+-- the cursor with no access to make
 abbrev pub idle_cursor : CursorState
 idle_cursor = record { register = record { owner = 0; field = Choosing }; reader = 0; copies = 1; width = 0; run = Writes; bit = 0; copy = 0; begun = false; bits = [] }
 
--- a read of a register
+-- the begin of a read of a register
 abbrev pub reading : Setup → RegisterName → ℕ → CursorState
 reading s register reader = record { register = register; reader = reader; copies = s.processes; width = width s register.field; run = Reads; bit = 0; copy = 0; begun = false; bits = [] }
 
--- a write of these bits to a register
+-- the begin of a write of these bits to a register
 abbrev pub writing : Setup → RegisterName → List Bool → CursorState
 writing s register bits = record { register = register; reader = 0; copies = s.processes; width = width s register.field; run = Writes; bit = 0; copy = 0; begun = false; bits = bits }
 
--- the present bit of a write has begun, and has not ended on every copy
+-- the number of accesses made of the present bit of a write
 abbrev pub made_of_bit : CursorState → ℕ
 made_of_bit c = 2 * c.copy + (if c.begun then 1 else 0)
 
--- a run that settles, and one that writes
+-- the access settles; below, the access writes
 abbrev pub is_settling : NumberRun → Bool
 is_settling (Settles cut value) = true
 is_settling _ = false
@@ -34,23 +34,23 @@ abbrev pub is_writing : NumberRun → Bool
 is_writing Writes = true
 is_writing _ = false
 
--- nothing of a read or of a write is made
+-- a read or a write has made no access
 abbrev pub is_fresh : CursorState → Bool
 is_fresh c = (c.bit == 0) && (c.copy == 0) && not c.begun && not (is_settling c.run)
 
--- the bit of a write is unfinished
+-- the present bit of a write has begun, and has not ended on every copy
 abbrev pub is_torn : CursorState → Bool
 is_torn c = is_writing c.run && (not (c.copy == 0) || c.begun)
 
--- its bit is settled, of whose write so many accesses were made
+-- the begin of a settling of the present bit, with the number of accesses made of its write
 abbrev pub settling : CursorState → CursorState
 settling c = record c { run = Settles (made_of_bit c) None; copy = 0; begun = false }
 
--- that bit, of whose settling nothing is made
+-- the torn bit, before the first access of its settling
 abbrev pub torn_bit : CursorState → Option TornBit
 torn_bit c = cond (is_torn c) (Some (record { field = c.register.field; bit = c.bit; torn = record { made = made_of_bit c; reader = 0; begun = false; value = None } })) None
 
--- the settling of a torn bit of a process; what was being written to it makes no difference, and is 0 here
+-- the settling of a torn bit of a process; the value that was being written makes no difference, and is 0 here
 abbrev pub settling_from : Setup → ℕ → TornBit → CursorState
 settling_from s owner t = record {
   register = record { owner = owner; field = t.field };
@@ -64,7 +64,7 @@ settling_from s owner t = record {
   bits = bits_in (replicate 216 0) (width s t.field);
 }
 
--- what the fields of a cursor keep
+-- the invariant of the fields of a cursor
 pub record KeepsCursor (register : RegisterName) (reader copies width lane : ℕ) (run : NumberRun) (bit copy : ℕ) (words : List ℕ) : Type 0 where
   pub lane_is : lane ≡ lane_number copies register reader
   pub copy_in : reader + copy < copies

@@ -1,4 +1,4 @@
--- One copy of a bit, and what a memory holds of it.
+-- One copy of a bit, and its cell in a memory.
 use Rattle.std.specs.Prelude.{ℕ, List}
 use Rattle.safe_bit.specs.Cell.{Cell}
 use Rattle.record.specs.{Access}
@@ -10,6 +10,6 @@ use Rattle.registers.specs.Cursors.{lane_number}
 abbrev pub copy_named : Access → BitCopy
 copy_named a = record { register = record { owner = a.owner; field = a.field }; bit = a.bit; reader = a.reader }
 
--- The cell of a copy, in a memory with so many copies of each bit.
+-- The cell of a copy, in a memory with `copies` copies of each bit.
 abbrev pub cell_of_copy : ℕ → List (List Cell) → BitCopy → Cell
 cell_of_copy copies memory c = cell_at memory (lane_number copies c.register c.reader) c.bit

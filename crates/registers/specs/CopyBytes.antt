@@ -7,7 +7,7 @@ use Rattle.registers.specs.declared.fields.RegisterName.{RegisterName}
 use Rattle.registers.specs.Cursors.{lane_number}
 use Rattle.registers.specs.Memory.{lane_of}
 
--- The bits of a register make 216 bytes: of each byte the least significant bit comes first, and zeros follow the bits.
+-- The bits of a register make 216 bytes: the least significant bit of each byte comes first, and zeros follow the bits.
 unfoldable pub register_bytes : List Bool → List ℕ
 register_bytes bits = bytes_of_bits 216 bits
 
@@ -23,6 +23,6 @@ values_in copies = map (λ (c : Cell). c.value) copies
 abbrev pub copy_bytes : List Cell → Option (List ℕ)
 copy_bytes copies = cond (has_open_write copies) None (Some (register_bytes (values_in copies)))
 
--- The copies that a reader has of a register, in a memory with so many copies of each bit.
+-- The copies that a reader has of a register, in a memory with `copies` copies of each bit.
 abbrev pub copies_in : ℕ → List (List Cell) → RegisterName → ℕ → List Cell
 copies_in copies memory register reader = lane_of memory (lane_number copies register reader)

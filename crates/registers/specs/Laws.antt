@@ -1,4 +1,4 @@
--- What holds of every cursor that is at a part of a call.
+-- The laws of every cursor that is at a part of a call.
 use Rattle.std.specs.Prelude.{◌≡◌, ◌<◌, Bool, false, true, Ok, Some}
 use Rattle.plain_store.specs.{checked}
 use Rattle.record.specs.{Call, Part, access_at, enter, marks_of, place_after}
@@ -7,29 +7,29 @@ use Rattle.registers.specs.AtParts.{IsAtPart, IsDone, entered, marks_moved, move
 use Rattle.registers.specs.Cursors.{CursorState, is_over}
 use Rattle.registers.specs.Progress.{last_access}
 
--- its next access is that of the place
+-- its next access is that of its position
 abbrev pub CursorTellsNext : Type 0
 CursorTellsNext = (c : Call) (part : Part) (cur : CursorState) → IsAtPart c part cur → access_at c part (run_at cur) ≡ next_access cur false
 
--- it comes to the place after it: within the number access it has come further, and past it the next part begins
+-- it reaches the next position: it advances within the register access, and after the last access the next part begins
 abbrev pub CursorGoesOn : Type 0
 CursorGoesOn = (c : Call) (part : Part) (cur : CursorState) (v : Bool) → IsAtPart c part cur → place_after c (place_at part cur) v ≡ place_moved c part (moved cur v)
 
--- with the marks of the place
+-- its marks are those of its position
 abbrev pub CursorTellsMarks : Type 0
 CursorTellsMarks = (c : Call) (part : Part) (cur : CursorState) (v : Bool) → IsAtPart c part cur → marks_of c (place_at part cur) v ≡ marks_moved c part cur (moved cur v)
 
--- it is at its part until it is over, and then has made all accesses of it
+-- it is at its part until it is over; then it has made all accesses of the part
 abbrev pub CursorStays : Type 0
 CursorStays = (c : Call) (part : Part) (cur : CursorState) (v : Bool) → IsAtPart c part cur → is_over (moved cur v) ≡ false → IsAtPart c part (moved cur v)
 
 abbrev pub CursorEnds : Type 0
 CursorEnds = (c : Call) (part : Part) (cur : CursorState) (v : Bool) → IsAtPart c part cur → is_over (moved cur v) ≡ true → IsDone c part (moved cur v)
 
--- That access is the last one then.
+-- After its next access, this access is its last one.
 abbrev pub CursorTellsLast : Type 0
 CursorTellsLast = (c : Call) (part : Part) (cur : CursorState) (v : Bool) → IsAtPart c part cur → last_access (moved cur v) ≡ Some (next_access cur v)
 
--- the cursor with which a part begins is at it, and shows its place
+-- the cursor with which a part begins is at the part, and has the position of its begin
 abbrev pub CursorBegins : Type 0
 CursorBegins = (c : Call) (part : Part) → checked c.setup ≡ Ok tt → c.process < c.setup.processes → IsAtPart c part (entered c part) × (place_at part (entered c part) ≡ enter c part)

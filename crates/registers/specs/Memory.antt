@@ -12,11 +12,11 @@ lane_of memory lane = slice_index_or memory lane []
 abbrev pub cell_at : List (List Cell) → ℕ → ℕ → Cell
 cell_at memory lane bit = cell_in (lane_of memory lane) bit
 
--- the memory after one access to that bit: its cell goes on by it, and all others stay
+-- the memory after one access to a bit: the cell of the bit changes by the move, and all others stay
 abbrev pub memory_moved : List (List Cell) → ℕ → ℕ → Move → List (List Cell)
 memory_moved memory lane bit how = slice_set memory lane (slice_set (lane_of memory lane) bit (cell_after (cell_at memory lane bit) how))
 
--- these lanes are there, and as wide
+-- the memory contains these lanes, and each has at least this width
 pub record HasLanes (memory : List (List Cell)) (lane copies width : ℕ) : Type 0 where
   pub lanes : lane + copies ≤ length memory
   pub wide : (l : ℕ) → lane ≤ l → l < lane + copies → width ≤ length (lane_of memory l)

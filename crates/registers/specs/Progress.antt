@@ -1,4 +1,4 @@
--- How far a cursor has come: how many accesses are made, of how many, and which one was the last.
+-- The progress of a cursor: the number of accesses made, their total, and the last one.
 use Rattle.std.specs.Prelude.{ℕ, ◌+◌, ◌-◌, ◌*◌, ◌/◌, ◌%◌, ◌==◌, ◌&&◌, nat_lt, Bool, false, not, if◌then◌else◌, Option, None, Some, slice_index_or}
 use Rattle.safe_bit.specs.{Move}
 use Rattle.safe_bit.specs.declared.moves.Move.TheVariants.{BeginWrite, EndWrite, BeginRead, EndRead}
@@ -7,17 +7,17 @@ use Rattle.registers.specs.Cursors.{CursorState, made_of_read, made_of_write}
 use Rattle.registers.specs.declared.cursor.NumberRun.{NumberRun}
 use Rattle.registers.specs.declared.cursor.NumberRun.TheVariants.{Reads, Writes, Settles}
 
--- HOW MANY ACCESSES
+-- THE NUMBER OF ACCESSES
 
--- A write that was cut after so many accesses was open on a copy.
+-- A write that was interrupted after `cut` accesses was open on a copy.
 abbrev pub is_cut_open : ℕ → Bool
 is_cut_open cut = cut % 2 == 1
 
--- Its settling makes two accesses on each copy, and one on the copy that was open: so many before it goes on with this copy.
+-- Its settling makes two accesses on each copy, and one on the copy that was open. This is the number made, at the present copy.
 abbrev pub made_of_settling : (cut copy : ℕ) → Bool → ℕ
 made_of_settling cut copy begun = 2 * copy + (if begun then 1 else 0) - (if is_cut_open cut && nat_lt (cut / 2) copy then 1 else 0)
 
--- So many it makes in all.
+-- The total number of accesses of its settling.
 abbrev pub settling_in_all : (cut copies : ℕ) → ℕ
 settling_in_all cut copies = 2 * copies - (if is_cut_open cut then 1 else 0)
 
@@ -31,7 +31,7 @@ all_by_run Reads c = 2 * c.width
 all_by_run Writes c = 2 * (c.copies * c.width)
 all_by_run (Settles cut value) c = settling_in_all cut c.copies
 
--- A cursor has made so many accesses of its register access, which has so many in all.
+-- The number of accesses that a cursor has made of its register access; below, their total.
 abbrev pub accesses_made : CursorState → ℕ
 accesses_made c = made_by_run c.run c
 
@@ -62,6 +62,6 @@ last_by_run Reads c = last_read c
 last_by_run Writes c = last_write c
 last_by_run (Settles cut value) c = None
 
--- The access that a cursor made last. There is none where it has made none, and while it settles.
+-- The access that a cursor made last. There is none if it has made none, and none while it settles.
 abbrev pub last_access : CursorState → Option Access
 last_access c = last_by_run c.run c

@@ -1,4 +1,4 @@
--- The memory and its cursors as what lies above them sees them: the rows of a register, and how far a number access of a script has come.
+-- The memory and its cursors in the terms of scripts: the rows of a register, and the progress of a register access of a script.
 use Rattle.std.specs.Prelude.{ℕ, ◌+◌, ◌*◌, ◌==◌, Bool, false, if◌then◌else◌, List, map, Option, None, Some, slice_index_or}
 use Rattle.std.specs.List.{range_with_len}
 use Rattle.safe_bit.specs.Cell.{Cell}
@@ -18,18 +18,18 @@ register_number register = 7 * register.owner + field_number register.field
 abbrev pub row_of : ℕ → List (List Cell) → RegisterName → List (List Cell)
 row_of copies memory register = map (λ reader. lane_of memory (lane_number copies register reader)) (range_with_len 0 copies)
 
--- what a register holds, by reader 0's copies
+-- the value of a register, by reader 0's copies
 abbrev pub values_held : ℕ → List (List Cell) → RegisterName → List Bool
 values_held copies memory register = map (λ (c : Cell). c.value) (lane_of memory (lane_number copies register 0))
 
--- how far the write of the present bit has come, once it has begun
+-- the progress of the write of the present bit, if it has begun
 abbrev pub bit_begun : ℕ → Bool → Option copies.Writing
 bit_begun made value = if made == 0 then None else Some (record { value = value; made = made; ended = false })
 
--- a write as a script has it
+-- a write in the form of a script
 abbrev pub write_kept : CursorState → NumberWrite
 write_kept c = record { width = c.width; bit = c.bit; run = bit_begun (made_of_bit c) (slice_index_or c.bits c.bit false) }
 
--- a settling of a write that was cut, once it has come to this value
+-- a settling of a write that was interrupted, with its value if it is chosen
 abbrev pub settling_kept : ℕ → Option Bool → CursorState → copies.Settling
 settling_kept cut value c = record { made = cut; reader = c.copy; begun = c.begun; value = value }

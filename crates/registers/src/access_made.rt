@@ -2,8 +2,8 @@
 
 use record::Access;
 
-/// An access that was made, and whether it ended a read that a write overlapped: one was open as the read began, or has
-/// begun since.
+/// An access that was made, and whether it ended a read that a write overlapped: a write was open when the read began,
+/// or has begun since.
 #[derive(Clone, Copy)]
 pub struct AccessMade {
     /// The access.

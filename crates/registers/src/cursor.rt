@@ -1,4 +1,4 @@
-//! How far a number access of a process has come.
+//! The progress of a register access of a process.
 ghost use Rattle.std.specs.Prelude.{◌≡◌, ℕ, ◌<◌, ◌≤◌, ◌+◌, ◌*◌, ◌/◌, ◌%◌, ◌^◌, false, Ok, length, slice_index_or};
 ghost use Rattle.plain_store.specs.{checked};
 ghost use Rattle.reader_copies.specs.{HasItsValue};
@@ -19,40 +19,40 @@ use reader_copies::Torn;
 use record::{Access, Field, Move, TornBit, number_of_field, width_of};
 use std::marker::Model;
 
-/// What a number access does.
+/// The kind of a register access.
 #[derive(Clone, Copy)]
 pub enum NumberRun {
     /// It reads each bit: begin and end on the reader's own copy.
     Reads,
     /// It writes each bit: begin and end on each copy, reader 0's first.
     Writes,
-    /// It gives all copies of one bit one value, in the stead of its writer, who has left it.
+    /// It gives all copies of one bit one value, in place of its writer, which has left it.
     Settles {
-        /// How many accesses of the bit's write were made.
+        /// The number of accesses of the bit's write that were made.
         cut: u8,
-        /// The value, once it has begun.
+        /// The value, or `None` before the settling has begun.
         value: Option<bool>,
     },
 }
 
-/// One number access: it reads, writes or settles a register, bit 0 first.
+/// One register access: it reads, writes or settles a register, bit 0 first.
 #[derive(Drop)]
 pub struct Cursor {
     register: RegisterName,
-    /// The reader whose copies are read; of a write or a settling 0.
+    /// The reader whose copies are read; 0 for a write or a settling.
     reader: u8,
-    /// How many copies each bit has.
+    /// The number of copies of each bit.
     pub(crate) copies: u8,
     width: u16,
-    /// The lane of its reader, and the first of those that it writes.
+    /// The lane of its reader, which is the first of the lanes that it writes.
     pub(crate) lane: usize,
     run: NumberRun,
-    /// The present bit, its copy that a write has come to, and whether the access to it has begun.
+    /// The present bit, the present copy of a write, and whether the access to it has begun.
     pub(crate) bit: u16,
     copy: u8,
     pub(crate) begun: bool,
-    /// What is read or written: bit `k` is bit `k % 64` of word `k / 64`. Of a read, what stands above the bits that were
-    /// read is of no meaning.
+    /// The bits that are read or written: bit `k` is bit `k % 64` of word `k / 64`. For a read, the bits above those that
+    /// were read have no meaning.
     pub(crate) words: [u64; 27],
 }
 
@@ -68,7 +68,7 @@ impl Model for Cursor {
 }
 
 impl Cursor {
-    /// One with nothing to do.
+    /// Creates a cursor with no access to make.
     pub fn idle() -> Cursor
         ensures { result ≡ idle_cursor }
     {
@@ -89,7 +89,7 @@ impl Cursor {
         }
     }
 
-    /// Becomes as the other.
+    /// Makes this cursor equal to the other one.
     pub fn copy_from(&mut self, other: &Cursor)
         ensures { self.new ≡ other.now }
     {
@@ -157,7 +157,7 @@ impl Cursor {
         self.words = words_of(bytes);
     }
 
-    /// Settles the present bit, whose write was cut, in the stead of its writer.
+    /// Begins to settle the present bit, whose write was interrupted, in place of its writer.
     pub fn settle(&mut self)
         requires writes { self.old.run ≡ NumberRun.Writes }
         ensures { self.new ≡ settling self.old }
@@ -168,7 +168,7 @@ impl Cursor {
         self.begun = false;
     }
 
-    /// Goes on with the settling of a torn bit of this process from where it has come.
+    /// Continues the settling of a torn bit of this process from its present progress.
     pub fn settle_on(&mut self, setup: &Setup, owner: u8, torn: &TornBit)
         requires good { checked setup.now ≡ Ok tt }
         requires there { IsTornOf setup.now torn.now }
@@ -189,7 +189,7 @@ impl Cursor {
         self.begun = torn.torn.has_begun();
     }
 
-    /// Whether nothing of it is made. It does not settle.
+    /// Returns whether it is a read or a write that has made no access.
     #[inline]
     pub fn is_fresh(&self) -> bool
         ensures { result ≡ is_fresh self.now }
@@ -200,14 +200,14 @@ impl Cursor {
             && !matches!(self.run, NumberRun::Settles { .. })
     }
 
-    /// Whether it writes, and its present bit has begun and has not ended on every copy.
+    /// Returns whether it writes, and its present bit has begun and has not ended on every copy.
     pub fn is_torn(&self) -> bool
         ensures { result ≡ is_torn self.now }
     {
         matches!(self.run, NumberRun::Writes) && (self.copy != 0 || self.begun)
     }
 
-    /// The bit that it has left unfinished, if it halts now.
+    /// Returns the bit that it leaves unfinished if it halts now.
     pub fn torn(&self) -> Option<TornBit>
         ensures { result ≡ torn_bit self.now }
     {
@@ -221,7 +221,7 @@ impl Cursor {
         })
     }
 
-    /// What was read of a register of at most 32 bits, or is written to it.
+    /// Returns the number that was read from a register of at most 32 bits, or is written to it.
     pub fn number(&self) -> u32
         requires { self.now.width ≤ 32 }
         ensures { result ≡ number_of_bits self.now.bits }
@@ -234,7 +234,7 @@ impl Cursor {
         }
     }
 
-    /// The bytes of what was read, or is written. Behind its bits they are of no meaning.
+    /// Returns the bytes that were read or are written. After the register's bits they have no meaning.
     pub fn bytes(&self) -> [u8; 216]
         ensures { (k : ℕ) → k < length self.now.bits → bit_in result k ≡ slice_index_or self.now.bits k false }
     {
@@ -248,7 +248,7 @@ impl Cursor {
         register_bytes(&self.words, usize::from(self.known_bits()))
     }
 
-    /// Whether nothing is left.
+    /// Returns whether no access is left.
     #[inline]
     pub fn is_over(&self) -> bool
         ensures { result ≡ is_over self.now }
@@ -256,7 +256,7 @@ impl Cursor {
         self.bit == self.width
     }
 
-    /// What it does.
+    /// Returns the kind of its register access.
     #[inline]
     pub fn run(&self) -> NumberRun
         ensures { result ≡ self.now.run }
@@ -264,7 +264,7 @@ impl Cursor {
         self.run
     }
 
-    /// How many accesses may be made at once: all that are left, but of a settling one at a time.
+    /// Returns the number of accesses that may be made at once: all that are left, or one for a settling.
     #[inline(always)]
     pub fn left(&self) -> u32
         ensures { result ≡ rest_of self.now }
@@ -285,8 +285,8 @@ impl Cursor {
         }
     }
 
-    /// The access that comes next, by this flick: the value of a settling that has not begun. The value of a read's end is
-    /// left open, and is the flick.
+    /// Returns the next access by this flick, which is the value of a settling that has not begun. The end of a read has the
+    /// flick as its provisional value.
     #[inline(always)]
     pub fn next(&self, flick: bool) -> Access
         requires { self.now.bit < self.now.width }
@@ -312,7 +312,7 @@ impl Cursor {
         self.made(how, false).access
     }
 
-    /// Goes on by that access, whatever memory it was made on; a read's end has what it gave.
+    /// Advances by this access, whatever memory it was made on; the end of a read contains the value that it returned.
     #[inline]
     pub fn advance(&mut self, how: Move)
         requires { self.old.bit < self.old.width }
@@ -339,7 +339,7 @@ impl Cursor {
     }
 }
 
-/// The word that a bit stands in.
+/// Returns the word that contains a bit.
 #[inline(always)]
 pub(crate) fn word_at(words: &[u64; 27], bit: usize) -> u64
     requires { bit < 1728 }
@@ -348,7 +348,7 @@ pub(crate) fn word_at(words: &[u64; 27], bit: usize) -> u64
     words[bit / 64]
 }
 
-/// The `bits` lowest bits of a word.
+/// Returns the `bits` lowest bits of a word.
 pub(crate) fn low_bits(word: u64, bits: u16) -> u32
     requires { bits ≤ 32 }
     ensures { result ≡ word % 2 ^ bits }
@@ -356,7 +356,7 @@ pub(crate) fn low_bits(word: u64, bits: u16) -> u32
     (word % (1u64 << bits)) as u32
 }
 
-/// The lane with a reader's copies of a register.
+/// Returns the lane with a reader's copies of a register.
 pub(crate) fn lane_number(copies: u8, register: RegisterName, reader: u8) -> usize
     ensures { result ≡ lane_number copies register reader }
 {
@@ -364,7 +364,7 @@ pub(crate) fn lane_number(copies: u8, register: RegisterName, reader: u8) -> usi
         + reader as usize
 }
 
-/// What the end of a read gave; `false` for every other access.
+/// Returns the value that the end of a read returned; `false` for every other access.
 #[inline]
 pub fn given(how: Move) -> bool
     ensures { result ≡ value_of how }
@@ -375,7 +375,7 @@ pub fn given(how: Move) -> bool
     }
 }
 
-/// The value of a bit that is written or settled.
+/// Returns the value of a bit that is written or settled.
 fn written(value: Option<bool>, how: Move) -> Option<bool>
     ensures { result ≡ value_written value how }
 {

@@ -4,7 +4,7 @@ ghost use Rattle.registers.specs.BitCopies.{copy_named};
 
 use record::{Access, Field};
 
-/// One register: whose it is, and which of its owner's registers.
+/// One register: its owner, and its field among the owner's registers.
 #[derive(Clone, Copy)]
 pub struct RegisterName {
     /// The process that writes it.

@@ -1,8 +1,8 @@
-//! What holds of every cursor that is at a part of a call. The law is a function with nothing to do, whose contract it is.
+//! The law of every cursor that is at a part of a call. It is the contract of a function that does nothing.
 ghost use Rattle.registers.specs.Laws.{CursorBegins, CursorEnds, CursorGoesOn, CursorStays, CursorTellsLast, CursorTellsMarks, CursorTellsNext};
 
-/// A cursor goes on as the number accesses of a call's script do: it tells the next access and its marks, it comes to the
-/// place after it, and the next part begins with the cursor that is put at it.
+/// A cursor advances as the register accesses of a call's script do. It determines the next access and its marks, and
+/// reaches the next position. The next part begins with the cursor that is put at its begin.
 pub fn cursors_follow_places()
     ensures next { CursorTellsNext }
     ensures goes { CursorGoesOn }

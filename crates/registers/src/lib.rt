@@ -1,6 +1,6 @@
-//! The registers of all processes as one memory of safe bits, and the cursor of a number access. Whoever makes steps asks
-//! for a single access ([`BitMemory::make`]), or for so many of a read or a write ([`BitMemory::run`]), which are the single
-//! access so many times. How quickly they go is their own affair.
+//! The registers of all processes as one memory of safe bits, and the cursor of a register access. A caller makes a single
+//! access ([`BitMemory::step`]), or several accesses of a read or a write ([`BitMemory::run`]), with the effect of single
+//! accesses. The memory may make several accesses faster than one by one.
 #![tactic(auto)]
 
 mod access_made;

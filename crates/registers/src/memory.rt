@@ -22,7 +22,7 @@ use record::{Field, field_numbered, width_of};
 use std::alloc::{AllocError, Global};
 use std::marker::Model;
 
-/// The registers of all processes: of each register the copies of each reader.
+/// The registers of all processes: for each register the copies of each reader.
 ///
 /// Contracts see them as lanes: lane `lane_number` holds the copies that one reader has of one register, bit by bit.
 #[derive(Drop)]
@@ -40,8 +40,12 @@ impl Model for BitMemory {
 }
 
 impl BitMemory {
-    /// The registers of all processes of a setup as they open: the first image of process 0 at the bits of `image`, each
-    /// other one at 0. The one fault is want of memory.
+    /// Creates the initial registers of all processes of a setup: the first image of process 0 holds the bits of `image`,
+    /// and every other register is 0.
+    ///
+    /// # Errors
+    ///
+    /// Returns [`AllocError`] if an allocation fails; there is no other error.
     pub fn new(alloc: Global, setup: &Setup, image: &[u64]) -> Result<BitMemory, AllocError>
         requires good { checked setup.now ≡ Ok tt }
         requires image { width setup.now Field.Image0 ≤ 64 * length image.now }
@@ -55,8 +59,8 @@ impl BitMemory {
         Ok(BitMemory { lanes })
     }
 
-    /// Makes the next `steps` accesses, each by the flick that is next: the single access, so many times. It answers the newest of
-    /// them, and how many ended a read that a write overlapped. What nobody looks at costs nothing.
+    /// Makes the next `steps` accesses, each by the next flick, with the effect of `steps` single accesses. Returns the
+    /// newest of them, and how many ended a read that a write overlapped. A result that the caller does not use costs nothing.
     #[inline(always)]
     pub fn run(&mut self, cursor: &mut Cursor, flicks: &mut Flicks, steps: u32) -> AccessesMade
         requires kind { is_settling cursor.old.run ≡ false }
@@ -70,7 +74,7 @@ impl BitMemory {
     {
         let (mut made, mut overlapped) = (0, 0);
         'steps: loop {
-            // The newest access is told, so words end before it.
+            // The last access is reported, so the word-wise path stops before it.
             let word = self.run_word(cursor, steps - 1 - made);
             if word > 0 {
                 flicks.skip(word);
@@ -89,8 +93,8 @@ impl BitMemory {
         }
     }
 
-    /// Makes the next access by the flick that is next, and tells it, and whether it ended a read that a write overlapped; the
-    /// cursor goes on.
+    /// Makes the next access by the next flick, and advances the cursor. Returns the access, and whether it ended a read
+    /// that a write overlapped.
     #[inline]
     pub fn step(&mut self, cursor: &mut Cursor, flicks: &mut Flicks) -> AccessMade
         requires going { cursor.old.bit ≢ cursor.old.width }
@@ -115,8 +119,8 @@ impl BitMemory {
         }
     }
 
-    /// The same of a read or a write. A read has no branch on whether it is a begin or an end, and a flick that nobody needs is
-    /// not worked out.
+    /// Makes the next access of a read or a write, as `step` does. A read has no branch on whether it is a begin or an end,
+    /// and a flick that is not needed is not computed.
     #[inline(always)]
     fn step_plain(&mut self, cursor: &mut Cursor, flicks: &mut Flicks) -> AccessMade
         requires kind { is_settling cursor.old.run ≡ false }
@@ -154,7 +158,7 @@ impl BitMemory {
         }
     }
 
-    /// Becomes as the other, of the same setup. It takes no memory.
+    /// Makes this memory equal to the other one, which has the same setup. It does not allocate.
     pub fn copy_from(&mut self, other: &BitMemory)
         requires { AreOfOneSetup self.old other.now }
         ensures { self.new ≡ other.now }
@@ -164,7 +168,7 @@ impl BitMemory {
         }
     }
 
-    /// Drops what its reader has open of a cursor's register, whose read is given up: it ends without a value.
+    /// Drops the open reads of the cursor's register by its reader: the read is given up and ends without a value.
     pub fn drop_read(&mut self, cursor: &Cursor)
         requires { Fits self.old cursor.now }
         ensures { self.new ≡ without_reads self.old (first_lane cursor.now) }
@@ -172,8 +176,8 @@ impl BitMemory {
         self.lanes[cursor.lane].drop_reads();
     }
 
-    /// Goes through the next bits of one word at once, on each of their lanes. It answers how many accesses that is, so many at
-    /// most: none once a bit has begun, and none where one that is to be read is being written.
+    /// Accesses the next bits of one word at once, on each of their lanes. Returns the number of accesses made, at most
+    /// `steps`: 0 if a bit has begun, and 0 if a bit that is to be read is being written.
     #[inline(always)]
     fn run_word(&mut self, cursor: &mut Cursor, steps: u32) -> u32
         requires fits { Fits self.old cursor.old }
@@ -206,7 +210,7 @@ impl BitMemory {
     }
 }
 
-/// A lane as it opens.
+/// Creates an initial lane.
 fn open_lane(alloc: Global, setup: &Setup, image: &[u64], lane: usize) -> Result<Copies, AllocError>
     requires good { checked setup.now ≡ Ok tt }
     requires image { width setup.now Field.Image0 ≤ 64 * length image.now }

@@ -8,7 +8,7 @@ ghost use Rattle.registers.specs.Words.{byte_of_word};
 use reader_copies::{choose, mask};
 use safe_number::number_of;
 
-/// The words of bytes.
+/// Returns the words of bytes.
 pub fn words_of(bytes: &[u8; 216]) -> [u64; 27]
     ensures room { length result ≡ 27 }
     ensures bits { (k : ℕ) → k < 1728 → bit_of_words result k ≡ bit_in bytes.now k }
@@ -20,7 +20,7 @@ pub fn words_of(bytes: &[u8; 216]) -> [u64; 27]
     words
 }
 
-/// The bytes of words.
+/// Returns the bytes of words.
 pub(crate) fn bytes_of(words: &[u64; 27]) -> [u8; 216]
     ensures room { length result ≡ 216 }
     ensures bytes { AreBytes result }
@@ -46,7 +46,7 @@ pub(crate) fn register_bytes(words: &[u64; 27], bits: usize) -> [u8; 216]
     bytes_of(&kept)
 }
 
-/// One byte of a word.
+/// Returns one byte of a word.
 fn byte_in(word: u64, place: usize) -> u8
     requires { place < 8 }
     ensures { result ≡ byte_of_word word place }

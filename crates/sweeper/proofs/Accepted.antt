@@ -1,4 +1,4 @@
--- Whether an event is accepted, by what it adds; and what a refused one leaves.
+-- Whether an event is accepted, by the entry that it adds, and the past after a refused event.
 use Rattle.std.proofs.Common.{◌≡◌, true, false, List, ◌∷◌, Option, None, Some, refl, ap, sym, ◌∙◌}
 use Rattle.std.specs.Prelude.{is_none}
 use Rattle.std.proofs.lemmas.Bool.{and_from}
@@ -18,17 +18,17 @@ adds_accepted s events event e is = by (refused s (past_of s events) event) refl
         let no : None ≡ Some e = sym (ap (λ (o : Option Refusal). elim o as (λ _. Option Entry) [ Some _ ↦ None | None ↦ added s (past_of s events) event ]) h) ∙ is in
         absurd (cc)
 
--- one that is refused is not
+-- an event that is refused is not accepted
 pub refused_not : (s : Setup) (events : List Event) (event : Event) (r : Refusal) → refused s (past_of s events) event ≡ Some r → is_accepted s events event ≡ false
 refused_not s events event r is = ap is_none is
 
--- and it leaves the past
+-- a refused event leaves the past unchanged
 pub past_kept : (s : Setup) (events : List Event) (event : Event) (r : Refusal) → refused s (past_of s events) event ≡ Some r → past_of s (event ∷ events) ≡ past_of s events
 past_kept s events event r is =
     ap (λ (o : Option Entry). elim o as (λ _. Past) [ None ↦ past_of s events | Some e ↦ e ∷ past_of s events ])
     (ap (λ (o : Option Refusal). elim o as (λ _. Option Entry) [ Some _ ↦ None | None ↦ added s (past_of s events) event ]) is)
 
--- so a world that shows some events shows it too
+-- a world that shows some events therefore shows the refused event too
 pub shows_refused : (w : WorldState) (events : List Event) (event : Event) (r : Refusal) → Shows w events → is_event event ≡ true → refused w.setup (past_of w.setup events) event ≡ Some r → Shows w (event ∷ events)
 shows_refused w events event r shows given is = record {
   good = shows.good;

@@ -1,4 +1,4 @@
--- What a sweep has counted, after one run and after one event more.
+-- The counts of a sweep after one more run and after one more event.
 use Rattle.std.proofs.Common.{◌≡◌, ℕ, ◌+◌, ◌*◌, ◌<◌, ◌≤◌, ◌&&◌, Bool, true, false, cond, List, [], ◌∷◌, ◌++◌, filter, length, reverse, take, get_or, Option, None, Some, refl, ap, sym, subst, ◌∙◌, arith, append-nil, append_assoc}
 use Rattle.std.specs.Prelude.{not, option_map}
 use Rattle.std.proofs.lemmas.List.{length-append, length_push, reverse-append, take_more}
@@ -15,7 +15,7 @@ use Rattle.sweeper.proofs.Dues.{few_due}
 
 -- One run.
 
--- the stuck ones with one run more
+-- the stuck runs with one more run
 stuck_more : (cs : List Cut) (c : Cut) → length (filter (λ (c : Cut). c.run.stuck) (cs ++ c ∷ [])) ≡ length (filter (λ (c : Cut). c.run.stuck) cs) + cond c.run.stuck 1 0
 stuck_more cs c =
     ap length (filter-append (λ (c : Cut). c.run.stuck) cs (c ∷ [])) ∙ length-append (filter (λ (c : Cut). c.run.stuck) cs) (filter (λ (c : Cut). c.run.stuck) (c ∷ []))
@@ -25,7 +25,7 @@ stuck_more cs c =
     by true = refl
     by false = refl
 
--- one run more, which a runner has made
+-- one more run, which a runner has made
 counts_more : (s : Setup) (cs : List Cut) (found : Swept) (c : Cut) (r : RunnerState) (number : ℕ) (value met : Bool) → r.core.setup ≡ s → IsRun r met c.run → Counts s cs found → Counts s (cs ++ c ∷ []) (counted found number value met None)
 counts_more s cs found c r number value met same run counts = record {
   good = All-push (λ (c : Cut). AllKeep s (past_of s c.run.events)) cs c counts.good
@@ -38,7 +38,7 @@ counts_more s cs found c r number value met same run counts = record {
   none_bad = ap (λ (o : Option BadRun). elim o as (λ _. Option BadRun) [ Some first ↦ Some first | None ↦ option_map (bad_run number value) None ]) counts.none_bad;
 }
 
--- a run that was made from where the walker stands
+-- a run that was made from the state of the walker
 pub run_counts : (calls : List (ℕ × Command)) (old : Sweeper) (copy new : RunnerState) (found : Swept) (v : Bool) (p number : ℕ) (met : Bool) → copy ≡ old.walker → new.core.setup ≡ copy.core.setup → MakesRun copy calls p v met new →
     found ≡ counted old.found number v met None → CountsRun p v calls old (record { walker = old.walker; runner = new; found = found })
 run_counts calls old copy new found v p number met same kept makes is s event before cs own swept = record {
@@ -56,9 +56,9 @@ run_counts calls old copy new found v p number met same kept makes is s event be
         (subst (λ s. IsRun new met (on_from s calls v (cut_off s p v (event ∷ before)))) swept.walker_setup
         (subst (λ (r : RunnerState). MakesRun r calls p v met new) same makes (event ∷ before) swept.follows))
 
--- One event more.
+-- One more event.
 
--- there is room for one event less then
+-- there is then room for one event fewer
 pub room_on : (calls : List (ℕ × Command)) (event : Event) (old new : Sweeper) → SweepsOn calls event old new → (more : ℕ) → CanSweep calls (more + 1) old → CanSweep calls more new
 room_on calls event old new on more room = record {
   setup = room.setup;
@@ -80,7 +80,7 @@ few_cuts s calls (event ∷ before) = by (is_cut s event before) (few_cuts s cal
     by true few = let long = length-append (cuts s calls before) two in omega (arith, few, long)
     by false few = let long = ap length (append-nil (cuts s calls before)) in omega (arith, few, long)
 
--- the walker goes along the event, and tells whether it is accepted
+-- the walker takes the event, and `told` is whether it is accepted
 module _ (calls : List (ℕ × Command)) (event : Event) (old : Sweeper) (walker : RunnerState) (told : Bool) (goes : RunsOn old.walker walker (λ events. event ∷ events)) (kept : walker.core.setup ≡ old.walker.core.setup) (tells : Accepts old.walker event told) where
   abbrev pub mid : Sweeper
   mid = record { walker = walker; runner = old.runner; found = old.found }

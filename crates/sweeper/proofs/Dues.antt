@@ -1,4 +1,4 @@
--- How many commands are taken or may still be, before and after an event.
+-- The number of commands that are taken or may still be taken, before and after an event.
 use Rattle.std.proofs.Common.{◌≡◌, ℕ, ◌+◌, ◌≤◌, Bool, true, false, cond, List, [], ◌∷◌, ◌++◌, length, Option, None, Some, refl, ap, arith}
 use Rattle.std.proofs.lemmas.List.{length-map, length_push}
 use Rattle.std.proofs.lemmas.List.FromFn.{length-range_with_len}
@@ -20,7 +20,7 @@ few_seats c taken events shows =
     let few = few-processes c.setup shows.good in
     omega (arith, are, mapped, many, few)
 
--- no more commands are taken than there are events
+-- the number of commands taken is at most the number of events
 few_taken : (s : Setup) (events : List Event) → length (history s (past_of s events)) ≤ length events
 few_taken s [] = omega arith
 few_taken s (event ∷ events) = by (entry_of s (past_of s events) event) (few_taken s events)
@@ -36,7 +36,7 @@ few_taken s (event ∷ events) = by (entry_of s (past_of s events) event) (few_t
     by None few = omega (arith, few)
     by (Some e) few = with_one _ (reply_taken e.marks) few
 
--- and at most 16 may still be
+-- at most 16 commands may still be taken, so this bounds both together
 pub few_due : (r : RunnerState) (events : List Event) → Follows r events → due r ≤ length events + 16
 few_due r events follows =
     let taken = follows.taken in
@@ -45,7 +45,7 @@ few_due r events follows =
     let seats = few_seats r.core (history r.core.setup (past_of r.core.setup events)) events follows.shows in
     omega (arith, taken, few, pending, seats)
 
--- only a call makes them more
+-- only a call increases the number
 pub few_made : (event : Event) (effect : Effect) (seats new : List Seat) (taken then : ℕ) → length seats ≤ 16 → then ≡ taken + taking effect →
     (is_call event ≡ false → pending_in new + taking effect ≤ pending_in seats) → pending_in new + taking effect ≤ length seats →
     then + pending_in new ≤ taken + pending_in seats + cond (is_call event) 16 0

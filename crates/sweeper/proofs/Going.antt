@@ -1,4 +1,4 @@
--- What a runner does again and again as long as a test holds, and over a range of processes.
+-- The loops of a runner: while a test holds, and over a range of processes.
 use Rattle.std.proofs.Common.{◌≡◌, ℕ, zero, suc, ◌+◌, ◌-◌, ◌<◌, ◌≤◌, ◌||◌, Bool, true, false, cond, List, [], ◌∷◌, ◌++◌, fold, slice_index_or, refl, ap, sym, subst, ◌∙◌, arith}
 use Rattle.std.proofs.lemmas.Bool.{or_from}
 use Rattle.std.proofs.lemmas.List.Folds.{list_any-append, list_any_at}
@@ -10,13 +10,13 @@ use Rattle.record.specs.{Event}
 use Rattle.record.specs.declared.events.Event.TheVariants.{Step}
 use Rattle.sweeper.specs.{Follows, OfRun, RunnerState, RunsBy, as_long_as}
 
--- some of it is done: what is left makes of the present run what all makes of the first
+-- some of the loop is done: the rest leads from the present run to the run to which the whole loop leads from the first one
 pub record Going (test : List Event → Bool) (on : List Event → List Event) (most : ℕ) (events : List Event) (r : RunnerState) (left : ℕ) : Type 0 where
   pub now : List Event
   pub follows : Follows r now
   pub whole : as_long_as test on left now ≡ as_long_as test on most events
 
--- one thing more
+-- one more iteration
 again : (test : List Event → Bool) (on : List Event → List Event) (left : ℕ) (now : List Event) → 0 < left → test now ≡ true → as_long_as test on left now ≡ as_long_as test on (left - 1) (on now)
 again test on zero now some holds = absurd (omega (arith, some))
 again test on (suc n) now some holds =
@@ -40,7 +40,7 @@ as_long_more test on (suc m) n now =
     by more true holds = more
     by more false fails = sym (ended test on n now fails)
 
--- what a runner of this setup does, which tells whether the test holds
+-- the loop of a runner of this setup, which computes whether the test holds
 module _ (test : Setup → List Event → Bool) (on : Setup → List Event → List Event) (s : Setup) (most : ℕ) (events : List Event) (r : RunnerState) (left : ℕ) (same : r.core.setup ≡ s) where
   asked : (told b : Bool) → OfRun r (λ s now. told ≡ test s now) → told ≡ b → (now : List Event) → Follows r now → test s now ≡ b
   asked told b asks is now here = sym (asks now here ∙ ap (λ s. test s now) same) ∙ is
@@ -52,7 +52,7 @@ module _ (test : Setup → List Event → Bool) (on : Setup → List Event → L
     whole = sym (again (test s) (on s) left g.now some (asked told true asks holds g.now g.follows)) ∙ g.whole;
   }
 
-  -- it does several at once, as long as the test holds
+  -- it makes several iterations at once, while the test holds
   pub going_by : (new : RunnerState) (by : ℕ) → by ≤ left → RunsBy r new (λ s. as_long_as (test s) (on s) by) → Going (test s) (on s) most events r left → Going (test s) (on s) most events new (left - by)
   going_by new by few makes g = record {
     now = as_long_as (test s) (on s) by g.now;
@@ -78,12 +78,12 @@ more_from a (suc n) j is = ap (λ l. a ∷ l) (more_from (a + 1) n j (omega (ari
 range_more : (k : ℕ) → range_with_len 0 (k + 1) ≡ range_with_len 0 k ++ k ∷ []
 range_more k = let on : k + 1 ≡ suc k = omega arith in ap (range_with_len 0) on ∙ more_from 0 k k (omega arith)
 
--- no process of it, and one more, passes a test
+-- no process of the range passes the test, and one more does not either
 pub none_more : (f : ℕ → Bool) (k : ℕ) → list_any f (range_with_len 0 k) ≡ false → f k ≡ false → list_any f (range_with_len 0 (k + 1)) ≡ false
 none_more f k none here =
     ap (list_any f) (range_more k) ∙ list_any-append f (range_with_len 0 k) (k ∷ []) ∙ or_from (list_any f (range_with_len 0 k)) (f k || false) none (or_from (f k) false here refl)
 
--- one of it passes
+-- one process of the range passes the test
 pub any_here : (f : ℕ → Bool) (k n : ℕ) → k < n → f k ≡ true → list_any f (range_with_len 0 n) ≡ true
 any_here f k n below passes =
     let start : 0 + k ≡ k = omega arith in
@@ -91,7 +91,7 @@ any_here f k n below passes =
     let long = length-range_with_len 0 n in
     list_any_at f (range_with_len 0 n) k 0 (omega (arith, long, below)) (ap f at ∙ passes)
 
--- a step of each, and of one more
+-- a step of each process of the range, and of one more
 pub round_more : (v : Bool) (k : ℕ) (events : List Event) → Step k v ∷ fold (λ events p. Step p v ∷ events) events (range_with_len 0 k) ≡ fold (λ events p. Step p v ∷ events) events (range_with_len 0 (k + 1))
 round_more v k events =
     sym (ap (fold (λ events p. Step p v ∷ events) events) (range_more k) ∙ fold-append (λ events p. Step p v ∷ events) events (range_with_len 0 k) (k ∷ []))

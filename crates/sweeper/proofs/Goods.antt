@@ -12,15 +12,15 @@ use Rattle.auditor.proofs.Whole.{good_of}
 use Rattle.sweeper.specs.{AreAllGood, Counts, Cut, IsFound, Swept, SweptRunsAreGood, all_good, cuts, first_bad_of, is_good, record_of_cut}
 use Rattle.sweeper.proofs.Soundness.{given_cuts}
 
--- in the run each entry keeps all laws
+-- each entry of the run keeps all laws
 abbrev pub IsGoodRun : Setup → Cut → Type 0
 IsGoodRun s c = AllKeep s (past_of s c.run.events)
 
--- so its verdict is that
+-- the verdict of the run is then `Good`
 is_verdict : (s : Setup) (c : Cut) → IsGoodRun s c → IsVerdict s (record_of_cut s c) Good
 is_verdict s c keeps = subst (AllKeep s) (sym (reverse-reverse (past_of s c.run.events))) keeps
 
--- of all of them
+-- the verdicts of all runs
 all_kept : (s : Setup) (cs : List Cut) (vs : List (Verdict Law)) → All (IsGoodRun s) cs → AllZip (λ c v. IsVerdict s (record_of_cut s c) v) cs vs → (length (filter is_good vs) ≡ length cs) × (first_bad_of cs vs ≡ None)
 all_kept s [] [] keeps each = (refl, refl)
 all_kept s [] (v ∷ vs) keeps each = absurd each
@@ -41,7 +41,7 @@ swept_good s good events calls given commands found is =
     let all = all_kept s runs is.verdicts keeps is.each in
     (is.good ∙ all.0 ∙ sym is.runs, is.first_bad ∙ all.1)
 
--- What is counted of good runs is what is found in them.
+-- The counts of good runs are the result of the sweep.
 
 all_verdicts : (s : Setup) (cs : List Cut) → All (IsGoodRun s) cs → AllZip (λ c v. IsVerdict s (record_of_cut s c) v) cs (map (λ (c : Cut). Good) cs)
 all_verdicts s [] keeps = tt

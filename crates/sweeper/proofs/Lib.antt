@@ -4,7 +4,7 @@ pub mod Accepted
 pub mod Movers
 pub mod Making
 pub mod Dues
--- It goes on
+-- It continues
 pub mod Going
 pub mod Stretches
 pub mod Onward
@@ -12,5 +12,5 @@ pub mod Units
 -- Every run is good
 pub mod Soundness
 pub mod Goods
--- What is counted
+-- The counts
 pub mod Counting

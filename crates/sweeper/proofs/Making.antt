@@ -1,4 +1,4 @@
--- A runner makes an event, and its auditor hears the entry, which keeps all laws.
+-- A runner makes an event, and its auditor observes the entry, which keeps all laws.
 use Rattle.std.proofs.Common.{◌≡◌, ℕ, ◌+◌, Bool, true, false, List, ◌∷◌, length, map, Option, None, Some, refl, ap, sym, subst, ◌∙◌}
 use Rattle.std.specs.Prelude.{is_none, is_some, not}
 use Rattle.record.specs.{Access, AreGiven, Entry, Event, Mark, Past, Refusal, Taken, entry_of, history, is_event, past_of, placed, process_of, refused, reply_taken}
@@ -14,11 +14,11 @@ use Rattle.auditor.proofs.Obeys.{obeys}
 use Rattle.sweeper.specs.{Accepts, Follows, RunnerState, RunsOn, is_accepted}
 use Rattle.sweeper.proofs.Accepted.{adds_accepted, past_kept, refused_not, shows_refused}
 
--- with a history the core shows events: so it is theirs
+-- a history with which the core shows events is that of the events
 history_of : (c : CoreState) (taken : List Taken) (events : List Event) → Shows (with_history c taken) events → taken ≡ history c.setup (past_of c.setup events)
 history_of c taken events shows = ap (λ (w : WorldState). w.history) shows.shown
 
--- what a core tells of an event is whether it is accepted
+-- the refusal of a core shows whether an event is accepted
 pub accepts_is : (r : RunnerState) (event : Event) (o : Option Refusal) (b : Bool) → CoreRefuses r.core event o → is_some o ≡ not b → (events : List Event) → Follows r events → b ≡ is_accepted r.core.setup events event
 accepts_is r event o b told is events follows = by o b is ∙ sym (ap is_none (told (history r.core.setup (past_of r.core.setup events)) events follows.shows))
   where
@@ -34,7 +34,7 @@ pub record IsMade (old : RunnerState) (event : Event) (access : Option Access) (
   pub makes : CoreMakes old.core event effect core
   pub setup : core.setup ≡ old.core.setup
 
--- an auditor has answered this to an entry
+-- an auditor has returned this law for an entry
 pub record IsAnswered (old : AuditorState) (e : Entry) (law : Option Law) (new : AuditorState) : Type 0 where
   pub heard : (past : Past) → HasHeard old past → IsHeard old.core.setup past e new law
   pub setup : law ≡ None → new.core.setup ≡ old.core.setup
@@ -61,21 +61,21 @@ module _ (old : RunnerState) (event : Event) (access : Option Access) (effect : 
   keeps : KeepsAll s past e
   keeps = obeys s follows.shows.good events event e given adds_it
 
-  -- it was accepted
+  -- the event was accepted
   pub made_accepted : is_accepted old.core.setup events event ≡ true
   made_accepted = adds_accepted s events event e adds_it
 
-  -- the entry that is told is the one that the event adds
+  -- the entry that the auditor observes is the one that the event adds
   told_is : (p : ℕ) (marks : List Mark) → p ≡ process_of event → marks ≡ map (placed old.taken) (marks_of effect) → entry_by p access marks ≡ e
   told_is p marks process are = λ i. entry_by (process i) access ((are ∙ ap (λ n. map (placed n) (marks_of effect)) follows.taken) i)
 
-  -- so the auditor's answer is none
+  -- the auditor therefore returns `None`
   answer_none : (told : Entry) (law : Option Law) (auditor : AuditorState) → told ≡ e → IsAnswered old.auditor told law auditor → law ≡ None
   answer_none told None auditor is a = refl
   answer_none told (Some l) auditor is a =
       absurd ((a.heard past follows.heard).broken (subst (λ (x : Entry). KeepsAll old.auditor.core.setup past x) (sym is) (subst (λ (s : Setup). KeepsAll s past e) (sym follows.alike) keeps) l))
 
-  -- and it has heard the entry
+  -- the auditor has observed the entry
   heard_next : (told : Entry) (law : Option Law) (auditor : AuditorState) → told ≡ e → law ≡ None → IsAnswered old.auditor told law auditor → HasHeard auditor (e ∷ past)
   heard_next told None auditor is none a = subst (λ (x : Entry). HasHeard auditor (x ∷ past)) is (a.heard past follows.heard).1
   heard_next told (Some l) auditor is none a = absurd (cc)
@@ -101,7 +101,7 @@ module _ (old : RunnerState) (event : Event) (access : Option Access) (effect : 
             ∙ ap length its;
       }
 
--- A refused event leaves the runner that is seen, and it shows it too.
+-- A refused event leaves the runner unchanged, and the runner shows the event too.
 module _ (old seen : RunnerState) (is_seen : old ≡ seen) (event : Event) (r : Refusal) (away : CoreRefuses old.core event (Some r)) where
   away_from : (events : List Event) → Follows old events → refused old.core.setup (past_of old.core.setup events) event ≡ Some r
   away_from events follows = away (history old.core.setup (past_of old.core.setup events)) events follows.shows

@@ -1,4 +1,4 @@
--- Whose steps, and whose failure, are accepted.
+-- The processes whose steps and whose failures are accepted.
 use Rattle.std.proofs.Common.{◌≡◌, ℕ, ◌&&◌, nat_lt, Bool, true, false, cond, Option, None, Some, refl}
 use Rattle.std.specs.Prelude.{is_none}
 use Rattle.record.specs.declared.events.Event.TheVariants.{Step, Fail}
@@ -7,7 +7,7 @@ use Rattle.record.specs.declared.refusals.Refusal.TheVariants.{CallsFull, NoProc
 use Rattle.record.specs.declared.stages.Stage.TheVariants as stages
 use Rattle.sweeper.specs.{FailsAreOfWhomStands, StepsAreOfWhomMoves, moves, stands}
 
--- an event that is no call is refused by the stage of its process alone
+-- an event that is not a call is refused by the stage of its process alone
 by_stage : Bool → Option Refusal → Bool
 by_stage there refusal = is_none (cond there (elim refusal as (λ _. Option Refusal) [ Some r ↦ Some r | None ↦ cond false (Some CallsFull) None ]) (Some NoProcess))
 

@@ -1,4 +1,4 @@
--- How a run goes on: its parts, one after the other.
+-- The continuation of a run: its parts, one after the other.
 use Rattle.std.proofs.Common.{◌≡◌, ℕ, ◌+◌, ◌<◌, ◌||◌, Bool, true, false, cond, List, [], ◌∷◌, fold, length, take, get_or, ap, sym, subst, ◌∙◌}
 use Rattle.std.proofs.Math.Bool.{or-false}
 use Rattle.std.proofs.lemmas.List.{take_more}
@@ -20,7 +20,7 @@ call_refused old new v p command same away run follows = subst (λ b. IsRun new 
     made : Run
     made = record { events = after; stuck = run.stuck || is_accepted old.core.setup after (Step p v) }
 
--- one that is made, and then its steps
+-- a call that is made, and then its steps
 pub call_made : (old mid new : RunnerState) (v : Bool) (p n : ℕ) (command : Command) (more : Bool) → mid.core.setup ≡ old.core.setup → new.core.setup ≡ mid.core.setup → n ≡ most →
     ((events : List Event) → Follows old events → true ≡ is_accepted old.core.setup events (Call p command)) → RunsOn old mid (λ events. Call p command ∷ events) →
     RunsOn mid new (λ events. steps_of mid.core.setup p v n events) → ((events : List Event) → Follows new events → more ≡ is_accepted new.core.setup events (Step p v)) →
@@ -45,13 +45,13 @@ cut_made old failed settled new v p n same is fails walks restarts events follow
     subst (λ n. Follows new (Restart p ∷ steps_of old.core.setup p v n (Fail p ∷ events))) is
     (subst (λ s. Follows new (Restart p ∷ steps_of s p v n (Fail p ∷ events))) same (restarts (steps_of failed.core.setup p v n (Fail p ∷ events)) (walks (Fail p ∷ events) (fails events follows))))
 
--- one call more
+-- one more call
 pub calls_more : (s : Setup) (v : Bool) (calls : List (ℕ × Command)) (k : ℕ) (c : ℕ × Command) (run : Run) → k < length calls → c ≡ get_or calls k c → with_call s v (with_calls s (take k calls) v run) c ≡ with_calls s (take (k + 1) calls) v run
 calls_more s v calls k c run within is =
     ap (with_call s v (with_calls s (take k calls) v run)) is
     ∙ sym (ap (fold (with_call s v) run) (take_more calls k c within) ∙ fold-append (with_call s v) run (take k calls) (get_or calls k c ∷ []))
 
--- a run after its cut: the rounds, whether somebody has a step left, and the calls
+-- a run after its cut: the rounds, whether some process has a step left, and the calls
 pub run_made : (old cut gone new : RunnerState) (s : Setup) (calls : List (ℕ × Command)) (v : Bool) (p n : ℕ) (going met : Bool) → old.core.setup ≡ s → cut.core.setup ≡ s → gone.core.setup ≡ s → n ≡ most → RunsOn old cut (λ events. cut_off old.core.setup p v events) →
     RunsOn cut gone (λ events. rounds cut.core.setup v n events) → ((events : List Event) → Follows gone events → going ≡ goes gone.core.setup v events) → ((run : Run) → IsRun gone going run → IsRun new met (with_calls gone.core.setup calls v run)) →
     (events : List Event) → Follows old events → IsRun new met (on_from s calls v (cut_off s p v events))

@@ -8,19 +8,19 @@ use Rattle.record.specs.{AreGiven, Event, is_event, process_of, processes}
 use Rattle.record.specs.declared.events.Event.TheVariants.{Call, Step, Fail, Restart}
 use Rattle.sweeper.specs.{Cut, Run, as_long_as, cut, cut_off, cuts, goes, is_accepted, is_cut, most, on_from, round, rounds, steps_of, with_call, with_calls}
 
--- of a list of calls
+-- each call of the list has a command in range
 abbrev pub are_commands : List (ℕ × Command) → Bool
 are_commands calls = list_all (λ (c : ℕ × Command). is_command c.1) calls
 
--- one event more
+-- one more event
 given_with : (s : Setup) (events : List Event) (event : Event) → is_event event ≡ true → AreGiven s events → AreGiven s (event ∷ events)
 given_with s events event is given = record { opening = given.opening; commands = and_from (is_event event) (list_all is_event events) is given.commands }
 
--- and without the last one
+-- the events without the last one
 given_before : (s : Setup) (events : List Event) (event : Event) → AreGiven s (event ∷ events) → AreGiven s events
 given_before s events event given = record { opening = given.opening; commands = (and_parts (is_event event) (list_all is_event events) given.commands).1 }
 
--- what goes on as long as a test holds
+-- the loop that runs while a test holds
 given_repeated : (s : Setup) (test : List Event → Bool) (on : List Event → List Event) → ((events : List Event) → AreGiven s events → AreGiven s (on events)) → (n : ℕ) (events : List Event) → AreGiven s events → AreGiven s (as_long_as test on n events)
 given_repeated s test on kept zero events given = given
 given_repeated s test on kept (suc n) events given =

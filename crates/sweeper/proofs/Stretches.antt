@@ -60,9 +60,9 @@ all-made (suc k) newest overlapped old new f g p events is (w, x, access, before
         (adds_accepted old.setup (steps_on p f k events) (Step p (flick_of (flicks_after k f))) (entry_by p (Some newest) [])
         (newest-adds k newest overlapped old new f g p events (w, x, access, before, walks, last, made, after, counts) shows))
 
--- What the auditor answers.
+-- The result of the auditor.
 
--- its core is the runner's
+-- the core of the auditor is equal to that of the runner
 same-core : (r : RunnerState) (events : List Event) → Follows r events → r.auditor.core ≡ r.core
 same-core r events follows =
     let h = follows.heard in
@@ -70,7 +70,7 @@ same-core r events follows =
     ∙ (λ i. core_of (follows.alike i) (h.past_is i))
     ∙ sym (core-shown r.core (history r.core.setup (past_of r.core.setup events)) events follows.shows)
 
--- an auditor has answered this to a stretch
+-- an auditor has returned this law for a stretch
 pub record IsAnsweredRun (old : AuditorState) (f : FlickState) (p n : ℕ) (newest : Access) (law : Option Law) (new : AuditorState) : Type 0 where
   pub heard : HearsRun old f p n newest new law
   pub setup : new.core.setup ≡ old.core.setup
@@ -133,12 +133,12 @@ module _ (old : RunnerState) (core : CoreState) (f g : FlickState) (p k overlapp
         taken = follows.taken ∙ ap length its;
       }
 
-  -- so the runner shows the steps, too
+  -- the runner therefore shows the steps too
   pub follows-run : is_constant f ≡ true → Follows (record { core = core; auditor = auditor; taken = old.taken }) (steps_of s p (flick_of f) (suc k) events)
   follows-run is = subst (Follows (record { core = core; auditor = auditor; taken = old.taken }))
       (sym (all-made (suc k) newest overlapped (with_history old.core taken) (with_history core taken) f g p events is (runs.walks taken) follows.shows)) follows-after
 
--- what a stretch leaves
+-- the runner after a stretch
 pub record HasRunOn (old : RunnerState) (f : FlickState) (p n : ℕ) (law : Option Law) (new : RunnerState) (events : List Event) : Type 0 where
   pub none : law ≡ None
   pub follows : Follows new (steps_of old.core.setup p (flick_of f) n events)

@@ -12,7 +12,7 @@ use Rattle.sweeper.specs.{AreDownInTime, UnitsAreDownInTime, is_accepted, most, 
 use Rattle.sweeper.proofs.Going.{ended}
 use Rattle.sweeper.proofs.Movers.{fails_of_standing, steps_of_movers}
 
--- how many accesses the unit of p has made
+-- the number of accesses that the unit of p has made
 abbrev pub made_by : Setup → ℕ → List Event → ℕ
 made_by s p events = length (since is_failed (own p (past_of s events)))
 
@@ -24,7 +24,7 @@ none_of (Some r) h = cc
 step_at : (s : Setup) (events : List Event) (p : ℕ) (v : Bool) (x : Stage) → nat_lt p s.processes ≡ true → stage p (past_of s events) ≡ x → is_accepted s events (Step p v) ≡ moves x
 step_at s events p v x there at = steps_of_movers s events p v ∙ ap (λ b. b && moves (stage p (past_of s events))) there ∙ ap moves at
 
--- a unit that has so many steps left at most comes to its end
+-- a unit that has at most n steps left reaches its end
 unit_ends : (s : Setup) → checked s ≡ Ok tt → (p : ℕ) (v : Bool) → nat_lt p s.processes ≡ true → (n : ℕ) (events : List Event) → stage p (past_of s events) ≡ stages.Settling → 1088 ≤ made_by s p events + n →
     stage p (past_of s (steps_of s p v n events)) ≡ stages.Down
 unit_ends s good p v there zero events settles enough = let few = few_accesses s good events p settles in absurd (omega (arith, few, enough))

@@ -8,43 +8,43 @@ use Rattle.auditor.specs.{AuditorState, HasHeard}
 use Rattle.sweeper.specs.declared.runner.BadEntry.{BadEntry}
 use Rattle.sweeper.specs.Sweeps.{Run, cut_off, is_accepted, on_from, with_call, with_calls}
 
--- a core, the auditor beside it, and how many commands were taken
+-- a core, its auditor, and the number of commands taken
 pub record RunnerState : Type 0 where
   pub core : CoreState
   pub auditor : AuditorState
   pub taken : ℕ
 
--- the runner shows a run: its core is that of the world which shows these events, and its auditor has heard their whole record, and no law was broken
+-- the runner shows a run: its core is that of the world that shows these events, and its auditor has observed their whole record without a broken law
 pub record Follows (r : RunnerState) (events : List Event) : Type 0 where
   pub shows : Shows (with_history r.core (history r.core.setup (past_of r.core.setup events))) events
   pub heard : HasHeard r.auditor (past_of r.core.setup events)
   pub alike : r.auditor.core.setup ≡ r.core.setup
   pub taken : r.taken ≡ length (history r.core.setup (past_of r.core.setup events))
 
--- what a runner keeps: it shows some run, and has found no bad entry
+-- the invariant of a runner: it shows some run, and has found no bad entry
 pub record KeepsRunner (count : ℕ) (bad : Option BadEntry) (r : RunnerState) : Type 0 where
   pub events : List Event
   pub follows : Follows r events
   pub processes : count ≡ r.core.setup.processes
   pub none_bad : bad ≡ None
 
--- how many commands were taken or may still be
+-- the number of commands that were taken or may still be taken
 abbrev pub due : RunnerState → ℕ
 due r = r.taken + pending_in r.core.seats
 
--- from each run that the runner showed it has gone on as this says
+-- the runner has continued each run that it showed by this function
 abbrev pub RunsOn : RunnerState → RunnerState → (List Event → List Event) → Type 0
 RunsOn old new on = (events : List Event) → Follows old events → Follows new (on events)
 
--- the same, by its setup
+-- the runner has continued each run by this function of its setup
 abbrev pub RunsBy : RunnerState → RunnerState → (Setup → List Event → List Event) → Type 0
 RunsBy old new on = RunsOn old new (on old.core.setup)
 
--- this holds of each run that the runner shows
+-- P holds of each run that the runner shows
 abbrev pub OfRun : RunnerState → (Setup → List Event → Type 0) → Type 0
 OfRun r P = (events : List Event) → Follows r events → P r.core.setup events
 
--- the answer tells whether the event is accepted
+-- `told` is whether the event is accepted
 abbrev pub Accepts : RunnerState → Event → Bool → Type 0
 Accepts r event told = OfRun r (λ s events. told ≡ is_accepted s events event)
 
@@ -53,14 +53,14 @@ pub record IsRun (r : RunnerState) (met : Bool) (run : Run) : Type 0 where
   pub follows : Follows r run.events
   pub stuck : met ≡ run.stuck
 
--- from each run that the runner showed it has made a call, and this tells whether that met a limit
+-- the runner has continued each run that it showed with a call, and `met` is whether the call met a limit
 abbrev pub MakesCall : RunnerState → ℕ → Command → Bool → Bool → RunnerState → Type 0
 MakesCall r p command v met then = (run : Run) → Follows r run.events → IsRun then (run.stuck || met) (with_call r.core.setup v run (p, command))
 
--- several; this tells whether the run met a limit before, or does now
+-- the runner has made several calls; `met` is whether the run met a limit before or during them
 abbrev pub MakesCalls : RunnerState → (before : Bool) → List (ℕ × Command) → Bool → Bool → RunnerState → Type 0
 MakesCalls r before calls v met then = (run : Run) → IsRun r before run → IsRun then met (with_calls r.core.setup calls v run)
 
--- it has cut off a process, and let everybody go on and the calls follow
+-- the runner has made the process fail and restart, and has then made the rounds and the calls
 abbrev pub MakesRun : RunnerState → List (ℕ × Command) → ℕ → Bool → Bool → RunnerState → Type 0
 MakesRun r calls p v met then = OfRun r (λ s events. IsRun then met (on_from s calls v (cut_off s p v events)))

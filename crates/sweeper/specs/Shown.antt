@@ -1,4 +1,4 @@
--- How what a sweep finds is printed.
+-- The printed form of the result of a sweep.
 use Rattle.std.specs.Prelude.{ℕ, List, [], ◌++◌, cond, codes, Option, None, Some}
 use Rattle.std.specs.Fmt.{decimal}
 use Rattle.auditor.specs.read_law.{law_text}
@@ -18,6 +18,6 @@ abbrev pub second_text : Option BadRun → List ℕ
 second_text None = []
 second_text (Some bad) = codes "\n" ++ bad_text bad
 
--- all of it
+-- the whole text
 abbrev pub swept_text : Swept → List ℕ
 swept_text found = counts_text found ++ second_text found.first_bad

@@ -1,4 +1,4 @@
--- The runs of a sweep, and what is found in their records. In each run a process fails after one event of a list; then its memory unit settles, it is restarted, everybody goes on, and calls follow. Lists of events have the newest first here, and an event that is refused adds nothing to the record.
+-- The runs of a sweep, and the verdicts of their records. In each run a process fails after one event of a list. Then its memory unit settles, the process is restarted, all processes continue, and calls follow. Lists of events have the newest first here, and a refused event adds nothing to the record.
 use Rattle.std.specs.Prelude.{◌≡◌, ℕ, zero, suc, Bool, true, false, ◌&&◌, ◌||◌, List, [], ◌∷◌, ◌++◌, length, map, filter, fold, reverse, Option, None, Some, Ok, is_none, nat_lt, cond}
 use Rattle.std.specs.List.{All, list_all, list_any, AllZip}
 use Rattle.plain_store.specs.{Command, Setup, checked, is_command}
@@ -16,24 +16,24 @@ use Rattle.sweeper.specs.declared.swept.Swept.{Swept}
 unfoldable pub most : ℕ
 most = 65536
 
--- an event is accepted after events
+-- the event is accepted after these events
 abbrev pub is_accepted : Setup → List Event → Event → Bool
 is_accepted s events event = is_none (refused s (past_of s events) event)
 
--- one thing again and again as long as a test holds, at most so many times
+-- the function `on`, repeated while the test holds, at most n times
 abbrev pub as_long_as : (List Event → Bool) → (List Event → List Event) → ℕ → List Event → List Event
 as_long_as test on zero events = events
 as_long_as test on (suc n) events = cond (test events) (as_long_as test on n (on events)) events
 
--- steps of p by this flick as long as it has one to make, at most so many: of a call they lead to `Idle`, of a memory unit to `Down`
+-- steps of p by this flick while it has one to make, at most n. The steps of a call lead to `Idle`, those of a memory unit to `Down`.
 abbrev pub steps_of : Setup → ℕ → Bool → ℕ → List Event → List Event
 steps_of s p v n events = as_long_as (λ events. is_accepted s events (Step p v)) (λ events. Step p v ∷ events) n events
 
--- p fails, its memory unit makes its steps, and p is restarted; a memory unit has far fewer steps to make than the bound allows, so p is down by then
+-- p fails, its memory unit makes its steps, and p is restarted. A memory unit has far fewer steps to make than the bound allows, so p is down by then.
 abbrev pub cut_off : Setup → ℕ → Bool → List Event → List Event
 cut_off s p v events = Restart p ∷ steps_of s p v most (Fail p ∷ events)
 
--- somebody has a step to make
+-- some process has a step to make
 abbrev pub goes : Setup → Bool → List Event → Bool
 goes s v events = list_any (λ p. is_accepted s events (Step p v)) (processes s)
 
@@ -41,11 +41,11 @@ goes s v events = list_any (λ p. is_accepted s events (Step p v)) (processes s)
 abbrev pub round : Setup → Bool → List Event → List Event
 round s v events = fold (λ events p. Step p v ∷ events) events (processes s)
 
--- rounds as long as somebody has a step to make, at most so many
+-- rounds while some process has a step to make, at most n
 abbrev pub rounds : Setup → Bool → ℕ → List Event → List Event
 rounds s v n events = as_long_as (goes s v) (round s v) n events
 
--- a run: its events, and whether it is stuck, since it has met a limit
+-- a run: its events, and whether it is stuck because it has met a limit
 pub record Run : Type 0 where
   pub events : List Event
   pub stuck : Bool
@@ -60,7 +60,7 @@ with_call s v run (p, command) =
 abbrev pub with_calls : Setup → List (ℕ × Command) → Bool → Run → Run
 with_calls s calls v run = fold (with_call s v) run calls
 
--- everybody goes on, and the calls follow
+-- all processes continue in rounds, and the calls follow
 abbrev pub on_from : Setup → List (ℕ × Command) → Bool → List Event → Run
 on_from s calls v events =
     let on : List Event = rounds s v most events in
@@ -68,7 +68,7 @@ on_from s calls v events =
 
 -- All runs.
 
--- where a run is cut: after which of the accepted events, counted from 0, and by which flick it goes on; and the run
+-- a run with its cut: the number of the accepted event after which it is cut, counted from 0, and the flick by which it continues
 pub record Cut : Type 0 where
   pub number : ℕ
   pub value : Bool
@@ -78,16 +78,16 @@ pub record Cut : Type 0 where
 abbrev pub cut : Setup → List (ℕ × Command) → Event → List Event → Bool → Cut
 cut s calls event before v = record { number = length (past_of s before); value = v; run = on_from s calls v (cut_off s (process_of event) v (event ∷ before)) }
 
--- the event is accepted, and its process is then one that may fail: it has neither failed nor is down
+-- the event is accepted, and its process may then fail: it has not failed and is not down
 abbrev pub is_cut : Setup → Event → List Event → Bool
 is_cut s event before = is_accepted s before event && is_accepted s (event ∷ before) (Fail (process_of event))
 
--- all runs, those of earlier events first, and of two after one event that of the flick 0
+-- all runs; those of earlier events come first, and of the two after one event the one with the flick 0
 abbrev pub cuts : Setup → List (ℕ × Command) → List Event → List Cut
 cuts s calls [] = []
 cuts s calls (event ∷ before) = cuts s calls before ++ cond (is_cut s event before) (map (cut s calls event before) (false ∷ true ∷ [])) []
 
--- What is found.
+-- The result.
 
 -- the record of a run, the oldest entry first
 abbrev pub record_of_cut : Setup → Cut → List Entry
@@ -104,7 +104,7 @@ first_bad_of (c ∷ cs) (Good ∷ vs) = first_bad_of cs vs
 first_bad_of (c ∷ cs) (Bad entry law ∷ vs) = Some (record { cut = c.number; value = c.value; entry = entry; law = law })
 first_bad_of _ _ = None
 
--- what a sweep finds in these runs: each has its verdict; so many there are, so many are good, so many stuck, and this is the first bad one
+-- the result of a sweep for these runs: the number of the runs, of the good ones and of the stuck ones, and the first bad one, by the verdict of each
 pub record IsFound (s : Setup) (cs : List Cut) (found : Swept) : Type 0 where
   pub verdicts : List (Verdict Law)
   pub each : AllZip (λ c v. IsVerdict s (record_of_cut s c) v) cs verdicts
@@ -113,15 +113,15 @@ pub record IsFound (s : Setup) (cs : List Cut) (found : Swept) : Type 0 where
   pub stuck : found.stuck ≡ length (filter (λ (c : Cut). c.run.stuck) cs)
   pub first_bad : found.first_bad ≡ first_bad_of cs verdicts
 
--- what a sweep finds that goes along events, the oldest first
+-- the result of a sweep of these events, the oldest first
 abbrev pub IsSwept : Setup → List Event → List (ℕ × Command) → Swept → Type 0
 IsSwept s events calls found = IsFound s (cuts s calls (reverse events)) found
 
--- each entry of each of these runs keeps the headline
+-- each entry of each of these runs keeps the main theorem
 abbrev pub KeepHeadline : Setup → List Cut → Type 0
 KeepHeadline s cs = All (λ (c : Cut). KeepsHeadlineThroughout s (past_of s c.run.events)) cs
 
--- so does each of each run that a sweep makes along events, the oldest first
+-- each entry of each run of a sweep of these events, the oldest first, keeps the main theorem
 abbrev pub SweptKeepHeadline : Setup → List Event → List (ℕ × Command) → Type 0
 SweptKeepHeadline s events calls = KeepHeadline s (cuts s calls (reverse events))
 
@@ -129,24 +129,24 @@ SweptKeepHeadline s events calls = KeepHeadline s (cuts s calls (reverse events)
 abbrev pub AreAllGood : Swept → Type 0
 AreAllGood found = (found.good ≡ found.runs) × (found.first_bad ≡ None)
 
--- what is then found in these runs
+-- the result of these runs if all are good
 abbrev pub all_good : List Cut → Swept
 all_good cs = record { runs = length cs; good = length cs; stuck = length (filter (λ (c : Cut). c.run.stuck) cs); first_bad = None }
 
--- Whatever a sweep goes along, every run is good, if names, values and counts are what their types allow.
+-- Every run of every sweep is good, if names, values and counts are in the range of their types.
 abbrev pub SweptRunsAreGood : Type 0
 SweptRunsAreGood = (s : Setup) → checked s ≡ Ok tt → (events : List Event) (calls : List (ℕ × Command)) → AreGiven s (reverse events) → list_all (λ (c : ℕ × Command). is_command c.1) calls ≡ true →
     (found : Swept) → IsSwept s events calls found → AreAllGood found
 
--- when p, which fails after these events, is restarted, it is down
+-- if p fails after these events, it is down when it is restarted
 abbrev pub IsDownInTime : Setup → ℕ → Bool → List Event → Type 0
 IsDownInTime s p v events = is_accepted s events (Fail p) ≡ true → stage p (past_of s (steps_of s p v most (Fail p ∷ events))) ≡ Down
 
--- A memory unit has made all its steps when its process is restarted, whatever happened before.
+-- A memory unit has made all its steps when its process is restarted, for all events before the failure.
 abbrev pub UnitsAreDownInTime : Type 0
 UnitsAreDownInTime = (s : Setup) → checked s ≡ Ok tt → (events : List Event) (p : ℕ) (v : Bool) → IsDownInTime s p v events
 
--- so it is in each run that a sweep cuts
+-- the process is down in time in each run that a sweep cuts
 abbrev pub AreDownInTime : Setup → List Event → Type 0
 AreDownInTime s [] = Unit {0}
 AreDownInTime s (event ∷ before) = AreDownInTime s before × ((v : Bool) → IsDownInTime s (process_of event) v (event ∷ before))
@@ -157,20 +157,20 @@ moves Idle = false
 moves Down = false
 moves _ = true
 
--- a process has neither failed nor is down
+-- a process has not failed and is not down
 abbrev pub stands : Stage → Bool
 stands Settling = false
 stands Down = false
 stands _ = true
 
--- the stage of a process that there is passes a test
+-- the process exists, and its stage passes the test
 abbrev pub is_there : (Stage → Bool) → Setup → List Event → ℕ → Bool
 is_there test s events p = nat_lt p s.processes && test (stage p (past_of s events))
 
--- A step is accepted exactly of a process that runs, or whose memory unit settles.
+-- A step is accepted if and only if its process runs or its memory unit settles.
 abbrev pub StepsAreOfWhomMoves : Type 0
 StepsAreOfWhomMoves = (s : Setup) (events : List Event) (p : ℕ) (v : Bool) → is_accepted s events (Step p v) ≡ is_there moves s events p
 
--- A failure is accepted exactly of a process that has neither failed nor is down.
+-- A failure is accepted if and only if its process has not failed and is not down.
 abbrev pub FailsAreOfWhomStands : Type 0
 FailsAreOfWhomStands = (s : Setup) (events : List Event) (p : ℕ) → is_accepted s events (Fail p) ≡ is_there stands s events p

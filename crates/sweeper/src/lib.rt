@@ -1,8 +1,9 @@
-//! Sweeps: what a failure after any one event of a run leads to. After each event of a list there are two runs in which its
-//! process fails, is restarted, all go on and the calls are made again, each audited while it is made. Every run of every sweep
-//! is good, which is a law here; whether one met its limits is what is found.
+//! Sweeps: the consequences of a failure after any one event of a run. A sweep makes two runs after each event of a list.
+//! In each, the process of the event fails and is restarted, all processes continue, and calls follow. Each run is audited
+//! while it is made. A law of this crate states that every run is good. The result shows which runs met their limits.
 //!
-//! A sweep of a checked setup, events, and the calls that follow each failure, made once more where memory was wanting:
+//! The following makes a sweep of a checked setup, events, and the calls that follow each failure. It tries once more after
+//! an allocation failure:
 //!
 //! ```rust
 //! match sweep(alloc, setup, events, calls) {
@@ -11,7 +12,7 @@
 //! }
 //! ```
 //!
-//! Whoever holds no list of the events tells them one by one:
+//! A caller without a list of the events passes them one by one:
 //!
 //! ```rust
 //! let mut sweeper = Sweeper::new(alloc, setup)?;

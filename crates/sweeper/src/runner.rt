@@ -23,12 +23,12 @@ pub(crate) struct BadEntry {
     pub law: Law,
 }
 
-/// A run under way: a core, which makes its events, and an auditor, which observes each entry as it is made, and a stretch
-/// of steps within a register access as one. Nothing keeps the entries; so it counts the commands taken, whose places the
-/// entries have.
+/// A run in progress: a core, which makes its events, and an auditor, which observes each entry as it is made, and a
+/// stretch of steps within a register access as one. The entries are not stored. The entries contain the positions of the
+/// commands taken, so the runner counts these commands.
 ///
-/// An auditor's answer is the first law after `Safe` that an entry breaks. None comes, since the records of events are
-/// good; if one came, it would be noted all the same, under this name, as there is no record to look back at.
+/// An auditor returns the first law after `Safe` that an entry breaks. It never returns one, because the records of events
+/// are good. If it did, the runner would report this law, because there is no record in which to look for another.
 #[derive(Drop)]
 pub(crate) struct Runner {
     alloc: Global,
@@ -51,7 +51,11 @@ impl Model for Runner {
 }
 
 impl Runner {
-    /// A run in which nothing has happened. The one fault is want of memory.
+    /// Creates a run in which nothing has happened.
+    ///
+    /// # Errors
+    ///
+    /// Returns [`AllocError`] if an allocation fails; there is no other error.
     pub fn new(alloc: Global, setup: &Setup) -> Result<Runner, AllocError>
         requires { checked setup.now ≡ Ok tt }
         ensures setup { IfOk result (λ r. r.core.setup ≡ setup.now) }
@@ -68,7 +72,8 @@ impl Runner {
         })
     }
 
-    /// Becomes as the other, of the same setup, so that its run goes on from here more than once. It takes no memory.
+    /// Makes this runner equal to the other one, which has the same setup, so that its run can be continued more than once.
+    /// It does not allocate.
     pub fn copy_from(&mut self, other: &Runner)
         requires { self.old.core.setup ≡ other.now.core.setup }
         ensures { self.new ≡ other.now }
@@ -80,33 +85,33 @@ impl Runner {
         self.bad = other.bad;
     }
 
-    /// How many processes there are.
+    /// Returns the number of processes.
     pub fn processes(&self) -> u8
         ensures { result ≡ self.now.core.setup.processes }
     {
         self.processes
     }
 
-    /// How many entries were made.
+    /// Returns the number of entries made.
     pub fn entries(&self) -> u64 {
         self.entries
     }
 
-    /// The first bad entry; there is none.
+    /// Returns the first bad entry, which is always `None`.
     pub fn bad(&self) -> Option<BadEntry>
         ensures { result ≡ None }
     {
         self.bad
     }
 
-    /// Whether an event would be made.
+    /// Returns whether an event would be accepted.
     pub fn accepts(&self, event: &Event) -> bool
         ensures { Accepts self.now event.now result }
     {
         self.core.refusal(event).is_none()
     }
 
-    /// Makes an event, unless it is refused, and audits its entry; whether it was made.
+    /// Makes an event, unless it is refused, and audits its entry. Returns whether it was made.
     pub fn make(&mut self, event: &Event) -> bool
         requires room { due self.old + 16 < 2 ^ 64 }
         ensures follows { RunsOn self.old self.new (λ events. event.now ∷ events) }
@@ -128,7 +133,7 @@ impl Runner {
         true
     }
 
-    /// Makes a step, unless it is refused, and audits its entry; whether it was made.
+    /// Makes a step, unless it is refused, and audits its entry. Returns whether it was made.
     #[inline]
     pub fn step(&mut self, process: u8, value: bool) -> bool
         requires room { due self.old < 2 ^ 64 }
@@ -182,8 +187,8 @@ impl Runner {
     }
 }
 
-/// What an auditor answers to the entry of a step, where a command that is taken gets this place. Most steps have no
-/// mark: for them none are made.
+/// Audits the entry of a step, in which a command that is taken gets the position `place`, and returns the broken law, if
+/// any. Most steps have no mark, and for these no list of marks is made.
 #[inline]
 fn hear_step(
     auditor: &mut Auditor,
@@ -202,7 +207,7 @@ fn hear_step(
     auditor.hear(process, &Some(access), &step_marks(alloc, told, place))
 }
 
-/// The first bad entry, after one more with this number, which breaks this law or none.
+/// Returns the first bad entry, after one more entry with this number, which breaks this law, if any.
 #[inline]
 fn first_bad(bad: Option<BadEntry>, entry: u64, law: Option<Law>) -> Option<BadEntry>
     ensures { law ≡ None → result ≡ bad }
@@ -213,7 +218,7 @@ fn first_bad(bad: Option<BadEntry>, entry: u64, law: Option<Law>) -> Option<BadE
     }
 }
 
-/// How many commands were taken, after what an event leads to.
+/// Returns the number of commands taken after an event with this effect.
 fn more(taken: u64, effect: &Effect) -> u64
     requires { taken + taking effect.now < 2 ^ 64 }
     ensures { result ≡ taken + taking effect.now }

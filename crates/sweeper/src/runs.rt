@@ -1,4 +1,4 @@
-//! How a run goes on after the event at which it is cut.
+//! The continuation of a run after the event at which it is cut.
 ghost use Rattle.std.specs.Prelude.{◌≡◌, ◌+◌, ◌*◌, ◌^◌, ◌<◌, ◌≤◌, length};
 ghost use Rattle.sweeper.specs.Runners.{MakesCall, MakesCalls, MakesRun, OfRun, RunsBy, due};
 ghost use Rattle.sweeper.specs.Sweeps.{cut_off, goes, most as most_of, round, rounds, steps_of};
@@ -16,8 +16,8 @@ fn limit() -> u32
 }
 
 impl Runner {
-    /// Makes steps of a process as long as it has one to make, at most `most`: each stretch within a register access at
-    /// once, and each other step by itself.
+    /// Makes steps of a process while it has one to make, at most `most`: each stretch within a register access at once, and
+    /// each other step by itself.
     fn walk(&mut self, process: u8, value: bool, most: u32)
         requires room { due self.old + 16 < 2 ^ 64 }
         ensures follows { RunsBy self.old self.new (λ s. steps_of s process value most) }
@@ -40,7 +40,7 @@ impl Runner {
         }
     }
 
-    /// A process fails, its memory unit makes its steps, and it is restarted.
+    /// Makes a process fail, makes the steps of its memory unit, and restarts the process.
     fn cut_off(&mut self, process: u8, value: bool)
         requires room { due self.old + 16 < 2 ^ 64 }
         ensures follows { RunsBy self.old self.new (λ s. cut_off s process value) }
@@ -52,7 +52,7 @@ impl Runner {
         self.make(&Event::Restart(process));
     }
 
-    /// Whether somebody has a step to make.
+    /// Returns whether some process has a step to make.
     fn goes(&self, value: bool) -> bool
         ensures { OfRun self.now (λ s events. result ≡ goes s value events) }
     {
@@ -64,7 +64,7 @@ impl Runner {
         false
     }
 
-    /// A step of each process that has one to make, ascending.
+    /// Makes a step of each process that has one to make, ascending.
     fn round(&mut self, value: bool)
         requires room { due self.old + 16 < 2 ^ 64 }
         ensures follows { RunsBy self.old self.new (λ s. round s value) }
@@ -76,7 +76,7 @@ impl Runner {
         }
     }
 
-    /// Rounds as long as somebody has a step to make, at most so many.
+    /// Makes rounds while some process has a step to make, at most `most`.
     fn rounds(&mut self, value: bool, most: u32)
         requires room { due self.old + 16 < 2 ^ 64 }
         ensures follows { RunsBy self.old self.new (λ s. rounds s value most) }
@@ -93,7 +93,7 @@ impl Runner {
         }
     }
 
-    /// A call, and if it is accepted the steps of its process; whether that has one more to make after them.
+    /// Makes a call and, if it is accepted, the steps of its process. Returns whether the process has one more to make.
     fn call(&mut self, process: u8, command: &Command, value: bool) -> bool
         requires room { due self.old + 32 < 2 ^ 64 }
         ensures run { MakesCall self.old process command.now value result self.new }
@@ -107,7 +107,7 @@ impl Runner {
         self.accepts(&Event::Step(process, value))
     }
 
-    /// The calls in their order; whether the run, which is stuck or not before them, is stuck.
+    /// Makes the calls in their order. Returns whether the run is stuck after them; `stuck` is whether it was before.
     fn calls(&mut self, calls: &[(u8, Command)], value: bool, stuck: bool) -> bool
         requires room { due self.old + 16 * length calls.now + 16 < 2 ^ 64 }
         ensures run { MakesCalls self.old stuck calls.now value result self.new }
@@ -120,7 +120,7 @@ impl Runner {
         stuck
     }
 
-    /// A process fails here, everybody goes on, and the calls follow; whether the run is stuck.
+    /// Makes a process fail here, lets all processes continue, and makes the calls. Returns whether the run is stuck.
     pub fn run(&mut self, process: u8, value: bool, calls: &[(u8, Command)]) -> bool
         requires room { due self.old + 16 * length calls.now + 16 < 2 ^ 64 }
         ensures run { MakesRun self.old calls.now process value result self.new }

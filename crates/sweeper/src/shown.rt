@@ -1,4 +1,4 @@
-//! How what a sweep finds is printed.
+//! The printed form of the result of a sweep.
 ghost use Rattle.sweeper.specs.Shown.{bad_text, swept_text};
 
 use crate::swept::{BadRun, Swept};

@@ -1,4 +1,4 @@
-//! A sweep: a runner goes along the events, and after each that is accepted another one goes on from there twice.
+//! A sweep: one runner takes the events, and after each accepted event another runner continues from there twice.
 ghost use Rattle.std.specs.Prelude.{◌≡◌, ◌+◌, ℕ, reverse, IfOk, Ok};
 ghost use Rattle.plain_store.specs.{checked};
 ghost use Rattle.sweeper.specs.Sweeps.{AreAllGood, AreDownInTime, IsFound, IsSwept, KeepHeadline, SweptKeepHeadline, cuts};
@@ -10,14 +10,18 @@ use plain_store::{Command, Setup};
 use record::Event;
 use std::alloc::{AllocError, Global};
 
-/// More events or calls than any memory holds. Up to so many no count wraps.
+/// More events or calls than any memory holds. Up to this number no count wraps.
 const MOST: usize = 1 << 56;
 
-/// What is found in all runs in which a process fails after one accepted event, where it has neither failed before
-/// nor is down: its memory unit makes its steps, which bring it down, it is restarted, everybody goes on in rounds,
-/// and the calls follow in their order; there is one run for each value that the steps have as their flick. Each entry
-/// of each run is audited, is good, and keeps the headline. The one fault is want of memory, which is also the answer
-/// above 2^56 events or calls, more than any memory holds; nothing is taken after the first event.
+/// Makes all runs in which a process fails after one accepted event, and returns the result. The process has not failed
+/// before and is not down. Its memory unit makes its steps, after which the process is down. It is restarted, all
+/// processes continue in rounds, and the calls follow in their order. There is one run for each value that the steps have
+/// as their flick. Each entry of each run is audited, is good, and keeps the main theorem. The function does not allocate
+/// after the first event.
+///
+/// # Errors
+///
+/// Returns [`AllocError`] if an allocation fails, and for more than 2^56 events or calls, more than any memory holds.
 pub fn sweep(
     alloc: Global,
     setup: &Setup,
@@ -40,8 +44,8 @@ pub fn sweep(
     Ok(sweeper.found())
 }
 
-/// A sweep under way: a runner that goes along the events, and one that makes the runs. It takes its events one by one,
-/// so whoever sweeps a run need not hold a list of them.
+/// A sweep in progress: one runner takes the events, and another one makes the runs. The sweep takes its events one by
+/// one, so its caller does not need a list of them.
 #[derive(Drop)]
 pub struct Sweeper {
     walker: Runner,
@@ -50,7 +54,11 @@ pub struct Sweeper {
 }
 
 impl Sweeper {
-    /// Before the first event. The one fault is want of memory; nothing is taken after it.
+    /// Creates a sweep before its first event. After this the sweep does not allocate.
+    ///
+    /// # Errors
+    ///
+    /// Returns [`AllocError`] if an allocation fails; there is no other error.
     pub fn new(alloc: Global, setup: &Setup) -> Result<Sweeper, AllocError>
         requires { checked setup.now ≡ Ok tt }
         ensures swept { IfOk result (SweepsNone setup.now) }
@@ -68,8 +76,8 @@ impl Sweeper {
         })
     }
 
-    /// Goes along one more event, and makes the runs that are cut after it, which these calls end. An event that is refused
-    /// leads to nothing.
+    /// Takes one more event and makes the runs that are cut after it, which these calls end. A refused event changes
+    /// nothing.
     pub fn event(&mut self, event: &Event, calls: &[(u8, Command)])
         requires room { CanSweep calls.now 1 self.old }
         ensures swept { SweepsOn calls.now event.now self.old self.new }
@@ -88,12 +96,12 @@ impl Sweeper {
         self.run(cut, process, true, calls);
     }
 
-    /// How many events were accepted.
+    /// Returns the number of events that were accepted.
     pub fn events(&self) -> u64 {
         self.walker.entries()
     }
 
-    /// What is found in the runs so far.
+    /// Returns the result of the runs so far.
     pub fn found(&self) -> Swept
         ensures found { OfSweep self.now (λ s calls before. IsFound s (cuts s calls before) result) }
         ensures good { OfSweep self.now (λ s calls before. AreAllGood result) }
@@ -103,7 +111,7 @@ impl Sweeper {
         self.found
     }
 
-    /// The run in which the process of the last event fails, and that goes on by this value.
+    /// Makes the run in which the process of the last event fails, and that continues by this flick.
     fn run(&mut self, cut: u64, process: u8, value: bool, calls: &[(u8, Command)])
         requires { CanRun calls.now self.old }
         ensures { CountsRun process value calls.now self.old self.new }

@@ -1,4 +1,4 @@
-//! What is found in the runs of a sweep.
+//! The result of the runs of a sweep.
 ghost use Rattle.std.specs.Prelude.{◌≡◌, option_map};
 ghost use Rattle.sweeper.specs.Tallies.{AreFew, bad_run as bad_run_of, counted};
 
@@ -18,21 +18,21 @@ pub struct BadRun {
     pub law: Law,
 }
 
-/// What a sweep finds. It is printed as `sweep runs <runs> good <good> stuck <stuck>`, and on a second line the first bad
-/// run, if there is one.
+/// The result of a sweep. It is printed as `sweep runs <runs> good <good> stuck <stuck>`, and on a second line the first
+/// bad run, if there is one.
 #[derive(Clone, Copy)]
 pub struct Swept {
-    /// How many runs there are.
+    /// The number of runs.
     pub runs: u64,
-    /// How many have a good record.
+    /// The number of runs with a good record.
     pub good: u64,
-    /// How many have met a limit.
+    /// The number of runs that met a limit.
     pub stuck: u64,
     pub first_bad: Option<BadRun>,
 }
 
 impl Swept {
-    /// One run more: where it is cut, by which flick it goes on, whether it is stuck, and its first bad entry.
+    /// Counts one more run: where it is cut, by which flick it continues, whether it is stuck, and its first bad entry.
     pub(crate) fn with_run(self, cut: u64, value: bool, stuck: bool, bad: Option<BadEntry>) -> Swept
         requires { AreFew self }
         ensures { result ≡ counted self cut value stuck bad }
@@ -46,7 +46,7 @@ impl Swept {
     }
 }
 
-/// The bad run, if an entry is bad.
+/// Returns the bad run, if an entry is bad.
 fn bad_run(cut: u64, value: bool, bad: Option<BadEntry>) -> Option<BadRun>
     ensures { result ≡ option_map (bad_run_of cut value) bad }
 {

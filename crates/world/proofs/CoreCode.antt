@@ -1,4 +1,4 @@
--- What a method of a core leaves is the core after its event.
+-- The core that a method leaves is the core after its event.
 use Rattle.std.proofs.Common.{◌≡◌, ◌++◌, ℕ, ◌<◌, ◌≤◌, Bool, true, List, Option, None, Some, length, map, take, refl, sym, ap, subst, ◌∙◌, arith}
 use Rattle.std.proofs.lemmas.List.{length-set}
 use Rattle.std.proofs.lemmas.Option.{slice_get_within}
@@ -15,11 +15,11 @@ use Rattle.world.proofs.CoreWalks.{HasRun, has-run, left-begun, next-others}
 use Rattle.world.proofs.WorldOpen.{IsSeated, is-seated, seat-indexed, seat-left, seat-there}
 use Rattle.world.proofs.WorldTelling.{told-back}
 
--- a process that there is, by its seat
+-- a process that exists, by its seat
 pub seated : (c : CoreState) (p : ℕ) (seat : Seat) → KeepsCore c → slice_get c.seats p ≡ Some seat → IsSeated c p seat
 seated c p seat k there = is-seated c k.taken k.events p seat k.shows there
 
--- one whose number access has so many accesses left
+-- a process with n accesses left in its register access
 pub record IsLeft (c : CoreState) (p n : ℕ) (seat : Seat) : Type 0 where
   pub there : slice_get c.seats p ≡ Some seat
   pub within : n ≤ left_at seat.process
@@ -40,7 +40,7 @@ is-left c d p i n seat view some within index at = record {
 pub not-refused : (c : CoreState) (what : Event) (seat : Seat) → KeepsCore c → IsNext c what seat → refusal_of seat.process what ≡ None
 not-refused c what seat k n = sym (refused-told c what seat n.there k.taken k.events k.shows) ∙ n.allowed k.taken k.events k.shows
 
--- its seat, where it is known who waits before a call
+-- its seat, given which processes wait before a call
 pub seat-made : (c : CoreState) (seat : Seat) (what : Event) (before : List Bool) → (is_call what ≡ true → before ≡ waiting_in c.seats) → seat_made c.registers before seat what ≡ seat_after c seat what
 seat-made c seat (event.Call p command) before h = ap (λ before. seat_made c.registers before seat (event.Call p command)) (h refl)
 seat-made c seat (event.Step p flick) before h = refl
@@ -48,13 +48,13 @@ seat-made c seat (event.Fail p) before h = refl
 seat-made c seat (event.Withdraw p) before h = refl
 seat-made c seat (event.Restart p) before h = refl
 
--- What is left by an event: it keeps what a core keeps, and goes on as one.
+-- After an event the core keeps its invariant and shows the event.
 pub record HasMade (d : CoreState) (what : Event) (effect : Effect) (access : Option Access) (new : CoreState) : Type 0 where
   pub keeps : KeepsCore new
   pub goes : CoreGoes d what effect access new
   pub others : KeepOthers d.seats (process_of what) new.seats
 
--- The seat was put in its place, and all were told.
+-- The new seat was stored, and all seats were updated.
 pub made-code : (c d : CoreState) (what : Event) (effect : Effect) (access : Option Access) (seat then : Seat) (registers : List (List Cell)) (was new rest : List Seat) (waited waits : Bool) (i p n : ℕ) →
     KeepsCore c → c ≡ d → IsNext c what seat → i ≡ p → p ≡ process_of what → length c.seats ≡ n →
     then ≡ seat_after c seat what → registers ≡ registers_made c.registers seat what → access ≡ access_made c.registers seat what → marks_of effect ≡ marks_made c.registers seat what →
@@ -78,7 +78,7 @@ made-code c d what effect access seat then registers was new rest waited waits i
       seats = (seats ∙ (λ m. map (told (own m) (was_waiting m) ((waits_now ∙ ap is_waiting then_is) m)) (slice_set c.seats ((index ∙ own) m) (then_is m)))) k;
     } in core
 
--- Of so many steps within a number access: the process had made them.
+-- Several steps within a register access, which the process has made.
 pub run-code : (c d : CoreState) (p i : ℕ) (seat : Seat) (process : ProcessState) (registers : List (List Cell)) (f g : FlickState) (n : ℕ) (newest : Access) (overlapped : ℕ) → KeepsCore c → c ≡ d → IsLeft c p n seat → 0 < n → i ≡ p →
     (let now : ProcessState × List (List Cell) × FlickState = (process, registers, g) in now ≡ steps_of n (seat.process, c.registers, f)) → newest ≡ newest_of n (seat.process, c.registers, f) → overlapped ≡ overlapped_steps n (seat.process, c.registers, f) →
     HasRun d f p n newest overlapped (record c { registers = registers; seats = slice_set c.seats i (seat_with process seat) }) g

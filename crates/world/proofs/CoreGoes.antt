@@ -32,17 +32,17 @@ use Rattle.world.proofs.WorldSeats.{all-seats, begun-kept, begun-stepped, own-se
 use Rattle.world.proofs.WorldShows.{past-after}
 use Rattle.world.proofs.WorldStages.{stage-process}
 
--- the entry of an event, as a core and a history tell it
+-- the entry of an event, computed from a core and a history
 abbrev pub entry_told : CoreState → Seat → ℕ → Event → Entry
 entry_told c seat taken what = record { process = process_of what; access = access_made c.registers seat what; marks = map (placed taken) (marks_made c.registers seat what) }
 
--- after a past
+-- this entry after a past
 abbrev pub entry_made : Setup → Past → Event → Entry
 entry_made s past what = entry_told (core_of s past) (seat_of s past (process_of what)) (length (history s past)) what
 
--- Of a process that steps.
+-- A process that makes a step.
 
--- the access of the step, as the registers answer it
+-- the access of the step, with the value that the registers return
 step-access : (s : Setup) → checked s ≡ Ok tt → (events : List Event) (p : ℕ) (flick : Bool) (next : Access) → let past : Past = past_of s events in next_of s p (doing s p past) flick ≡ Some next → IsThere s next →
     answered_at (process_after s past p) (registers_at s past) flick ≡ valued s past flick next
 step-access s ok events p flick next is there =
@@ -50,7 +50,7 @@ step-access s ok events p flick next is there =
     ap (λ (o : Option Access). answered s.processes (registers_at s past) flick (unwrap_or o (record { owner = 0; field = Choosing; bit = 0; reader = 0; how = BeginRead }))) is
     ∙ answers s ok events flick next there
 
--- its entry
+-- the entry of the step
 step-entry : (s : Setup) → checked s ≡ Ok tt → (events : List Event) (p : ℕ) (flick : Bool) → refused s (past_of s events) (event.Step p flick) ≡ None →
     entry_of s (past_of s events) (event.Step p flick) ≡ Some (entry_made s (past_of s events) (event.Step p flick))
 step-entry s ok events p flick allowed = added.1 ∙ (λ i. let e : Entry = record { process = is.process i; access = access i; marks = marks i } in Some e)
@@ -114,7 +114,7 @@ next-is s mine e h = go (s.version == 2) ∙ sym (ap (λ b. cond (s.version == 2
     go true = omega arith
     go false = refl
 
--- a step calls nothing
+-- a step is not a call
 step-called : (s : Setup) → checked s ≡ Ok tt → (events : List Event) (p : ℕ) (flick : Bool) → let past : Past = past_of s events in let e : Entry = entry_made s past (event.Step p flick) in
     entry_of s past (event.Step p flick) ≡ Some e → has is_called e ≡ false
 step-called s ok events p flick h =
@@ -158,7 +158,7 @@ process-then s ok events (event.Restart p) allowed h =
 
 -- Its seat.
 
--- who waits is told by the seats
+-- the seats show which processes wait
 waits-is : (s : Setup) → IsGood s → (events : List Event) (j : ℕ) → let past : Past = past_of s events in waits_in (map (seat_of s past) (processes s)) j ≡ waited past j
 waits-is s g events j = go (nat_lt j s.processes) refl
   where
@@ -176,11 +176,11 @@ waits-is s g events j = go (nat_lt j s.processes) refl
 waiting-is : (s : Setup) → IsGood s → (events : List Event) → let past : Past = past_of s events in waiting_in (map (seat_of s past) (processes s)) ≡ map (waited past) (range_with_len 0 16)
 waiting-is s g events = ap (λ f. map f (range_with_len 0 16)) (λ i j. waits-is s g events j i)
 
--- who waits after an entry of its own
+-- whether a process waits after an entry of its own
 waited-own : (past : Past) (p : ℕ) (e : Entry) → e.process ≡ p → waited (e ∷ past) p ≡ is_waiting_stage (fold stage_after (stage p past) e.marks)
 waited-own past p e h = ap (λ b. is_waiting_stage (cond b (fold stage_after (stage p past) e.marks) (stage p past))) (eq-eqb e.process p h)
 
--- of an event that is no call
+-- an event that is not a call
 seat-then : (s : Setup) → checked s ≡ Ok tt → (events : List Event) (what : Event) → let past : Past = past_of s events in let p : ℕ = process_of what in let e : Entry = entry_made s past what in refused s past what ≡ None → entry_of s past what ≡ Some e →
     told p (waited past p) (waited (e ∷ past) p) (seat_after (core_of s past) (seat_of s past p) what) ≡ seat_of s (e ∷ past) p
 seat-then s ok events (event.Call p command) allowed h = (λ i. told p (waits i) (now_waits i) then) ∙ (λ i. let seat : Seat = record {

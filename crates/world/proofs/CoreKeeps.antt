@@ -1,4 +1,4 @@
--- A core goes on by an event that is not refused, with each history with which it shows something.
+-- A core makes an event that is not refused, with each history with which it shows some events.
 use Rattle.std.proofs.lemmas.Option.{slice_get_within}
 use Rattle.std.proofs.Common.{◌≡◌, ℕ, zero, suc, ◌+◌, ◌<◌, ◌≤◌, Bool, true, false, cond, List, [], ◌∷◌, Option, None, Some, length, map, refl, sym, ap, subst, ◌∙◌, arith}
 use Rattle.std.specs.Prelude.{slice_get, slice_index_or, slice_set}
@@ -22,7 +22,7 @@ pub record IsNext (c : CoreState) (what : Event) (seat : Seat) : Type 0 where
 
 -- A command that is taken.
 
--- it makes the history longer by one
+-- the command makes the history longer by one
 pub taken_length : (h : List Taken) (p : ℕ) (command : Command) (number : ℕ) (o : Option Reply) → length (with_taken h p command number o) ≡ length h + elim o as (λ _. ℕ) [ None ↦ 0 | Some r ↦ 1 ]
 taken_length h p command number None = omega arith
 taken_length h p command number (Some r) = length_push h (record { process = p; command = command; reply = r; number = number })
@@ -33,7 +33,7 @@ call-set [] waited waits p i then l = absurd (omega (arith, l))
 call-set (x ∷ seats) waited waits p zero then l = refl
 call-set (x ∷ seats) waited waits p (suc i) then l = call-set seats waited waits p i then (omega (arith, l))
 
--- what is taken by the call of the seat before it, is taken by the call after it
+-- the call of the seat before the event and the call after it take the same command
 taken-then : (c : CoreState) (seat : Seat) (what : Event) (h : List Taken) → with_taken h (process_of what) (seat_after c seat what).process.command (seat_after c seat what).process.number (reply_taken (marks_made c.registers seat what))
     ≡ with_taken h (process_of what) seat.process.command seat.process.number (reply_taken (marks_made c.registers seat what))
 taken-then c seat (event.Call p command) h = refl
@@ -93,7 +93,7 @@ module _ (c : CoreState) (taken : List Taken) (events : List Event) (what : Even
   next-shows = shows-on s shows.good events what (entry_made s past what) (made s shows.good events what allowed) shows.given n.given _
       (λ i. with_history (((λ j. core_after (core-is j) (seat-is j) what) ∙ core-goes s shows.good events what allowed) i) (history-goes i))
 
--- How many calls are pending.
+-- The number of pending calls.
 
 -- a boolean as a number
 counted : (a b : Bool) → (a ≡ false → b ≡ false) → cond b 1 0 ≤ cond a 1 0
@@ -107,7 +107,7 @@ counted-taken true false was now = omega arith
 counted-taken true true was now = cc
 counted-taken false b was now = cc
 
--- of the seat
+-- the pending calls of the seat
 abbrev taking_of : Option Reply → ℕ
 taking_of o = elim o as (λ _. ℕ) [ None ↦ 0 | Some r ↦ 1 ]
 
@@ -129,7 +129,7 @@ seat-pending c seat (event.Fail p) other =
 seat-pending c seat (event.Withdraw p) other = omega arith
 seat-pending c seat (event.Restart p) other = omega arith
 
--- of all
+-- the pending calls of all seats
 next-pending : (c : CoreState) (seat : Seat) (what : Event) → slice_get c.seats (process_of what) ≡ Some seat →
     pending_in (core_after c seat what).seats + pending seat ≡ pending_in c.seats + pending (seat_after c seat what)
 next-pending c seat what there =
@@ -155,13 +155,13 @@ next-few c seat (event.Fail p) there = let fewer = next-fewer c seat (event.Fail
 next-few c seat (event.Withdraw p) there = let fewer = next-fewer c seat (event.Withdraw p) there refl in let most = pending-most c.seats in omega (arith, fewer, most)
 next-few c seat (event.Restart p) there = let fewer = next-fewer c seat (event.Restart p) there refl in let most = pending-most c.seats in omega (arith, fewer, most)
 
--- What a method is given: a core, which contracts see as another one.
+-- The core that a method gets, which contracts see as another one.
 
--- what a core keeps, with the history and the events that it shows
+-- the invariant of a core, with the history and the events that it shows
 pub keeps_core : (c : CoreState) (taken : List Taken) (events : List Event) → Shows (with_history c taken) events → KeepsCore c
 keeps_core c taken events shows = record { taken = taken; events = events; shows = shows }
 
--- the process of an event that is not refused is there
+-- the process of an event that is not refused exists
 pub core_in : (c d : CoreState) (what : Event) → KeepsCore c → c ≡ d → CoreRefuses d what None → process_of what < length c.seats
 core_in c d what k is ok =
     let allowed : CoreRefuses c what None = subst (λ (x : CoreState). CoreRefuses x what None) (sym is) ok in
@@ -169,7 +169,7 @@ core_in c d what k is ok =
     let many = many-seats (with_history c k.taken) k.events k.shows in
     omega (arith, below, many)
 
--- and its seat is known by its index
+-- its seat is found by its index
 pub next-at : (c d : CoreState) (what : Event) (i : ℕ) (seat : Seat) → KeepsCore c → c ≡ d → CoreRefuses d what None → is_event what ≡ true → i ≡ process_of what → seat ≡ slice_index_or c.seats i seat → IsNext c what seat
 next-at c d what i seat k is ok given index at = record {
   given = given;
@@ -177,11 +177,11 @@ next-at c d what i seat k is ok given index at = record {
   allowed = subst (λ (x : CoreState). CoreRefuses x what None) (sym is) ok;
 }
 
--- it keeps what a core keeps
+-- the core keeps its invariant
 pub next-keeps : (c new : CoreState) (what : Event) (seat : Seat) → KeepsCore c → IsNext c what seat → new ≡ core_after c seat what → KeepsCore new
 next-keeps c new what seat k n is = subst KeepsCore (sym is) (keeps_core _ _ _ (next-shows c k.taken k.events what seat k.shows n))
 
--- and goes on by the event
+-- the core makes the event
 pub next-goes : (c d new : CoreState) (what : Event) (effect : Effect) (access : Option Access) (seat : Seat) → c ≡ d → IsNext c what seat →
     access ≡ access_made c.registers seat what → marks_of effect ≡ marks_made c.registers seat what → new ≡ core_after c seat what → CoreGoes d what effect access new
 next-goes c d new what effect access seat view n access_is marks is =

@@ -17,11 +17,11 @@ use Rattle.process.proofs.Left.{left-some, live-by, within}
 use Rattle.world.specs.{CoreState, InEachCorePast, IsNewestAccess, Seat}
 use Rattle.world.proofs.CoreLooks.{none-shown, process-shown}
 
--- how many accesses are left of a number access, by what its process does
+-- the number of accesses left in a register access, by the work of its process
 abbrev left_by : Setup → ℕ → Doing → ℕ
 left_by s p d = left_at (record { setup = s; process = p; doing = d; command = Ask; number = 0 })
 
--- a move that was answered is answered so again
+-- a move whose value is known keeps this value
 ended-again : (w : Bool) (m : Move) → ended (value_of (ended w m)) m ≡ ended w m
 ended-again w (BeginWrite v) = refl
 ended-again w EndWrite = refl
@@ -32,7 +32,7 @@ ended-again w (Settle v) = refl
 valued-again : (w : Bool) (a : Access) → ended_with (value_of (ended_with w a).how) a ≡ ended_with w a
 valued-again w a = λ i. record { owner = a.owner; field = a.field; bit = a.bit; reader = a.reader; how = ended-again w a.how i }
 
--- of a call that runs
+-- the case of a call that runs
 run-last : (s : Setup) (past : Past) (p : ℕ) (command : Command) (number : ℕ) (at : Place) (flick : Bool) (d' : Doing) →
     is_over at.part ≡ false → 0 < left_by s p (Runs command number at) →
     (let a : Access = valued s past flick (access_at (call s p command number) at.part at.run) in d' ≡ runs command number (place_after (call s p command number) at (value_of a.how)) → last_access s p d' ≡ Some a)
@@ -50,7 +50,7 @@ run-last s past p command number at flick d' live left then =
     ∙ last-goes c at.part at.run v
     ∙ ap Some (valued-again (read_value (opening_bit s next) (moves_of next past) flick) next)
 
--- of each entry of a process of whose number access some are left
+-- each entry of a process that has accesses left in its register access
 step-last : (s : Setup) (past : Past) (p : ℕ) (e : Entry) (a : Access) (d d' : Doing) → Happens s past p e d d' → e.access ≡ Some a → 0 < left_by s p d → last_access s p d' ≡ Some a
 step-last s past p e a d d' (a_call command number does access marks then) is left = let none : Some a ≡ None = sym is ∙ access in absurd (cc)
 step-last s past p e a d d' (a_withdrawal command number t w ws run does access marks then) is left = let none : Some a ≡ None = sym is ∙ access in absurd (cc)
@@ -66,7 +66,7 @@ step-last s past p e a d d' (a_closing command number at flick n does next acces
     let none : 0 < 0 = subst (λ x. 0 < left_by s p x) does left in
     absurd (omega (arith, none))
 
--- the newest entry of a process, which was within a number access before it
+-- the newest entry of a process that was within a register access before it
 abbrev TellsNewest : Setup → Past → Type 0
 TellsNewest s past = (p : ℕ) (a : Access) (before : Past) → past ≡ record { process = p; access = Some a; marks = [] } ∷ before → 0 < left_at (process_after s before p) → last_access s p (doing s p past) ≡ Some a
 
@@ -83,13 +83,13 @@ newest-more s g events what e h p a before is left =
 newest : (s : Setup) → IsGood s → (events : List Event) → TellsNewest s (past_of s events)
 newest s g events = past-induction TellsNewest s (λ p a before is left. absurd (cc)) (λ events what e h so. newest-more s g events what e h) events
 
--- of a process that there is
+-- the case of a process that exists
 pub last-there : (c : CoreState) (p : ℕ) (seat : Seat) → slice_get c.seats p ≡ Some seat → InEachCorePast c (IsNewestAccess p (last_access seat.process.setup seat.process.process seat.process.doing))
 last-there c p seat there taken events shows a before is left =
     ap (λ (x : ProcessState). last_access x.setup x.process x.doing) (process-shown c p seat there taken events shows)
     ∙ newest c.setup (is_good c.setup shows.good) events p a before is left
 
--- one that there is not adds no entry
+-- a process that does not exist adds no entry
 pub last-beyond : (c : CoreState) (p : ℕ) → slice_get c.seats p ≡ None → InEachCorePast c (IsNewestAccess p None)
 last-beyond c p none taken events shows a before is left =
     sym (ap (last_access c.setup p) (none-shown c p none taken events shows))

@@ -1,4 +1,4 @@
--- The entry that a step of a process adds, by its seat.
+-- The entry that a step of a process adds, computed from its seat.
 use Rattle.std.proofs.Common.{◌≡◌, ◌<◌, ℕ, Bool, true, cond, List, [], Option, None, Some, length, map, refl, sym, ap, subst, ◌∙◌}
 use Rattle.std.specs.Prelude.{slice_get}
 use Rattle.plain_store.specs.{Setup}
@@ -13,12 +13,12 @@ use Rattle.world.proofs.CoreRefused.{refused-step}
 use Rattle.world.proofs.WorldOpen.{core-shown, history-shown, seat-shown}
 use Rattle.world.proofs.WorldStages.{left-may}
 
--- a step that is refused adds none
+-- a step that is refused adds no entry
 pub none-next : (c : CoreState) (p : ℕ) (flick : Bool) (taken : ℕ) (why : Refusal) → CoreRefuses c (Step p flick) (Some why) → IsStepEntry c p flick taken None
 none-next c p flick taken why refuses taken_before events many shows =
     sym (ap (λ (o : Option Refusal). elim o as (λ _. Option Entry) [ Some r ↦ None | None ↦ added c.setup (past_of c.setup events) (Step p flick) ]) (refuses taken_before events shows))
 
--- the entry as the seat of its process tells it is that which the step adds
+-- the entry computed from the seat of its process is the one that the step adds
 pub entry-next : (c : CoreState) (p : ℕ) (flick : Bool) (taken : ℕ) (seat : Seat) → slice_get c.seats p ≡ Some seat → may_step seat.process.doing ≡ true → IsStepEntry c p flick taken (Some (entry_told c seat taken (Step p flick)))
 entry-next c p flick taken seat there goes taken_before events many shows =
     let s : Setup = c.setup in
@@ -29,7 +29,7 @@ entry-next c p flick taken seat there goes taken_before events many shows =
     (λ i. Some (entry_told (core-shown c taken_before events shows i) (seat-shown (with_history c taken_before) events p seat shows there i) (counted i) (Step p flick)))
     ∙ sym (made s shows.good events (Step p flick) allowed)
 
--- the same of an access and of marks that are those of the seat
+-- an access and marks that agree with the seat make this entry
 told-next : (c : CoreState) (p : ℕ) (flick : Bool) (taken : ℕ) (seat : Seat) (a : Access) (marks : List Mark) → slice_get c.seats p ≡ Some seat → may_step seat.process.doing ≡ true →
     a ≡ answered_at seat.process c.registers flick → marks ≡ map (placed taken) (marks_on seat.process flick (value_of a.how)) → IsStepEntry c p flick taken (Some (record { process = p; access = Some a; marks = marks }))
 told-next c p flick taken seat a marks there goes access are =
@@ -37,18 +37,18 @@ told-next c p flick taken seat a marks there goes access are =
     (λ i. let e : Entry = record { process = p; access = Some (sym access i); marks = sym (are ∙ ap (λ (x : Access). map (placed taken) (marks_on seat.process flick (value_of x.how))) access) i } in Some e)
     (entry-next c p flick taken seat there goes)
 
--- so is the step known by what it leads to,
+-- the outcome of a step determines its entry
 pub step-next : (c : CoreState) (p : ℕ) (flick : Bool) (seat : Seat) (a : Access) (told : StepTold) → slice_get c.seats p ≡ Some seat → may_step seat.process.doing ≡ true →
     a ≡ answered_at seat.process c.registers flick → marks_told told ≡ marks_on seat.process flick (value_of a.how) → CoreAddsStep c p flick told a
 step-next c p flick seat a told there goes access are = λ taken events shows.
     sym (told-next c p flick (length taken) seat a (map (placed (length taken)) (marks_told told)) there goes access (ap (map (placed (length taken))) are) taken events refl shows)
 
--- one within a register access by its access alone,
+-- a step within a register access is determined by its access alone
 pub quiet-next : (c : CoreState) (p : ℕ) (flick : Bool) (seat : Seat) (a : Access) → slice_get c.seats p ≡ Some seat → 0 < left_at seat.process → a ≡ answered_at seat.process c.registers flick → CoreAddsQuietly c p flick a
 quiet-next c p flick seat a there left access = λ taken events shows.
     sym (told-next c p flick (length taken) seat a [] there (left-may seat.process left) access (sym (ap (map (placed (length taken))) (left-quiet seat.process flick (value_of a.how) left))) taken events refl shows)
 
--- and its entry, where so many commands were taken
+-- the entry of the step, after `taken` commands
 pub entry-of-step : (c : CoreState) (p : ℕ) (flick : Bool) (taken : ℕ) (a : Access) (told : StepTold) (marks : List Mark) → CoreAddsStep c p flick told a → marks ≡ map (placed taken) (marks_told told) →
     IsStepEntry c p flick taken (Some (record { process = p; access = Some a; marks = marks }))
 entry-of-step c p flick taken a told marks adds are = λ history events many shows.

@@ -24,14 +24,14 @@ is-above p n h = grind (arith, nat_tests)
 pub is-below : (p n : ℕ) → p < n → nat_lt p n ≡ true
 is-below p n h = grind (arith, nat_tests)
 
--- of a process that there is not
+-- the case of a process that does not exist
 pub refused-beyond : (c : CoreState) (what : Event) → slice_get c.seats (process_of what) ≡ None → CoreRefuses c what (Some NoProcess)
 refused-beyond c what none taken events shows =
     let past : Past = past_of c.setup events in
     let above = is-above (process_of what) c.setup.processes (seatless (with_history c taken) events (process_of what) shows none) in
     refused-by c.setup past what false (refused_at what (stage (process_of what) past)) (calls_full c.setup past what) above refl refl
 
--- of one that there is, with one history
+-- the case of a process that exists, with one history
 module _ (c : CoreState) (taken : List Taken) (events : List Event) (what : Event) (seat : Seat) (shows : Shows (with_history c taken) events) (there : slice_get c.seats (process_of what) ≡ Some seat) where
   abbrev s : Setup
   s = c.setup
@@ -62,11 +62,11 @@ module _ (c : CoreState) (taken : List Taken) (events : List Event) (what : Even
   told-refused : refused s past what ≡ refusal_of seat.process what
   told-refused = refused-by s past what true (refused_at what (stage_doing seat.process.doing)) (is_full seat.process.setup seat.process.number what) below-is (ap (refused_at what) (sym stage-told)) (sym full-is)
 
--- so it is refused as its process tells
+-- an event is refused for the reason that its process gives
 pub refused-told : (c : CoreState) (what : Event) (seat : Seat) → slice_get c.seats (process_of what) ≡ Some seat → CoreRefuses c what (refusal_of seat.process what)
 refused-told c what seat there taken events shows = told-refused c taken events what seat shows there
 
--- and a step by whether it has one to make
+-- a step is refused unless the process has one to make
 pub refused-step : (c : CoreState) (p : ℕ) (flick : Bool) (seat : Seat) → slice_get c.seats p ≡ Some seat → CoreRefuses c (Step p flick) (cond (may_step seat.process.doing) None (Some NotRunning))
 refused-step c p flick seat there taken events shows =
     let s : Setup = c.setup in
@@ -79,6 +79,6 @@ refused-step c p flick seat there taken events shows =
     by true = refl
     by false = refl
 
--- so within a number access it is not refused
+-- within a register access a step is not refused
 pub step-within : (c : CoreState) (p : ℕ) (flick : Bool) (seat : Seat) → slice_get c.seats p ≡ Some seat → 0 < left_at seat.process → CoreRefuses c (Step p flick) None
 step-within c p flick seat there some = subst (λ b. CoreRefuses c (Step p flick) (cond b None (Some NotRunning))) (left-may seat.process some) (refused-step c p flick seat there)

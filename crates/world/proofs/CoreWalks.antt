@@ -1,4 +1,4 @@
--- Steps of a process within a number access, and the core that they leave.
+-- Steps of a process within a register access, and the core after them.
 use Rattle.std.proofs.Common.{◌≡◌, ℕ, zero, suc, ◌+◌, ◌<◌, ◌≤◌, ◌&&◌, ◌||◌, Bool, true, false, cond, List, [], ◌∷◌, Some, map, refl, sym, ap, subst, ◌∙◌, arith}
 use Rattle.std.specs.Prelude.{is_some, slice_get, slice_set}
 use Rattle.std.proofs.lemmas.List.{get_or-set_same, length-set, set-get_or, set-set}
@@ -23,9 +23,9 @@ use Rattle.world.proofs.WorldTelling.{told-same}
 use Rattle.world.proofs.QueueBegun.{begun-at}
 use Rattle.world.proofs.WorldOpen.{is-seated, seat-left, seat-shown}
 
--- How many accesses are left to another process.
+-- The number of accesses left to another process.
 
--- as many as before, once a seat was put in the place of this one's
+-- the number is as before after the seat of this process was replaced
 left-other : (seats : List Seat) (p : ℕ) (then : Seat) → KeepOthers seats p (slice_set seats p then)
 left-other [] p then q apart = refl
 left-other (x ∷ seats) zero then zero apart = absurd (apart refl)
@@ -33,7 +33,7 @@ left-other (x ∷ seats) zero then (suc q) apart = refl
 left-other (x ∷ seats) (suc p) then zero apart = refl
 left-other (x ∷ seats) (suc p) then (suc q) apart = left-other seats p then q (λ same. apart (ap suc same))
 
--- and once all were told who waits
+-- the number is as before after all seats were updated
 left-told : (seats : List Seat) (p q : ℕ) (waited waits : Bool) → left_in (map (told p waited waits) seats) q ≡ left_in seats q
 left-told [] p q waited waits = refl
 left-told (x ∷ seats) p zero waited waits = refl
@@ -45,11 +45,11 @@ next-others c d new what seat view is = subst (λ (d : CoreState). KeepOthers d.
 
 -- One step.
 
--- the core after it
+-- the core after one step
 abbrev core_within : CoreState → ℕ → Seat → List (List Cell) → CoreState
 core_within c p then registers = record c { registers = registers; seats = slice_set c.seats p then }
 
--- is that after any step, since nobody goes on to wait
+-- it is the core after any step, since no process starts to wait
 within-after : (c : CoreState) (p : ℕ) (flick : Bool) (seat : Seat) → 0 < left_at seat.process →
     core_within c p (seat_stepped (step_by flick (seat.process, c.registers)).0 seat) (step_by flick (seat.process, c.registers)).1 ≡ core_after c seat (Step p flick)
 within-after c p flick seat some = λ i. let core : CoreState = record c { registers = (step_by flick (seat.process, c.registers)).1; seats = sym seats i } in core
@@ -63,7 +63,7 @@ within-after c p flick seat some = λ i. let core : CoreState = record c { regis
     seats : map (told p (is_waiting seat) (is_waiting then)) (slice_set c.seats p then) ≡ slice_set c.seats p then
     seats = ap (λ b. map (told p (is_waiting seat) b) (slice_set c.seats p then)) (left-stays seat.process flick v some).0 ∙ told-same p (is_waiting seat) (slice_set c.seats p then)
 
--- a step that tells nothing has no mark
+-- a step with the outcome `Nothing` has no mark
 quietly-by : (c new : CoreState) (p : ℕ) (flick : Bool) (access : Access) → CoreGoes c (Step p flick) (Steps Nothing) (Some access) new → (taken : List Taken) → StepsQuietly (with_history c taken) p flick (with_history new taken)
 quietly-by c new p flick access g taken = record {
   access = access;
@@ -73,7 +73,7 @@ quietly-by c new p flick access g taken = record {
   setup = g.setup;
 }
 
--- such is one within a number access
+-- a step within a register access is an event that is not refused
 within-next : (c : CoreState) (p : ℕ) (flick : Bool) (seat : Seat) → slice_get c.seats p ≡ Some seat → 0 < left_at seat.process → IsNext c (Step p flick) seat
 within-next c p flick seat there some = record { given = refl; there = there; allowed = step-within c p flick seat there some }
 
@@ -83,7 +83,7 @@ within-goes c d new p flick access seat view there some access_is is =
     next-goes c d new (Step p flick) (Steps Nothing) (Some access) seat view (within-next c p flick seat there some) (ap Some access_is)
     (sym (left-quiet seat.process flick (value_of (answered_at seat.process c.registers flick).how) some)) is
 
--- a seat that was put there
+-- a seat that was stored
 seat-set : (seats : List Seat) (p : ℕ) (then seat : Seat) → slice_get seats p ≡ Some seat → slice_get (slice_set seats p then) p ≡ Some then
 seat-set seats p then seat is =
     let l = slice_get_within seats p seat is in
@@ -119,9 +119,9 @@ left-begun c p seat k there some = ap (λ (x : Seat). x.begun) shown ∙ by (doi
     by (Closes command number at) is some = absurd (omega (arith, some))
     by (Runs command number at) is some = begun-at c.setup (is_good c.setup k.shows.good) k.events p command number at is (untold-begun at.part (is_fresh at.run) (untold (is_over at.part) _ _ some))
 
--- So many of them.
+-- Several steps.
 
--- they leave this
+-- the core after n steps
 pub record HasRun (c : CoreState) (f : FlickState) (p n : ℕ) (newest : Access) (overlapped : ℕ) (new : CoreState) (g : FlickState) : Type 0 where
   pub keeps : KeepsCore new
   pub runs : CoreWalks c f p n newest overlapped new g
@@ -129,7 +129,7 @@ pub record HasRun (c : CoreState) (f : FlickState) (p n : ℕ) (newest : Access)
   pub others : KeepOthers c.seats p new.seats
 
 module _ (c : CoreState) (p : ℕ) (seat : Seat) (f : FlickState) (there : slice_get c.seats p ≡ Some seat) (begun : seat.begun ≡ true) where
-  -- the process, the registers and the flicks after so many
+  -- the process, the registers and the flicks after n steps
   abbrev ran : ℕ → ProcessState × List (List Cell) × FlickState
   ran n = steps_of n (seat.process, c.registers, f)
 
@@ -171,7 +171,7 @@ module _ (c : CoreState) (p : ℕ) (seat : Seat) (f : FlickState) (there : slice
   seat-is : (n : ℕ) → slice_get (core_ran n).seats p ≡ Some (seat_ran n)
   seat-is n = seat-set c.seats p (seat_ran n) seat there
 
-  -- how many are left then
+  -- the number of accesses left after them
   left-core : (n : ℕ) → n ≤ left_at seat.process → left_in c.seats p ≡ left_in (core_ran n).seats p + n
   left-core n l =
       let was = seat-left c.seats p seat there in

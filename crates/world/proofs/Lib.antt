@@ -3,12 +3,12 @@ pub use Rattle.laws.proofs as laws_proofs
 pub use Rattle.process.proofs as process_proofs
 -- The registers of all processes
 pub mod WorldRegisters
--- Who waits before whom
+-- The processes ahead of each process
 pub mod QueueBegun
 pub mod QueueAfter
 pub mod QueueLists
 pub mod QueueListed
--- What is kept of each process
+-- The seat of each process
 pub mod WorldLists
 pub mod WorldStages
 pub mod WorldOpen
@@ -33,7 +33,7 @@ pub mod CoreCode
 pub mod CoreNew
 pub mod CoreCopies
 pub mod WorldKeeps
--- What a world is asked
+-- Facts that are read from a world
 pub mod WorldAsks
 pub mod WithinStages
 pub mod WorldNewest

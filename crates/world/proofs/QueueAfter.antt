@@ -1,4 +1,4 @@
--- Who waits in a doorway before whom, after one accepted entry: kept from what was kept before it, without the record.
+-- The processes ahead of each process after one accepted entry, computed from those before the entry, without the record.
 use Rattle.std.proofs.Common.{◌≡◌, ◌≢◌, ℕ, suc, ◌<◌, ◌==◌, ◌&&◌, nat_lt, Bool, true, false, cond, not, List, [], ◌∷◌, Option, Some, None, is_some, length, map, fold, slice_set, refl, sym, ap, subst, ◌∙◌, true≢false, arith, eqb-true, eq-eqb, ne_eqb}
 use Rattle.std.proofs.lemmas.Bool.{eqb-false}
 use Rattle.std.proofs.lemmas.Bool.Decides.{nat_tests}
@@ -19,7 +19,7 @@ use Rattle.world.specs.{waiting_before}
 use Rattle.world.proofs.QueueBegun.{number-other, not-called}
 use Rattle.world.proofs.QueueLists.{set-range, same-range}
 
--- What is looked up.
+-- Facts that are looked up.
 
 -- the stage after an entry
 stage-other : (j : ℕ) (e : Entry) (past : Past) → e.process ≢ j → stage j (e ∷ past) ≡ stage j past
@@ -28,7 +28,7 @@ stage-other j e past h = ap (λ b. cond b (fold stage_after (stage j past) e.mar
 stage-own : (e : Entry) (past : Past) → stage e.process (e ∷ past) ≡ fold stage_after (stage e.process past) e.marks
 stage-own e past = ap (λ b. cond b (fold stage_after (stage e.process past) e.marks) (stage e.process past)) (eq-eqb e.process e.process refl)
 
--- the number of an entry is below how many there are
+-- the number of an entry is below the number of entries
 number-below : (p : ℕ) (test : Entry → Bool) (past : Past) (k : ℕ) → number_in_call p test past ≡ Some k → k < length past
 number-below p test [] k h = cc
 number-below p test (e ∷ past) k h = go (e.process == p) (has is_called e) (number_in_call p test past) (test e) (number-below p test past) h
@@ -63,16 +63,16 @@ before-now (Some k) size h = above k size (h k refl)
     above : (a b : ℕ) → a < b → nat_lt b a ≡ false
     above a b l = grind (arith, nat_tests)
 
--- Who waits.
+-- The processes that wait.
 
--- who waits has finished its doorway, with an entry that is there
+-- a process that waits has finished its doorway, with an entry of the past
 waits-since : (s : Setup) → IsGood s → (events : List Event) (j : ℕ) → is_waiting_stage (stage j (past_of s events)) ≡ true → (k : ℕ) × (doorway_end j (past_of s events) ≡ Some k) × (k < length (past_of s events))
 waits-since s g events j w =
     let x = waiter-numbers s g events j (waiter s g events j w) in
     let (k, end, at) = x.finished_is refl in
     (k, end, number-below j (has is_waiting) (past_of s events) k end)
 
--- who comes to wait is marked so
+-- a process that starts to wait has a mark for it
 comes-to-wait : (st : Stage) (ms : List Mark) → is_waiting_stage st ≡ false → is_waiting_stage (fold stage_after st ms) ≡ true → list_any is_waiting ms ≡ true
 comes-to-wait st [] was then = absurd (true≢false (sym then ∙ was))
 comes-to-wait st (Waiting t ∷ ms) was then = refl
@@ -116,12 +116,12 @@ lowers-begun : (x : Part) (fresh : Bool) → is_lowering x ≡ true → (has_beg
 lowers-begun (Lowers t) fresh h = (refl, refl)
 lowers-begun _ fresh h = absurd (true≢false (sym h))
 
--- what is told of an access
+-- a test that holds at an access holds
 made-at : (o : Option Access) (b : Bool) → at_access o b ≡ true → b ≡ true
 made-at None b h = cc
 made-at (Some a) b h = h
 
--- What an accepted entry makes of each pair.
+-- The effect of an accepted entry on each pair of processes.
 
 module _ (s : Setup) (g : IsGood s) (events : List Event) (what : Event) (e : Entry) (is : entry_of s (past_of s events) what ≡ Some e) where
   abbrev past : Past
@@ -133,15 +133,15 @@ module _ (s : Setup) (g : IsGood s) (events : List Event) (what : Event) (e : En
   abbrev after : Past
   after = e ∷ past
 
-  -- nobody is before itself
+  -- no process is ahead of itself
   itself : is_ahead after p p ≡ false
   itself = ap (λ (o : Option Entry). is_ahead (elim o as (λ _. Past) [ None ↦ past | Some e ↦ e ∷ past ]) p p) (sym is) ∙ not_ahead_of_itself s g (what ∷ events) p
 
-  -- who waits does not call
+  -- a process that waits does not call
   waits-uncalled : is_waiting_stage (stage p past) ≡ true → has is_called e ≡ false
   waits-uncalled w = not-called s g events what e is (ap is_resting (waiter s g events p w).does)
 
-  -- who calls does not wait
+  -- a process that calls does not wait
   caller-idle : has is_called e ≡ true → is_waiting_stage (stage p past) ≡ false
   caller-idle c = go (is_waiting_stage (stage p past)) refl
     where
@@ -149,7 +149,7 @@ module _ (s : Setup) (g : IsGood s) (events : List Event) (what : Event) (e : En
       go true w = absurd (true≢false (sym c ∙ waits-uncalled w))
       go false w = w
 
-  -- who comes to wait lowers choosing, and is marked
+  -- a process that starts to wait lowers its choosing bit and has a mark
   lowering : is_waiting_stage (stage p past) ≡ false → is_waiting_stage (stage p after) ≡ true → (has is_waiting e ≡ true) × LowersAt (doing s p past)
   lowering was now =
       let marked : has is_waiting e ≡ true = comes-to-wait (stage p past) e.marks was (ap is_waiting_stage (sym (stage-own e past)) ∙ now) in
@@ -167,7 +167,7 @@ module _ (s : Setup) (g : IsGood s) (events : List Event) (what : Event) (e : En
         ap is_some (k.1.begun_is begun).1,
       )
 
-  -- any other process is before q as it was; only before one that calls it may be anew
+  -- any other process is ahead of q as before, except that it may come to be ahead of a process that calls
   pub others-ahead : (j q : ℕ) → p ≢ j → (has is_called e && (p == q)) ≡ false → is_ahead after j q ≡ is_ahead past j q
   others-ahead j q other plain = by (p == q) refl
     where
@@ -195,11 +195,11 @@ module _ (s : Setup) (g : IsGood s) (events : List Event) (what : Event) (e : En
           and_true_right true b h k = absurd (true≢false (sym h ∙ k))
           and_true_right false b h k = refl
 
-  -- who does not wait is before nobody
+  -- a process that does not wait is ahead of no process
   not-waiting : (q : ℕ) → is_waiting_stage (stage p after) ≡ false → is_ahead after p q ≡ false
   not-waiting q now = ap (λ b. b && is_before (doorway_end p after) (doorway_begin q after)) now
 
-  -- who comes to wait is before those whose doorway has not begun
+  -- a process that starts to wait is ahead of those whose doorway has not begun
   now-waiting : (q : ℕ) → is_waiting_stage (stage p past) ≡ false → is_waiting_stage (stage p after) ≡ true → is_ahead after p q ≡ not (is_some (doorway_begin q past))
   now-waiting q was now = by (p == q) refl
     where
@@ -208,7 +208,7 @@ module _ (s : Setup) (g : IsGood s) (events : List Event) (what : Event) (e : En
       by false i = (λ k. now k && is_before ((finishes was now).0 k) (number-other q begins_doorway e past (eqb-false p q i) k))
           ∙ before-now (doorway_begin q past) (length past) (number-below q begins_doorway past)
 
-  -- who waits on is before whom it was
+  -- a process that continues to wait is ahead of the same processes as before
   still-waiting : (q : ℕ) → is_waiting_stage (stage p past) ≡ true → is_waiting_stage (stage p after) ≡ true → is_ahead after p q ≡ is_ahead past p q
   still-waiting q was now = by (p == q) refl
     where
@@ -224,17 +224,17 @@ module _ (s : Setup) (g : IsGood s) (events : List Event) (what : Event) (e : En
 
   -- The lists.
 
-  -- who stops waiting is before nobody
+  -- a process that stops waiting is ahead of no process
   pub before-done : is_waiting_stage (stage p past) ≡ true → is_waiting_stage (stage p after) ≡ false → (q : ℕ) → waiting_before after q ≡ slice_set (waiting_before past q) p false
   before-done was now q = set-range (λ j. is_ahead past j q) (λ j. is_ahead after j q) 16 p false
       (λ j other. others-ahead j q other (ap (λ b. b && (p == q)) (waits-uncalled was))) (not-waiting q now)
 
-  -- who comes to wait is before those whose doorway has not begun
+  -- a process that starts to wait is ahead of those whose doorway has not begun
   pub before-waits : is_waiting_stage (stage p past) ≡ false → is_waiting_stage (stage p after) ≡ true → (q : ℕ) → waiting_before after q ≡ slice_set (waiting_before past q) p (not (is_some (doorway_begin q past)))
   before-waits was now q = set-range (λ j. is_ahead past j q) (λ j. is_ahead after j q) 16 p (not (is_some (doorway_begin q past)))
       (λ j other. others-ahead j q other (ap (λ b. b && (p == q)) (not-called s g events what e is (ap is_resting (lowering was now).1.does)))) (now-waiting q was now)
 
-  -- before a process that calls are all that wait
+  -- all processes that wait are ahead of a process that calls
   pub before-called : has is_called e ≡ true → waiting_before after p ≡ map (λ j. is_waiting_stage (stage j past)) (range_with_len 0 16)
   before-called c = same-range (λ j. is_waiting_stage (stage j past)) (λ j. is_ahead after j p) 16 (λ j. by j (p == j) refl)
     where

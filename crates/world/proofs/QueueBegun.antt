@@ -1,4 +1,4 @@
--- Whether the doorway of a process's last call has begun: what an entry makes of it.
+-- Whether the doorway of a process's last call has begun, before and after an entry.
 use Rattle.std.proofs.Common.{◌≡◌, ◌≢◌, ℕ, ◌==◌, ◌&&◌, ◌||◌, Bool, true, false, cond, not, List, [], ◌∷◌, Option, Some, None, is_some, length, refl, sym, ap, subst, ◌∙◌, true≢false, eqb-true, eq-eqb, ne_eqb}
 use Rattle.record.specs.safe_bit.{Move}
 use Rattle.record.specs.{Access, Asks, AsksCommit, AsksImage, AsksStamp, Call, Clears, Closing, Ended, Entry, Event, Field, Frees, Over, Part, Past, Place, Quit, Raises, Refuses, Settles, TakesTicket, Waits, Withdraws, WritesCommit, WritesImage, WritesStamp, begins_doorway, closing_after, doorway_begin, entry_of, first_of, freeing, has, is_called, is_fresh, is_last_settled, is_last_written, is_over, is_queued, no_ticket, number_in_call, past-induction, past_of, place_after, raises, value_of, write_moved}
@@ -33,11 +33,11 @@ number-other q test e past h = ap (λ b. elim b as (λ _. Option ℕ) [
   ]
 ]) (ne_eqb e.process q h)
 
--- only a process's own entries make anything of its doorway
+-- only a process's own entries change its doorway
 pub begun-others : (q : ℕ) (e : Entry) (past : Past) → e.process ≢ q → doorway_begin q (e ∷ past) ≡ doorway_begin q past
 begun-others q e past h = number-other q begins_doorway e past h
 
--- it has begun once one entry of the call begins it
+-- it has begun after an entry of the call that begins it
 begun-own : (e : Entry) (past : Past) (called : Bool) → has is_called e ≡ called →
     is_some (doorway_begin e.process (e ∷ past)) ≡ cond called false (is_some (doorway_begin e.process past) || begins_doorway e)
 begun-own e past true h = ap is_some (number-own begins_doorway e past true h)
@@ -52,16 +52,16 @@ begun-own e past false h = ap is_some (number-own begins_doorway e past false h)
 pub begun-stays : (e : Entry) (past : Past) → has is_called e ≡ false → is_some (doorway_begin e.process past) ≡ true → is_some (doorway_begin e.process (e ∷ past)) ≡ true
 begun-stays e past h b = begun-own e past false h ∙ ap (λ x. x || begins_doorway e) b
 
--- A place of a call.
+-- A position of a call.
 
--- past the first access of a call its doorway has begun
+-- after the first access of a call its doorway has begun
 pub begun-at : (s : Setup) → IsGood s → (events : List Event) (p : ℕ) (command : Command) (number : ℕ) (at : Place) → doing s p (past_of s events) ≡ Runs command number at →
     has_begun at.part (is_fresh at.run) ≡ true → is_some (doorway_begin p (past_of s events)) ≡ true
 begun-at s g events p command number at d h =
     let k : NumbersAt s (past_of s events) p command number at = subst (AtPlace (NumbersAt s (past_of s events) p)) d (numbers s g events p) in
     ap is_some (k.1.begun_is h).1
 
--- who goes on with a call, or closes one, does not call
+-- a process that continues or closes a call does not call
 pub not-called : (s : Setup) → IsGood s → (events : List Event) (what : Event) (e : Entry) → entry_of s (past_of s events) what ≡ Some e → is_resting (doing s e.process (past_of s events)) ≡ false → has is_called e ≡ false
 not-called s g events what e h r = called-is s g events what e h ∙ ap (λ b. b && is_running (doing s e.process (e ∷ past_of s events))) r
 
@@ -77,7 +77,7 @@ unfresh-begun : (x : Part) (fresh : Bool) → fresh ≡ false → has_begun x fr
 unfresh-begun Raises fresh h = ap not h
 unfresh-begun _ fresh h = refl
 
--- it is so of a call that goes on
+-- the case of a call that continues
 announced-runs : (command : Command) (number : ℕ) (at : Place) (b : Bool) → Announced (runs command number at) b
 announced-runs command number at b = go (is_over at.part)
   where
@@ -85,7 +85,7 @@ announced-runs command number at b = go (is_over at.part)
     go true = tt
     go false = tt
 
--- of a closing that goes on
+-- the case of a closing that continues
 announced-closes : (command : Command) (number : ℕ) (c : Call) (at : Closing) (flick : Bool) (was then : Bool) → Announced (Closes command number at) was → (was ≡ true → then ≡ true) →
     Announced (closes command number (closing_after c at flick)) then
 announced-closes command number c (Withdraws w) flick was then a keeps = go (is_last_written c (no_ticket c) w)
@@ -114,7 +114,7 @@ announced-closes command number c Ended flick was then a keeps = tt
 abbrev AllAnnounced : Setup → Past → Type 0
 AllAnnounced s past = IsGood s → (p : ℕ) → Announced (doing s p past) (is_some (doorway_begin p past))
 
--- and with each event of its process
+-- the doorway has begun after each event of its process
 announced-step : (s : Setup) → IsGood s → (events : List Event) (what : Event) (e : Entry) → entry_of s (past_of s events) what ≡ Some e
     → let past : Past = past_of s events in
     (d d' : Doing) → d ≡ doing s e.process past → Step s past e.process e d d' → Announced d (is_some (doorway_begin e.process past)) → Announced d' (is_some (doorway_begin e.process (e ∷ past)))
@@ -167,9 +167,9 @@ announced-is s g events p = past-induction AllAnnounced s (λ g p. tt) more even
             subst (λ d. Announced d (is_some (doorway_begin p (e ∷ past)))) (sym (doing-other s p e past other))
             (subst (λ o. Announced (doing s p past) (is_some o)) (sym (begun-others p e past other)) (ih g p))
 
--- What one entry makes of it.
+-- The effect of one entry.
 
--- of a part: the first access begins it, and past that it has begun
+-- a part of a call: its first access begins the doorway, and after that it has begun
 door-part : (x : Part) (fresh begun : Bool) → (has_begun x fresh ≡ true → begun ≡ true) → (begun || (is_raising x && fresh)) ≡ (begun || is_queued (part.stage_of x fresh))
 door-part Raises true begun h = refl
 door-part Raises false begun h = ap (λ b. b || false) (h refl) ∙ sym (ap (λ b. b || true) (h refl))
@@ -188,7 +188,7 @@ door-part (Clears a) true begun h = refl
 door-part (Clears a) false begun h = refl
 door-part Over fresh begun h = refl
 
--- of another register it begins none
+-- an access to another register does not begin a doorway
 other-raises : (f : Field) (m : Move) (first begun : Bool) → (f ≡ Choosing → begun ≡ true) → (begun || (first && raises f m)) ≡ (begun || false)
 other-raises Choosing m first begun h = ap (λ b. b || (first && raises Choosing m)) (h refl) ∙ sym (ap (λ b. b || false) (h refl))
 other-raises Ticket m true begun h = refl
@@ -199,7 +199,7 @@ other-raises Image0 m true begun h = refl
 other-raises Image1 m true begun h = refl
 other-raises _ m false begun h = refl
 
--- of a closing: it begins none that has not begun
+-- a closing does not begin a doorway that has not begun
 closing-part : (s : Setup) (p : ℕ) (command : Command) (number : ℕ) (at : Closing) (a : Access) (begun : Bool) → Announced (Closes command number at) begun →
     (begun || begins_at (Closes command number at) a) ≡ (begun || is_queued (stage_doing (Closes command number at)))
 closing-part s p command number (Withdraws w) a begun h = refl
@@ -209,7 +209,7 @@ closing-part s p command number (closing.Lowers w) a begun h = refl
 closing-part s p command number Quit a begun h = refl
 closing-part s p command number Ended a begun h = refl
 
--- of every kind of entry
+-- the case of every kind of entry
 begun-happens : (s : Setup) → IsGood s → (events : List Event) (e : Entry) (d d' : Doing)
     → let past : Past = past_of s events in
     let begun : Bool = is_some (doorway_begin e.process past) in
@@ -245,7 +245,7 @@ begun-happens s g events e d d' at a h = go h
         ∙ closing-part s e.process command number here n.access begun (subst (λ d. Announced d begun) was a)
         ∙ sym (ap (λ d. begun || is_queued (stage_doing d)) was))
 
--- A call begins it anew; a step at the door begins it, if it has not begun; nothing else makes anything of it.
+-- After a call the doorway has not begun. A step of a process that is in its doorway or waits begins it, if it has not begun. Nothing else changes it.
 pub begun-after : (s : Setup) → IsGood s → (events : List Event) (what : Event) (e : Entry) → entry_of s (past_of s events) what ≡ Some e
     → let past : Past = past_of s events in
     let p : ℕ = e.process in

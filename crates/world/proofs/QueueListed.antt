@@ -1,4 +1,4 @@
--- The list of those ahead is read off what is kept of a process.
+-- The list of the processes ahead is read from the seat of a process.
 use Rattle.std.proofs.Common.{◌≡◌, ℕ, ◌≤◌, ◌&&◌, true, false, List, [], Ok, sym, ap, ◌∙◌, arith}
 use Rattle.plain_store.specs.{Setup, checked}
 use Rattle.plain_store.proofs.GoodSetups.{few-processes}
@@ -10,13 +10,13 @@ use Rattle.laws.proofs.FrameSteps.{doing-above}
 use Rattle.world.specs.{listed, waiting_before}
 use Rattle.world.proofs.QueueLists.{listed-range, longer-range}
 
--- who is not there waits for nobody
+-- a process that does not exist is ahead of no process
 above : (s : Setup) → IsGood s → (events : List Event) (j p : ℕ) → s.processes ≤ j → is_ahead (past_of s events) j p ≡ false
 above s g events j p l =
     let past : Past = past_of s events in
     ap (λ b. b && is_before (doorway_end j past) (doorway_begin p past)) (ap is_waiting_stage (stage-is s g events j ∙ ap stage_of (doing-above s g events j l)))
 
--- those ahead of a process in its doorway or waiting are those that are kept as waiting before it
+-- the processes ahead of one that is in its doorway or waits are those that its seat keeps
 pub ahead-listed : (s : Setup) → checked s ≡ Ok tt → (events : List Event) (p : ℕ)
     → let past : Past = past_of s events in
     ahead s p past ≡ elim (is_queued (stage p past)) as (λ _. List ℕ) [ true ↦ listed (waiting_before past p) | false ↦ [] ]

@@ -1,4 +1,4 @@
--- Lists of one boolean for each of the numbers up to some one: one of them changed, and the places of the trues.
+-- Lists with one boolean for each number below some bound: one boolean changed, and the indices of the trues.
 use Rattle.std.proofs.Common.{◌≡◌, ◌≢◌, ℕ, zero, suc, ◌+◌, ◌<◌, ◌≤◌, ◌==◌, Bool, true, false, cond, [], ◌∷◌, filter, length, map, slice_set, slice_index_or, refl, sym, ap, ◌∙◌, arith, eqb-true}
 use Rattle.std.proofs.lemmas.Bool.{eqb-false}
 use Rattle.std.proofs.lemmas.List.{length-set, get_or-set_same, get_or-set_other, ext_get_or}
@@ -10,7 +10,7 @@ use Rattle.world.specs.{listed_from}
 pub same-range : (f g : ℕ → Bool) (n : ℕ) → ((j : ℕ) → g j ≡ f j) → map g (range_with_len 0 n) ≡ map f (range_with_len 0 n)
 same-range f g n h = ap (λ f. map f (range_with_len 0 n)) (λ i j. h j i)
 
--- those that agree but for one make lists that differ there
+-- functions that agree except at one number make lists that differ there
 pub set-range : (f g : ℕ → Bool) (n p : ℕ) (v : Bool) → ((j : ℕ) → p ≢ j → g j ≡ f j) → g p ≡ v → map g (range_with_len 0 n) ≡ slice_set (map f (range_with_len 0 n)) p v
 set-range f g n p v others there = ext_get_or false (map g (range_with_len 0 n)) (slice_set (map f (range_with_len 0 n)) p v)
     (omega (arith, length-map-range_with_len g 0 n, length-map-range_with_len f 0 n, length-set (map f (range_with_len 0 n)) p v)) (λ k l. at k l (p == k) refl)
@@ -35,7 +35,7 @@ set-range f g n p v others there = ext_get_or false (map g (range_with_len 0 n))
             new ∙ others k apart
             ∙ sym (get_or-set_other (map f (range_with_len 0 n)) p k v false (λ u. apart (sym u)) ∙ get_or-map-range_with_len f 0 n k k false less (omega arith))
 
--- the places of the trues are the numbers that pass
+-- the indices of the trues are the numbers that pass
 pub listed-range : (f : ℕ → Bool) (a n : ℕ) → listed_from a (map f (range_with_len a n)) ≡ filter f (range_with_len a n)
 listed-range f a zero = refl
 listed-range f a (suc n) = ap (λ l. cond (f a) (a ∷ l) l) (listed-range f (a + 1) n)

@@ -1,4 +1,4 @@
--- The stage of a process that is within a number access.
+-- The stage of a process that is within a register access.
 use Rattle.std.proofs.Common.{◌≡◌, ℕ, ◌<◌, Bool, true, false, List, refl, ap, ◌∙◌, arith}
 use Rattle.record.specs.{Event, is_fresh, past_of, stage}
 use Rattle.record.specs.declared.stages.Stage.TheVariants as stages
@@ -29,7 +29,7 @@ part-unsettled (Clears a) true is = absurd (cc)
 part-unsettled (Clears a) false is = absurd (cc)
 part-unsettled Over fresh is = absurd (cc)
 
--- a process within a number access of its call is not settling
+-- a process within a register access of its call is not settling
 left-unsettled : (now : ProcessState) (d : Doing) → now.doing ≡ d → 0 < left_at now → stage_doing d ≡ stages.Settling → ⊥
 left-unsettled now Rests is some settling = absurd (cc)
 left-unsettled now Lies is some settling = absurd (cc)
@@ -37,7 +37,7 @@ left-unsettled now (Runs command number at) is some settling = part-unsettled at
 left-unsettled now (Closes command number at) is some settling =
     let none : left_at now ≡ 0 = ap (λ d. left_at (record now { doing = d })) is in absurd (omega (arith, some, none))
 
--- so in no record that a world shows it is
+-- it is not settling in any record that a world shows
 pub within-unsettled : (w : WorldState) (events : List Event) (p : ℕ) → Shows w events → 0 < left_in w.seats p → stage p (past_of w.setup events) ≡ stages.Settling → ⊥
 within-unsettled w events p shows some settling =
     let (seat, is, left) = seat-there w.seats p some in

@@ -1,4 +1,4 @@
--- What a core is asked: the stage of a process, and who is ahead of it, by its seat.
+-- The stage of a process and the processes ahead of it, by its seat.
 use Rattle.std.proofs.Common.{◌≡◌, ℕ, Bool, true, false, cond, List, [], Some, None, sym, ap, ◌∙◌}
 use Rattle.std.specs.Prelude.{slice_get}
 use Rattle.plain_store.specs.{Setup}
@@ -15,18 +15,18 @@ use Rattle.world.proofs.CoreRefused.{below-is, is-above, stage-told}
 use Rattle.world.proofs.QueueListed.{ahead-listed}
 use Rattle.world.proofs.WorldOpen.{seat-shown, seatless}
 
--- of a process that there is
+-- the stage of a process that exists
 pub stage-there : (c : CoreState) (p : ℕ) (seat : Seat) → slice_get c.seats p ≡ Some seat → InEachCorePast c (λ s past. Some (stage_doing seat.process.doing) ≡ stage_in s past p)
 stage-there c p seat there taken events shows =
     ap Some (stage-told c taken events (event.Fail p) seat shows there)
     ∙ sym (ap (λ b. cond b (Some (stage p (past_of c.setup events))) None) (below-is c taken events (event.Fail p) seat shows there))
 
--- of one that there is not
+-- the stage of a process that does not exist
 pub stage-beyond : (c : CoreState) (p : ℕ) → slice_get c.seats p ≡ None → InEachCorePast c (λ s past. None ≡ stage_in s past p)
 stage-beyond c p none taken events shows =
     sym (ap (λ b. cond b (Some (stage p (past_of c.setup events))) None) (is-above p c.setup.processes (seatless (with_history c taken) events p shows none)))
 
--- who is ahead of a process that there is
+-- the processes ahead of one that exists
 pub ahead-there : (c : CoreState) (p : ℕ) (seat : Seat) (queued : Bool) → slice_get c.seats p ≡ Some seat → is_at_door seat ≡ queued →
     InEachCorePast c (λ s past. elim queued as (λ _. List ℕ) [ true ↦ listed seat.before | false ↦ [] ] ≡ ahead s p past)
 ahead-there c p seat queued there h taken events shows =
@@ -34,7 +34,7 @@ ahead-there c p seat queued there h taken events shows =
     let before = ap (λ (x : Seat). x.before) (seat-shown (with_history c taken) events p seat shows there) in
     sym (ahead-listed c.setup shows.good events p ∙ (λ i. elim (stands i) as (λ _. List ℕ) [ true ↦ listed (sym before i) | false ↦ [] ]))
 
--- and of one that there is not
+-- the processes ahead of one that does not exist
 pub ahead-beyond : (c : CoreState) (p : ℕ) → slice_get c.seats p ≡ None → InEachCorePast c (λ s past. [] ≡ ahead s p past)
 ahead-beyond c p none taken events shows =
     let s : Setup = c.setup in

@@ -1,4 +1,4 @@
--- The headline of the entry that an event adds, in each record that the world showed.
+-- The entry that an event adds keeps the main theorem, in each record that the world showed.
 use Rattle.std.proofs.Common.{◌≡◌, ℕ, ◌∷◌, subst}
 use Rattle.plain_store.specs.{Setup}
 use Rattle.record.specs.{Act, AreGiven, Event}

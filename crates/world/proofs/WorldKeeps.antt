@@ -1,4 +1,4 @@
--- A world is a core and a history: what it keeps after what its core does.
+-- A world is a core and a history. It keeps its invariant after each method of its core.
 use Rattle.std.proofs.Common.{◌≡◌, ℕ, zero, suc, ◌+◌, ◌≤◌, Bool, true, false, List, [], ◌∷◌, length, map, refl, sym, ap, subst, ◌∙◌, arith}
 use Rattle.std.specs.List.{range_with_len}
 use Rattle.plain_store.specs.{Setup}
@@ -12,12 +12,12 @@ use Rattle.world.specs.Shows.{Shows, WorldState}
 use Rattle.world.specs.Walks.{Walks}
 use Rattle.world.proofs.CoreKeeps.{taken_length}
 
--- of a new one no call is pending
+-- in a new world no call is pending
 new-pending : (s : Setup) (a n : ℕ) → pending_in (map (seat_of s []) (range_with_len a n)) ≡ 0
 new-pending s a zero = refl
 new-pending s a (suc n) = let more = new-pending s (a + 1) n in omega (arith, more)
 
--- a new one
+-- a new world
 pub new_keeps : (c : CoreState) (h : List Taken) (capacity : ℕ) → h ≡ [] → Shows (with_history c []) [] → KeepsWorld (with_history c h) capacity
 new_keeps c h capacity empty shows = record {
   events = [];
@@ -28,7 +28,7 @@ new_keeps c h capacity empty shows = record {
       omega (arith, none, long);
 }
 
--- after an event that may take a command: there is room for it, and then for each other
+-- after an event that may take a command, there is room for this command and then for each other pending call
 pub made_keeps : (c new : CoreState) (h then : List Taken) (what : Event) (effect : Effect) (capacity more : ℕ) → KeepsWorld (with_history c h) capacity → CoreMakes c what effect new → length h + (pending_in new.seats + taking effect) ≤ more →
     then ≡ with_taken h (process_of what) (call_in new.seats (process_of what)).0 (call_in new.seats (process_of what)).1 (reply_taken (marks_of effect)) → KeepsWorld (with_history new then) more
 made_keeps c new h then what effect capacity more keeps makes room is = subst (λ h. KeepsWorld (with_history new h) more) (sym is) (record {
@@ -48,7 +48,7 @@ made_room c new h what effect capacity more keeps grown room few fewer = by (is_
     by true call = let all = room call in omega (arith, all, few)
     by false other = let left = fewer other in let had = keeps.room in omega (arith, had, left, grown)
 
--- with more room
+-- the invariant with more room
 pub wider_keeps : (c : CoreState) (h then : List Taken) (capacity more : ℕ) → KeepsWorld (with_history c h) capacity → capacity ≤ more → then ≡ h → KeepsWorld (with_history c then) more
 wider_keeps c h then capacity more keeps grown same = subst (λ h. KeepsWorld (with_history c h) more) (sym same) (record {
   events = keeps.events;
@@ -60,7 +60,7 @@ pub step_keeps : (c new : CoreState) (h then : List Taken) (p : ℕ) (flick : Bo
     then ≡ with_taken h p (call_in new.seats p).0 (call_in new.seats p).1 (reply_taken (marks_told told)) → capacity ≤ more → KeepsWorld (with_history new then) more
 step_keeps c new h then p flick told capacity more keeps steps fewer is grown = let room = keeps.room in made_keeps c new h then (Step p flick) (Steps told) capacity more keeps steps (omega (arith, room, fewer, grown)) is
 
--- after a walk
+-- after several steps
 walks-shown : (n : ℕ) (newest : Access) (overlapped : ℕ) (old new : WorldState) (f g : FlickState) (p : ℕ) (events : List Event) → Walks old f p n newest overlapped new g → Shows old events → (later : List Event) × Shows new later
 walks-shown zero newest overlapped old new f g p events (same, same_flicks, none) shows = (events, subst (λ w. Shows w events) (sym same) shows)
 walks-shown (suc n) newest overlapped old new f g p events (w, x, access, count, walks, last, made, after, counts) shows =

@@ -1,4 +1,4 @@
--- Lists of what is kept of each of so many processes, of which one is changed.
+-- Lists with one element for each process, of which one is changed.
 use Rattle.std.proofs.Common.{◌≡◌, ◌≢◌, ℕ, zero, suc, ◌+◌, ◌<◌, ◌≤◌, ◌∷◌, map, refl, ap, ◌∙◌, arith}
 use Rattle.std.specs.Prelude.{None, Some, slice_get, slice_set}
 use Rattle.std.specs.List.{range_with_len}
@@ -17,7 +17,7 @@ map-changed f g h x a zero i p l is own other = absurd (omega (arith, l))
 map-changed f g h x a (suc n) zero p l is own other = let same : p ≡ a = omega (arith, is) in λ k. (own ∙ ap g same) k ∷ map-mapped f g h (a + 1) n (λ q m. other q (λ u. omega (arith, u, m, is))) k
 map-changed f g h x a (suc n) (suc i) p l is own other = λ k. other a (λ u. omega (arith, u, is)) k ∷ map-changed f g h x (a + 1) n i p (omega (arith, l)) (omega (arith, is)) own other k
 
--- what stands at an index, and that nothing does beyond
+-- the element at an index, and no element beyond the length
 pub get-mapped : {A : Type 0} (f : ℕ → A) (a n i j : ℕ) → i < n → a + i ≡ j → slice_get (map f (range_with_len a n)) i ≡ Some (f j)
 get-mapped f a n i j l is =
     slice_get-get_or (map f (range_with_len a n)) i (f j) (omega (arith, l, length-map-range_with_len f a n)) ∙ ap Some (get_or-map-range_with_len f a n i j (f j) l is)

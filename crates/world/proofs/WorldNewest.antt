@@ -1,4 +1,4 @@
--- The newest store of a core in which nobody is inside is that after the history.
+-- The newest store of a core in which no process is inside is that after the history.
 use Rattle.std.proofs.Common.{◌≡◌, ◌||◌, Bool, true, false, cond, List, [], ◌∷◌, Some, None, map, refl, sym, ap, ◌∙◌}
 use Rattle.std.specs.Prelude.{Ok}
 use Rattle.std.specs.List.{list_any}
@@ -24,7 +24,7 @@ any-mapped : {A B : Type 0} (f : A → B) (t : B → Bool) (u : A → Bool) (xs 
 any-mapped f t u [] same = refl
 any-mapped f t u (x ∷ xs) same = λ i. same x i || any-mapped f t u xs same i
 
--- somebody is inside, by the seats
+-- a process is inside, by the seats
 inside-seats : (w : WorldState) (events : List Event) → Shows w events → list_any (λ (seat : Seat). is_inside seat.process.doing) w.seats ≡ is_somebody_inside w.setup (past_of w.setup events)
 inside-seats w events shows =
     let s : Setup = w.setup in
@@ -42,11 +42,11 @@ newest-store s good events given none =
     newest-with s good past
     ∙ ap (store_in s.slots (callers_of s)) (headline.newest s good events given none ∙ sym (bytes_read s store sound)) ∙ store_is_read (call s 0 Ask 0) store sound
 
--- nothing is told while somebody is inside
+-- there is no newest store while a process is inside
 pub newest-none : (c : CoreState) → list_any (λ (seat : Seat). is_inside seat.process.doing) c.seats ≡ true → InEachCorePast c (λ s past. None ≡ newest s past)
 newest-none c h taken events shows = ap (λ b. cond b None (Some (image_of (store_after c.setup (history c.setup (past_of c.setup events)))))) (sym (sym (inside-seats (with_history c taken) events shows) ∙ h))
 
--- and the store after the history, while nobody is
+-- it is the store after the history while no process is inside
 pub newest-told : (c : CoreState) (store : Contents) → list_any (λ (seat : Seat). is_inside seat.process.doing) c.seats ≡ false → store ≡ newest_store c.setup c.registers → InEachCorePast c (λ s past. Some (image_of store) ≡ newest s past)
 newest-told c store h is taken events shows =
     let s : Setup = c.setup in

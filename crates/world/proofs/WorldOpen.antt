@@ -1,4 +1,4 @@
--- What a world that shows a record keeps: its core, its history and each of its seats are those of the past.
+-- In a world that shows a record, the core, the history and each of the seats are those of the past.
 use Rattle.std.proofs.lemmas.Option.{slice_get_read, slice_get_within}
 use Rattle.std.proofs.Common.{◌≡◌, ℕ, zero, suc, ◌<◌, ◌≤◌, Bool, true, false, cond, List, [], ◌∷◌, Option, Some, None, length, map, refl, sym, ap, subst, ◌∙◌, arith}
 use Rattle.std.specs.Prelude.{nat_lt, slice_get, slice_index_or}
@@ -15,7 +15,7 @@ use Rattle.world.specs.Shows.{Shows, WorldState}
 use Rattle.world.proofs.WorldLists.{get-mapped}
 use Rattle.world.proofs.WorldRegisters.{are_of, registers_at}
 
--- an event that is not refused is one of a process that there is, at a stage that allows it, and no call too many
+-- an event that is not refused is one of a process that exists, at a stage that allows it, and is not one call too many
 pub record IsAllowed (s : Setup) (past : Past) (what : Event) : Type 0 where
   pub below : process_of what < s.processes
   pub at : refused_at what (stage (process_of what) past) ≡ None
@@ -31,13 +31,13 @@ is-allowed s past what h = go (nat_lt (process_of what) s.processes) refl (refus
     go true i (Some x) j f k h = cc
     go false i r j f k h = cc
 
--- A seat that is there.
+-- A seat that exists.
 
--- by its index
+-- a seat by its index
 pub seat-indexed : (seats : List Seat) (i p : ℕ) (seat : Seat) → i ≡ p → i < length seats → seat ≡ slice_index_or seats i seat → slice_get seats p ≡ Some seat
 seat-indexed seats i p seat index l is = ap (slice_get seats) (sym index) ∙ slice_get_read seats (length seats) i seat refl l is
 
--- a seat is there where accesses are left of its number access
+-- a seat exists if accesses are left in its register access
 pub seat-there : (seats : List Seat) (p : ℕ) → 0 < left_in seats p → (seat : Seat) × (slice_get seats p ≡ Some seat) × (0 < left_at seat.process)
 seat-there [] p some = absurd (omega (arith, some))
 seat-there (x ∷ seats) zero some = (x, refl, some)
@@ -51,7 +51,7 @@ seat-left seats p seat is = ap (λ (o : Option Seat). elim o as (λ _. ℕ) [ No
 pub many-seats : (w : WorldState) (events : List Event) → Shows w events → length w.seats ≡ w.setup.processes
 many-seats w events shows = ap (λ (w : WorldState). length w.seats) shows.shown ∙ length-map-range_with_len (seat_of w.setup (past_of w.setup events)) 0 w.setup.processes
 
--- a process without a seat is above those that there are
+-- a process without a seat has a number above those of the processes that exist
 pub seatless : (w : WorldState) (events : List Event) (p : ℕ) → Shows w events → slice_get w.seats p ≡ None → w.setup.processes ≤ p
 seatless w events p shows none = let many = many-seats w events shows in let beyond = past w.seats p none in omega (arith, many, beyond)
   where
@@ -73,14 +73,14 @@ seat-shown w events p seat shows is =
 abbrev pub core_of : Setup → Past → CoreState
 core_of s past = record { setup = s; registers = registers_at s past; seats = map (seat_of s past) (processes s) }
 
--- it is that of a world which shows the record
+-- this core is that of a world that shows the record
 pub core-shown : (c : CoreState) (taken : List Taken) (events : List Event) → Shows (with_history c taken) events → c ≡ core_of c.setup (past_of c.setup events)
 core-shown c taken events shows = λ i. let core : CoreState = record { setup = c.setup; registers = (shows.shown i).registers; seats = (shows.shown i).seats } in core
 
 pub history-shown : (c : CoreState) (taken : List Taken) (events : List Event) → Shows (with_history c taken) events → taken ≡ history c.setup (past_of c.setup events)
 history-shown c taken events shows = ap (λ (w : WorldState). w.history) shows.shown
 
--- a process that there is has a seat, and its number is below 16
+-- a process that exists has a seat, and its number is below 16
 pub record IsSeated (c : CoreState) (p : ℕ) (seat : Seat) : Type 0 where
   pub there : slice_get c.seats p ≡ Some seat
   pub few : p < 16

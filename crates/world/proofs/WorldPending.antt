@@ -1,4 +1,4 @@
--- Which calls may still be taken: what is taken was pending, and is no more; and only a call makes another one pending.
+-- The calls that may still be taken. A call that is taken was pending before and is not pending after. Only a call event makes another one pending.
 use Rattle.std.proofs.Common.{◌≡◌, ℕ, zero, suc, ◌+◌, ◌≤◌, ◌==◌, ◌&&◌, Bool, true, false, cond, List, [], ◌∷◌, ◌++◌, Option, Some, None, length, map, refl, sym, ap, ◌∙◌, arith}
 use Rattle.std.specs.Prelude.{is_some, slice_get, slice_set}
 use Rattle.record.specs.{Call, Change, Field, Mark, Part, Place, TornBit, begun_at, begun_closing, bits_with, cut, enter, entered_if_none, first_marks, is_commit, is_fresh, is_last, is_over, last_marks, lets_by, max_of, newest_stamp, part_after, pending_at, place_after, reply, reply_taken, run_after, store_read, taken_with, torn_at, torn_closing, waits_of, write_moved}
@@ -164,7 +164,7 @@ closing-keeps c command number (Lowers w) flick h = go (is_last_written c (false
 closing-keeps c command number Quit flick h = refl
 closing-keeps c command number Ended flick h = refl
 
--- nor does a step
+-- a step makes no call pending
 pub keeps : (s : Setup) (p : ℕ) (d : Doing) (flick v : Bool) → is_pending d ≡ false → is_pending (does_then s p d flick v) ≡ false
 keeps s p Rests flick v h = refl
 keeps s p Lies flick v h = refl
@@ -205,7 +205,7 @@ fails-pending s p command number (Closes its called at) h =
     let c : Call = call s p its called in
     cut-pending c command number (torn_closing at) (begun_closing c at) None (is_inside (Closes its called at)) refl
 
--- How many calls are pending.
+-- The number of pending calls.
 
 pub pending-told : (p : ℕ) (waited waits : Bool) (seats : List Seat) → pending_in (map (told p waited waits) seats) ≡ pending_in seats
 pending-told p waited waits [] = refl

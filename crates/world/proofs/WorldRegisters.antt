@@ -1,4 +1,4 @@
--- The registers after a past: each access may be made on them, which they answer as the safe rule does, and an entry makes of them those after it.
+-- The registers after a past. Each access may be made on them, with the values of the safe rule, and an entry changes them to the registers after the entry.
 use Rattle.std.proofs.Common.{◌≡◌, ◌≢◌, ℕ, ◌<◌, ◌==◌, ◌&&◌, Bool, true, false, cond, List, ◌∷◌, Option, Some, None, Ok, refl, sym, ap, ◌∙◌, eqb-true, eq-eqb, ne_eqb}
 use Rattle.std.proofs.lemmas.Bool.{eqb-false}
 use Rattle.record.specs.safe_bit.Cell.{Cell, read_answer}
@@ -28,7 +28,7 @@ registers_at s past = memory_with (cell_held s past) s
 pub are_of : (s : Setup) (past : Past) → AreOf s (registers_at s past)
 are_of s past = with-are (cell_held s past) s
 
--- The registers answer.
+-- The value of an access to the registers.
 pub answers : (s : Setup) → checked s ≡ Ok tt → (events : List Event) (flick : Bool) (a : Access) → IsThere s a →
     answered s.processes (registers_at s (past_of s events)) flick a ≡ valued s (past_of s events) flick a
 answers s ok events flick a there =
@@ -47,7 +47,7 @@ pub registers-stay : (s : Setup) (past : Past) (e : Entry) → e.access ≡ None
 registers-stay s past e none keeps = with-same (cell_held s (e ∷ past)) (cell_held s past) s
     (λ a there. held-marks s past e a none ∙ ap (λ b. cond (b && (e.process == a.reader)) (cell.without_read (cell_held s past a)) (cell_held s past a)) keeps)
 
--- After one that drops the read of its process.
+-- After an entry that drops the read of its process.
 
 -- to drop a read where none is open changes nothing
 without-none : (c : Cell) → c.reading ≡ false → cell.without_read c ≡ c
@@ -68,7 +68,7 @@ unread s now before p d x a none = go (a.reader == p) refl
     go true is = let mine : a.reader ≡ p = eqb-true a.reader p is in x.own a mine ∙ without-none (before a) (x.reads a mine ∙ none)
     go false is = x.others a (eqb-false a.reader p is)
 
--- where it has none open at all, all registers stay
+-- dropping the reads of a process that has none open changes no register
 none-open : (s : Setup) (now before : Access → Cell) (p : ℕ) (d : Doing) → Dropping s now before p d → ((a : Access) → reads_now s p a d ≡ false) → memory_with before s ≡ memory_with now s
 none-open s now before p d x none = with-same before now s (λ a there. sym (unread s now before p d x a (none a)))
 
@@ -113,7 +113,7 @@ lane-dropped s now before p command number part run x a = go (a.owner == o) refl
     go true owner true field true reader =
         (λ i. cond (owner i && field i && reader i) (cell.without_read (before a)) (before a)) ∙ sym (x.own a (eqb-true a.reader p reader))
 
--- the registers once its read is dropped
+-- the registers after its read is dropped
 abbrev dropped_at : Setup → ℕ → Doing → List (List Cell) → List (List Cell)
 dropped_at s p d memory = elim (reads_of s p d) [
   | None ↦ memory
@@ -133,7 +133,7 @@ run-dropped s now before p command number part (Reading bits begun) torn x l own
     ∙ with-dropped before s (record { owner = register.0; field = register.1 }) p (owner-there c s.processes part l.0 owners) x.below
     ∙ with-same (cells_dropped before (record { owner = register.0; field = register.1 }) p) now s (λ a there. lane-dropped s now before p command number part (Reading bits begun) x a)
 
--- whatever it is doing
+-- for each kind of work of the process
 drop-registers : (s : Setup) (now before : Access → Cell) (p : ℕ) (d : Doing) (torn : Option Access) → Dropping s now before p d → LeftIn s p torn d → AtPlace (OwnersAt s) d → dropped_at s p d (memory_with before s) ≡ memory_with now s
 drop-registers s now before p Rests torn x l owners = none-open s now before p Rests x (λ a. refl)
 drop-registers s now before p Lies torn x l owners = none-open s now before p Lies x (λ a. refl)

@@ -19,15 +19,15 @@ use Rattle.world.proofs.WorldLists.{map-changed}
 use Rattle.world.proofs.QueueAfter.{before-done, before-waits, before-kept}
 use Rattle.world.proofs.QueueBegun.{begun-after, begun-others}
 
--- who waits before and after an entry
+-- whether a process waits before and after an entry
 abbrev pub waited : Past → ℕ → Bool
 waited past p = is_waiting_stage (stage p past)
 
--- what the seat of q is told of the others is what it then has, as its doorway stood
+-- the updated seat of q has the right processes ahead, by whether its doorway had begun
 abbrev pub IsTold : Past → ℕ → Entry → ℕ → Type 0
 IsTold past p e q = before_told p (waited past p) (waited (e ∷ past) p) (is_some (doorway_begin q past)) (waiting_before past q) ≡ waiting_before (e ∷ past) q
 
--- another process keeps all else
+-- another process keeps all other fields of its seat
 other-seat : (s : Setup) (past : Past) (p : ℕ) (e : Entry) (q : ℕ) → e.process ≢ q → IsTold past p e q → told p (waited past p) (waited (e ∷ past) p) (seat_of s past q) ≡ seat_of s (e ∷ past) q
 other-seat s past p e q ne before = λ i. let seat : Seat = record {
   process = record {
@@ -41,7 +41,7 @@ other-seat s past p e q ne before = λ i. let seat : Seat = record {
   before = before i;
 } in seat
 
--- an entry that is no call leaves the last call as it is
+-- an entry that is not a call leaves the last call as it is
 not-called : (ms : List Mark) → list_any is_called ms ≡ false → called_in ms ≡ None
 not-called [] h = refl
 not-called (Called c ∷ ms) h = absurd (true≢false h)
@@ -53,7 +53,7 @@ command-kept e mine h = ap (λ o. elim o as (λ _. Command) [ None ↦ last_comm
 number-kept : (s : Setup) (e : Entry) (mine : Past) → has is_called e ≡ false → call_number s (e ∷ mine) ≡ call_number s mine
 number-kept s e mine h = ap (λ b. cond (s.version == 2) (elim b as (λ _. ℕ) [ true ↦ suc (calls_in mine) | false ↦ calls_in mine ]) 0) h
 
--- so its process goes on in what it does alone
+-- so only the work of its process changes
 pub process-goes : (s : Setup) (past : Past) (e : Entry) (d : Doing) → has is_called e ≡ false → d ≡ doing s e.process (e ∷ past) →
     (let now : ProcessState = record (process_after s past e.process) { doing = d } in now) ≡ process_after s (e ∷ past) e.process
 process-goes s past e d called is = λ i. let now : ProcessState = record {
@@ -64,9 +64,9 @@ process-goes s past e d called is = λ i. let now : ProcessState = record {
   number = (sym (number-kept s e (own e.process past) called) ∙ ap (call_number s) (sym (own-own e.process e past refl))) i;
 } in now
 
--- Of an entry that an event adds.
+-- An entry that an event adds.
 
--- what each process then has before it, but for one that has just called
+-- the processes that are then ahead of each process, except of one that has just called
 pub is-told : (s : Setup) → IsGood s → (events : List Event) (what : Event) (e : Entry) → entry_of s (past_of s events) what ≡ Some e → (q : ℕ) → (has is_called e && (e.process == q)) ≡ false → IsTold (past_of s events) e.process e q
 is-told s g events what e h q other = go (waited past p) (waited (e ∷ past) p) refl refl
   where
@@ -86,7 +86,7 @@ or-false : (b : Bool) → (b || false) ≡ b
 or-false true = refl
 or-false false = refl
 
--- an entry without an access that is no call leaves the doorway as it is
+-- an entry that has no access and is not a call leaves the doorway as it is
 pub begun-kept : (s : Setup) → IsGood s → (events : List Event) (what : Event) (e : Entry) → entry_of s (past_of s events) what ≡ Some e → e.access ≡ None → has is_called e ≡ false →
     is_some (doorway_begin e.process (past_of s events)) ≡ is_some (doorway_begin e.process (e ∷ past_of s events))
 begun-kept s g events what e h none called =
@@ -95,7 +95,7 @@ begun-kept s g events what e h none called =
     let door : Bool = is_queued (stage_doing (doing s e.process past)) in
     sym (begun-after s g events what e h ∙ ap (λ b. cond b false (was || (is_some e.access && door))) called ∙ ap (λ a. was || (is_some a && door)) none ∙ or-false was)
 
--- one with an access goes on with it
+-- an entry with an access may begin the doorway
 pub begun-stepped : (s : Setup) → IsGood s → (events : List Event) (what : Event) (e : Entry) → entry_of s (past_of s events) what ≡ Some e → is_some e.access ≡ true → has is_called e ≡ false →
     (is_some (doorway_begin e.process (past_of s events)) || is_queued (stage_doing (doing s e.process (past_of s events)))) ≡ is_some (doorway_begin e.process (e ∷ past_of s events))
 begun-stepped s g events what e h some called =
@@ -104,7 +104,7 @@ begun-stepped s g events what e h some called =
     let door : Bool = is_queued (stage_doing (doing s e.process past)) in
     sym (begun-after s g events what e h ∙ ap (λ b. cond b false (was || (is_some e.access && door))) called ∙ ap (λ a. was || (a && door)) some)
 
--- nobody goes on to wait before itself: its doorway had begun
+-- a process that starts to wait is not ahead of itself, because its doorway had begun
 begun-before : (s : Setup) → IsGood s → checked s ≡ Ok tt → (events : List Event) (what : Event) (e : Entry) → entry_of s (past_of s events) what ≡ Some e → has is_called e ≡ false →
     waited (past_of s events) e.process ≡ false → waited (e ∷ past_of s events) e.process ≡ true → is_some (doorway_begin e.process (past_of s events)) ≡ is_some (doorway_begin e.process (e ∷ past_of s events))
 begun-before s g good events what e h called was is = begun ∙ sym (begun-after s g events what e h ∙ ap (λ b. cond b false (began || (is_some e.access && door))) called ∙ ap (λ b. b || (is_some e.access && door)) begun)
@@ -143,7 +143,7 @@ begun-before s g good events what e h called was is = begun ∙ sym (begun-after
         from true k = refl
         from false k = absurd (true≢false k)
 
--- the seat of the process, where the process and its doorway went on and it is told where it stands
+-- the seat of the process, with its new state and doorway, after the update of all seats
 pub own-seat : (s : Setup) → checked s ≡ Ok tt → (events : List Event) (what : Event) (e : Entry) → entry_of s (past_of s events) what ≡ Some e → has is_called e ≡ false →
     (then : Seat) → let past : Past = past_of s events in let p : ℕ = e.process in
     then.process ≡ process_after s (e ∷ past) p → then.begun ≡ is_some (doorway_begin p (e ∷ past)) → then.before ≡ waiting_before past p →
@@ -169,7 +169,7 @@ own-seat s good events what e h called then is_process is_begun is_before = λ i
     go false true k m = ap (λ b. slice_set (waiting_before past p) p (not b)) (is_begun ∙ sym (begun-before s g good events what e h called k m))
     go false false k m = refl
 
--- all seats, once that one is there
+-- all seats, after that one is stored
 pub all-seats : (s : Setup) → checked s ≡ Ok tt → (events : List Event) (what : Event) (e : Entry) → entry_of s (past_of s events) what ≡ Some e →
     (seat : Seat) → let past : Past = past_of s events in let p : ℕ = e.process in
     told p (waited past p) (waited (e ∷ past) p) seat ≡ seat_of s (e ∷ past) p →

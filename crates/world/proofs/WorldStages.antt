@@ -1,4 +1,4 @@
--- What a process does tells its stage, and whether it may step or fail.
+-- The work of a process determines its stage, and whether it may step or fail.
 use Rattle.std.proofs.Common.{◌≡◌, ℕ, ◌<◌, Bool, true, false, cond, List, None, Some, refl, sym, ap, ◌∙◌, arith}
 use Rattle.plain_store.specs.{Setup}
 use Rattle.record.specs.{Event, Past, Stage, is_running, own, past_of, refused_at, stage}
@@ -13,7 +13,7 @@ use Rattle.laws.proofs.FrameEvents.{does_all}
 use Rattle.laws.proofs.FrameInside.{stage-is}
 use Rattle.process.specs.{ProcessState, left_at, may_step, refusal_of, stage_doing}
 
--- the stage of what is done
+-- the stage of the work
 stage-doing : (d : Doing) → stage_doing d ≡ stage_of d
 stage-doing Rests = refl
 stage-doing Lies = refl
@@ -34,7 +34,7 @@ running-steps p flick stages.Leaving h = refl
 running-steps p flick stages.Settling h = cc
 running-steps p flick stages.Down h = cc
 
--- a step is refused where there is none to make
+-- a step is refused if the process has none to make
 pub step-refused : (s : Setup) → IsGood s → (events : List Event) (p : ℕ) (flick : Bool) → refused_at (event.Step p flick) (stage p (past_of s events)) ≡ cond (may_step (doing s p (past_of s events))) None (Some NotRunning)
 step-refused s g events p flick = go (does_all s g events p)
   where
@@ -61,7 +61,7 @@ step-allowed p flick now h = go now.doing h
     go (Runs command number at) h = refl
     go (Closes command number at) h = refl
 
--- a process within a number access has a step to make
+-- a process within a register access has a step to make
 pub left-may : (now : ProcessState) → 0 < left_at now → may_step now.doing ≡ true
 left-may now some = go now.doing refl
   where

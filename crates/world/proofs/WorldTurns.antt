@@ -1,4 +1,4 @@
--- Within a number access begins and ends take turns, and are of one kind: so what holds of each begin with its end, and of each end with a begin of that kind, holds of an access and the next one.
+-- Within a register access begins and ends alternate, and are of one kind. A fact about each begin with its end, and each end with a begin of that kind, holds of an access and the next one.
 use Rattle.std.proofs.Common.{◌≡◌, ℕ, ◌+◌, ◌*◌, ◌%◌, ◌<◌, ◌==◌, Bool, true, false, if◌then◌else◌, List, ◌∷◌, None, Some, refl, ap, sym, subst, ◌∙◌, arith, eq-eqb, ne_eqb}
 use Rattle.std.proofs.lemmas.Bool.{eqb-false, eqb-true}
 use Rattle.plain_store.specs.{Setup}
@@ -15,7 +15,7 @@ use Rattle.process.specs.{ProcessState, left_at, left_of, process_after}
 use Rattle.process.proofs.Left.{left-runs, live-by}
 use Rattle.world.proofs.WorldShows.{past-after}
 
--- of two numbers in a row one is even
+-- one of two consecutive numbers is even
 even-odd : (n : ℕ) → (n % 2 == 0) ≡ true → ((n + 1) % 2 == 0) ≡ false
 even-odd n h = let even : n % 2 ≡ 0 = eqb-true (n % 2) 0 h in ne_eqb ((n + 1) % 2) 0 (omega (arith, even))
 
@@ -41,7 +41,7 @@ module _ (Follows : Move → Move → Type 0) (reads : (v : Bool) → Follows Be
   turn-bit : (n k : ℕ) (u v : Bool) → (n + 1 == 2 * k) ≡ true → Follows (move n u) (BeginWrite v)
   turn-bit n k u v h = subst (λ (c : Bool). Follows (if c then BeginWrite u else EndWrite) (BeginWrite v)) (sym (last-odd n k h)) (written_on v)
 
-  -- whatever values they have
+  -- for any values of the two
   turn-write : (c : Call) (part : Part) (w : NumberWrite) (x u v : Bool) → Follows (ended u (access_at c part (Writing w)).how) (ended v (access_at c part (run_after c part (Writing w) x)).how)
   turn-write c part w x u v = by (now.made + 1 == 2 * c.setup.processes) refl
     where
@@ -88,7 +88,7 @@ module _ (Follows : Move → Move → Type 0) (reads : (v : Bool) → Follows Be
       let is_second : access_at c at.part after.run ≡ b = cc in
       subst (λ (b : Access). Follows (ended u a.how) (ended v b.how)) is_second (subst (λ (a : Access). Follows (ended u a.how) (ended v (access_at c at.part after.run).how)) is_first (turn-place c at.part at.run x u v))
 
-  -- the accesses of two steps in a row, of which the first is made within a number access
+  -- the accesses of two consecutive steps, of which the first is made within a register access
   pub takes-turns : (s : Setup) → IsGood s → (events : List Event) (p : ℕ) (f g : Bool) (d e : Entry) (a b : Access) → 0 < left_at (process_after s (past_of s events) p) →
       entry_of s (past_of s events) (Step p f) ≡ Some d → d.access ≡ Some a → entry_of s (past_of s (Step p f ∷ events)) (Step p g) ≡ Some e → e.access ≡ Some b → Follows a.how b.how
   takes-turns s good events p f g d e a b more adds made adds_next made_next =

@@ -1,4 +1,4 @@
--- A process within a number access of its call: how many accesses are left, a step alone, and that none of them ends a number that is read.
+-- A process within a register access of its call: the number of accesses left, one step alone, and that none of these accesses ends the read of a number.
 use Rattle.std.specs.Prelude.{nat_lt}
 use Rattle.flicks.specs.{FlickState, flick_of}
 use Rattle.std.proofs.Common.{cond, ◌≡◌, ℕ, ◌+◌, ◌<◌, Bool, true, false, if◌then◌else◌, List, Some, refl, ap, sym, subst, ◌∙◌, arith}
@@ -19,7 +19,7 @@ use Rattle.world.proofs.WorldOpen.{seat-left, seat-shown, seat-there}
 
 -- HOW MANY ARE LEFT
 
--- as many as the past says
+-- the number of accesses left is that of the past
 pub left-shown : (w : WorldState) (events : List Event) (p : ℕ) → Shows w events → 0 < left_in w.seats p → left_in w.seats p ≡ left_at (process_after w.setup (past_of w.setup events) p)
 left-shown w events p shows some =
     let there = seat-there w.seats p some in
@@ -27,7 +27,7 @@ left-shown w events p shows some =
 
 -- ONE STEP
 
--- it is what one of so many is
+-- one step alone is one of several steps
 one-last : (last : Bool) (before overlapped : ℕ) → before ≡ 0 → overlapped ≡ before + cond last 1 0 → (last ≡ nat_lt 0 overlapped) × (overlapped ≡ cond (nat_lt 0 overlapped) 1 0)
 one-last true before overlapped none counts = let one : overlapped ≡ 1 = omega (arith, none, counts) in (sym (ap (nat_lt 0) one), one ∙ sym (ap (λ n. cond (nat_lt 0 n) 1 0) one))
 one-last false before overlapped none counts = let one : overlapped ≡ 0 = omega (arith, none, counts) in (sym (ap (nat_lt 0) one), one ∙ sym (ap (λ n. cond (nat_lt 0 n) 1 0) one))
@@ -52,7 +52,7 @@ written-no-read : (b v w : Bool) → (if b then BeginWrite w else EndWrite) ≡ 
 written-no-read true v w is = absurd (cc)
 written-no-read false v w is = absurd (cc)
 
--- the next access at a place
+-- the next access at a position
 inside-at : (c : Call) (part : Part) (run : Run) (v : Bool) → 1 < rest_of c part run → (access_at c part run).how ≡ EndRead v → (access_at c part run).bit + 1 ≡ width c.setup (access_at c part run).field → ⊥
 inside-at c part (Writing w) v more reads last = written-no-read _ v _ reads
 inside-at c part (Reading bits false) v more reads last = absurd (cc)
@@ -70,7 +70,7 @@ inside-by s p now (Runs command number at) flick v a same mine more next reads l
     let is : access_at c at.part at.run ≡ a = cc in
     inside-at c at.part at.run v (left-some c at.part at.run some).0 (ap (λ (a : Access). a.how) is ∙ reads) (ap (λ (a : Access). a.bit + 1) is ∙ last ∙ ap (λ (a : Access). width s a.field) (sym is))
 
--- the next access within a number access does not end the read of a number
+-- the next access within a register access does not end the read of a number
 pub inside-number : (s : Setup) → IsGood s → (events : List Event) (p : ℕ) (flick v : Bool) (e : Entry) (a : Access) → entry_of s (past_of s events) (Step p flick) ≡ Some e → e.access ≡ Some a → 0 < left_at (process_after s (past_of s events) p) →
     a.how ≡ EndRead v → a.bit + 1 ≡ width s a.field → ⊥
 inside-number s g events p flick v e a adds access more reads last =

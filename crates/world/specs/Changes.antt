@@ -1,4 +1,4 @@
--- What an event changes of what a world keeps, beside the process whose event it is.
+-- The parts of a world that an event changes, apart from the process whose event it is.
 use Rattle.std.specs.Prelude.{ℕ, ◌+◌, [], ◌∷◌, ◌++◌, Bool, true, false, not, cond, List, map, Option, None, Some, is_some, slice_get, slice_set}
 use Rattle.std.specs.List.{range_with_len}
 use Rattle.plain_store.specs.{Command, Reply}
@@ -6,14 +6,14 @@ use Rattle.record.specs.{Clears, Over, Part, Settles, Taken}
 use Rattle.laws.specs.{Doing, Runs, Closes}
 use Rattle.world.specs.Seats.{Seat, is_waiting}
 
--- which processes are before a process, once p goes on to wait or not to wait; begun: the doorway of the process has begun
+-- the processes ahead of a process after an event of p; waited, waits: p waited before it, waits after it; begun: the doorway of the process has begun
 abbrev pub before_told : (p : ℕ) (waited waits begun : Bool) → List Bool → List Bool
 before_told p true true begun before = before
 before_told p true false begun before = slice_set before p false
 before_told p false true begun before = slice_set before p (not begun)
 before_told p false false begun before = before
 
--- a seat that is told of it
+-- the seat of a process, updated after an event of p
 abbrev pub told : (p : ℕ) (waited waits : Bool) → Seat → Seat
 told p waited waits seat = record seat { before = before_told p waited waits seat.begun seat.before }
 
@@ -32,20 +32,20 @@ is_pending _ = false
 abbrev pub pending : Seat → ℕ
 pending seat = cond (is_pending seat.process.doing) 1 0
 
--- how many calls may still be taken
+-- the number of calls that may still be taken
 abbrev pub pending_in : List Seat → ℕ
 pending_in [] = 0
 pending_in (seat ∷ seats) = pending seat + pending_in seats
 
--- a process waits, by its seat
+-- the process j waits, as its seat shows
 abbrev pub waits_in : List Seat → ℕ → Bool
 waits_in seats j = elim (slice_get seats j) [ None ↦ false | Some seat ↦ is_waiting seat ]
 
--- which of 16 processes wait
+-- for each of 16 processes, whether it waits
 abbrev pub waiting_in : List Seat → List Bool
 waiting_in seats = map (waits_in seats) (range_with_len 0 16)
 
--- the history with the command that is taken, if one is
+-- the history, extended by the command of p if it is taken
 abbrev pub with_taken : List Taken → ℕ → Command → ℕ → Option Reply → List Taken
 with_taken taken p command number None = taken
 with_taken taken p command number (Some r) = taken ++ record { process = p; command = command; reply = r; number = number } ∷ []

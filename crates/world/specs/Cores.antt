@@ -1,4 +1,4 @@
--- A world without its history: what it keeps, and what it shows with a history.
+-- A world without its history: its state, and the records that it shows with a history.
 use Rattle.std.specs.Prelude.{◌≡◌, ℕ, ◌+◌, ◌<◌, ◌≤◌, Bool, true, false, List, Option, None, Some, length, slice_get}
 use Rattle.std.specs.Global.{Vec}
 use Rattle.std.specs.Vec.{vec_capacity, vec_len}
@@ -16,7 +16,7 @@ use Rattle.world.specs.Seats.{Seat}
 use Rattle.world.specs.Shows.{Shows, WorldState}
 use Rattle.world.specs.Walks.{AddsQuietly, TellsOverlapped, Walks}
 
--- the registers, and what is kept of each process: of fixed size
+-- the registers and the seat of each process; the size is fixed
 pub record CoreState : Type 0 where
   pub setup : Setup
   pub registers : List (List Cell)
@@ -26,17 +26,17 @@ pub record CoreState : Type 0 where
 abbrev pub with_history : CoreState → List Taken → WorldState
 with_history c taken = record { setup = c.setup; registers = c.registers; seats = c.seats; history = taken }
 
--- what a core keeps: with some history it shows some events
+-- the invariant of a core: with some history it shows some events
 pub record KeepsCore (c : CoreState) : Type 0 where
   pub taken : List Taken
   pub events : List Event
   pub shows : Shows (with_history c taken) events
 
--- so it is in the past of each record that it shows with any history
+-- P holds in the past of each record that the core shows with any history
 abbrev pub InEachCorePast : CoreState → (Setup → Past → Type 0) → Type 0
 InEachCorePast c P = (taken : List Taken) → InEachPast (with_history c taken) P
 
--- with each history: why an event is refused, and that the world then shows it
+-- with each history, an event is refused for this reason, or is not refused
 abbrev pub CoreRefuses : CoreState → Event → Option Refusal → Type 0
 CoreRefuses c event refusal = (taken : List Taken) → IsRefused (with_history c taken) event refusal
 
@@ -53,35 +53,35 @@ UnlessCoreRefuses c event P = (taken : List Taken) → UnlessRefused (with_histo
 abbrev pub call_in : List Seat → ℕ → Command × ℕ
 call_in seats p = elim (slice_get seats p) as (λ _. Command × ℕ) [ None ↦ (Ask, 0) | Some seat ↦ (seat.process.command, seat.process.number) ]
 
--- what a process takes, where its command is taken and this is the reply
+-- the entry of the history for the last call of a process, with this reply
 abbrev pub taken_by : List Seat → ℕ → Reply → Taken
 taken_by seats p reply = record { process = p; command = (call_in seats p).0; reply = reply; number = (call_in seats p).1 }
 
--- the history with what a process takes, if it takes a command
+-- the history, extended by the command of a process if it takes one
 abbrev pub history_with : List Taken → CoreState → ℕ → Option Reply → List Taken
 history_with taken c p reply = with_taken taken p (call_in c.seats p).0 (call_in c.seats p).1 reply
 
--- with each history: the entry that an event adds, and that of a step
+-- with each history, an event adds the entry with this effect and this access; below, a step does
 abbrev pub CoreAdds : CoreState → Event → Effect → Option Access → Type 0
 CoreAdds c event effect access = (taken : List Taken) → AddsEvent (with_history c taken) event effect access
 
 abbrev pub CoreAddsStep : CoreState → ℕ → Bool → StepTold → Access → Type 0
 CoreAddsStep c p flick told access = CoreAdds c (Step p flick) (Steps told) (Some access)
 
--- that of a step that has no mark
+-- with each history, a step adds the entry with this access and without a mark
 abbrev pub CoreAddsQuietly : CoreState → ℕ → Bool → Access → Type 0
 CoreAddsQuietly c p flick access = (taken : List Taken) → AddsQuietly (with_history c taken) p flick access
 
--- and whether an access to come ends a read that a write overlapped
+-- with each history, whether the access would end a read that a write overlapped
 abbrev pub CoreTellsOverlapped : CoreState → Access → Bool → Type 0
 CoreTellsOverlapped c access overlapped = (taken : List Taken) → TellsOverlapped (with_history c taken) access overlapped
 
--- an event of a process that there is: the world goes on, with the command in its history that the event takes
+-- the process of the event exists, and the new core with the extended history shows the event too
 pub record CoreMakes (old : CoreState) (event : Event) (effect : Effect) (new : CoreState) : Type 0 where
   pub there : process_of event < length new.seats
   pub goes : (taken : List Taken) → GoesOn (with_history old taken) event (with_history new (history_with taken new (process_of event) (reply_taken (marks_of effect))))
 
--- a step
+-- a step makes this core of the old one
 abbrev pub CoreSteps : CoreState → ℕ → Bool → StepTold → CoreState → Type 0
 CoreSteps old p flick told new = CoreMakes old (Step p flick) (Steps told) new
 
@@ -89,27 +89,27 @@ CoreSteps old p flick told new = CoreMakes old (Step p flick) (Steps told) new
 abbrev pub taking : Effect → ℕ
 taking effect = elim (reply_taken (marks_of effect)) as (λ _. ℕ) [ None ↦ 0 | Some r ↦ 1 ]
 
--- the calls that are pending, with the one that is taken
+-- the number of pending calls, with the one that is taken
 abbrev pub pending_with : Effect → CoreState → ℕ
 pending_with effect c = pending_in c.seats + taking effect
 
--- they were pending before
+-- these calls were pending before
 abbrev pub PendedBefore : CoreState → Effect → CoreState → Type 0
 PendedBefore old effect new = pending_with effect new ≤ pending_in old.seats
 
--- unless the event is a call
+-- these calls were pending before, unless the event is a call
 abbrev pub PendedUnlessCall : Event → CoreState → Effect → CoreState → Type 0
 PendedUnlessCall event old effect new = is_call event ≡ false → PendedBefore old effect new
 
--- before a call the history gets room for each call that may be taken
+-- before a call, the history has room for one command of each process
 abbrev pub MakesRoomForCall : Event → CoreState → Vec Taken → Vec Taken → Type 0
 MakesRoomForCall event c old new = is_call event ≡ true → length old.items + length c.seats ≤ vec_capacity new
 
--- there is room in the history for what is taken, if something is
+-- the history has room for the command that is taken, if one is taken
 abbrev pub HasRoomToTake : Option Reply → Vec Taken → Type 0
 HasRoomToTake reply history = (r : Reply) → reply ≡ Some r → vec_len history < vec_capacity history
 
--- so many steps without a mark of a process that there is, with each history; no more calls are pending
+-- with each history, an existing process makes n steps without a mark; the number of pending calls does not increase
 pub record CoreWalks (old : CoreState) (flicks : FlickState) (p n : ℕ) (newest : Access) (overlapped : ℕ) (new : CoreState) (flicks_then : FlickState) : Type 0 where
   pub there : p < length new.seats
   pub walks : (taken : List Taken) → Walks (with_history old taken) flicks p n newest overlapped (with_history new taken) flicks_then

@@ -1,4 +1,4 @@
--- What an accepted event makes of a world, in every record that it shows.
+-- The effect of an accepted event on a world, in every record that the world shows.
 use Rattle.std.specs.Prelude.{◌≡◌, ◌⊎◌, ℕ, ◌+◌, ◌≤◌, Bool, true, cond, nat_lt, List, ◌∷◌, length, Option, None, Some}
 use Rattle.record.specs.{Access, Act, Entry, Event, KeepsHeadline, Past, Refusal, Stage, entry_of, is_call, past_of, process_of, refused, stage}
 use Rattle.record.specs.declared.events.Event.TheVariants.{Step}
@@ -13,38 +13,38 @@ use Rattle.world.specs.Shows.{Shows, WorldState}
 abbrev pub entry_with : ℕ → Act → Entry
 entry_with p act = record { process = p; access = act.access; marks = act.marks }
 
--- so it is in the past of each record that a world shows
+-- P holds in the past of each record that the world shows
 abbrev pub InEachPast : WorldState → (Setup → Past → Type 0) → Type 0
 InEachPast w P = (events : List Event) → Shows w events → P w.setup (past_of w.setup events)
 
--- why an event is refused, in every record that a world shows
+-- the reason for which an event is refused, if it is, in every record that the world shows
 abbrev pub IsRefused : WorldState → Event → Option Refusal → Type 0
 IsRefused w event refusal = (events : List Event) → Shows w events → refused w.setup (past_of w.setup events) event ≡ refusal
 
--- an event that is not refused comes to this
+-- P holds unless the event is refused
 abbrev pub UnlessRefused : WorldState → Event → Type 0 → Type 0
 UnlessRefused w event P = (events : List Event) → Shows w events → refused w.setup (past_of w.setup events) event ≡ None → P
 
--- the act is that of the entry that the event adds
+-- the event adds the entry of p with this act
 abbrev pub Adds : WorldState → Event → ℕ → Act → Type 0
 Adds w event p act = (events : List Event) → Shows w events → entry_of w.setup (past_of w.setup events) event ≡ Some (entry_with p act)
 
--- the headline holds of the entry with this act, and of each record that the world shows before it
+-- the entry with this act keeps the main theorem, after each record that the world shows
 abbrev pub KeepsTheHeadline : WorldState → ℕ → Act → Type 0
 KeepsTheHeadline w p act = (events : List Event) → Shows w events → KeepsHeadline w.setup (past_of w.setup events) (entry_with p act)
 
--- the act of an event with this access, and with what it leads to; a command that it takes is the next of the history
+-- the act of an event with this access and this effect; a command that it takes is the next of the history
 abbrev pub act_next : WorldState → Option Access → Effect → Act
 act_next w access effect = act_of (length w.history) (record { access = access; effect = effect })
 
--- an event adds the entry with that act, and the headline holds of it
+-- an event adds the entry with this access and this effect; below, this entry keeps the main theorem
 abbrev pub AddsEvent : WorldState → Event → Effect → Option Access → Type 0
 AddsEvent w event effect access = Adds w event (process_of event) (act_next w access effect)
 
 abbrev pub EventKeepsHeadline : WorldState → Event → Effect → Option Access → Type 0
 EventKeepsHeadline w event effect access = KeepsTheHeadline w (process_of event) (act_next w access effect)
 
--- the same of a step
+-- a step adds the entry with this access and this outcome; below, this entry keeps the main theorem
 abbrev pub AddsStep : WorldState → ℕ → Bool → StepTold → Access → Type 0
 AddsStep w p flick told access = AddsEvent w (Step p flick) (Steps told) (Some access)
 
@@ -59,12 +59,12 @@ GoesOn old event new = (events : List Event) → Shows old events → Shows new 
 abbrev pub IsTurnedAway : WorldState → Event → Refusal → Type 0
 IsTurnedAway w event refusal = IsRefused w event (Some refusal) ⊎ ((is_call event ≡ true) × (refusal ≡ Memory) × IsRefused w event None)
 
--- what a world keeps: there are events that it shows, and its history has room for each call that may still be taken
+-- the invariant of a world: it shows some events, and its history has room for each call that may still be taken
 pub record KeepsWorld (w : WorldState) (capacity : ℕ) : Type 0 where
   pub events : List Event
   pub shows : Shows w events
   pub room : length w.history + pending_in w.seats ≤ capacity
 
--- the stage of a process that there is
+-- the stage of a process that exists, and no stage otherwise
 abbrev pub stage_in : Setup → Past → ℕ → Option Stage
 stage_in s past p = cond (nat_lt p s.processes) (Some (stage p past)) None

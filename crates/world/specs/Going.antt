@@ -1,4 +1,4 @@
--- A core once a process has made an event of its own, by the seat of that process.
+-- A core after an event, computed from the seat of the process whose event it is.
 use Rattle.std.specs.Prelude.{◌≡◌, ℕ, ◌≤◌, Bool, List, [], ◌∷◌, Option, None, Some, length, map, slice_set}
 use Rattle.record.specs.safe_bit.Cell.{Cell}
 use Rattle.record.specs.{Access, Event, Mark, process_of, value_of}
@@ -9,7 +9,7 @@ use Rattle.world.specs.Changes.{told, waiting_in}
 use Rattle.world.specs.Cores.{CoreAdds, CoreMakes, CoreState, PendedUnlessCall, pending_with}
 use Rattle.world.specs.Seats.{Seat, is_waiting, seat_called, seat_stepped, seat_with}
 
--- the seat of the process after the event on these registers, where these processes wait before a call
+-- the seat of the process after the event on these registers; before: the processes that wait before a call
 abbrev pub seat_made : List (List Cell) → List Bool → Seat → Event → Seat
 seat_made registers before seat (Call p command) = seat_called seat command (next_number seat.process.setup seat.process.number) before
 seat_made registers before seat (Step p flick) = seat_stepped (step_by flick (seat.process, registers)).0 seat
@@ -17,30 +17,30 @@ seat_made registers before seat (Fail p) = seat_with (failed seat.process) seat
 seat_made registers before seat (Withdraw p) = seat_with (withdrawn seat.process) seat
 seat_made registers before seat (Restart p) = seat_with (restarted seat.process) seat
 
--- the registers
+-- the registers after the event
 abbrev pub registers_made : List (List Cell) → Seat → Event → List (List Cell)
 registers_made registers seat (Step p flick) = (step_by flick (seat.process, registers)).1
 registers_made registers seat (Fail p) = dropped seat.process registers
 registers_made registers seat (Withdraw p) = dropped seat.process registers
 registers_made registers seat _ = registers
 
--- the core in which the seat of p has become that one, over these registers: each process is told whether p waits
+-- the core with these registers and this new seat of p; every seat is updated with whether p waits
 abbrev pub core_with : CoreState → ℕ → Seat → Seat → List (List Cell) → CoreState
 core_with c p seat then registers = record c { registers = registers; seats = map (told p (is_waiting seat) (is_waiting then)) (slice_set c.seats p then) }
 
--- so of the seat, and of the whole core
+-- the seat of the process, and the whole core, after the event
 abbrev pub seat_after : CoreState → Seat → Event → Seat
 seat_after c seat event = seat_made c.registers (waiting_in c.seats) seat event
 
 abbrev pub core_after : CoreState → Seat → Event → CoreState
 core_after c seat event = core_with c (process_of event) seat (seat_after c seat event) (registers_made c.registers seat event)
 
--- the access of the event: that of a step
+-- the access of the event, which a step alone has
 abbrev pub access_made : List (List Cell) → Seat → Event → Option Access
 access_made registers seat (Step p flick) = Some (answered_at seat.process registers flick)
 access_made registers seat _ = None
 
--- its marks, where the place of a command that is taken is left open, as 0
+-- the marks of the event; the position of a command that is taken is 0 here
 abbrev pub marks_made : List (List Cell) → Seat → Event → List Mark
 marks_made registers seat (Call p command) = Called command ∷ []
 marks_made registers seat (Step p flick) = marks_on seat.process flick (value_of (answered_at seat.process registers flick).how)
@@ -48,7 +48,7 @@ marks_made registers seat (Fail p) = Failed ∷ []
 marks_made registers seat (Withdraw p) = Withdrew ∷ []
 marks_made registers seat (Restart p) = Restarted ∷ []
 
--- a core goes on by an event that leads to this, with this access
+-- a core makes an event with this effect and this access
 pub record CoreGoes (old : CoreState) (event : Event) (effect : Effect) (access : Option Access) (new : CoreState) : Type 0 where
   pub adds : CoreAdds old event effect access
   pub makes : CoreMakes old event effect new

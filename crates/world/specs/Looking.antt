@@ -1,4 +1,4 @@
--- What a core is looked at for.
+-- Facts that are read from a core.
 use Rattle.std.specs.Prelude.{◌≡◌, ◌<◌, ℕ, Bool, List, [], ◌∷◌, Option, Some, length, map}
 use Rattle.std.specs.List.{range_with_len}
 use Rattle.plain_store.specs.{Setup}
@@ -11,7 +11,7 @@ use Rattle.process.specs.{left_at, process_after}
 use Rattle.world.specs.Cores.{CoreState, with_history}
 use Rattle.world.specs.Shows.{Shows}
 
--- With each history of so many commands, a step of p by this flick adds this entry, or none where it is refused.
+-- With each history of `taken` commands, a step of p by this flick adds this entry, or none where it is refused.
 abbrev pub IsStepEntry : CoreState → ℕ → Bool → ℕ → Option Entry → Type 0
 IsStepEntry c p flick taken entry = (history : List Taken) (events : List Event) → length history ≡ taken → Shows (with_history c history) events →
     entry ≡ entry_of c.setup (past_of c.setup events) (Step p flick)

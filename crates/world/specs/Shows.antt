@@ -1,4 +1,4 @@
--- What a world keeps, and the records that it shows.
+-- The state of a world, and the records that it shows.
 use Rattle.std.specs.Prelude.{◌≡◌, List, map, Ok}
 use Rattle.record.specs.safe_bit.Cell.{Cell}
 use Rattle.plain_store.specs.{Setup, checked}
@@ -7,14 +7,14 @@ use Rattle.laws.specs.{cell_held}
 use Rattle.process.specs.{memory_with}
 use Rattle.world.specs.Seats.{Seat, seat_of}
 
--- what a world keeps: the registers, what it keeps of each process, and the history
+-- the state of a world: the registers, the seat of each process, and the history
 pub record WorldState : Type 0 where
   pub setup : Setup
   pub registers : List (List Cell)
   pub seats : List Seat
   pub history : List Taken
 
--- what a world of this setup keeps after a past
+-- the state of a world of this setup after the past
 abbrev pub world_of : Setup → Past → WorldState
 world_of s past = record {
   setup = s;

@@ -10,16 +10,16 @@ use Rattle.world.specs.Seats.{Seat}
 use Rattle.world.specs.Shows.{WorldState}
 use Rattle.process.specs.{left_at}
 
--- the move ends a read that a write overlapped: one was open as the read that began last began, or has begun since
+-- the move ends a read that a write overlapped: a write was open when the latest read began, or has begun since
 abbrev pub ends_overlapped : List Move → Move → Bool
 ends_overlapped moves (EndRead v) = is_overlapped moves
 ends_overlapped moves _ = false
 
--- with an entry such a read ends
+-- the entry ends a read that a write overlapped
 abbrev pub ends_overlapped_read : Past → Entry → Bool
 ends_overlapped_read before e = elim e.access [ None ↦ false | Some a ↦ ends_overlapped (moves_of a before) a.how ]
 
--- whether an access to come ends such a read, in the past of each record that a world shows
+-- whether the access would end a read that a write overlapped, in every record that the world shows
 abbrev pub TellsOverlapped : WorldState → Access → Bool → Type 0
 TellsOverlapped w access overlapped = InEachPast w (λ s past. overlapped ≡ ends_overlapped (moves_of access past) access.how)
 
@@ -27,7 +27,7 @@ TellsOverlapped w access overlapped = InEachPast w (λ s past. overlapped ≡ en
 abbrev pub AddsQuietly : WorldState → ℕ → Bool → Access → Type 0
 AddsQuietly w p flick access = Adds w (Step p flick) p (record { access = Some access; marks = [] })
 
--- a step by this flick that has no mark
+-- a step of p by this flick, without a mark, makes the new world of the old one
 pub record StepsQuietly (old : WorldState) (p : ℕ) (flick : Bool) (new : WorldState) : Type 0 where
   pub access : Access
   pub adds : AddsQuietly old p flick access
@@ -35,22 +35,22 @@ pub record StepsQuietly (old : WorldState) (p : ℕ) (flick : Bool) (new : World
   pub headline : KeepsTheHeadline old p (record { access = Some access; marks = [] })
   pub setup : new.setup ≡ old.setup
 
--- how many of the next steps of a process are within a number access of its call; none, if there is no such process
+-- the number of the next steps of p that are within a register access of its call; 0 if p does not exist
 abbrev pub left_in : List Seat → ℕ → ℕ
 left_in seats p = elim (slice_get seats p) [ None ↦ 0 | Some seat ↦ left_at seat.process ]
 
--- each process but p has as many as before
+-- for each process other than p, the number of these steps is as before
 abbrev pub KeepOthers : List Seat → ℕ → List Seat → Type 0
 KeepOthers seats p new = (q : ℕ) → (q ≡ p → ⊥) → left_in new q ≡ left_in seats q
 
--- such a step within a number access, with this access; so is known whether it ended such a read
+-- such a step within a register access, with this access; overlapped: it ended a read that a write overlapped
 pub record MakesQuietly (old : WorldState) (p : ℕ) (flick : Bool) (access : Access) (overlapped : Bool) (new : WorldState) : Type 0 where
   pub within : 0 < left_in old.seats p
   pub steps : StepsQuietly old p flick new
   pub access_is : steps.access ≡ access
   pub tells : TellsOverlapped old access overlapped
 
--- so many of them, each by the flick that is next; the newest makes this access, and so many ended such a read
+-- n such steps, each by the next flick; the newest makes this access, and `overlapped` of them ended a read that a write overlapped
 abbrev pub Walks : WorldState → FlickState → ℕ → ℕ → Access → ℕ → WorldState → FlickState → Type 0
 Walks old flicks p zero newest overlapped new flicks_then = (new ≡ old) × (flicks_then ≡ flicks) × (overlapped ≡ 0)
 Walks old flicks p (suc n) newest overlapped new flicks_then =

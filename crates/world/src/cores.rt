@@ -27,10 +27,10 @@ use smallvec::SmallVec;
 use std::alloc::{AllocError, Global};
 use std::marker::Model;
 
-/// N processes over one set of registers: a world without its history. Once made it takes no memory.
+/// N processes over one set of registers: a world without its history. After its creation it does not allocate.
 ///
-/// Contracts see what it keeps, and that with each history that makes it the world of a record it goes on as that
-/// world does.
+/// Contracts state its contents. With each history that makes it the world of a record, it behaves as that world
+/// does.
 #[derive(Drop)]
 pub struct Core {
     setup: Setup,
@@ -49,7 +49,11 @@ impl Model for Core {
 }
 
 impl Core {
-    /// One in which nothing has happened. The one fault is want of memory.
+    /// Creates a core in which nothing has happened.
+    ///
+    /// # Errors
+    ///
+    /// Returns [`AllocError`] if an allocation fails; there is no other error.
     pub fn new(alloc: Global, setup: &Setup) -> Result<Core, AllocError>
         requires good { checked setup.now ≡ Ok tt }
         ensures setup { IfOk result (λ c. c.setup ≡ setup.now) }
@@ -71,7 +75,7 @@ impl Core {
         })
     }
 
-    /// What is kept of a process; none, if there is no such process.
+    /// Returns the seat of a process; `None` if the process does not exist.
     #[inline]
     fn seat(&self, process: u8) -> Option<&Seat>
         ensures { option_map (λ seat. seat.now) result ≡ slice_get self.now.seats process }
@@ -79,22 +83,22 @@ impl Core {
         self.seats.get(usize::from(process))
     }
 
-    /// How many processes there are.
+    /// Returns the number of processes.
     pub fn processes(&self) -> usize
         ensures { result ≡ length self.now.seats }
     {
         self.seats.len()
     }
 
-    /// Where a process stands; none, if there is no such process.
+    /// Returns the stage of a process; `None` if the process does not exist.
     pub fn stage(&self, process: u8) -> Option<Stage>
         ensures { InEachCorePast self.now (λ s past. result ≡ stage_in s past process) }
     {
         Some(self.seat(process)?.process.stage())
     }
 
-    /// The processes that wait and whose doorways ended before that of this process began, ascending; none,
-    /// unless it is in its doorway or waiting.
+    /// Returns the processes that wait and whose doorways ended before that of this process began, ascending. The list
+    /// is empty unless this process is in its doorway or waiting.
     pub fn ahead(&self, alloc: Global, process: u8) -> SmallVec<u8, 16>
         ensures { InEachCorePast self.now (λ s past. result.items ≡ ahead s process past) }
     {
@@ -104,7 +108,7 @@ impl Core {
         }
     }
 
-    /// The store after the history, off the registers; none while somebody is inside.
+    /// Reads the store after the history from the registers; `None` while a process is inside.
     pub fn newest(&self) -> Option<Image>
         ensures { InEachCorePast self.now (λ s past. option_map image_of result ≡ newest s past) }
     {
@@ -114,7 +118,7 @@ impl Core {
         Some(newest(&self.registers, &self.setup))
     }
 
-    /// What a process takes, where its command is taken and this is the reply.
+    /// Returns the entry of the history for the last call of a process, with this reply.
     pub fn taken(&self, process: u8, reply: Reply) -> Taken
         requires { process < length self.now.seats }
         ensures { result ≡ taken_by self.now.seats process reply }
@@ -129,7 +133,7 @@ impl Core {
         }
     }
 
-    /// Why an event is refused, if it is.
+    /// Returns the reason for which an event is refused, or `None` if it is not refused.
     pub fn refusal(&self, event: &Event) -> Option<Refusal>
         ensures refused { CoreRefuses self.now event.now result }
         ensures never { IfSome result WantsNoMemory }
@@ -140,9 +144,13 @@ impl Core {
         }
     }
 
-    /// One event, unless it is refused, and in `effect` what it leads to; the access of a step. The command that it takes,
-    /// if it takes one, is that of the process's last call. An event that is refused leaves `effect` as it is. None is
-    /// refused for want of memory: whoever keeps a history sees to its room before a call.
+    /// Makes one event, writes its effect to `effect`, and returns the access of a step, or `None` for other events. If
+    /// the event takes a command, it is that of the process's last call.
+    ///
+    /// # Errors
+    ///
+    /// Returns the [`Refusal`] of an event that is refused; the core and `effect` are then unchanged. It is never
+    /// [`Refusal::Memory`]: the owner of a history reserves its memory before a call.
     pub fn event(&mut self, event: &Event, effect: &mut Effect) -> Result<Option<Access>, Refusal>
         ensures accepted { IfOk result (CoreAdds self.old event.now effect.new) }
         ensures shows { OnOk result (CoreMakes self.old event.now effect.new self.new) }
@@ -161,9 +169,12 @@ impl Core {
         Ok(self.make_event(event, effect))
     }
 
-    /// One step of a process, or of its memory unit: its access, whether that ended a read that a write overlapped, and in
-    /// `told` what it leads to. The command that it takes, if it takes one, is that of the process's last call. A step that
-    /// is refused leaves `told` as it is.
+    /// Makes one step of a process, or of its memory unit, and writes its outcome to `told`. Returns its access, and
+    /// whether it ended a read that a write overlapped. If the step takes a command, it is that of the process's last call.
+    ///
+    /// # Errors
+    ///
+    /// Returns the [`Refusal`] of a step that is refused; the core and `told` are then unchanged.
     #[inline]
     pub fn step(
         &mut self,
@@ -197,7 +208,7 @@ impl Core {
         Ok(self.make_step(process, flick, told))
     }
 
-    /// Why a step of a process is refused, if it is: the same without an event.
+    /// Returns the reason for which a step of a process is refused, or `None`, as `refusal` does, without an event.
     #[inline]
     fn step_refusal(&self, process: u8) -> Option<Refusal>
         ensures refused { (flick : Bool) → CoreRefuses self.now (Step process flick) result }
@@ -210,7 +221,7 @@ impl Core {
         }
     }
 
-    /// The next access of a process, or of its memory unit, and in `told` what it leads to.
+    /// Makes the next access of a process, or of its memory unit, and writes its outcome to `told`.
     #[inline]
     fn make_step(&mut self, process: u8, flick: bool, told: &mut StepTold) -> AccessMade
         requires { CoreRefuses self.old (Step process flick) None }
@@ -226,9 +237,9 @@ impl Core {
         made
     }
 
-    /// So many steps of a process within a number access of its call: each as `step` makes it, by the flick that is next, and
-    /// without a mark. It answers the access of the newest, and how many of them ended a read that a write overlapped. So
-    /// few words are looked at for one that it is quicker than a step which may lead to something.
+    /// Makes `steps` steps of a process within one register access of its call: each as `step` makes it, by the next flick,
+    /// and without a mark. Returns the newest access, and how many of them ended a read that a write overlapped. Each reads
+    /// few words of memory, so it is quicker than a step that may have marks.
     #[inline(always)]
     pub fn run(&mut self, process: u8, flicks: &mut Flicks, steps: u32) -> AccessesMade
         requires some { 0 < steps }
@@ -242,8 +253,9 @@ impl Core {
             .run(&mut self.registers, flicks, steps)
     }
 
-    /// How many of the next steps of a process are within a number access of its call, whatever other processes do: they
-    /// have no mark, and none is the first of the call or the last of the access. 0, if there is no such process.
+    /// Returns the number of the next steps of a process that are within a register access of its call, whatever other
+    /// processes do. They have no mark, and none is the first of the call or the last of the access. 0 if the process does
+    /// not exist.
     #[inline]
     pub fn left(&self, process: u8) -> u32
         ensures { result ≡ left_in self.now.seats process }
@@ -254,7 +266,7 @@ impl Core {
         }
     }
 
-    /// An event that is not refused, and in `effect` what it leads to; the access of a step.
+    /// Makes an event that is not refused, writes its effect to `effect`, and returns the access of a step.
     fn make_event(&mut self, event: &Event, effect: &mut Effect) -> Option<Access>
         requires { CoreRefuses self.old event.now None }
         ensures { CoreGoes self.old event.now effect.new result self.new }

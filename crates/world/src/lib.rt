@@ -1,12 +1,12 @@
-//! N processes under events: a world takes one event and answers the act that this adds to the run, or why it is refused.
-//! Each act keeps the headline, which stands as a clause of `World::event`. Beside it are the flicks of steps, the picks of
-//! turns, and the laws.
+//! N processes under events: a world takes one event and returns the act that the event adds to the run, or the refusal.
+//! Each act keeps the main theorem, which is a clause of [`World::event`]. The crate also exports the flicks of steps, the
+//! picks of turns, and the laws.
 //!
 //! ```rust
 //! let mut world = World::new(rt.alloc(), setup)?;
 //! ```
 //!
-//! An event, as `Event::Call(0, Command::Ask)` or `Event::Step(0, false)`, is made so, and the marks of its act are printed:
+//! The following makes an event, such as `Event::Call(0, Command::Ask)` or `Event::Step(0, false)`, and prints its marks:
 //!
 //! ```rust
 //! let Ok(act) = world.event(event) else {

@@ -1,4 +1,4 @@
-//! The marks that a step and an event lead to, as an act has them. They take no memory.
+//! The marks of a step and of an event, as an act contains them. They do not allocate.
 ghost use Rattle.std.specs.Prelude.{◌≡◌, [], ◌∷◌, map};
 ghost use Rattle.record.specs.{placed};
 ghost use Rattle.process.specs.{act_of, marks_of, marks_told};
@@ -8,7 +8,7 @@ use record::{Act, Mark};
 use smallvec::SmallVec;
 use std::alloc::Global;
 
-/// The marks of a step, where a command that is taken gets this place in the history.
+/// Returns the marks of a step; a command that is taken gets the position `place` in the history.
 pub fn step_marks(alloc: Global, told: &StepTold, place: u64) -> SmallVec<Mark, 3>
     ensures { result.items ≡ map (placed place) (marks_told told.now) }
 {
@@ -28,7 +28,7 @@ pub fn step_marks(alloc: Global, told: &StepTold, place: u64) -> SmallVec<Mark, 
     }
 }
 
-/// The marks of an event, where a command that is taken gets this place in the history.
+/// Returns the marks of an event; a command that is taken gets the position `place` in the history.
 pub fn event_marks(alloc: Global, effect: &Effect, place: u64) -> SmallVec<Mark, 3>
     ensures { result.items ≡ map (placed place) (marks_of effect.now) }
 {
@@ -41,7 +41,7 @@ pub fn event_marks(alloc: Global, effect: &Effect, place: u64) -> SmallVec<Mark,
     }
 }
 
-/// What an event has made as an act, where a command that is taken gets this place in the history.
+/// Returns the act of an event that was made; a command that is taken gets the position `place` in the history.
 pub(crate) fn act_made(alloc: Global, made: &EventMade, place: u64) -> Act
     ensures { result ≡ act_of place made.now }
 {
@@ -51,7 +51,7 @@ pub(crate) fn act_made(alloc: Global, made: &EventMade, place: u64) -> Act
     }
 }
 
-/// One mark, in place.
+/// Returns one mark, stored in place.
 fn one(alloc: Global, mark: Mark) -> SmallVec<Mark, 3>
     ensures { result.items ≡ mark ∷ [] }
 {
@@ -61,7 +61,7 @@ fn one(alloc: Global, mark: Mark) -> SmallVec<Mark, 3>
     }
 }
 
-/// Two marks, in place.
+/// Returns two marks, stored in place.
 fn two(alloc: Global, first: Mark, second: Mark) -> SmallVec<Mark, 3>
     ensures { result.items ≡ first ∷ second ∷ [] }
 {

@@ -1,11 +1,11 @@
-//! Who waits before a process, as a list.
+//! The processes ahead of a process, as a list.
 ghost use Rattle.std.specs.Prelude.{◌≡◌};
 ghost use Rattle.world.specs.Queue.{listed};
 
 use smallvec::SmallVec;
 use std::alloc::Global;
 
-/// The places of the trues, ascending. They take no memory.
+/// Returns the indices of the trues, ascending. It does not allocate.
 pub(crate) fn listed(alloc: Global, before: &[bool; 16]) -> SmallVec<u8, 16>
     ensures { result.items ≡ listed before.now }
 {

@@ -1,4 +1,4 @@
-//! What a world keeps of each process: an event of its own, and what it is told of the others.
+//! The seat of each process in a world: how an event of its process changes it, and how another process does.
 ghost use Rattle.std.specs.Prelude.{◌≡◌, ◌<◌, None, map, true};
 ghost use Rattle.std.specs.List.{list_any};
 ghost use Rattle.laws.specs.{is_inside};
@@ -12,7 +12,7 @@ ghost use Rattle.world.specs.Seats.{seat_stepped};
 use process::{AccessMade, BitMemory, Effect, Process, StepTold};
 use record::{Access, Event};
 
-/// What a world keeps of one process.
+/// The state of one process in a world.
 #[derive(Drop)]
 pub(crate) struct Seat {
     pub process: Process,
@@ -23,8 +23,8 @@ pub(crate) struct Seat {
 }
 
 impl Seat {
-    /// Its process makes an event on the registers, before which these processes wait if it is a call: in `effect` is what it
-    /// leads to, and the answer is the access of a step.
+    /// Makes an event of this seat's process on the registers, and writes its effect to `effect`. If the event is a call,
+    /// `before` contains the processes that wait then. Returns the access of a step, or `None` for other events.
     pub fn make(
         &mut self,
         registers: &mut BitMemory,
@@ -72,8 +72,9 @@ impl Seat {
         }
     }
 
-    /// The next access on the registers, of its process or of the memory unit, and whether that ended a read that a write
-    /// overlapped; in `told` is what it leads to. From its first step on the doorway has begun.
+    /// Makes the next access of this seat's process, or of its memory unit, on the registers, and writes its outcome to
+    /// `told`. Returns the access, and whether it ended a read that a write overlapped. The doorway begins with the first
+    /// step.
     #[inline]
     pub fn step(
         &mut self,
@@ -96,7 +97,7 @@ impl Seat {
     }
 }
 
-/// Whether there is such a process, and it waits.
+/// Returns whether the process exists and waits.
 fn waits_at(seats: &[Seat], process: usize) -> bool
     ensures { result ≡ waits_in seats.now process }
 {
@@ -106,14 +107,14 @@ fn waits_at(seats: &[Seat], process: usize) -> bool
     }
 }
 
-/// Whether somebody is inside.
+/// Returns whether a process is inside.
 pub(crate) fn is_occupied(seats: &[Seat]) -> bool
     ensures { result ≡ list_any (λ seat. is_inside seat.process.doing) seats.now }
 {
     seats.iter().any(|seat| seat.process.is_inside())
 }
 
-/// Which of 16 processes wait before a call; before another event it is not asked.
+/// Returns which of 16 processes wait before a call; for another event the result is unspecified.
 pub(crate) fn waiting(seats: &[Seat], event: &Event) -> [bool; 16]
     ensures { is_call event.now ≡ true → result ≡ waiting_in seats.now }
 {
@@ -127,7 +128,7 @@ pub(crate) fn waiting(seats: &[Seat], event: &Event) -> [bool; 16]
     waiting
 }
 
-/// Each process is told of one that goes on to wait, or not to wait.
+/// Updates every seat after a process starts or stops waiting.
 pub(crate) fn tell(seats: &mut [Seat], process: u8, waited: bool, waits: bool)
     requires { process < 16 }
     ensures { seats.new ≡ map (told process waited waits) seats.old }

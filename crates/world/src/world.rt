@@ -26,7 +26,7 @@ use std::marker::Model;
 
 /// N processes over one set of registers, and the history of the commands that they took.
 ///
-/// Contracts see what it keeps, and that this is what the record of its events says.
+/// Contracts state its contents, and that the record of its events determines them.
 #[derive(Drop)]
 pub struct World {
     alloc: Global,
@@ -48,7 +48,11 @@ impl Model for World {
 }
 
 impl World {
-    /// A world in which nothing has happened. The one fault is want of memory.
+    /// Creates a world in which nothing has happened.
+    ///
+    /// # Errors
+    ///
+    /// Returns [`AllocError`] if an allocation fails; there is no other error.
     pub fn new(alloc: Global, setup: &Setup) -> Result<World, AllocError>
         requires good { checked setup.now ≡ Ok tt }
         ensures setup { IfOk result (λ w. w.setup ≡ setup.now) }
@@ -61,12 +65,17 @@ impl World {
         })
     }
 
-    /// One event: the entry that it adds to the record, or the first refusal of their order; a refused event
-    /// changes nothing. A call reserves what its later steps need, and may be refused for want of memory.
+    /// Makes one event and returns the act of the entry that it adds to the record. A call reserves the memory that its
+    /// later steps need.
     ///
-    /// The act is that of an entry for which the headline holds: with it no two processes are inside the critical
-    /// section together; nobody overtakes a process whose doorway finished first; every store answer is the
-    /// one-thread store's at its place in one history that keeps the order of calls that do not overlap.
+    /// The act keeps the main theorem. No two processes are inside the critical section at once. No process overtakes one
+    /// whose doorway ended first. Every store reply is that of the sequential specification at its position in one
+    /// history, which keeps the order of calls that do not overlap.
+    ///
+    /// # Errors
+    ///
+    /// Returns the first [`Refusal`] that applies; [`Refusal::Memory`] comes last, and only for a call. The world is then
+    /// unchanged.
     pub fn event(&mut self, event: Event) -> Result<Act, Refusal>
         ensures accepted { IfOk result (λ act. Adds self.old event (process_of event) act) }
         ensures shows { OnOk result (GoesOn self.old event self.new) }
@@ -84,8 +93,12 @@ impl World {
         }
     }
 
-    /// One event, as `event` makes it, and in `effect` what it leads to; the access of a step. The place of a command
-    /// that it takes is the length of the history before. An event that is refused leaves `effect` as it is.
+    /// Makes one event as `event` does, writes its effect to `effect`, and returns the access of a step, or `None` for
+    /// other events. The position of a command that it takes is the length of the history before the event.
+    ///
+    /// # Errors
+    ///
+    /// Returns the same [`Refusal`] as `event`; the world and `effect` are then unchanged.
     pub fn make(&mut self, event: &Event, effect: &mut Effect) -> Result<Option<Access>, Refusal>
         ensures accepted { IfOk result (AddsEvent self.old event.now effect.new) }
         ensures shows { OnOk result (GoesOn self.old event.now self.new) }
@@ -112,11 +125,15 @@ impl World {
         }
     }
 
-    /// One step of a process, or of its memory unit, as `event` makes it: its access, whether that ended a read that a write
-    /// overlapped, and in `told` what it leads to.
-    /// An act has room for three marks, which few steps have, and so few lead to anything that what they lead to is
-    /// best written in place. The place of a command that it takes is the length of the history before. A step that is
-    /// refused leaves `told` as it is.
+    /// Makes one step of a process, or of its memory unit, as `event` does, and writes its outcome to `told`. Returns its
+    /// access, and whether it ended a read that a write overlapped.
+    ///
+    /// An act has room for three marks, and few steps have a mark, so the outcome is best written in place. The position
+    /// of a command that the step takes is the length of the history before the step.
+    ///
+    /// # Errors
+    ///
+    /// Returns the [`Refusal`] of a step that is refused; the world and `told` are then unchanged.
     #[inline(never)]
     pub fn step(
         &mut self,
@@ -144,9 +161,9 @@ impl World {
         }
     }
 
-    /// So many steps of a process within a number access of its call: each as `step` makes it, by the flick that is next, and
-    /// without a mark; of each the headline holds. It answers the access of the newest, and how many of them ended a read
-    /// that a write overlapped, which costs nothing where nobody looks at it.
+    /// Makes `steps` steps of a process within one register access of its call: each as `step` makes it, by the next flick,
+    /// and without a mark. Each keeps the main theorem. Returns the newest access, and how many of them ended a read that a
+    /// write overlapped; that number costs nothing if the caller does not use it.
     #[inline(always)]
     pub fn run(&mut self, process: u8, flicks: &mut Flicks, steps: u32) -> AccessesMade
         requires some { 0 < steps }
@@ -158,8 +175,9 @@ impl World {
         self.core.run(process, flicks, steps)
     }
 
-    /// How many of the next steps of a process are within a number access of its call, whatever other processes do: they
-    /// have no mark, and none is the first of the call or the last of the access. 0, if there is no such process.
+    /// Returns the number of the next steps of a process that are within a register access of its call, whatever other
+    /// processes do. They have no mark, and none is the first of the call or the last of the access. 0 if the process does
+    /// not exist.
     #[inline]
     pub fn left(&self, process: u8) -> u32
         ensures { result ≡ left_in self.now.seats process }
@@ -167,44 +185,44 @@ impl World {
         self.core.left(process)
     }
 
-    /// There are events whose record the world shows. Nothing to do: it hands over what every other clause takes for
-    /// granted, to a caller who was lent the world.
+    /// Proves that the world shows the record of some events. It does nothing at run time: a caller that borrowed the
+    /// world obtains the fact that every other clause assumes.
     pub fn shown(&self)
         ensures { (events : List Happening) × Shows self.now events }
     {
         let _kept = &self.core;
     }
 
-    /// What it keeps but for the history.
+    /// Returns the part of the world other than the history.
     pub fn core(&self) -> &Core
         ensures { with_history result.now self.now.history ≡ self.now }
     {
         &self.core
     }
 
-    /// Where a process stands; none, if there is no such process.
+    /// Returns the stage of a process; `None` if the process does not exist.
     pub fn stage(&self, process: u8) -> Option<Stage>
         ensures { InEachPast self.now (λ s past. result ≡ stage_in s past process) }
     {
         self.core.stage(process)
     }
 
-    /// The commands taken, in their order.
+    /// Returns the commands taken, in their order.
     pub fn history(&self) -> &[Taken]
         ensures { InEachPast self.now (λ s past. result.now ≡ history s past) }
     {
         &self.history
     }
 
-    /// The processes that wait and whose doorways ended before that of this process began, ascending; none,
-    /// unless it is in its doorway or waiting.
+    /// Returns the processes that wait and whose doorways ended before that of this process began, ascending. The list
+    /// is empty unless this process is in its doorway or waiting.
     pub fn ahead(&self, process: u8) -> SmallVec<u8, 16>
         ensures { InEachPast self.now (λ s past. result.items ≡ ahead s process past) }
     {
         self.core.ahead(self.alloc, process)
     }
 
-    /// The store after the history, off the registers; none while somebody is inside.
+    /// Reads the store after the history from the registers; `None` while a process is inside.
     pub fn newest(&self) -> Option<Image>
         ensures { InEachPast self.now (λ s past. option_map image_of result ≡ newest s past) }
     {
@@ -212,7 +230,11 @@ impl World {
     }
 }
 
-/// Before a call that is not refused: the history gets room for each call that may be taken.
+/// Reserves memory in the history for each call that may be taken, before a call that is not refused.
+///
+/// # Errors
+///
+/// Returns the refusal of the call, or [`Refusal::Memory`] if the allocation fails.
 fn reserve(history: &mut Vec<Taken>, core: &Core, event: &Event) -> Result<(), Refusal>
     ensures room { OnOk result (MakesRoomForCall event.now core.now history.old history.new) }
     ensures refused { IfErr result (CoreTurnsAway core.now event.now) }
@@ -231,7 +253,7 @@ fn reserve(history: &mut Vec<Taken>, core: &Core, event: &Event) -> Result<(), R
     }
 }
 
-/// The command that a process takes, if it takes one, goes into the history, where there is room for it.
+/// Appends the command that a process takes, if it takes one, to the history, which has room for it.
 fn take(history: &mut Vec<Taken>, core: &Core, process: u8, reply: Option<Reply>)
     requires room { HasRoomToTake reply history.old }
     requires there { process < length core.now.seats }

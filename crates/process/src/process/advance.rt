@@ -1,4 +1,4 @@
-//! The next access of a process, and how it goes on by it.
+//! The next access of a process, and the state of the process after it.
 ghost use Rattle.std.specs.Prelude.{◌≡◌, ◌&&◌, ◌∷◌, [], ℕ, Bool, IfSome, None, Some, cond, true};
 ghost use Rattle.record.specs.declared.marks.Mark.TheVariants.{Left};
 ghost use Rattle.record.specs.{settled_marks};
@@ -19,7 +19,7 @@ use record::{Access, Field};
 use registers::{Cursor, NumberRun};
 
 impl Process {
-    /// The next access, of the process or of its memory unit; the end of a read with its value left open.
+    /// Returns the next access of the process or of its memory unit; the end of a read has no value yet.
     #[inline]
     pub fn next(&self, flick: bool) -> Access
         requires goes { may_step self.now.doing ≡ true }
@@ -30,7 +30,7 @@ impl Process {
         self.cursor.next(self.work.given(flick, false))
     }
 
-    /// Goes on by that access, and tells what it leads to. The end of a read gives `value`.
+    /// Advances by that access, and returns its outcome. The end of a read returns `value`.
     #[inline]
     pub fn advance(&mut self, flick: bool, value: bool) -> StepTold
         requires goes { may_step self.old.doing ≡ true }
@@ -45,8 +45,8 @@ impl Process {
     }
 }
 
-/// The process goes on, whose cursor has made its next access; that was the first one of its number access, if the cursor was
-/// fresh before it.
+/// Advances the process after its cursor has made its next access. That was the first access of its register access if
+/// the cursor was fresh before it.
 pub(super) fn go_on(
     called: &mut CallPart,
     work: &mut ProcessWork,
@@ -69,7 +69,7 @@ pub(super) fn go_on(
     }
 }
 
-/// The process runs its call: it goes on to the next number access, where this one is over.
+/// Advances a process that runs its call: it continues with the next register access if this one is over.
 fn run_on(
     called: &mut CallPart,
     work: &mut ProcessWork,
@@ -95,7 +95,7 @@ fn run_on(
     told
 }
 
-/// What an access leads to that is not the last one: the first one may leave.
+/// Returns the outcome of an access that is not the last one: the first one may leave.
 fn told_first(fresh: bool, leaves: bool) -> StepTold
     ensures marks { marks_told result ≡ cond (leaves && fresh) (Left ∷ []) [] }
     ensures changes { changes_told result ≡ None }
@@ -107,7 +107,7 @@ fn told_first(fresh: bool, leaves: bool) -> StepTold
     }
 }
 
-/// The process clears its ticket, having given up waiting; then it has answered.
+/// Advances a process that gave up waiting and clears its ticket; then it has answered.
 fn withdraw_on(called: &CallPart, work: &mut ProcessWork, cursor: &Cursor) -> StepTold
     requires withdraws { work.old ≡ ProcessWork.Withdraws }
     requires moved { (fresh : Bool) × IsMoved called.now ProcessWork.Withdraws cursor.now fresh }
@@ -123,7 +123,7 @@ fn withdraw_on(called: &CallPart, work: &mut ProcessWork, cursor: &Cursor) -> St
     StepTold::Answers(Answer::Withdrawn)
 }
 
-/// The unit settles the torn bit; then it clears the ticket.
+/// Advances a unit that settles the torn bit; then it clears the ticket.
 fn settle_on(
     called: &CallPart,
     work: &mut ProcessWork,
@@ -147,7 +147,7 @@ fn settle_on(
     told_settled(value, taken)
 }
 
-/// The value at which a bit was settled.
+/// Returns the value at which a bit was settled.
 fn value_settled(cursor: &Cursor) -> bool
     requires { (cut : ℕ) × (value : Bool) × (cursor.now.run ≡ NumberRun.Settles cut (Some value)) }
     ensures { (cut : ℕ) (value : Bool) → cursor.now.run ≡ NumberRun.Settles cut (Some value) → result ≡ value }
@@ -161,7 +161,7 @@ fn value_settled(cursor: &Cursor) -> bool
     }
 }
 
-/// What the last access of a settling at `value` leads to.
+/// Returns the outcome of the last access of a settling at `value`.
 fn told_settled(value: bool, taken: &Option<(bool, Reply)>) -> StepTold
     ensures marks { (begun : Bool) → IfSome taken.now (λ (t : Bool × Reply). t.0 ≡ begun) → marks_told result ≡ settled_marks begun (reply_taken taken.now) value }
     ensures changes { changes_told result ≡ None }
@@ -172,7 +172,7 @@ fn told_settled(value: bool, taken: &Option<(bool, Reply)>) -> StepTold
     }
 }
 
-/// The unit clears the ticket; then it clears the choosing bit.
+/// Advances a unit that clears the ticket; then it clears the choosing bit.
 fn free_on(
     called: &CallPart,
     work: &mut ProcessWork,
@@ -195,7 +195,7 @@ fn free_on(
     told_first(fresh, inside)
 }
 
-/// The unit clears the choosing bit; then the process is down.
+/// Advances a unit that clears the choosing bit; then the process is down.
 fn lower_on(called: &CallPart, work: &mut ProcessWork, cursor: &Cursor) -> StepTold
     requires lowers { work.old ≡ ProcessWork.Lowers }
     requires moved { (fresh : Bool) × IsMoved called.now ProcessWork.Lowers cursor.now fresh }

@@ -1,4 +1,4 @@
-//! Parts of a process's work that stand alone, and what those who drive them want to know of it.
+//! Parts of a process's work that run without a whole call, and the facts that their drivers need.
 ghost use Rattle.std.specs.Prelude.{◌≡◌, IfSome};
 ghost use Rattle.record.specs.{IsTornOf};
 ghost use Rattle.process.specs.Alone.{answer_of, called_inside, change_of, full_of, settles, settling_with, ticket_of, torn_of};
@@ -11,7 +11,7 @@ use plain_store::{Answer, Command, Reply};
 use record::{Field, TornBit};
 
 impl Process {
-    /// The ticket with which it ends its doorway, or waits.
+    /// Returns the ticket with which it ends its doorway, or waits.
     pub fn ticket(&self) -> Option<u32>
         ensures { result ≡ ticket_of self.now.doing }
     {
@@ -21,7 +21,7 @@ impl Process {
         }
     }
 
-    /// The process for whose ticket it is refused.
+    /// Returns the process because of whose ticket it is refused.
     pub fn full(&self) -> Option<u8>
         ensures { result ≡ full_of self.now.doing }
     {
@@ -31,8 +31,8 @@ impl Process {
         }
     }
 
-    /// While it writes a change of the store, the reply, the greatest stamp that it has read, and the new value of its
-    /// commit bit.
+    /// Returns the reply, the greatest stamp that it has read and the new value of its commit bit, while it writes a change
+    /// of the store.
     pub fn pending(&self) -> Option<(Reply, u32, bool)>
         ensures { result ≡ change_of self.now.setup self.now.process self.now.doing }
     {
@@ -42,7 +42,7 @@ impl Process {
         }
     }
 
-    /// The answer that it has come to, while it clears its ticket.
+    /// Returns the answer of its call, while it clears its ticket.
     pub fn answer(&self) -> Option<Answer>
         ensures { result ≡ answer_of self.now.doing }
     {
@@ -52,7 +52,7 @@ impl Process {
         }
     }
 
-    /// The greatest stamp that it has read, where its next access may take the command; else 0.
+    /// Returns the greatest stamp that it has read if its next access may take the command, and otherwise 0.
     pub fn changes_read(&self) -> u32
         ensures { result ≡ changes_read self.now.doing }
     {
@@ -62,7 +62,7 @@ impl Process {
         }
     }
 
-    /// The bit that is torn if it fails now.
+    /// Returns the bit that is torn if it fails now.
     pub fn torn(&self) -> Option<TornBit>
         ensures torn { result ≡ torn_of self.now.setup self.now.process self.now.doing }
         ensures known { IfSome result (IsTornOf self.now.setup) }
@@ -73,14 +73,14 @@ impl Process {
         }
     }
 
-    /// Whether its memory unit settles a bit.
+    /// Returns whether its memory unit settles a bit.
     pub fn settles(&self) -> bool
         ensures { result ≡ settles self.now.doing }
     {
         matches!(self.work, ProcessWork::Settles { .. })
     }
 
-    /// A call comes inside.
+    /// Begins a call at the position where it enters the critical section.
     pub fn call_inside(&mut self, command: Command, number: u16)
         ensures { self.new ≡ called_inside self.old command number }
     {
@@ -89,7 +89,7 @@ impl Process {
         enter(&self.called, &mut self.cursor);
     }
 
-    /// It begins to clear its ticket, as one that has given up waiting.
+    /// Begins to clear its ticket, as a process does that gave up waiting.
     pub fn clear_ticket(&mut self)
         ensures { self.new ≡ withdrawn self.old }
     {
@@ -97,7 +97,7 @@ impl Process {
         clear(&self.called, &mut self.cursor, Field::Ticket);
     }
 
-    /// Its memory unit begins: it settles this bit first, or has none to settle.
+    /// Starts its memory unit, which settles this bit first, or has none to settle.
     pub fn begin_unit(&mut self, torn: Option<TornBit>)
         requires { IfSome torn (IsTornOf self.old.setup) }
         ensures { self.new ≡ settling_with self.old torn }

@@ -1,4 +1,4 @@
-//! Where a process gives up waiting, and where it fails.
+//! Withdrawals and failures of a process.
 ghost use Rattle.std.specs.Prelude.{◌≡◌, IfSome, true};
 ghost use Rattle.record.specs.declared.Stage.TheVariants.{Waiting};
 ghost use Rattle.process.specs.Places.{failed, may_fail, stage_doing, withdrawn};
@@ -13,8 +13,8 @@ use record::Field;
 use registers::Cursor;
 
 impl Process {
-    /// The process gives up waiting, and begins to clear its ticket. An open read, if there is one, has to be dropped by
-    /// whoever keeps the memory.
+    /// Makes the process give up waiting and begin to clear its ticket. The owner of the memory must drop its open read, if
+    /// it has one.
     pub fn give_up(&mut self)
         requires waiting { stage_doing self.old.doing ≡ Waiting }
         ensures process { self.new ≡ withdrawn self.old }
@@ -22,8 +22,8 @@ impl Process {
         self.clear_ticket();
     }
 
-    /// The process halts, and its memory unit takes over: it settles the torn bit, or has none to settle. An open read, if
-    /// there is one, has to be dropped by whoever keeps the memory.
+    /// Halts the process and starts its memory unit, which settles the torn bit, or has none to settle. The owner of the
+    /// memory must drop an open read of the process, if it has one.
     pub fn cut(&mut self)
         requires may { may_fail self.old.doing ≡ true }
         ensures process { self.new ≡ failed self.old }
@@ -40,14 +40,14 @@ impl Process {
     }
 }
 
-/// Whether the process writes, and its present bit has begun and has not ended on every copy.
+/// Returns whether the process writes, and its present bit has begun and has not ended on every copy.
 fn is_torn(work: &ProcessWork, cursor: &Cursor) -> bool
     ensures { result ≡ is_torn_at work.now cursor.now }
 {
     matches!(work, ProcessWork::Runs | ProcessWork::Withdraws) && cursor.is_torn()
 }
 
-/// While the process writes its commit bit, the bit's new value, at which it takes the command, and the reply.
+/// Returns the new value of the commit bit, at which the command is taken, and the reply, while the process writes it.
 fn takes(called: &CallPart, work: &ProcessWork) -> Option<(bool, Reply)>
     ensures reply { reply_taken result ≡ taken_at called.now work.now }
     ensures commit { IfSome result (IsOfCommit called.now work.now) }

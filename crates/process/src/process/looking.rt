@@ -1,4 +1,4 @@
-//! What is known of a process. It is looked at, and stays as it is.
+//! Functions that read the state of a process and leave it unchanged.
 ghost use Rattle.std.specs.Prelude.{◌≡◌, ◌<◌, ◌≤◌, Bool, None, Option, Some, cond, length, true};
 ghost use Rattle.plain_store.specs.declared.Reply.{Reply as Replied};
 ghost use Rattle.record.specs.{read_at, width};
@@ -16,7 +16,7 @@ use record::{Access, Move, bit_of};
 use registers::{Cursor, NumberRun};
 
 impl Process {
-    /// The number that it has read so far of the register that it reads; 0, if it reads none, or an image.
+    /// Returns the number that it has read so far of the register that it reads; 0 if it reads no register or an image.
     pub fn number_read(&self) -> u32
         ensures { result ≡ number_read self.now.doing }
     {
@@ -26,7 +26,7 @@ impl Process {
         }
     }
 
-    /// What is known of its ticket, once it has raised its choosing bit and while it is in its doorway.
+    /// Returns the known facts about its ticket, from the raising of its choosing bit to the end of its doorway.
     pub fn ticket_known(&self) -> Option<TicketKnown>
         ensures { result ≡ ticket_known self.now.setup self.now.doing }
     {
@@ -47,8 +47,8 @@ impl Process {
         }
     }
 
-    /// Returns how many accesses of its register access, or of its memory unit's, are made, and how many it has; `None` if
-    /// it makes none.
+    /// Returns the progress of its register access, or of its memory unit's: the number of accesses made, and their total.
+    /// The result is `None` if neither makes one.
     pub fn progress(&self) -> Option<AccessProgress>
         ensures { result ≡ progress self.now.setup self.now.process self.now.doing }
     {
@@ -72,7 +72,7 @@ impl Process {
         }
     }
 
-    /// The bit that its memory unit settles, if it settles one.
+    /// Returns the bit that its memory unit settles, if it settles one.
     pub fn settling(&self) -> Option<Settling>
         ensures { result ≡ settling_of self.now.doing }
     {
@@ -83,7 +83,7 @@ impl Process {
     }
 }
 
-/// The number read so far at a part; 0, if none is read there.
+/// Returns the number read so far at a part; 0 if the part does not read a number.
 fn number_at(called: &CallPart, cursor: &Cursor) -> u32
     requires { IsAtPart called.now.call called.now.part cursor.now }
     ensures { result ≡ number_at (place_at called.now.part cursor.now) }
@@ -95,7 +95,7 @@ fn number_at(called: &CallPart, cursor: &Cursor) -> u32
     }
 }
 
-/// Whether a part reads a register that holds a number.
+/// Returns whether a part reads a register that holds a number.
 fn reads_number(called: &CallPart) -> bool
     ensures reads { result ≡ reads_number called.now.part }
     ensures narrow { result ≡ true → width called.now.call.setup (read_at called.now.call called.now.part).1 ≤ 32 }
@@ -116,7 +116,7 @@ fn bytes_written(cursor: &Cursor) -> Option<[u8; 216]>
     }
 }
 
-/// The bit that a cursor settles.
+/// Returns the bit that a cursor settles.
 fn settling_at(cursor: &Cursor) -> Option<Settling>
     requires going { cursor.now.bit < cursor.now.width }
     requires inside { cursor.now.bit < length cursor.now.bits }

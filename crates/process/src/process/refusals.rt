@@ -1,4 +1,4 @@
-//! Why an event is refused, by its process alone.
+//! The refusals of an event that depend on its process alone.
 ghost use Rattle.std.specs.Prelude.{◌≡◌, ◌<◌, IfSome};
 ghost use Rattle.record.specs.{refused_at};
 ghost use Rattle.process.specs.Places.{WantsNoMemory, is_full, next_number, refusal_of};
@@ -8,8 +8,8 @@ use plain_store::Setup;
 use record::{Event, Refusal, Stage};
 
 impl Process {
-    /// Why an event of this process is refused, if it is: for its stage, or as one call too many. Whose event it is is
-    /// not looked at.
+    /// Returns the reason for which an event of this process is refused, if it is: its stage, or one call too many. It does
+    /// not check that the event is one of this process.
     pub fn refusal(&self, event: &Event) -> Option<Refusal>
         ensures refused { result ≡ refusal_of self.now event.now }
         ensures never { IfSome result WantsNoMemory }
@@ -23,7 +23,7 @@ impl Process {
         None
     }
 
-    /// The number of its next call.
+    /// Returns the number of its next call.
     pub fn next_number(&self) -> u16
         requires { self.now.setup.version ≡ 2 → self.now.number < 65535 }
         ensures { result ≡ next_number self.now.setup self.now.number }
@@ -36,7 +36,7 @@ impl Process {
     }
 }
 
-/// The refusal that the stage of the process gives.
+/// Returns the refusal that the stage of the process causes.
 fn refusal_at(event: &Event, stage: Stage) -> Option<Refusal>
     ensures refused { result ≡ refused_at event.now stage }
     ensures never { IfSome result WantsNoMemory }
@@ -66,7 +66,7 @@ fn refusal_at(event: &Event, stage: Stage) -> Option<Refusal>
     }
 }
 
-/// A call would be one too many: its number does not fit.
+/// Returns whether a call would be one too many, because its number does not fit.
 fn is_full(event: &Event, setup: &Setup, number: u16) -> bool
     ensures { result ≡ is_full setup.now number event.now }
 {

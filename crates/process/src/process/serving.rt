@@ -1,4 +1,4 @@
-//! A process that is served by a memory.
+//! A process with its memory.
 ghost use Rattle.std.specs.Prelude.{◌≡◌, ◌<◌, ◌≤◌, IfSome, true};
 ghost use Rattle.record.specs.{value_of};
 ghost use Rattle.record.specs.declared.stages.Stage.TheVariants.{Waiting};
@@ -16,8 +16,8 @@ use record::Access;
 use registers::{AccessMade, AccessesMade, BitMemory, given};
 
 impl Process {
-    /// How many of its next accesses are within a number access of its call: they have no mark, and none is the first of the
-    /// call or the last of the access.
+    /// Returns the number of its next accesses that are within a register access of its call. They have no mark, and none is
+    /// the first of the call or the last of the register access.
     #[inline]
     pub fn left(&self) -> u32
         ensures { result ≡ left_at self.now }
@@ -30,8 +30,8 @@ impl Process {
         }
     }
 
-    /// Makes its next access on the memory, by this flick, and tells it, what it leads to, and whether it ended a read that a
-    /// write overlapped.
+    /// Makes its next access on the memory, by this flick, and writes its outcome to `told`. Returns the access, and whether
+    /// it ended a read that a write overlapped.
     #[inline]
     pub fn step(&mut self, memory: &mut BitMemory, flick: bool, told: &mut StepTold) -> AccessMade
         requires goes { may_step self.old.doing ≡ true }
@@ -59,8 +59,8 @@ impl Process {
         memory.next_access(&self.cursor, flick)
     }
 
-    /// Returns the access that its next step would make on the memory by this flick, and what that would lead to. Nothing
-    /// changes, and it does not allocate.
+    /// Returns the access that its next step would make on the memory by this flick, and its outcome. Nothing changes, and
+    /// it does not allocate.
     pub fn next_step(&self, memory: &BitMemory, flick: bool) -> (Access, StepTold)
         requires goes { may_step self.now.doing ≡ true }
         requires memory { AreOf self.now.setup memory.now }
@@ -81,8 +81,8 @@ impl Process {
         process
     }
 
-    /// Makes so many steps within a number access, where they lead to nothing, each by the flick that is next. It answers the
-    /// access of the newest, and how many of them ended a read that a write overlapped.
+    /// Makes `steps` steps within a register access, with the outcome `Nothing`, each by the next flick. Returns the newest
+    /// access, and how many of them ended a read that a write overlapped.
     #[inline(always)]
     pub fn run(&mut self, memory: &mut BitMemory, flicks: &mut Flicks, steps: u32) -> AccessesMade
         requires some { 0 < steps }
@@ -95,7 +95,7 @@ impl Process {
         memory.run(&mut self.cursor, flicks, steps)
     }
 
-    /// It gives up waiting: its open read is dropped, and it will clear its ticket.
+    /// Makes it give up waiting: its open read is dropped, and it will clear its ticket.
     pub fn withdraw(&mut self, memory: &mut BitMemory)
         requires waits { stage_doing self.old.doing ≡ Waiting }
         requires memory { AreOf self.old.setup memory.old }
@@ -106,7 +106,7 @@ impl Process {
         self.give_up();
     }
 
-    /// It fails: its open read is dropped, and its memory unit goes on.
+    /// Makes it fail: its open read is dropped, and its memory unit starts.
     pub fn fail(&mut self, memory: &mut BitMemory)
         requires fails { may_fail self.old.doing ≡ true }
         requires memory { AreOf self.old.setup memory.old }

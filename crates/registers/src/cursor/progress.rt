@@ -1,4 +1,4 @@
-//! How far a cursor has come: its accesses, and the one that it made last.
+//! The progress of a cursor: its accesses, and the one that it made last.
 ghost use Rattle.std.specs.Prelude.{◌≡◌, ◌≤◌, false, length, slice_index_or};
 ghost use Rattle.registers.specs.Progress.{accesses_in_all, accesses_made, last_access, access_on, last_read, last_write};
 

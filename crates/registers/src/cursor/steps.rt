@@ -1,4 +1,4 @@
-//! How a cursor goes on: by the single access of a read or of a write, and by whole words.
+//! How a cursor advances: by the single access of a read or of a write, and by whole words.
 ghost use Rattle.std.specs.Prelude.{◌≡◌, ℕ, ◌<◌, ◌≤◌, ◌+◌, ◌*◌, ◌/◌, ◌%◌, true, false, slice_index_or};
 ghost use Rattle.registers.specs.Accesses.{access_with, read_after, read_move, write_after, write_move};
 ghost use Rattle.registers.specs.Cursors.{first_lane};
@@ -11,7 +11,7 @@ use reader_copies::{all_flags, choose, has_flag, mask, one_flag};
 use record::{Access, Move};
 
 impl Cursor {
-    /// The next access of a read, whose end gives `value`.
+    /// Returns the next move of a read; its end returns `value`.
     #[inline(always)]
     pub(crate) fn read_move(&self, value: bool) -> Move
         ensures { result ≡ read_move self.now.begun value }
@@ -23,8 +23,8 @@ impl Cursor {
         }
     }
 
-    /// The next access, which makes this move, and whether that ends a read that a write overlapped. The kind of run is not
-    /// looked at, and all is put together here: so a part at which nobody looks costs nothing.
+    /// Returns the next access, which makes this move, and whether it ends a read that a write overlapped. It does not
+    /// branch on the kind of access, and the result is put together here, so that a part that is not used costs nothing.
     #[inline(always)]
     pub(crate) fn made(&self, how: Move, overlapped: bool) -> AccessMade
         requires { self.now.bit < self.now.width }
@@ -43,7 +43,7 @@ impl Cursor {
         }
     }
 
-    /// The next access of a write.
+    /// Returns the next move of a write.
     #[inline(always)]
     pub(crate) fn write_move(&self) -> Move
         requires writes { self.now.run ≡ NumberRun.Writes }
@@ -58,7 +58,7 @@ impl Cursor {
         }
     }
 
-    /// The lane of the copy that a write has come to.
+    /// Returns the lane of the present copy of a write.
     #[inline(always)]
     pub(crate) fn copy_lane(&self) -> usize
         ensures lane { result ≡ first_lane self.now + self.now.copy }
@@ -67,7 +67,7 @@ impl Cursor {
         self.lane + self.copy as usize
     }
 
-    /// A read goes on by its next access, whose end gives `value`, without a branch on which it is.
+    /// Advances a read by its next access, whose end returns `value`, without a branch on whether it is a begin or an end.
     #[inline(always)]
     pub(crate) fn read_on(&mut self, value: bool)
         requires reads { self.old.run ≡ NumberRun.Reads }
@@ -82,15 +82,15 @@ impl Cursor {
         self.begun = !self.begun;
     }
 
-    /// How many bits of a read or a write may be gone through at once, within so many accesses and one word: none once one
-    /// has begun.
+    /// Returns the number of bits of a read or a write that may be accessed at once, within `steps` accesses and one word; 0
+    /// if a bit has begun.
     #[inline(always)]
     pub(crate) fn bits_ahead(&self, steps: u32) -> u32
         ensures reads { self.now.run ≡ NumberRun.Reads → 2 * result ≤ steps }
         ensures writes { self.now.run ≡ NumberRun.Writes → 2 * (self.now.copies * result) ≤ steps }
         ensures ahead { 0 < result → AreAhead self.now result }
     {
-        // (what is asked of no steps is then asked nothing)
+        // (a call with 0 steps then returns at once)
         if steps == 0 || self.begun || self.copy != 0 {
             return 0;
         }
@@ -102,7 +102,7 @@ impl Cursor {
         most.min(u32::from(self.width) - bit).min(64 - bit % 64)
     }
 
-    /// The next bits of a read are these.
+    /// Advances a read by its next bits, which are these.
     pub(crate) fn keep_word(&mut self, n: usize, word: u64)
         requires reads { self.old.run ≡ NumberRun.Reads }
         requires ahead { AreAhead self.old n }
@@ -114,7 +114,7 @@ impl Cursor {
         self.bit += n as u16;
     }
 
-    /// A write goes on by its next access.
+    /// Advances a write by its next access.
     #[inline(always)]
     pub(crate) fn write_on(&mut self)
         requires writes { self.old.run ≡ NumberRun.Writes }

@@ -1,4 +1,4 @@
-//! What a register holds, by reader 0's copies. It is read off them, and no access is made.
+//! The value of a register, by reader 0's copies. It is read from them without an access.
 ghost use Rattle.std.specs.Prelude.{◌≡◌, ℕ, ◌<◌, ◌≤◌, Ok, false, slice_index_or};
 ghost use Rattle.plain_store.specs.{checked};
 ghost use Rattle.record.specs.{width};
@@ -15,7 +15,7 @@ use plain_store::Setup;
 use record::width_of;
 
 impl BitMemory {
-    /// The number that a register of at most 32 bits holds.
+    /// Returns the number that a register of at most 32 bits holds.
     pub fn number_held(&self, setup: &Setup, register: RegisterName) -> u32
         requires good { checked setup.now ≡ Ok tt }
         requires memory { AreOf setup.now self.now }
@@ -27,7 +27,7 @@ impl BitMemory {
         low_bits(words[0], width_of(register.field, setup))
     }
 
-    /// The bytes of what a register holds. Behind its bits they are of no meaning.
+    /// Returns the bytes that a register holds. After its bits they have no meaning.
     pub fn bytes_held(&self, setup: &Setup, register: RegisterName) -> [u8; 216]
         requires good { checked setup.now ≡ Ok tt }
         requires memory { AreOf setup.now self.now }
@@ -37,7 +37,7 @@ impl BitMemory {
         bytes_of(&self.words_held(setup, register))
     }
 
-    /// The same as words.
+    /// Returns the value of a register as words.
     fn words_held(&self, setup: &Setup, register: RegisterName) -> [u64; 27]
         requires good { checked setup.now ≡ Ok tt }
         requires memory { AreOf setup.now self.now }

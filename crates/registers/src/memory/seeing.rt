@@ -1,4 +1,4 @@
-//! What a copy of a bit is. It is looked at, and no access is made.
+//! The state of a copy of a bit. It is read without an access.
 ghost use Rattle.std.specs.Prelude.{◌≡◌, ◌<◌, ◌≤◌, IfNone, IfSome, Ok, OnSome, false, length, true};
 ghost use Rattle.plain_store.specs.{checked};
 ghost use Rattle.record.specs.{width};

@@ -1,4 +1,4 @@
-//! A core that is set from another.
+//! Sets a core from another one.
 ghost use Rattle.std.specs.Prelude.{◌≡◌};
 ghost use Rattle.world.specs.Seats.{setups_in};
 
@@ -6,8 +6,8 @@ use super::Core;
 use crate::seats::Seat;
 
 impl Core {
-    /// Becomes as the other, of the same setup: the same registers, with the same accesses open on them, and the same
-    /// of each process. So from here on both go on in one way. It takes no memory.
+    /// Makes this core equal to another one of the same setup: its registers, the accesses that are open on them, and its
+    /// seats. From then on both behave alike. It does not allocate.
     pub fn copy_from(&mut self, other: &Core)
         requires setup { self.old.setup ≡ other.now.setup }
         ensures { self.new ≡ other.now }
@@ -17,7 +17,7 @@ impl Core {
     }
 }
 
-/// Each seat becomes as the other one of its process, of the same setup.
+/// Makes each seat equal to the other seat of its process, which has the same setup.
 fn copy_seats(seats: &mut [Seat], others: &[Seat])
     requires { setups_in seats.old ≡ setups_in others.now }
     ensures { seats.new ≡ others.now }

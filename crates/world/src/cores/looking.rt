@@ -1,4 +1,4 @@
-//! What a core keeps of a process and of a bit. It is looked at, and stays as it is.
+//! Functions that read the state of a process or a bit from a core and leave the core unchanged.
 ghost use Rattle.std.specs.Prelude.{◌≡◌, ◌<◌, IfErr, IfOk};
 ghost use Rattle.record.specs.{width};
 ghost use Rattle.laws.specs.{doing};
@@ -15,7 +15,7 @@ use record::{Access, Act, Entry, Move, Refusal};
 use std::alloc::Global;
 
 impl Core {
-    /// A process at its place.
+    /// Returns the state of a process.
     pub fn process(&self, process: u8) -> &Process
         requires { process < self.now.setup.processes }
         ensures { InEachCorePast self.now (λ s past. result.now ≡ process_after s past process) }
@@ -23,8 +23,8 @@ impl Core {
         &self.seats[usize::from(process)].process
     }
 
-    /// The number that a process has read so far of the register that it reads; 0, if it reads none, or an image, or if there
-    /// is no such process.
+    /// Returns the number that a process has read so far of the register that it reads; 0 if it reads no register or an
+    /// image, or if the process does not exist.
     #[inline]
     pub fn number_read(&self, process: u8) -> u32
         ensures { InEachCorePast self.now (λ s past. result ≡ number_read (doing s process past)) }
@@ -78,7 +78,7 @@ impl Core {
         }
     }
 
-    /// Returns the access that the next step of a process makes by this flick, and what the step leads to. Nothing changes,
+    /// Returns the access that the next step of a process makes by this flick, and the outcome of the step. Nothing changes,
     /// and it does not allocate.
     ///
     /// # Errors

@@ -4,7 +4,7 @@ use Rattle.process.specs.{call_of}
 use Rattle.process.proofs.VersionsSeen.{image-register, newest-inside}
 use Rattle.process.proofs.asked.newest_image.Goals as goal
 
--- the place that was found
+-- the index that was found
 found : {n m most place : ℕ} (numbers : List ℕ) → n ≡ m → most ≡ greatest (take n numbers) → place ≡ index_of most (take n numbers) → place ≡ index_of (greatest (take m numbers)) (take m numbers)
 found numbers from first at = at ∙ (λ i. index_of ((first ∙ ap (λ k. greatest (take k numbers)) from) i) (take (from i) numbers))
 

@@ -5,7 +5,7 @@ use Rattle.process.specs.{AreMarksOn, IsStepped, PartState, ProcessState, Proces
 use Rattle.process.proofs.NextAt.{idle-goes}
 use Rattle.process.proofs.process.advance.go_on.Goals as goal
 
--- the same is said of work that is this
+-- the clauses hold of work that is equal to this
 module _ {k : PartState} {was w : ProcessWork} {cur : CursorState} {fresh : Bool} (same : was ≡ w) where
   steps : {next : ProcessState} → IsStepped k w cur fresh next → IsStepped k was cur fresh next
   steps {next} on = subst (λ w. IsStepped k w cur fresh next) (sym same) on

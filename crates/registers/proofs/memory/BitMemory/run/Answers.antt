@@ -23,7 +23,7 @@ steps-preserved-then-word-gt0 c =
       leads-on word.result c.steps.made c.steps.overlapped (c.args.cursor.now, c.args.self.now, c.args.flicks.now) c.steps.cursor word.new.cursor c.steps.self word.new.self c.steps.flicks c.skip.new.self c.steps.invariant.1 word.ensures.leads c.skip.ensures,
     )
 
--- no word was gone through
+-- no word was accessed at once
 stayed : (c : Else-word-gt0) → HasRun c.steps.made c.steps.overlapped (c.args.cursor.now, c.args.self.now, c.args.flicks.now) (c.run_word-word.new.cursor, c.run_word-word.new.self, c.steps.flicks)
 stayed c =
     let word = c.run_word-word in
@@ -38,7 +38,7 @@ may c = may-step c.steps.made c.steps.overlapped (c.args.cursor.now, c.args.self
 pub step_plain-one-requires : goal.step_plain-one-requires
 step_plain-one-requires c = let it = may (goal.at.step_plain-one-requires c).Else-word-gt0 in record { kind = it.kind; going = it.going; fits = it.fits }
 
--- and then one access was made
+-- one access was then made
 stepped : (c : After-from-overlapped) → HasRun (c.steps.made + 1) (c.steps.overlapped + c.from-overlapped.result) (c.args.cursor.now, c.args.self.now, c.args.flicks.now) (c.step_plain-one.new.cursor, c.step_plain-one.new.self, c.step_plain-one.new.flicks)
 stepped c =
     let one = c.step_plain-one in

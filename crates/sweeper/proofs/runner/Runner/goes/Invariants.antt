@@ -5,6 +5,6 @@ use Rattle.record.specs.declared.events.Event.TheVariants.{Step}
 use Rattle.sweeper.specs.{Follows, is_accepted}
 use Rattle.sweeper.proofs.runner.Runner.goes.Given as goal
 
--- none of those below the present process has a step to make
+-- no process below the present one has a step to make
 abbrev pub invariant-loop-process : goal.invariant-loop-process
 invariant-loop-process l = (events : List Event) → Follows l.self events → list_any (λ p. is_accepted l.self.core.setup events (Step p l.value)) (range_with_len 0 l.process) ≡ false

@@ -26,7 +26,7 @@ made c = record { adds = c.in-Ok.ensures.accepted; makes = c.in-Ok.ensures.shows
 answered : (c : After-more-self-inside) → IsAnswered c.self.inside.auditor (entry_by c.process.result c.in-Ok.access c.deref.result.now) c.hear-law.result c.hear-law.new.self
 answered c = record { heard = c.hear-law.ensures.heard; setup = c.hear-law.ensures.setup }
 
--- the runner goes on by the event
+-- the runner makes the event
 goes : (c : After-more-self-inside) (events : List Event) → Follows (before c) events →
     Follows (record { core = c.event.new.self; auditor = c.hear-law.new.self; taken = c.more-self-inside.result }) (c.args.event.now ∷ events)
 goes c events follows =

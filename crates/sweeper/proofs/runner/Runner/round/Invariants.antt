@@ -4,7 +4,7 @@ use Rattle.record.specs.declared.events.Event.TheVariants.{Step}
 use Rattle.sweeper.specs.{RunsOn, due}
 use Rattle.sweeper.proofs.runner.Runner.round.Given as goal
 
--- those below the present process have made their steps
+-- the processes below the present one have made their steps
 abbrev pub invariant-loop-process : goal.invariant-loop-process
 invariant-loop-process l = record {
   follows : RunsOn l.fn.self l.self (λ events. fold (λ events p. Step p l.value ∷ events) events (range_with_len 0 l.process));

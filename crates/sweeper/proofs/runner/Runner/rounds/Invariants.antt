@@ -4,7 +4,7 @@ use Rattle.sweeper.specs.{Follows, due, goes, round}
 use Rattle.sweeper.proofs.Going.{Going}
 use Rattle.sweeper.proofs.runner.Runner.rounds.Given as goal
 
--- so many rounds are left
+-- the number of rounds that are left
 abbrev pub invariant-rounds : goal.invariant-rounds
 invariant-rounds l = record {
   going : (events : List Event) → Follows l.fn.self events → Going (goes l.fn.self.core.setup l.value) (round l.fn.self.core.setup l.value) l.most events l.self l.left;

@@ -14,7 +14,7 @@ before c = let i = c.self.inside in record { core = i.core; auditor = i.auditor;
 abbrev then : After-hear_run-law → RunnerState
 then c = record { core = c.run-made.new.self; auditor = c.hear_run-law.new.self; taken = c.self.inside.taken }
 
--- the runner goes on by the steps
+-- the runner makes the steps
 goes : (c : After-hear_run-law) (events : List Event) → Follows (before c) events → HasRunOn (before c) c.args.flicks.now c.args.process c.args.steps c.hear_run-law.result (then c) events
 goes c events follows =
     let run = c.run-made in

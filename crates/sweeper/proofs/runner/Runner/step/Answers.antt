@@ -31,7 +31,7 @@ made c = record { adds = c.in-Ok.ensures.accepted; makes = c.in-Ok.ensures.shows
 answered : (c : After-more-self-inside) → IsAnswered c.self.inside.auditor (entry_by c.args.process (Some c.in-Ok.made.access) (marks c)) c.hear_step-law.result c.hear_step-law.new.auditor
 answered c = record { heard = c.hear_step-law.ensures.heard; setup = c.hear_step-law.ensures.setup }
 
--- the runner goes on by the step
+-- the runner makes the step
 goes : (c : After-more-self-inside) (events : List Event) → Follows (before c) events →
     Follows (record { core = c.step.new.self; auditor = c.hear_step-law.new.auditor; taken = c.more-self-inside.result }) (Step c.args.process c.args.value ∷ events)
 goes c events follows =

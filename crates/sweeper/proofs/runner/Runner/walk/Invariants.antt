@@ -5,7 +5,7 @@ use Rattle.sweeper.specs.{Follows, due, is_accepted}
 use Rattle.sweeper.proofs.Going.{Going}
 use Rattle.sweeper.proofs.runner.Runner.walk.Given as goal
 
--- so many steps are left
+-- the number of steps that are left
 abbrev pub invariant-steps : goal.invariant-steps
 invariant-steps l = record {
   going : (events : List Event) → Follows l.fn.self events → Going (λ events. is_accepted l.fn.self.core.setup events (Step l.process l.value)) (λ events. Step l.process l.value ∷ events) l.most events l.self l.left;

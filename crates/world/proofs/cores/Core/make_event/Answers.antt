@@ -31,7 +31,7 @@ make-access-requires c =
 pub tell-requires : goal.tell-requires
 tell-requires c = let few = (own (goal.at.tell-requires c).After-index_mut-seat).few in omega (arith, few, c.process-process.ensures)
 
--- what is left
+-- the core after the event
 made : (c : After-tell) → (let i = c.self.inside in let core : CoreState = record { setup = i.setup; registers = i.registers; seats = i.seats.items } in IsNext core c.args.event.now c.index_mut-seat.result.now) → (let i = c.self.inside in let then = slice_set i.seats.items c.from.result c.make-access.new.self in
     let new : CoreState = record { setup = i.setup; registers = c.make-access.new.registers; seats = take i.seats.len (c.tell.new.seats ++ drop (length c.tell.new.seats) then) } in
     HasMade c.args.self.now c.args.event.now c.make-access.new.effect c.make-access.result new)

@@ -37,7 +37,7 @@ step-made-requires c =
 pub tell-requires : goal.tell-requires
 tell-requires c = (own (goal.at.tell-requires c).After-index_mut-seat).few
 
--- what is left
+-- the core after the step
 made : (c : After-tell) → (let i = c.self.inside in let core : CoreState = record { setup = i.setup; registers = i.registers; seats = i.seats.items } in IsNext core (Step c.args.process c.args.flick) c.index_mut-seat.result.now) → (let i = c.self.inside in let then = slice_set i.seats.items c.from.result c.step-made.new.self in
     let new : CoreState = record { setup = i.setup; registers = c.step-made.new.registers; seats = take i.seats.len (c.tell.new.seats ++ drop (length c.tell.new.seats) then) } in
     HasMade c.args.self.now (Step c.args.process c.args.flick) (Steps c.step-made.new.told) (Some c.step-made.result.access) new)

@@ -24,7 +24,7 @@ index-seat-requires c =
 abbrev core : After-index-seat → CoreState
 core c = let i = c.self.inside in record { setup = i.setup; registers = i.registers; seats = i.seats.items }
 
--- its seat is there, and an access is left
+-- its seat exists, and an access is left
 left : (c : After-index-seat) → IsLeft (core c) c.args.process 1 c.index-seat.result.now
 left c = is-left (core c) c.args.self.now c.args.process c.from.result 1 c.index-seat.result.now c.self.view_is (omega arith) c.requires c.from.ensures c.index-seat.ensures
 
@@ -44,13 +44,13 @@ next_access-requires-clause-goes c = let a = (goal.at.next_access-requires-claus
 pub next_access-requires-clause-memory : goal.next_access-requires-clause-memory
 next_access-requires-clause-memory c = (own (goal.at.next_access-requires-clause-memory c).After-index-seat).registers
 
--- its next step makes this access, if its memory answers so
+-- its next step makes this access, if its memory returns this value
 quietly : (c : After-index-seat) (a : Access) → a ≡ answered_at c.index-seat.result.now.process c.self.inside.registers c.args.flick → CoreAddsQuietly c.args.self.now c.args.process c.args.flick a
 quietly c a is =
     subst (λ (d : CoreState). CoreAddsQuietly d c.args.process c.args.flick a) c.self.view_is
     (quiet-next (core c) c.args.process c.args.flick c.index-seat.result.now a (left c).there (some c) is)
 
--- the memory answers the end of a read alone
+-- only the end of a read depends on the memory
 plain : (v : Bool) (how : Move) → ((w : Bool) → how ≡ EndRead w → ⊥) → how ≡ ended v how
 plain v (EndRead w) other = absurd (other w refl)
 plain v BeginRead other = refl

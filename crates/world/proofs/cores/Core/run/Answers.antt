@@ -15,7 +15,7 @@ index_mut-requires c =
 abbrev core : After-index_mut → CoreState
 core c = let i = c.self.inside in record { setup = i.setup; registers = i.registers; seats = i.seats.items }
 
--- its seat is there, and accesses are left
+-- its seat exists, and accesses are left
 left : (c : After-index_mut) → IsLeft (core c) c.args.process c.args.steps c.index_mut.result.now
 left c = is-left (core c) c.args.self.now c.args.process c.from.result c.args.steps c.index_mut.result.now c.self.view_is c.requires.some c.requires.within c.from.ensures c.index_mut.ensures.value
 
@@ -24,7 +24,7 @@ run-requires c =
     let a = (goal.at.run-requires c).After-index_mut in
     record { some = c.requires.some; left = (left a).within; memory = (seated (core a) a.args.process a.index_mut.result.now a.self.invariant (left a).there).registers }
 
--- what is left
+-- the core after the steps
 ran : (c : After-run) → (let i = c.self.inside in let core : CoreState = record { setup = i.setup; registers = i.registers; seats = i.seats.items } in IsLeft core c.args.process c.args.steps c.index_mut.result.now) →
     HasRun c.args.self.now c.args.flicks.now c.args.process c.args.steps c.run.result.newest c.run.result.overlapped
     (let i = c.self.inside in let then : CoreState = record { setup = i.setup; registers = c.run.new.memory; seats = slice_set i.seats.items c.from.result (seat_with c.run.new.self c.index_mut.result.now) } in then) c.run.new.flicks
