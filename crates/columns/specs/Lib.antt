@@ -37,6 +37,7 @@ pub use declared.state.Group.{Group}
 pub use declared.seats.KnownProcess.{KnownProcess}
 pub use declared.layout.Lane.{Lane}
 pub use declared.layout.Layout.{Layout}
+pub use declared.limits.WaveLimit.{WaveLimit}
 pub use declared.reads.OverlappedRead.{OverlappedRead}
 pub use declared.placing.Placing.{Placing}
 pub use declared.told.RunLine.{RunLine}

@@ -5,8 +5,8 @@ use Rattle.std.specs.Option.{option_map_or}
 use Rattle.columns.specs.{GivenAccess, GivenChange}
 use Rattle.trace.specs.{CellAccess, CellMove, TraceEntry, TracePast, TraceRegister, TraceSetup, cell_text, ends}
 use Rattle.trace_memory.specs.{CellState, MadeAccess, cell_after, has_cell, number_of, opened, same_cell}
-use Rattle.trace_accesses.specs.declared.limits.WaveLimit.{WaveLimit}
-use Rattle.trace_accesses.specs.declared.limits.WaveLimit.TheVariants.{Sixteen, All}
+use Rattle.columns.specs.declared.limits.WaveLimit.{WaveLimit}
+use Rattle.columns.specs.declared.limits.WaveLimit.TheVariants.{Sixteen, All}
 use Rattle.trace_accesses.specs.declared.watched.RowChange.{RowChange}
 use Rattle.trace_accesses.specs.declared.watched.WatchedAccess.{WatchedAccess}
 use Rattle.trace_accesses.specs.Moves.{alters, kind_of, step_of, writes}

@@ -9,6 +9,6 @@ pub use Keeping.{HasRows, HasTaken, HasWatched, IsRows, IsWatch, OfTaken, RowsSt
 pub use Moves.{alters, kind_of, step_of, writes}
 pub use Rows.{row_below, row_in, rows_after, rows_with, with_last, written_rows}
 pub use Words.{arrow, begin_words, other_than, unlike, value_words, words_of}
-pub use declared.limits.WaveLimit.{WaveLimit}
+pub use Rattle.columns.specs.{WaveLimit}
 pub use declared.watched.RowChange.{RowChange}
 pub use declared.watched.WatchedAccess.{WatchedAccess}

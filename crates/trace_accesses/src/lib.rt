@@ -9,7 +9,7 @@
 //!
 //! | Module | Contents |
 //! |---|---|
-//! | `limits` | how many waves are shown |
+//! | `limits` | which waves are shown |
 //! | `making` | one access, and what is kept after it |
 //! | `moves` | the kind and the step of a move, and whether it writes |
 //! | `overlaps` | where an access began, and which open accesses it overlaps |
@@ -30,7 +30,7 @@ mod watch;
 mod watched;
 mod words;
 
-pub use limits::WaveLimit;
+pub use columns::WaveLimit;
 pub use watch::AccessWatch;
 
 #[cfg(test)]

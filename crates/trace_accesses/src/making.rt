@@ -7,10 +7,10 @@ ghost use Rattle.trace_accesses.specs.Accesses.{watched_by};
 ghost use Rattle.trace_accesses.specs.Keeping.{HasRows, rows_taken};
 ghost use Rattle.trace_accesses.specs.Rows.{written_rows};
 
-use crate::limits::WaveLimit;
 use crate::overlaps::{begin, overlaps};
 use crate::rows::WaveRows;
 use crate::watched::{WatchedAccess, change};
+use columns::WaveLimit;
 use trace::CellAccess;
 use trace_memory::CellMemory;
 

@@ -2,8 +2,9 @@
 ghost use Rattle.std.specs.Prelude.{◌≡◌, option_and_then};
 ghost use Rattle.trace_accesses.specs.Accesses.{change_in_row, change_of};
 
-use crate::limits::WaveLimit;
+use crate::limits::has_row;
 use crate::moves::alters;
+use columns::WaveLimit;
 use trace::{CellAccess, CellMove};
 use trace_memory::CellState;
 
@@ -60,7 +61,7 @@ pub(crate) fn change(
 fn change_in(limit: WaveLimit, row: u16, before: &CellState, after: &CellState) -> Option<RowChange>
     ensures { result ≡ change_in_row limit before.now after.now row }
 {
-    if !limit.has(row) {
+    if !has_row(limit, row) {
         return None;
     }
     Some(RowChange {
