@@ -1,0 +1,59 @@
+use Rattle.std.proofs.Common.{◌≡◌, ◌∷◌, List, Option, Some, ap, is_some, sym, subst, ◌∙◌}
+use Rattle.laws.specs.{IsThere}
+use Rattle.record.specs.{Access, Entry}
+use Rattle.record_accesses.specs.{BitState, BitsState, HasBits, HasOpened, OpenBitAccess, WatchState, begin_of, bit_after, bits_taken, change_of, entry_with, row_in, state_at, step_of, watched_by}
+use Rattle.record_accesses.proofs.BitFacts.{writer-open}
+use Rattle.record_accesses.proofs.RowFacts.{after-is, before-is, bits-taken}
+use Rattle.record_accesses.proofs.watch.RecordAccessWatch.make.Goals as goal
+
+pub returns-clause-bits : goal.returns-clause-bits
+returns-clause-bits c = λ past marks has.
+    let i = c.self.inside in
+    let w : WatchState = record { setup = i.openings; bits = i.bits; opened = i.opened; limit = i.limit } in
+    let p = c.args.process in
+    let a = c.args.access.now in
+    let e : Entry = entry_with p (Some a) marks in
+    let old : HasBits w.setup w.bits past = subst (λ (w : WatchState). HasBits w.setup w.bits past) (sym c.self.view_is) has in
+    let there : IsThere w.setup a = subst (λ (w : WatchState). IsThere w.setup a) (sym c.self.view_is) c.requires.there in
+    let row = c.row-row.ensures.row in
+    let before = c.state-before.ensures ∙ (λ j. state_at w.bits (row j) (c.value.ensures j)) in
+    let after = c.after-after.ensures ∙ ap (bit_after p a.how) before in
+    let new : c.take.new.self ≡ bits_taken (row_in w.bits.names a) a (bit_after p a.how (state_at w.bits (row_in w.bits.names a) _)) w.bits =
+    c.in_ok-row.ensures.taken ∙ (λ j. bits_taken (row j) a (after j) w.bits) in
+    subst (λ (w : WatchState). HasBits w.setup c.take.new.self (e ∷ past)) c.self.view_is
+    (subst (λ (b : BitsState). HasBits w.setup b (e ∷ past)) (sym new) (bits-taken w.setup w.bits past p marks a c.row-row.ensures.states there old))
+
+pub returns-clause-watched : goal.returns-clause-watched
+returns-clause-watched c = λ past marks has opens is.
+    let i = c.self.inside in
+    let w : WatchState = record { setup = i.openings; bits = i.bits; opened = i.opened; limit = i.limit } in
+    let p = c.args.process in
+    let a = c.args.access.now in
+    let e : Entry = entry_with p (Some a) marks in
+    let long = c.row-row.ensures.states in
+    let old : HasBits w.setup w.bits past = subst (λ (w : WatchState). HasBits w.setup w.bits past) (sym c.self.view_is) has in
+    let all : HasOpened w.opened past = subst (λ (w : WatchState). HasOpened w.opened past) (sym c.self.view_is) opens in
+    let there : IsThere w.setup a = subst (λ (w : WatchState). IsThere w.setup a) (sym c.self.view_is) c.requires.there in
+    let new : HasBits w.setup c.take.new.self (e ∷ past) = subst (λ (w : WatchState). HasBits w.setup c.take.new.self (e ∷ past)) (sym c.self.view_is) (returns-clause-bits c past marks has) in
+    let row = c.row-row.ensures.row in
+    let first = c.state-before.ensures ∙ (λ j. state_at w.bits (row j) (c.value.ensures j)) in
+    let before = first ∙ before-is w.setup w.bits past p marks a long there old in
+    let after = c.after-after.ensures ∙ ap (bit_after p a.how) first ∙ after-is w.setup w.bits past p marks a long there old in
+    let current = c.get-current.ensures ∙ all.each p c.requires.process in
+    let step = c.step-step.ensures ∙ ap (λ (o : Option OpenBitAccess). step_of o a) current in
+    let begin = c.begin.ensures ∙ (λ j. begin_of (step j) (current j) (is j)) in
+    let over = c.overlaps.ensures past all (ap (λ (b : BitState). b.writer) before) in
+    let place = c.in_ok-row.ensures.row ∙ ap (λ (rows : List Access). row_in rows a) new.names in
+    let open_now = c.is_some-is_open.ensures ∙ ap (λ (b : BitState). is_some b.writer) after ∙ writer-open a (e ∷ past) in
+    let change = c.change.ensures ∙ (λ j. change_of w.limit (place j) a.how (before j).written (after j).written (open_now j)) in
+    (λ j. record {
+      event = is j;
+      process = p;
+      access = a;
+      step = step j;
+      begin = begin j;
+      written = (before j).written;
+      overlaps = over j;
+      change = change j;
+    })
+    ∙ (λ j. watched_by (c.self.view_is j).setup (c.self.view_is j).limit past e a)

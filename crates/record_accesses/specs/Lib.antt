@@ -1,0 +1,28 @@
+pub use Rattle.columns.specs as columns
+pub mod Accesses
+pub mod Bits
+pub mod Keeping
+pub mod Marks
+pub mod Moves
+pub mod Opened
+pub mod Overlaps
+pub mod Rows
+pub mod Waves
+pub mod Words
+pub use Accesses.{begin_of, change_by, dropped_as, dropped_by, is_there, possible, possible_access, possible_past, shown_access, shown_as, shown_change, shown_dropped, shown_made, step_by, step_of, watched, watched_by, watched_of}
+pub use Bits.{bit_after, bit_of, new_bit, writer_after, writer_of, writer_with}
+pub use Keeping.{BitsState, HasBits, HasOpened, HasTaken, HasWatched, IsPossible, OfTaken, WatchState, bits_taken, entry_with, no_bits, opened_taken, state_at}
+pub use Marks.{AreOwnReads, AreShown, IsOwnRead, MarksOverlappedReads, MarksOverlappedReadsOfRuns, box_of}
+pub use Moves.{alters, begins, kind_of, writes}
+pub use Opened.{begins_read, begun_by, dropped, drops, drops_read, left_open, opened, read_of, reads_bit, write_of, writes_bit}
+pub use Overlaps.{first_overlaps, is_writer, overlaps_by, overlaps_with}
+pub use Rows.{row_in, rows_after, rows_with, with_last, written_bits}
+pub use Waves.{change_in_row, change_of, is_within}
+pub use Words.{arrow, other_than, unlike, words_of}
+pub use declared.bits.BitState.{BitState}
+pub use Rattle.columns.specs.{WaveLimit}
+pub use declared.opened.OpenBitAccess.{OpenBitAccess}
+pub use declared.watched.DroppedRead.{DroppedRead}
+pub use declared.watched.BitChange.{BitChange}
+pub use declared.watched.Watched.{Watched}
+pub use declared.watched.WatchedBitAccess.{WatchedBitAccess}

@@ -1,0 +1,58 @@
+//! The accesses of a run or of a record, good or bad, as a picture shows them.
+//!
+//! The definitions look back over the entries before an entry. A [`RecordAccessWatch`] observes the entries one by one. Its
+//! method `observe` takes an entry with its number, and returns what is shown of the access of the entry. The watch keeps the
+//! access that each process has open, and the state of each bit that was written, so its memory does not grow with the number
+//! of entries. It is created before the first entry:
+//!
+//! ```rust
+//! let mut watch = RecordAccessWatch::new(alloc, setup, limit)?;
+//! ```
+//!
+//! Columns keep one open access for each process, whose place the next access of the process takes. The entries of a process
+//! that fails are shown so:
+//!
+//! - If the process fails or withdraws during a read, its box ends there, without words.
+//! - If the process fails during a write, its box continues. The settling of the bit ends the box, with the words `settle 1`.
+//! - If the memory unit first writes another copy of the bit, that write takes the place of the interrupted one, and the
+//!   settling is a whole write. The wave of the bit shows that the interrupted write is open until the settling, and reads
+//!   that begin until then overlap it.
+//!
+//! [`boxes_show_overlapped_reads`] states that the box of an open read is marked exactly if the safe rule finds the read
+//! overlapped.
+//!
+//! | Module | Contents |
+//! |---|---|
+//! | `bits` | the state of a bit |
+//! | `boxes` | what the boxes of reads show |
+//! | `limits` | which waves are shown |
+//! | `moves` | the kind and the step of a move, and whether it writes |
+//! | `opened` | the access that each process has open |
+//! | `openings` | which bits exist, and their opening values |
+//! | `overlaps` | which open accesses an access overlaps |
+//! | `watched` | an access in numbers |
+//! | `words` | an access in words |
+//! | `watch` | the watch |
+//! | `written_bits` | the row and the state of each bit that was written |
+#![tactic(auto)]
+
+mod bits;
+mod boxes;
+mod limits;
+mod moves;
+mod opened;
+mod openings;
+mod overlaps;
+mod watch;
+mod watched;
+mod words;
+mod written_bits;
+
+pub use boxes::boxes_show_overlapped_reads;
+pub use columns::WaveLimit;
+pub use opened::drops_open_read;
+pub use plain_store;
+pub use watch::RecordAccessWatch;
+
+#[cfg(test)]
+mod tests;
