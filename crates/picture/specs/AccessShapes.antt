@@ -18,11 +18,11 @@ box_style kind.Read true = codes "overlapped"
 box_style kind.Write is_overlapped = codes "write"
 box_style kind.Update is_overlapped = codes "update"
 
--- the same of an access that is open where its band ends
+-- the same of an access that does not end in its band
 abbrev pub open_style : AccessKind → Bool → List ℕ
 open_style kind is_overlapped = box_style kind is_overlapped ++ codes " unended"
 
--- the box of an access from one place to another, and that of one that is open where its band ends
+-- the box of an access from one place to another, and that of one that does not end in its band
 abbrev pub access_box : Lane → UnendedAccess → ℕ → ℕ → Shape
 access_box lane access from to = Block (box_style access.kind access.is_overlapped) (point from (boxes_of lane)) (to - from) 28
 
@@ -85,11 +85,16 @@ abbrev pub whole_shapes : Lane → ShownAccess → ℕ → List Shape
 whole_shapes lane access x =
     titled access (whole_box lane access x ∷ styled_words (value_by access.kind (begins_overlapped access)) lane (x + 7) access)
 
--- what an entry draws of an access; the words of one that begins are drawn over its box, and so behind it
+-- the box of an access that is open up to a place: where its band ends, or where the next access of its process takes its place
+abbrev pub unended_box : Lane → Option UnendedAccess → ℕ → ℕ → List Shape
+unended_box lane None from to = []
+unended_box lane (Some access) from to = open_box lane access from to ∷ []
+
+-- What an entry draws of an access. The words of one that begins are drawn over its box, and so after it. If an access is open that never ends, because its process failed, its box goes up to this one.
 abbrev pub access_shapes : Lane → Option UnendedAccess → ℕ → ShownAccess → ℕ → AccessStep → List Shape
-access_shapes lane before from access x step.Begin = []
+access_shapes lane before from access x step.Begin = unended_box lane before from x
 access_shapes lane before from access x step.End = ended_shapes lane before from access x
-access_shapes lane before from access x step.Whole = whole_shapes lane access x
+access_shapes lane before from access x step.Whole = unended_box lane before from x ++ whole_shapes lane access x
 
 -- an access, if a process makes it
 abbrev pub made_by : ℕ → Option ShownAccess → Option ShownAccess
@@ -104,11 +109,6 @@ shapes_if lane before from x (Some access) = access_shapes lane before from acce
 -- where the access began that is open behind a column
 abbrev pub from_next : ℕ → ℕ → Seen → ℕ
 from_next p from column = cond (is_some (made_by p column.access)) column.x from
-
--- the box of an access that is open where its band ends
-abbrev pub unended_box : Lane → Option UnendedAccess → ℕ → ℕ → List Shape
-unended_box lane None from to = []
-unended_box lane (Some access) from to = open_box lane access from to ∷ []
 
 -- The accesses of a process from a place on, up to the end of its lane, where this one is open from there on.
 abbrev pub accesses_from : Lane → ℕ → ℕ → Option UnendedAccess → ℕ → List Seen → List Shape

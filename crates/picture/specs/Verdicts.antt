@@ -1,5 +1,5 @@
 -- The verdict below the last band, and what it names in the band.
-use Rattle.std.specs.Prelude.{ℕ, ◌+◌, ◌-◌, ◌*◌, Bool, false, ◌==◌, ◌||◌, cond, is_some, nat_lt, unwrap_or, List, [], ◌∷◌, ◌++◌, codes, flat_map, length, Option, None, Some}
+use Rattle.std.specs.Prelude.{ℕ, ◌+◌, ◌-◌, ◌*◌, Bool, false, ◌==◌, ◌||◌, cond, is_some, min, nat_lt, unwrap_or, List, [], ◌∷◌, ◌++◌, codes, flat_map, length, Option, None, Some}
 use Rattle.std.specs.Fmt.{decimal}
 use Rattle.markup.specs.{Block, End, Label, Mark, Point, Said, Shape}
 use Rattle.markup.specs.declared.names.Key.TheVariants as key
@@ -41,9 +41,16 @@ abbrev pub bad_column : Layout → Option ℕ → List Shape
 bad_column layout None = []
 bad_column layout (Some x) = Block (codes "bad") (point (x - 3) 20) 14 (layout.height - 20) ∷ []
 
+-- where words of this number of characters begin: at a place, or further left, so that they end in the picture
+abbrev pub words_begin : ℕ → ℕ → ℕ
+words_begin x characters = min x (1194 - capped (characters * 6))
+
 -- the words at an outline
+abbrev pub words_at : List ℕ → Point → Shape
+words_at words at = Label (codes "because") (point (words_begin at.x (length words)) at.y) words
+
 abbrev pub because : Pointer → Point → Shape
-because pointer at = Label (codes "because") at (naming pointer.kind ++ decimal pointer.since)
+because pointer = words_at (naming pointer.kind ++ decimal pointer.since)
 
 -- the outline of the bar of a lane from one place to another, and its words
 abbrev pub named_bar : Lane → Pointer → ℕ → ℕ → List Shape

@@ -116,7 +116,8 @@ fn draw_column_access(
     }
 }
 
-/// Draws the box of an access that an entry ends or that is whole, and its words.
+/// Draws the box of an access that an entry ends or that is whole, and its words. If the entry begins an access while another one
+/// of its process is open, which therefore never ends, draws the box of that one.
 fn draw_access(
     alloc: Global,
     lane: Lane,
@@ -131,9 +132,12 @@ fn draw_access(
     ensures read { OnOk result (reading markup.new ≡ reading markup.old) }
 {
     match access.step {
-        AccessStep::Begin => Ok(()),
+        AccessStep::Begin => draw_unended(lane, before, from, x, markup),
         AccessStep::End => draw_end(alloc, lane, before, from, access, x, markup),
-        AccessStep::Whole => draw_whole(alloc, lane, access, x, markup),
+        AccessStep::Whole => {
+            draw_unended(lane, before, from, x, markup)?;
+            draw_whole(alloc, lane, access, x, markup)
+        }
     }
 }
 
@@ -238,7 +242,7 @@ fn draw_ended(
     markup.block(style, corner, u32::from(to.saturating_sub(from)), BOX)
 }
 
-/// Draws the box of an access that is open where its band ends, if one is.
+/// Draws the box of an access that is open up to a place, if one is.
 fn draw_unended(
     lane: Lane,
     before: Option<UnendedAccess>,
@@ -290,7 +294,7 @@ fn style_of_box(kind: AccessKind, is_overlapped: bool) -> &'static str
     }
 }
 
-/// Returns the style of the box of an access that is open where its band ends.
+/// Returns the style of the box of an access that does not end in its band.
 fn style_of_open_box(kind: AccessKind, is_overlapped: bool) -> &'static str
     ensures { result.now ≡ open_style kind is_overlapped }
 {

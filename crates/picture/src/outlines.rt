@@ -5,12 +5,12 @@ ghost use Rattle.columns.specs.{seen, seen_accesses, shows_access};
 ghost use Rattle.picture.specs.Adding.{Draws};
 ghost use Rattle.picture.specs.Bars.{point};
 ghost use Rattle.picture.specs.Drawings.{seen_band};
-ghost use Rattle.picture.specs.Verdicts.{bad_column, bad_place, because, blame, edge_of, named_bar, named_boxes, outline_of, outline, outline_from, outline_if, shows_accesses};
+ghost use Rattle.picture.specs.Verdicts.{bad_column, bad_place, because, blame, edge_of, named_bar, named_boxes, outline_of, outline, outline_from, outline_if, shows_accesses, words_begin as start_of_words};
 ghost use Rattle.shown_verdict.specs.{seen_line};
 
 use crate::bands::Band;
 use crate::links::draw_arrow_to;
-use columns::{AXIS, AccessState, Column, Lane, event_place};
+use columns::{AXIS, AccessState, Column, DIGIT, Lane, event_place, room};
 use markup::{Markup, Point};
 use shown_verdict::{FirstBadEntry, Pointer, PointerKind, ShownVerdict};
 use std::alloc::{AllocError, Global};
@@ -237,5 +237,13 @@ fn draw_because(
     ensures read { OnOk result (reading markup.new ≡ reading markup.old) }
 {
     let words = pointer.words(alloc)?;
-    markup.label("because", at, words.as_bytes())
+    let x = words_begin(at.x, words.len());
+    markup.label("because", Point::at(x, at.y), words.as_bytes())
+}
+
+/// Returns where words of this number of characters begin: at a place, or further left, so that they end in the picture.
+fn words_begin(x: u32, characters: usize) -> u32
+    ensures { result ≡ start_of_words x characters }
+{
+    x.min(1194_u32.saturating_sub(u32::from(room(characters, DIGIT))))
 }
